@@ -1,0 +1,241 @@
+//! Chunks of 32 bytes, hashers that make one chunk of a pair, and the roots of full zero trees.
+//!
+//! What a tree of chunks is, and what stands where in it, is defined in `specs/` for all crates
+//! above: `Tree` (trees, roots, full trees, the pairs above their first places) and `Index`
+//! (generalized indices).
+//! Here only chunks are kept. No call takes memory.
+#![tactic(auto)]
+
+ghost use Rattle.std.specs.Prelude.{◌≡◌, ℕ, ◌+◌, ◌<◌, ◌≤◌, List, [], slice_index_or};
+ghost use Rattle.ssz_chunk.specs.declared.TheConstants.{ZERO_TREES};
+ghost use Rattle.ssz_chunk.specs.Chunk.{CountsUp, IsChunk, sha_pair, xor_pair};
+ghost use Rattle.ssz_chunk.specs.ChunkLaws.{IsChunk-sha_pair, IsChunk-xor_pair};
+ghost use Rattle.ssz_chunk.specs.Tree.{root, zero_tree};
+
+use sha2::{Digest, Sha256};
+use std::marker::{Model, PhantomData};
+
+mod laws;
+
+pub use laws::trees_have_places;
+
+/// How many levels a tree may have below its root.
+pub const LEVELS: u32 = 126;
+
+// The full trees of zero chunks: of depth 0 to LEVELS.
+const ZERO_TREES: usize = LEVELS as usize + 1;
+
+/// 32 bytes: a leaf of a tree, or the root of one (simple-serialize.md, Merkleization).
+#[derive(Clone, Copy, Debug, PartialEq, Eq)]
+pub struct Chunk(pub [u8; 32]);
+
+impl Chunk {
+    /// 32 zero bytes.
+    pub const ZERO: Chunk = Chunk([0; 32]);
+}
+
+/// A hasher: makes one chunk of two, by a function that belongs to the type, and counts how often.
+pub trait PairHash {
+    // The chunk of a pair, left then right. Only its answers at two chunks are ever made.
+    ghost pair_of: { List ℕ → List ℕ → List ℕ };
+
+    // How many pairs were made, up to the greatest u64.
+    ghost pairs: { Self → ℕ };
+
+    // The chunk of two chunks is a chunk.
+    ghost makes_chunk: { (left right : List ℕ) → IsChunk left → IsChunk right
+        → IsChunk (pair_of left right) };
+
+    /// The chunk of a pair, which is counted.
+    fn pair(&mut self, left: &Chunk, right: &Chunk) -> Chunk
+        ensures value { result.0 ≡ pair_of left.now.0 right.now.0 }
+        ensures counts { CountsUp 1 (pairs self.old) (pairs self.new) };
+
+    /// How many pairs were made, or the greatest u64 where they were more.
+    fn count(&self) -> u64
+        ensures { result ≡ pairs self.now };
+}
+
+/// The hasher of SSZ: SHA-256 of the 64 bytes of a pair.
+#[derive(Debug, Drop)]
+pub struct ShaPair {
+    pairs: u64,
+}
+
+// The number of pairs.
+impl Model for ShaPair {
+    ghost Value = { ℕ };
+
+    ghost view = { λ hasher. hasher.pairs };
+}
+
+impl ShaPair {
+    /// A hasher that has made no pair.
+    pub fn new() -> Self
+        ensures { result ≡ 0 }
+    {
+        ShaPair { pairs: 0 }
+    }
+}
+
+impl PairHash for ShaPair {
+    ghost pair_of = { sha_pair };
+
+    ghost pairs = { λ pairs. pairs };
+
+    ghost makes_chunk = { IsChunk-sha_pair };
+
+    fn pair(&mut self, left: &Chunk, right: &Chunk) -> Chunk {
+        self.pairs = self.pairs.saturating_add(1);
+        let hasher = Sha256::new_with_prefix(&left.0).chain_update(&right.0);
+        Chunk(hasher.finalize())
+    }
+
+    fn count(&self) -> u64 {
+        self.pairs
+    }
+}
+
+/// A cheap hasher for tests: byte i is `left[(i + 1) % 32] ^ right[i]`.
+#[derive(Debug, Drop)]
+pub struct XorPair {
+    pairs: u64,
+}
+
+// The number of pairs.
+impl Model for XorPair {
+    ghost Value = { ℕ };
+
+    ghost view = { λ hasher. hasher.pairs };
+}
+
+impl XorPair {
+    /// A hasher that has made no pair.
+    pub fn new() -> Self
+        ensures { result ≡ 0 }
+    {
+        XorPair { pairs: 0 }
+    }
+}
+
+impl PairHash for XorPair {
+    ghost pair_of = { xor_pair };
+
+    ghost pairs = { λ pairs. pairs };
+
+    ghost makes_chunk = { IsChunk-xor_pair };
+
+    fn pair(&mut self, left: &Chunk, right: &Chunk) -> Chunk {
+        self.pairs = self.pairs.saturating_add(1);
+        let mut bytes = [0; 32];
+        for i in 0..32 {
+            bytes[i] = left.0[(i + 1) % 32] ^ right.0[i];
+        }
+        Chunk(bytes)
+    }
+
+    fn count(&self) -> u64 {
+        self.pairs
+    }
+}
+
+/// The roots Z0 to Z126 of the full trees of zero chunks, by depth.
+#[derive(Debug, Drop)]
+pub struct ZeroTable<H: PairHash> {
+    roots: [Chunk; ZERO_TREES],
+    hasher: PhantomData<H>,
+    ghost each: { (d : ℕ) → d < ZERO_TREES
+        → (slice_index_or roots d (record { 0 = [] })).0 ≡ root H.pair_of (zero_tree d) },
+}
+
+impl<H: PairHash> ZeroTable<H> {
+    /// Makes the table with LEVELS pairs.
+    pub fn new(hasher: &mut H) -> Self
+        ensures { CountsUp LEVELS (H.pairs hasher.old) (H.pairs hasher.new) }
+    {
+        let mut roots = [Chunk::ZERO; ZERO_TREES];
+        for d in 0..LEVELS as usize {
+            roots[d + 1] = hasher.pair(&roots[d], &roots[d]);
+        }
+        ZeroTable {
+            roots,
+            hasher: PhantomData,
+        }
+    }
+
+    /// The root of the full tree of zero chunks of depth d, which is at most LEVELS.
+    pub fn get(&self, d: u32) -> &Chunk
+        requires { d ≤ LEVELS }
+        ensures { result.now.0 ≡ root H.pair_of (zero_tree d) }
+    {
+        &self.roots[d as usize]
+    }
+}
+
+#[cfg(test)]
+mod tests {
+    use super::*;
+
+    // The depth, and the two halves of the root. Z1 and Z2 are zero hashes of Ethereum's deposit
+    // contract; Python's hashlib gives all of these.
+    const ZERO_ROOTS: [(u32, u128, u128); 5] = [
+        (0, 0, 0),
+        (
+            1,
+            0xf5a5fd42d16a20302798ef6ed309979b,
+            0x43003d2320d9f0e8ea9831a92759fb4b,
+        ),
+        (
+            2,
+            0xdb56114e00fdd4c1f85c892bf35ac9a8,
+            0x9289aaecb1ebd0a96cde606a748b5d71,
+        ),
+        (
+            63,
+            0xecc502c9b1145f3950cb7d3e3842446f,
+            0x81a4f0df1df537cee139ef64ea984bd9,
+        ),
+        (
+            126,
+            0xad484a007384e0b23f629cd335620edb,
+            0xae313dc07a31ca58fe1d97fac2ca0b55,
+        ),
+    ];
+
+    fn chunk(high: u128, low: u128) -> Chunk {
+        let mut bytes = [0; 32];
+        bytes[..16].copy_from_slice(&high.to_be_bytes());
+        bytes[16..].copy_from_slice(&low.to_be_bytes());
+        Chunk(bytes)
+    }
+
+    #[test]
+    fn zero_roots(rt: HostRuntime) {
+        let mut hasher = ShaPair::new();
+        let zeros = ZeroTable::new(&mut hasher);
+        assert_eq!(rt; hasher.count(), 126);
+        for (depth, high, low) in ZERO_ROOTS {
+            assert_eq!(rt; *zeros.get(depth), chunk(high, low), "at {depth}");
+        }
+    }
+
+    #[test]
+    fn xor_pair(rt: HostRuntime) {
+        let left = chunk(
+            0x000102030405060708090a0b0c0d0e0f,
+            0x101112131415161718191a1b1c1d1e1f,
+        );
+        let right = chunk(
+            0x6465666768696a6b6c6d6e6f70717273,
+            0x7475767778797a7b7c7d7e7f80818283,
+        );
+        // Python: bytes(left[(i + 1) % 32] ^ right[i] for i in range(32))
+        let made = chunk(
+            0x656765636d6f6d63656765637d7f7d63,
+            0x656765636d6f6d63656765639d9f9d83,
+        );
+        let mut hasher = XorPair::new();
+        assert_eq!(rt; hasher.pair(&left, &right), made);
+        assert_eq!(rt; hasher.count(), 1);
+    }
+}
