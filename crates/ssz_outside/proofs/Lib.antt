@@ -1,0 +1,5 @@
+pub mod Pairs
+pub mod Cutting
+pub mod Told
+pub mod Finishing
+pub mod Readable
