@@ -1,0 +1,131 @@
+// The top call.
+ghost use Rattle.std.specs.Prelude.{◌≡◌, ◌≢◌, ◌≤◌, ◌+◌, ◌^◌, ℕ, length, map, Bool, Some, IsNone, IsSome};
+ghost use Rattle.std.specs.Option.{ForSome};
+ghost use Rattle.ssz_outside.specs.Content.{Content};
+ghost use Rattle.ssz_outside.specs.Outcome.{Rose};
+ghost use Rattle.ssz_chunk.specs.Tree.{root, full};
+ghost use Rattle.ssz_tool.specs.Values.{depth_of, leaf_of, pairs_of};
+ghost use Rattle.ssz_tool.specs.Jobs.{line_of, pairs_of_task};
+ghost use Rattle.ssz_tool.specs.Lines.{line_text, status_of};
+ghost use Rattle.ssz_tool.specs.Runs.{job_of, pairs_allowed};
+ghost use Rattle.ssz_outside.specs.Job.{Ends, Finishes, CountsRun, IsThatOrStopped, line_job};
+ghost use Rattle.ssz_tool.specs.Tasks.{IsSmall, task_view};
+ghost use Rattle.ssz_tool.specs.Words.{texts, root_words};
+
+use crate::job::{Stop, Task, task_of};
+use crate::line::{Line, line_text, status_of};
+use crate::root::root_of_full;
+use crate::value::depth_of;
+use ssz_chunk::{Chunk, PairHash, ZeroTable};
+use ssz_outside::{Files, Sink, Status, say_line};
+use std::alloc::Global;
+
+fn root_of<H: PairHash>(chunks: &[Chunk], hasher: &mut H) -> Chunk
+    requires { length chunks.now ≤ 2 ^ 21 }
+    ensures value { result.0
+        ≡ root H.pair_of (full (depth_of (length chunks.now)) (map leaf_of chunks.now)) }
+    ensures pairs { H.pairs hasher.new
+        ≤ H.pairs hasher.old + (126 + pairs_of (length chunks.now)) }
+{
+    let depth = depth_of(chunks.len());
+    let zeros = ZeroTable::new(hasher);
+    root_of_full(chunks, depth, &zeros, hasher)
+}
+
+fn line_of<H: PairHash>(task: &Task, hasher: &mut H) -> Line
+    requires { IsSmall task.now }
+    ensures value { result ≡ line_of H.pair_of (task_view task.now) }
+    ensures pairs { H.pairs hasher.new ≤ H.pairs hasher.old + pairs_of_task (task_view task.now) }
+{
+    match task {
+        Task::Says(line) => *line,
+        Task::Roots(chunks) => Line::Root(root_of(chunks, hasher)),
+    }
+}
+
+fn print_line<S: Sink>(alloc: Global, line: &Line, out: &mut S) -> Status
+    ensures ends { (held : Content) (reads : Bool) → Ends result
+        (line_job held reads (line_text line.now) (status_of line.now))
+        (S.pieces out.old) (S.pieces out.new) (Some held) }
+    ensures counts { (gets puts : ℕ) → CountsRun result gets gets puts puts
+        (S.faults out.old) (S.faults out.new) }
+    ensures status { IsThatOrStopped (status_of line.now) result }
+{
+    let Ok(text) = line_text(alloc, line) else {
+        return Status::Memory;
+    };
+    say_line(text.as_str(), status_of(line), out)
+}
+
+fn run_words<F: Files, S: Sink, H: PairHash>(
+    alloc: Global,
+    words: &[String],
+    files: &mut F,
+    out: &mut S,
+    hasher: &mut H,
+) -> Status
+    ensures ends { ForSome (F.content files.old) (λ held.
+        Ends result (job_of H.pair_of (texts words.now) held)
+        (S.pieces out.old) (S.pieces out.new) (F.content files.new)) }
+    ensures counts { CountsRun result (F.get_faults files.old) (F.get_faults files.new)
+        (F.put_faults files.old) (F.put_faults files.new) (S.faults out.old) (S.faults out.new) }
+    ensures usage { result ≡ Status.Usage → IsNone (root_words (texts words.now)) }
+    ensures not_taken { IsNone (root_words (texts words.now)) → IsThatOrStopped Status.Usage result }
+    ensures taken { result ≡ Status.ReadFault → IsSome (root_words (texts words.now)) }
+    ensures readable { ForSome (root_words (texts words.now)) (λ names. F.readable files.old names.schema
+        → F.readable files.old names.file → result ≢ Status.ReadFault) }
+    ensures pairs { ForSome (F.content files.old) (λ held. H.pairs hasher.new
+        ≤ H.pairs hasher.old + pairs_allowed (texts words.now) held) }
+{
+    match task_of(alloc, files, words) {
+        Ok(task) => {
+            let line = line_of(&task, hasher);
+            print_line(alloc, &line, out)
+        }
+        Err(Stop::Read) => Status::ReadFault,
+        Err(Stop::Memory) => Status::Memory,
+    }
+}
+
+/// The program, over its words, files, a sink and a hasher.
+pub fn run<F: Files, S: Sink, H: PairHash>(
+    alloc: Global,
+    words: &[String],
+    files: &mut F,
+    out: &mut S,
+    hasher: &mut H,
+) -> Status
+    // Where the files tell what they hold, no fault is counted and memory is not wanting, the job
+    // of the words is done: its text is printed, the files are those after it, its status is answered.
+    ensures main_theorem { ForSome (F.content files.old) (λ held.
+        ¬ Rose (F.get_faults files.old) (F.get_faults files.new)
+        → ¬ Rose (F.put_faults files.old) (F.put_faults files.new)
+        → ¬ Rose (S.faults out.old) (S.faults out.new)
+        → result ≢ Status.Memory
+        → Finishes (job_of H.pair_of (texts words.now) held) result
+        (S.pieces out.old) (S.pieces out.new) (F.content files.new)) }
+
+    // Whatever ended the run, what is left is of that job.
+    ensures ends { ForSome (F.content files.old) (λ held.
+        Ends result (job_of H.pair_of (texts words.now) held)
+        (S.pieces out.old) (S.pieces out.new) (F.content files.new)) }
+
+    // The fault that the status names was counted, and no other: none is passed over.
+    ensures counts { CountsRun result (F.get_faults files.old) (F.get_faults files.new)
+        (F.put_faults files.old) (F.put_faults files.new) (S.faults out.old) (S.faults out.new) }
+
+    // Words that are not taken are refused as such, and no others; no file is read for them.
+    ensures usage { result ≡ Status.Usage → IsNone (root_words (texts words.now)) }
+    ensures not_taken { IsNone (root_words (texts words.now)) → IsThatOrStopped Status.Usage result }
+    ensures taken { result ≡ Status.ReadFault → IsSome (root_words (texts words.now)) }
+
+    // A read fails only of the files that the words name.
+    ensures readable { ForSome (root_words (texts words.now)) (λ names. F.readable files.old names.schema
+        → F.readable files.old names.file → result ≢ Status.ReadFault) }
+
+    // The pairs hashed: those of the value, beyond the zero table.
+    ensures pairs { ForSome (F.content files.old) (λ held. H.pairs hasher.new
+        ≤ H.pairs hasher.old + pairs_allowed (texts words.now) held) }
+{
+    run_words(alloc, words, files, out, hasher)
+}
