@@ -1,4 +1,5 @@
--- The schema that a document stands for.
+-- The schema that a document stands for, where it defines containers of `uint64`s alone. Interim: the
+-- definitions of every type take the place of these.
 use Rattle.std.specs.Prelude.{ℕ, ◌^◌, ◌==◌, ◌&&◌, nat_le, List, [], ◌∷◌, ◌++◌, length, Bool, false, not, Some, None, if◌then◌else◌, option_and_then, codes}
 use Rattle.std.specs.declared.option.Option.{Option}
 use Rattle.std.specs.Str.{is_utf8, bytes_eq}

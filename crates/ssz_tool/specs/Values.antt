@@ -1,4 +1,6 @@
--- Values of `uint64` and of containers of `uint64`s: their numbers, encoding, first fault, tree and pairs.
+-- Values of `uint64` and of containers of `uint64`s: their numbers, encoding, first fault, tree and pairs
+-- (simple-serialize.md, Serialization, Deserialization, Merkleization). Interim: the definitions of every
+-- type take the place of these.
 use Rattle.std.specs.Prelude.{ℕ, zero, suc, ◌*◌, ◌^◌, nat_lt, nat_le, List, length, take, drop, map, ◌++◌, replicate, flat_map, Some, None, if◌then◌else◌}
 use Rattle.std.specs.declared.option.Option.{Option}
 use Rattle.std.specs.Int.{w64, from_le_bytes, to_le_bytes}
