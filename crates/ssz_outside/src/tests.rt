@@ -2,9 +2,9 @@ ghost use Rattle.std.specs.Prelude.{◌≤◌, IfOk};
 
 use super::streams::{read_to_end, write_all};
 use super::*;
-use std::io;
 use std::io::{ErrorKind, Read, Write};
 use std::test::Fail;
+use std::{fs, io};
 
 const LINE: &str = "root 0xf5a5fd42d16a20302798ef6ed309979b43003d2320d9f0e8ea9831a92759fb4b\n";
 
@@ -111,6 +111,8 @@ fn keeps_files_of_the_system(rt: HostRuntime) -> Result<(), Fail> {
         assert_eq!(rt; got, Ok(Got::TooLong), "of {name}");
     }
     assert_eq!(rt; (files.get_faults(), files.put_faults()), (0, 0));
+    fs::remove_file(&rt, "first")?;
+    fs::remove_file(&rt, "second")?;
     Ok(())
 }
 
