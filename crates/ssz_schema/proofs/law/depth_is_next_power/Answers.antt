@@ -1,0 +1,8 @@
+use Rattle.ssz_schema.proofs.DepthLemmas.{depth_of-holds, depth_of-least}
+use Rattle.ssz_schema.proofs.law.depth_is_next_power.Goals as goal
+
+pub returns-clause-holds : goal.returns-clause-holds
+returns-clause-holds c = depth_of-holds
+
+pub returns-clause-least : goal.returns-clause-least
+returns-clause-least c = depth_of-least

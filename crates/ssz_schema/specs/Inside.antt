@@ -1,0 +1,100 @@
+-- What the fields of a schema stand for, and what they keep.
+use Rattle.std.specs.Prelude.{ℕ, ◌≡◌, ◌<◌, ◌≤◌, ◌-◌, ◌^◌, min, option_map, List, [], ◌∷◌, ◌++◌, length, take, Some}
+use Rattle.ssz_schema.specs.declared.format.Format.{Format}
+use Rattle.ssz_schema.specs.declared.width.Width.TheVariants.{W8, W16, W32, W64, W128, W256}
+use Rattle.ssz_schema.specs.declared.entry.Entry.{Entry}
+use Rattle.ssz_schema.specs.declared.facts.Facts.{Facts}
+use Rattle.ssz_schema.specs.declared.schema.Schema.TheInside.{Inside}
+use Rattle.ssz_schema.specs.Types.{SszType, boolean, uint}
+use Rattle.ssz_schema.specs.Sizes.{fixed_size, default_length, chunk_count, depth, levels, nesting}
+use Rattle.ssz_schema.specs.Legal.{IsLegal, IsWithinLimits}
+use Rattle.ssz_schema.specs.Unfolding.{Types, tree_over, AreBelow, type_of}
+use Rattle.ssz_schema.specs.Lookup.{lookup_name}
+
+-- the trees of all types, where those of the types before are done
+abbrev pub unfolded : List SszType → List Entry → List SszType
+unfolded done [] = done
+unfolded done (e ∷ entries) = unfolded (done ++ tree_over done e.ty ∷ []) entries
+
+abbrev pub types_of : Inside → Types
+types_of a = record { format = a.format; trees = unfolded [] a.entries.items; names = a.names }
+
+-- the basic types, which stand first in every schema
+abbrev pub basic_types : List SszType
+basic_types = boolean ∷ uint W8 ∷ uint W16 ∷ uint W32 ∷ uint W64 ∷ uint W128 ∷ uint W256 ∷ []
+
+-- the facts kept beside a type are the type's
+pub record AreFactsOf (facts : Facts) (t : SszType) : Type 0 where
+  pub fixed_size : facts.fixed_size ≡ fixed_size t
+  pub default_len : facts.default_len ≡ default_length t
+  pub chunk_count : facts.chunk_count ≡ chunk_count t
+  pub depth : facts.depth ≡ depth t
+  pub levels : facts.levels ≡ levels t
+  pub nesting : facts.nesting ≡ nesting t
+
+-- an entry after those whose trees are done
+pub record IsSound (format : Format) (done : List SszType) (e : Entry) : Type 0 where
+  pub below : AreBelow (length done) e.ty
+  pub legal : IsLegal format (tree_over done e.ty)
+  pub facts : AreFactsOf e.facts (tree_over done e.ty)
+
+-- the greatest number that the program counts to
+abbrev pub capped : ℕ → ℕ
+capped n = min n (2 ^ 64 - 1)
+
+-- the facts are the type's, but that long sizes are capped
+pub record AreFactsUpTo (facts : Facts) (t : SszType) : Type 0 where
+  pub fixed_size : facts.fixed_size ≡ option_map capped (fixed_size t)
+  pub default_len : facts.default_len ≡ capped (default_length t)
+  pub chunk_count : facts.chunk_count ≡ chunk_count t
+  pub depth : facts.depth ≡ depth t
+  pub levels : facts.levels ≡ levels t
+  pub nesting : facts.nesting ≡ nesting t
+
+-- an entry that is sound if it keeps the limits
+pub record IsSoundButLimits (format : Format) (done : List SszType) (e : Entry) : Type 0 where
+  pub below : AreBelow (length done) e.ty
+  pub legal : IsWithinLimits format (tree_over done e.ty) → IsLegal format (tree_over done e.ty)
+  pub facts : AreFactsUpTo e.facts (tree_over done e.ty)
+
+module _ (format : Format) where
+  abbrev pub AreSound : List SszType → List Entry → Type 0
+  AreSound done [] = Unit {0}
+  AreSound done (e ∷ entries) = IsSound format done e × AreSound (done ++ tree_over done e.ty ∷ []) entries
+
+-- each name is that of one of count types
+abbrev pub NamesAreBelow : List (List ℕ × ℕ) → ℕ → Type 0
+NamesAreBelow names count = (name : List ℕ) (id : ℕ) → lookup_name names name ≡ Some id → id < count
+
+-- what is small of every type
+pub record AreSmall (facts : Facts) : Type 0 where
+  pub nesting : facts.nesting ≤ 32
+  pub levels : facts.levels ≤ 126
+  pub default_len : facts.default_len ≤ 2 ^ 24
+
+-- the entry of this number
+pub record IsEntry (types : Types) (id : ℕ) (e : Entry) : Type 0 where
+  pub form : tree_over types.trees e.ty ≡ type_of types id
+  pub below : AreBelow id e.ty
+  pub legal : IsLegal types.format (type_of types id)
+  pub facts : AreFactsOf e.facts (type_of types id)
+
+-- what is known of the whole of every schema
+pub record IsWhole (types : Types) : Type 0 where
+  pub basics : take 7 types.trees ≡ basic_types
+  pub names : NamesAreBelow types.names (length types.trees)
+
+abbrev pub AreAllLegal : Types → Type 0
+AreAllLegal types = (id : ℕ) → id < length types.trees → IsLegal types.format (type_of types id)
+
+-- each entry's parts stand before it, the basic types stand first, and each name has an entry
+pub record IsSchema (a : Inside) : Type 0 where
+  pub entries : AreSound a.format [] a.entries.items
+  pub whole : IsWhole (types_of a)
+
+-- an entry of a basic type
+pub record IsBasicEntry (t : SszType) (e : Entry) : Type 0 where
+  pub tree : (done : List SszType) → tree_over done e.ty ≡ t
+  pub below : (count : ℕ) → AreBelow count e.ty
+  pub legal : (format : Format) → IsLegal format t
+  pub facts : AreFactsOf e.facts t

@@ -1,0 +1,115 @@
+// The type of the part that a step leads to.
+ghost use Rattle.std.specs.Prelude.{◌≡◌, ◌<◌, ℕ, length, option_map, bytes_eq, Some, None, nat_lt, if◌then◌else◌, slice_index_or};
+ghost use Rattle.std.specs.List.{position_from};
+ghost use Rattle.std.specs.Option.{ForSome};
+ghost use Rattle.ssz_schema.specs.declared.path.PathStep.TheVariants.{Field, Index, Len, Selector, Option as Chosen};
+ghost use Rattle.ssz_schema.specs.Unfolding.{type_of};
+ghost use Rattle.ssz_schema.specs.Paths.{step_type};
+ghost use Rattle.ssz_schema.specs.Steps.{LeadsTo};
+
+use super::name::Name;
+use super::path::PathStep;
+use super::schema::Schema;
+use super::ty::Ty;
+use super::type_id::TypeId;
+use super::width::Width;
+
+/// The number of the field of this name among the fields, or None exactly where none has it.
+pub fn field_at(fields: &[(Name, TypeId)], name: &Name) -> Option<usize>
+    ensures { result ≡ position_from (λ field. bytes_eq field.0 name.now) 0 fields.now }
+{
+    let name = name.as_bytes();
+    fields.iter().position(|field| field.0.as_bytes() == name)
+}
+
+impl Schema {
+    /// The type of the part that the step leads to from a value of the type, or None exactly where the step does not
+    /// fit the type.
+    pub fn step_type(&self, id: TypeId, step: &PathStep) -> Option<TypeId>
+        requires { id < length self.now.trees }
+        ensures exact { option_map (type_of self.now) result ≡ step_type (type_of self.now id) step.now }
+        ensures known { ForSome result (λ part. part < length self.now.trees) }
+    {
+        match step {
+            PathStep::Field(name) => self.field_type(id, name),
+            PathStep::Index(i) => self.element_type(id, *i),
+            PathStep::Len => self.len_type(id),
+            PathStep::Selector => self.selector_type(id),
+            PathStep::Option(selector) => self.option_type(id, *selector),
+        }
+    }
+
+    fn field_type(&self, id: TypeId, name: &Name) -> Option<TypeId>
+        requires { id < length self.now.trees }
+        ensures { LeadsTo self.now id (Field name.now) result }
+    {
+        let Ty::Container(fields) = self.ty(id) else {
+            return None;
+        };
+        match field_at(fields.as_slice(), name) {
+            Some(number) => Some(fields[number].1),
+            None => None,
+        }
+    }
+
+    fn element_type(&self, id: TypeId, i: u64) -> Option<TypeId>
+        requires { id < length self.now.trees }
+        ensures { LeadsTo self.now id (Index i) result }
+    {
+        match self.ty(id) {
+            Ty::Vector(elem, n) => if_below(i, *n, *elem),
+            Ty::List(elem, limit) => if_below(i, *limit, *elem),
+            Ty::Bitvector(n) => if_below(i, *n, self.boolean()),
+            Ty::Bitlist(limit) => if_below(i, *limit, self.boolean()),
+            Ty::Uint(_) | Ty::Boolean | Ty::Container(_) | Ty::Union(_) => None,
+        }
+    }
+
+    fn len_type(&self, id: TypeId) -> Option<TypeId>
+        requires { id < length self.now.trees }
+        ensures { LeadsTo self.now id Len result }
+    {
+        match self.ty(id) {
+            Ty::List(_, _) | Ty::Bitlist(_) => Some(self.uint(Width::W64)),
+            _ => None,
+        }
+    }
+
+    fn selector_type(&self, id: TypeId) -> Option<TypeId>
+        requires { id < length self.now.trees }
+        ensures { LeadsTo self.now id Selector result }
+    {
+        match self.ty(id) {
+            Ty::Union(_) => Some(self.uint(Width::W8)),
+            _ => None,
+        }
+    }
+
+    fn option_type(&self, id: TypeId, selector: u8) -> Option<TypeId>
+        requires { id < length self.now.trees }
+        ensures { LeadsTo self.now id (Chosen selector) result }
+    {
+        match self.ty(id) {
+            Ty::Union(options) => option_at(options.as_slice(), usize::from(selector)),
+            _ => None,
+        }
+    }
+}
+
+// The type, where the number is below the length or limit.
+fn if_below(i: u64, n: u64, id: TypeId) -> Option<TypeId>
+    ensures { result ≡ (if nat_lt i n then Some id else None) }
+{
+    if i < n { Some(id) } else { None }
+}
+
+// The type of the option of this number.
+fn option_at(options: &[Option<TypeId>], number: usize) -> Option<TypeId>
+    ensures { result ≡ slice_index_or options.now number None }
+{
+    if number < options.len() {
+        options[number]
+    } else {
+        None
+    }
+}
