@@ -1,0 +1,13 @@
+pub mod GetterLemmas
+pub mod ProgramLemmas
+pub mod FoundLemmas
+pub mod ReadRows
+pub mod RowLemmas
+pub mod ReadWalks
+pub mod PresentLemmas
+pub mod ArgsLemmas
+pub mod CommandLemmas
+pub mod TakenLemmas
+pub mod PlainWalks
+pub mod EnterLemmas
+pub mod PlainLemmas

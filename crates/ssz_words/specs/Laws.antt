@@ -1,0 +1,64 @@
+-- When words are taken, in the terms of a command line.
+use Rattle.std.specs.Prelude.{Some, ◌≡◌, ◌↔◌, ◌<◌, ◌≤◌, ◌==◌, ◌∷◌, ◌^◌, ℕ, Bool, true, false, List}
+use Rattle.std.specs.Prelude.{[], length, IfSome, IsSome, codes, if◌then◌else◌}
+use Rattle.std.specs.List.{AllPass}
+use Rattle.clap.specs.Words.{Row, Text, all_of, fault_of, first_of, subcommand_of}
+use Rattle.hex.specs.Hex.{is_hex_digit}
+use Rattle.ssz_words.specs.CommandSet.{program}
+use Rattle.ssz_words.specs.Values.{is_digit_below, root_value, without_mark}
+use Rattle.ssz_words.specs.Words.{command_of}
+use Rattle.ssz_words.specs.declared.commands.Command.TheVariants.{Root, Run, Verify}
+
+-- one or more decimal digits, each below n
+abbrev pub IsOrder : ℕ → Text → Type 0
+IsOrder n text = (0 < length text) × AllPass (is_digit_below n) text
+
+-- 64 hexadecimal digits in either case, with or without `0x`
+abbrev pub IsRoot : Text → Type 0
+IsRoot text = (length (without_mark text) ≡ 64) × AllPass is_hex_digit (without_mark text)
+
+-- the scripts of a `weave` are at most ten, and its order is one of as many writers
+abbrev pub KeepsWeave : List Row → Type 0
+KeepsWeave rows = IfSome (all_of (codes "scripts") rows) (λ scripts. (length scripts ≤ 10)
+    × IfSome (first_of (codes "order") rows) (IsOrder (length scripts)))
+
+-- the root of a `verify` is one
+abbrev pub KeepsVerify : List Row → Type 0
+KeepsVerify rows = IfSome (first_of (codes "root") rows) IsRoot
+
+-- the rules that a command has beside those of `clap`
+abbrev pub KeepsRules : Text → List Row → Type 0
+KeepsRules name rows =
+    (name ≡ codes "weave" → KeepsWeave rows) × (name ≡ codes "verify" → KeepsVerify rows)
+
+-- Words are taken exactly where `clap` finds no fault in them and the command that it enters keeps
+-- these rules. So a command is always entered, and no value that it asks for is missing.
+abbrev pub TakesExactly : Type 0
+TakesExactly = (words : List Text) → IsSome (command_of words)
+    ↔ ((fault_of program words ≡ [])
+    × IfSome (subcommand_of program words) (λ entered. KeepsRules entered.0 entered.1))
+
+-- the word does not begin with a hyphen (45)
+abbrev pub is_plain : Text → Bool
+is_plain [] = true
+is_plain (x ∷ xs) = if x == 45 then false else true
+
+-- Plain words after the name of one of these commands are its arguments, in order, and max-bytes is
+-- 2 ^ 28.
+pub record TakesPlainWords : Type 0 where
+  pub root : (program schema type_name file : Text)
+      → is_plain schema ≡ true → is_plain type_name ≡ true → is_plain file ≡ true
+      → command_of (program ∷ codes "root" ∷ schema ∷ type_name ∷ file ∷ [])
+      ≡ Some (Root (record {
+        schema = schema;
+        type_name = type_name;
+        file = file;
+        max_bytes = 2 ^ 28;
+      }))
+  pub run : (program schema script : Text) → is_plain schema ≡ true → is_plain script ≡ true
+      → command_of (program ∷ codes "run" ∷ schema ∷ script ∷ [])
+      ≡ Some (Run (record { schema = schema; script = script; max_bytes = 2 ^ 28 }))
+  pub verify : (program text file : Text) (bytes : List ℕ)
+      → is_plain text ≡ true → is_plain file ≡ true → root_value text ≡ Some bytes
+      → command_of (program ∷ codes "verify" ∷ text ∷ file ∷ [])
+      ≡ Some (Verify (record { root = bytes; file = file }))

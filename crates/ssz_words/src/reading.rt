@@ -1,0 +1,135 @@
+//! What the words of a command line ask for.
+ghost use Rattle.std.specs.Prelude.{◌≡◌, ◌≢◌, IfOk, map, string_bytes};
+ghost use Rattle.clap.specs.Words.{subcommand_rows_of};
+ghost use Rattle.ssz_words.specs.Limits.{IsWithinLimits};
+ghost use Rattle.ssz_words.specs.Reading.{Reads};
+ghost use Rattle.ssz_words.specs.Values.{rows_in};
+ghost use Rattle.ssz_words.specs.Words.{command_of, found_in, named_args, root_args, run_args};
+ghost use Rattle.ssz_words.specs.Words.{verify_args, weave_args, work_args};
+
+use crate::command_set::program;
+use crate::commands::{Command, RootArgs, RunArgs, VerifyArgs, WeaveArgs, WorkArgs};
+use crate::faults::WordsFault;
+use crate::values::{
+    file_at, file_names, number_at, read_order, read_root, seed_at, type_at, word_at, words_at,
+};
+use clap::ArgMatches;
+use clap::error::ErrorKind;
+use std::alloc::Global;
+
+// How many scripts a weave may have.
+const MOST_SCRIPTS: usize = 10;
+
+/// The command that the words of a command line ask for. The first word is the program's name.
+///
+/// `NotTaken` comes exactly where the words ask for no command, a request for help among them, and
+/// `Memory` only where memory ran out.
+pub fn read_words(alloc: Global, words: &[String]) -> Result<Command, WordsFault>
+    ensures exact { Reads result (command_of (map string_bytes words.now)) }
+    ensures limits { IfOk result IsWithinLimits }
+{
+    let matches = matches_of(alloc, words)?;
+    match matches.subcommand() {
+        Some((name, found)) => named_command(alloc, name, found),
+        None => Err(WordsFault::NotTaken),
+    }
+}
+
+// What `clap` finds in the words, if it takes them.
+fn matches_of<'a>(alloc: Global, words: &'a [String]) -> Result<ArgMatches<'a>, WordsFault>
+    ensures taken { IfOk result (λ m.
+        found_in (map string_bytes words.entry.now) ≡ subcommand_rows_of m) }
+    ensures refused { result ≡ Err WordsFault.NotTaken
+        → found_in (map string_bytes words.entry.now) ≡ None }
+{
+    match program(alloc)?.try_get_matches_from(words) {
+        Ok(matches) => Ok(matches),
+        Err(error) => Err(fault_for(error.kind())),
+    }
+}
+
+// Words that `clap` refuses are not taken, a request for help among them.
+fn fault_for(kind: ErrorKind) -> WordsFault
+    ensures { result ≡ WordsFault.NotTaken → kind ≢ ErrorKind.OutOfMemory }
+{
+    if kind == ErrorKind::OutOfMemory {
+        WordsFault::Memory
+    } else {
+        WordsFault::NotTaken
+    }
+}
+
+fn named_command(alloc: Global, name: &str, found: &ArgMatches<'_>) -> Result<Command, WordsFault>
+    ensures { Reads result (named_args name.now (rows_in found.now)) }
+{
+    match name {
+        "root" => root_command(alloc, found),
+        "run" => run_command(alloc, found),
+        "weave" => weave_command(alloc, found),
+        "verify" => verify_command(alloc, found),
+        "work" => work_command(alloc, found),
+        _ => Err(WordsFault::NotTaken),
+    }
+}
+
+fn root_command(alloc: Global, found: &ArgMatches<'_>) -> Result<Command, WordsFault>
+    ensures { Reads result (root_args (rows_in found.now)) }
+{
+    Ok(Command::Root(RootArgs {
+        schema: file_at(alloc, found, "schema")?,
+        type_name: type_at(alloc, found, "type")?,
+        file: file_at(alloc, found, "file")?,
+        max_bytes: number_at(found, "max-bytes")?,
+    }))
+}
+
+fn run_command(alloc: Global, found: &ArgMatches<'_>) -> Result<Command, WordsFault>
+    ensures { Reads result (run_args (rows_in found.now)) }
+{
+    Ok(Command::Run(RunArgs {
+        schema: file_at(alloc, found, "schema")?,
+        script: file_at(alloc, found, "script")?,
+        max_bytes: number_at(found, "max-bytes")?,
+    }))
+}
+
+fn weave_command(alloc: Global, found: &ArgMatches<'_>) -> Result<Command, WordsFault>
+    ensures { Reads result (weave_args (rows_in found.now)) }
+{
+    let schema = file_at(alloc, found, "schema")?;
+    let base = file_at(alloc, found, "base")?;
+    let digits = word_at(found, "order")?;
+    let scripts = words_at(found, "scripts")?;
+    let max_bytes = number_at(found, "max-bytes")?;
+    let order = read_order(alloc, digits, scripts.len())?;
+    if scripts.len() > MOST_SCRIPTS {
+        return Err(WordsFault::NotTaken);
+    }
+    Ok(Command::Weave(WeaveArgs {
+        schema,
+        base,
+        order,
+        scripts: file_names(alloc, scripts)?,
+        max_bytes,
+    }))
+}
+
+fn verify_command(alloc: Global, found: &ArgMatches<'_>) -> Result<Command, WordsFault>
+    ensures { Reads result (verify_args (rows_in found.now)) }
+{
+    let digits = word_at(found, "root")?;
+    let file = file_at(alloc, found, "file")?;
+    let root = read_root(digits).ok_or(WordsFault::NotTaken)?;
+    Ok(Command::Verify(VerifyArgs { root, file }))
+}
+
+fn work_command(alloc: Global, found: &ArgMatches<'_>) -> Result<Command, WordsFault>
+    ensures { Reads result (work_args (rows_in found.now)) }
+{
+    Ok(Command::Work(WorkArgs {
+        schema: file_at(alloc, found, "schema")?,
+        type_name: type_at(alloc, found, "type")?,
+        seed: seed_at(found, "seed")?,
+        edits: number_at(found, "edits")?,
+    }))
+}
