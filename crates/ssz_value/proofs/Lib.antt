@@ -1,0 +1,15 @@
+pub mod Examples
+pub mod Cut
+pub mod Agree
+pub mod Basic
+pub mod Sequences
+pub mod Composite
+pub mod ExactLaw
+pub mod TreeLaw
+pub mod ValueLemmas
+pub mod SizeLaw
+pub mod PartLemmas
+pub mod FormLemmas
+pub mod FitLemmas
+pub mod DefaultLemmas
+pub mod CopyLemmas

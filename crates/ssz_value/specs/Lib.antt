@@ -1,0 +1,13 @@
+pub mod Values
+pub mod Defaults
+pub mod Encoding
+pub mod Sizes
+pub mod Faults
+pub mod Reading
+pub mod Trees
+pub mod Pairs
+pub mod Laws
+pub mod Parts
+pub mod Edits
+pub mod Standing
+pub mod Shapes
