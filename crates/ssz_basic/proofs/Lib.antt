@@ -1,0 +1,4 @@
+pub mod Endians
+pub mod BitLemmas
+pub mod LastByte
+pub mod PutLemmas
