@@ -1,0 +1,11 @@
+pub mod OffsetLemmas
+pub mod PlainLemmas
+pub mod Elements
+pub mod FieldLemmas
+pub mod UnionLemmas
+pub mod OptionLemmas
+pub mod ByteLemmas
+pub mod BitLemmas
+pub mod ReadLemmas
+pub mod LengthLemmas
+pub mod WritingLemmas

@@ -1,0 +1,207 @@
+-- Parts that are read one after another.
+use Rattle.std.proofs.Common.{ℕ, suc, ◌+◌, ◌-◌, ◌*◌, ◌<◌, ◌≤◌, ◌≡◌, List, [], ◌∷◌, ◌++◌, length, map, replicate, slice_range, drop, get_or, Option, Some, None, Result, Ok, Err, IfOk, sym, ap, ap₂, subst, ◌∙◌, arith, append_assoc, refl}
+use Rattle.std.proofs.lemmas.List.{append-nil, drop_all}
+use Rattle.ssz_schema.specs.Types.{SszType, list, vector}
+use Rattle.ssz_schema.specs.Sizes.{head_size, fixed_size}
+use Rattle.ssz_schema.specs.declared.format.Format.{Format}
+use Rattle.ssz_schema.specs.Legal.{IsLegal}
+use Rattle.ssz_schema.specs.Unfolding.{tree_at, fields_over}
+use Rattle.ssz_schema.specs.declared.fault.Fault.{Fault}
+use Rattle.ssz_value.specs.declared.value.Value.{Value}
+use Rattle.ssz_value.specs.Values.{SszValue, sequence, values, Fits}
+use Rattle.ssz_value.specs.Laws.{Encodes}
+use Rattle.ssz_value.proofs.Agree.{IsInput}
+use Rattle.ssz_value.proofs.ExactLaw.{agrees}
+use Rattle.ssz_value.specs.Standing.{value_of, Stands, IsValue}
+use Rattle.ssz_value.specs.Faults.{why, elements_fault, element_count, count_fault, scopes, bytes_of, offset_at, next_offset, ◌otherwise◌}
+use Rattle.ssz_value.specs.Reading.{value_in, elements_in, fields_in}
+use Rattle.ssz_codec.specs.Ranges.{part_range}
+use Rattle.ssz_value.proofs.PartLemmas.{Part, sizes_of, size_at, drop_part}
+use Rattle.ssz_codec.specs.declared.fault.DecodeFault.{DecodeFault}
+use Rattle.ssz_codec.specs.declared.fault.DecodeFault.TheVariants.{Bad, Memory}
+use Rattle.ssz_codec.specs.Answers.{Decodes, Faulty}
+
+-- an error of a part is one of the whole
+pub error_of_part : (part whole : Option Fault) (e : DecodeFault) → Faulty part e
+    → ((f : Fault) → part ≡ Some f → whole ≡ Some f) → Faulty whole e
+error_of_part part whole (Bad f) h found = found f h
+error_of_part part whole Memory h found = tt
+
+-- the same answer, of the same fault
+pub Decodes-map : {X : Type 0} (old new : Option Fault) (P Q : X
+    → Type 0) (r : Result X DecodeFault) → Decodes old P r → old ≡ new → ((x : X) → P x → Q x)
+    → Decodes new Q r
+Decodes-map old new P Q (Ok x) h e step = (sym e ∙ h.0, step x h.1)
+Decodes-map old new P Q (Err f) h e step = subst (λ (fault : Option Fault). Faulty fault f) e h
+
+-- the values read, and those of the parts from element i on, are all
+pub record ReadFrom (t : SszType) (size : Option ℕ) (count : ℕ) (b : List ℕ) (i place : ℕ)
+    (values : List SszValue) : Type 0 where
+  pub all : values ++ map (value_in t) (bytes_of (scopes (replicate (count - i) size) place b))
+      ≡ map (value_in t) (elements_in size count b)
+
+left : (count i : ℕ) → i < count → count - i ≡ suc (count - (i + 1))
+left count i h = omega arith
+
+pub ReadFrom-start : (t : SszType) (size : Option ℕ) (count place : ℕ) (b : List ℕ) → place ≡ 0
+    → ReadFrom t size count b 0 place []
+ReadFrom-start t size count place b e =
+    record {
+      all = ap₂ (λ n p. map (value_in t) (bytes_of (scopes (replicate n size) p b)))
+          (omega arith) e;
+    }
+
+pub ReadFrom-fixed : (t : SszType) (z count : ℕ) (b : List ℕ) (i : ℕ) (values : List SszValue)
+    (v : SszValue) → ReadFrom t (Some z) count b i (i * z) values → i < count
+    → v ≡ value_in t (slice_range b (i * z) (i * z + z))
+    → ReadFrom t (Some z) count b (i + 1) ((i + 1) * z) (values ++ v ∷ [])
+ReadFrom-fixed t z count b i values v h below is =
+    let next : i * z + z ≡ (i + 1) * z = omega arith in
+    let cut : scopes (replicate (count - i) (Some z)) (i * z) b
+    ≡ (i * z, slice_range b (i * z) (i * z + z)) ∷ scopes (replicate (count - (i + 1)) (Some z))
+    ((i + 1) * z) b =
+    ap (λ n. scopes (replicate n (Some z)) (i * z) b) (left count i below)
+    ∙ ap (λ place. (i * z, slice_range b (i * z) (i * z + z)) ∷ scopes
+    (replicate (count - (i + 1)) (Some z)) place b) next in
+    record {
+      all = append_assoc values (v ∷ [])
+          (map (value_in t) (bytes_of
+          (scopes (replicate (count - (i + 1)) (Some z)) ((i + 1) * z) b)))
+          ∙ ap (λ w. values ++ w ∷ map (value_in t)
+          (bytes_of (scopes (replicate (count - (i + 1)) (Some z)) ((i + 1) * z) b))) is
+          ∙ sym (ap (λ parts. values ++ map (value_in t) (bytes_of parts)) cut) ∙ h.all;
+    }
+
+pub ReadFrom-variable : (t : SszType) (count : ℕ) (b : List ℕ) (i : ℕ) (values : List SszValue)
+    (v : SszValue) → ReadFrom t None count b i (4 * i) values → i < count
+    → v ≡ value_in t (slice_range b (offset_at b (4 * i))
+    (next_offset (replicate (count - (i + 1)) None) (4 * i + 4) b))
+    → ReadFrom t None count b (i + 1) (4 * (i + 1)) (values ++ v ∷ [])
+ReadFrom-variable t count b i values v h below is =
+    let next : 4 * i + 4 ≡ 4 * (i + 1) = omega arith in
+    let here : List ℕ = slice_range b (offset_at b (4 * i))
+    (next_offset (replicate (count - (i + 1)) None) (4 * i + 4) b) in
+    let cut : scopes (replicate (count - i) None) (4 * i) b
+    ≡ (offset_at b (4 * i), here) ∷ scopes (replicate (count - (i + 1)) None) (4 * (i + 1)) b =
+    ap (λ n. scopes (replicate n None) (4 * i) b) (left count i below)
+    ∙ ap (λ place. (offset_at b (4 * i), here) ∷ scopes
+    (replicate (count - (i + 1)) None) place b) next in
+    record {
+      all = append_assoc values (v ∷ [])
+          (map (value_in t) (bytes_of (scopes (replicate (count - (i + 1)) None) (4 * (i + 1)) b)))
+          ∙ ap (λ w. values ++ w ∷ map (value_in t)
+          (bytes_of (scopes (replicate (count - (i + 1)) None) (4 * (i + 1)) b))) is
+          ∙ sym (ap (λ parts. values ++ map (value_in t) (bytes_of parts)) cut) ∙ h.all;
+    }
+
+pub ReadFrom-end : (t : SszType) (size : Option ℕ) (count : ℕ) (b : List ℕ) (i place : ℕ)
+    (values : List SszValue) → ReadFrom t size count b i place values → count ≤ i
+    → values ≡ map (value_in t) (elements_in size count b)
+ReadFrom-end t size count b i place values h all =
+    let none : count - i ≡ 0 = omega arith in
+    sym (append-nil values) ∙ sym
+    (ap (λ n. values ++ map (value_in t) (bytes_of (scopes (replicate n size) place b))) none)
+    ∙ h.all
+
+-- the same of fields
+pub record FieldsRead (trees : List SszType) (parts : List Part) (b : List ℕ) (i place : ℕ)
+    (values : List SszValue) : Type 0 where
+  pub all : values ++ fields_in (fields_over trees (drop i parts))
+      (bytes_of (scopes (sizes_of trees (drop i parts)) place b))
+      ≡ fields_in (fields_over trees parts) (bytes_of (scopes (sizes_of trees parts) 0 b))
+
+pub FieldsRead-start : (trees : List SszType) (parts : List Part) (b : List ℕ)
+    → FieldsRead trees parts b 0 0 []
+FieldsRead-start trees parts b = record { all = refl }
+
+next_read : (trees : List SszType) (parts : List Part) (b : List ℕ) (place : ℕ) (part : Part)
+    (size : Option ℕ) → size_at trees part ≡ size
+    → fields_in (fields_over trees (part ∷ parts))
+    (bytes_of (scopes (size ∷ sizes_of trees parts) place b))
+    ≡ value_in (tree_at trees part.1)
+    (slice_range b (part_range size (sizes_of trees parts) place b).0
+    (part_range size (sizes_of trees parts) place b).1)
+    ∷ fields_in (fields_over trees parts)
+    (bytes_of (scopes (sizes_of trees parts) (place + head_size size) b))
+next_read trees parts b place part (Some z) e = refl
+next_read trees parts b place part None e = refl
+
+pub FieldsRead-more : (trees : List SszType) (parts : List Part) (b : List ℕ) (i place from to : ℕ)
+    (part : Part) (values : List SszValue) (v : SszValue) → FieldsRead trees parts b i place values
+    → i < length parts → part ≡ get_or parts i part
+    → (from, to) ≡ part_range (size_at trees part) (sizes_of trees (drop (i + 1) parts)) place b
+    → v ≡ value_in (tree_at trees part.1) (slice_range b from to)
+    → FieldsRead trees parts b (i + 1) (place + head_size (size_at trees part)) (values ++ v ∷ [])
+FieldsRead-more trees parts b i place from to part values v h below e is read =
+    let here = ap (λ ps. fields_in (fields_over trees ps)
+    (bytes_of (scopes (sizes_of trees ps) place b))) (drop_part parts i part below e)
+    ∙ next_read trees (drop (i + 1) parts) b place part (size_at trees part) refl in
+    let same : v ≡ value_in (tree_at trees part.1)
+    (slice_range b (part_range (size_at trees part)
+    (sizes_of trees (drop (i + 1) parts)) place b).0
+    (part_range (size_at trees part) (sizes_of trees (drop (i + 1) parts)) place b).1) =
+    read ∙ ap (λ (r : ℕ × ℕ). value_in (tree_at trees part.1) (slice_range b r.0 r.1)) is in
+    record {
+      all = append_assoc values (v ∷ [])
+          (fields_in (fields_over trees (drop (i + 1) parts))
+          (bytes_of (scopes (sizes_of trees (drop (i + 1) parts))
+          (place + head_size (size_at trees part)) b)))
+          ∙ ap (λ w. values ++ w ∷ fields_in (fields_over trees (drop (i + 1) parts))
+          (bytes_of (scopes (sizes_of trees (drop (i + 1) parts))
+          (place + head_size (size_at trees part)) b))) same
+          ∙ sym (ap (λ vs. values ++ vs) here) ∙ h.all;
+    }
+
+pub FieldsRead-end : (trees : List SszType) (parts : List Part) (b : List ℕ) (i place : ℕ)
+    (values : List SszValue) → FieldsRead trees parts b i place values → length parts ≤ i
+    → values ≡ fields_in (fields_over trees parts) (bytes_of (scopes (sizes_of trees parts) 0 b))
+FieldsRead-end trees parts b i place values h all =
+    sym (append-nil values) ∙ sym
+    (ap (λ ps. values ++ fields_in (fields_over trees ps)
+    (bytes_of (scopes (sizes_of trees ps) place b))) (drop_all i parts all)) ∙ h.all
+
+-- the values of one part more
+-- a list whose number of elements is right
+pub list_decodes : (t : SszType) (limit count s : ℕ) (b : List ℕ) (size : Option ℕ)
+    (r : Result Value DecodeFault) → size ≡ fixed_size t → count ≡ element_count size b
+    → None ≡ count_fault size limit s b
+    → Decodes (elements_fault (why t) (fixed_size t) count s b)
+    (Stands (vector t count)
+    (sequence (values (map (value_in t) (elements_in (fixed_size t) count b))))) r
+    → Decodes (why (list t limit) s b) (Stands (list t limit) (value_in (list t limit) b)) r
+list_decodes t limit count s b size r e number none h =
+    let count_is : count ≡ element_count (fixed_size t) b =
+    number ∙ ap (λ z. element_count z b) e in
+    let clean : count_fault (fixed_size t) limit s b ≡ None =
+    sym (none ∙ ap (λ z. count_fault z limit s b) e) in
+    let fault : elements_fault (why t) (fixed_size t) count s b ≡ why (list t limit) s b =
+    ap (λ n. elements_fault (why t) (fixed_size t) n s b) count_is
+    ∙ sym (ap (λ f. f otherwise elements_fault (why t) (fixed_size t)
+    (element_count (fixed_size t) b) s b) clean) in
+    Decodes-map _ _ (Stands (vector t count)
+    (sequence (values (map (value_in t) (elements_in (fixed_size t) count b)))))
+    (Stands (list t limit) (value_in (list t limit) b)) r h fault
+    (λ v is. record {
+      value =
+          is.value ∙ ap (λ n. sequence (values (map (value_in t) (elements_in (fixed_size t) n b))))
+          count_is;
+      formed = is.formed;
+    })
+
+-- what is decoded is a value whose encoding the bytes are
+pub decoded_encodes : (format : Format) (t : SszType) (b : List ℕ) (r : Result Value DecodeFault)
+    → IsLegal format t → IsInput b → Decodes (why t 0 b) (Stands t (value_in t b)) r
+    → IfOk r (λ v. Encodes t (value_of v) b)
+decoded_encodes format t b (Ok v) legal input h =
+    let back = (agrees format t legal).only 0 b input h.0 in
+    subst (λ (w : SszValue). Encodes t w b) (sym h.1.value)
+    (record { fits = back.fits; bytes = back.bytes })
+decoded_encodes format t b (Err e) legal input h = tt
+
+pub decoded_fits : (format : Format) (t : SszType) (b : List ℕ) (r : Result Value DecodeFault)
+    → IsLegal format t → IsInput b → Decodes (why t 0 b) (Stands t (value_in t b)) r
+    → IfOk r (IsValue t)
+decoded_fits format t b (Ok v) legal input h =
+    let back = (agrees format t legal).only 0 b input h.0 in
+    record { fits = subst (Fits t) (sym h.1.value) back.fits; formed = h.1.formed }
+decoded_fits format t b (Err e) legal input h = tt

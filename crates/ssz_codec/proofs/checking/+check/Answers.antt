@@ -1,0 +1,138 @@
+use Rattle.std.proofs.Common.{◌∙◌, ◌*◌, ◌≤◌, ◌+◌, ◌^◌, ℕ, ap, ap₂, sym, subst, arith, rules, slice_range, length, List, ◌<◌}
+use Rattle.ssz_schema.specs.Unfolding.{type_of, tree_at, tree_over, AreBelow, IsBelow}
+use Rattle.std.specs.List.{AllByRecursion}
+use Rattle.ssz_schema.specs.Legal.{IsLegal}
+use Rattle.ssz_schema.proofs.SizeLemmas.{vector_few}
+use Rattle.ssz_value.specs.Faults.{why}
+use Rattle.ssz_value.proofs.Agree.{length_from_fault}
+use Rattle.ssz_codec.proofs.PlainLemmas.{clean_of, elements_clean}
+use Rattle.ssz_codec.proofs.Elements.{FixedFrom-more, FixedFrom-found, FixedFrom-end, VariableFrom-start, VariableFrom-part, VariableFrom-more, VariableFrom-found, fixed_found_head}
+use Rattle.ssz_codec.proofs.FieldLemmas.{FieldsFrom-start, FieldsFrom-found}
+use Rattle.ssz_value.proofs.PartLemmas.{known_weaker}
+use Rattle.ssz_codec.proofs.checking.+check.Goals as goal
+
+pub scope-elements-requires : goal.scope-elements-requires
+scope-elements-requires t c =
+    let is = sym c.ty.ensures.form ∙ ap (tree_over c.args.schema.now.trees) c.in-Vector.is in
+    let few : c.in-Vector.count ≤ 2 ^ 24 =
+    vector_few c.args.schema.now.format
+    (tree_at c.args.schema.now.trees c.in-Vector.elem) c.in-Vector.count
+    (subst (IsLegal c.args.schema.now.format) is c.ty.ensures.legal) in
+    search rules
+
+pub fixed_elements-returns-in-Some : goal.fixed_elements-returns-in-Some
+fixed_elements-returns-in-Some t c =
+    sym (fixed_found_head (why (type_of c.args.schema.now c.args.elem)) c.args.size c.args.count
+    c.args.start c.args.bytes.now c.in-Some.fault (sym c.in-Some.ensures))
+
+pub fixed_elements-returns-in-Some-scope : goal.fixed_elements-returns-in-Some-scope
+fixed_elements-returns-in-Some-scope t c =
+    sym (FixedFrom-found (why (type_of c.args.schema.now c.args.elem)) c.args.size c.args.count
+    c.args.start c.args.bytes.now c.loop-i.i c.in-Some-scope.fault
+    c.loop-i.invariant (omega arith) (sym c.in-Some-scope.ensures))
+
+pub fixed_elements-returns-then-is_plain : goal.fixed_elements-returns-then-is_plain
+fixed_elements-returns-then-is_plain t c =
+    let whole = length_from_fault (c.args.count * c.args.size) c.args.start c.args.bytes.now
+    (sym c.in_default.ensures) in
+    sym (elements_clean (type_of c.args.schema.now c.args.elem) c.args.size c.args.count
+    c.args.start c.args.bytes.now
+    (clean_of (type_of c.args.schema.now c.args.elem) (sym c.is_plain.ensures ∙ c.if-is_plain.true))
+    c.requires.size (λ i. omega (arith, c.type_inv.bytes i)) whole)
+
+pub fixed_elements-loop-i-preserved : goal.fixed_elements-loop-i-preserved
+fixed_elements-loop-i-preserved t c =
+    FixedFrom-more (why (type_of c.args.schema.now c.args.elem)) c.args.size c.args.count
+    c.args.start c.args.bytes.now c.loop-i.i
+    c.loop-i.invariant (omega arith) (sym c.in_default-scope.ensures)
+
+pub fixed_elements-returns : goal.fixed_elements-returns
+fixed_elements-returns t c =
+    sym (FixedFrom-end (why (type_of c.args.schema.now c.args.elem)) c.args.size c.args.count
+    c.args.start c.args.bytes.now c.loop-i.i c.loop-i.invariant (omega arith))
+
+pub variable_elements-loop-i-init : goal.variable_elements-loop-i-init
+variable_elements-loop-i-init t c =
+    VariableFrom-start (why (type_of c.args.schema.now c.args.elem)) c.args.count c.args.start
+    c.args.bytes.now (sym c.in_default.ensures)
+
+pub variable_elements-slice_bounds-part-count : goal.variable_elements-slice_bounds-part-count
+variable_elements-slice_bounds-part-count t c =
+    let part = VariableFrom-part
+    (why (type_of c.args.schema.now c.args.elem)) c.args.count c.args.start c.args.bytes.now
+    c.loop-i.i c.loop-i.invariant (omega arith) in
+    omega (arith, c.offset_at-from.ensures, c.end_of_part.ensures, part.up)
+
+pub variable_elements-slice_bounds-part-start : goal.variable_elements-slice_bounds-part-start
+variable_elements-slice_bounds-part-start t c =
+    let part = VariableFrom-part
+    (why (type_of c.args.schema.now c.args.elem)) c.args.count c.args.start c.args.bytes.now
+    c.loop-i.i c.loop-i.invariant (omega arith) in
+    omega (arith, c.offset_at-from.ensures, c.end_of_part.ensures, part.up)
+
+pub variable_elements-slice_bounds-part-end : goal.variable_elements-slice_bounds-part-end
+variable_elements-slice_bounds-part-end t c =
+    let part = VariableFrom-part
+    (why (type_of c.args.schema.now c.args.elem)) c.args.count c.args.start c.args.bytes.now
+    c.loop-i.i c.loop-i.invariant (omega arith) in
+    omega (arith, c.end_of_part.ensures, part.inside)
+
+-- the part that was checked is the one that the definition cuts
+pub variable_elements-returns-in-Some-scope : goal.variable_elements-returns-in-Some-scope
+variable_elements-returns-in-Some-scope t c =
+    let child = why (type_of c.args.schema.now c.args.elem) in
+    let same = ap₂ (λ (from to : ℕ).
+    child (c.args.start + from) (slice_range c.args.bytes.now from to)) c.offset_at-from.ensures
+    c.end_of_part.ensures in
+    sym (VariableFrom-found child c.args.count c.args.start c.args.bytes.now c.loop-i.i
+    c.in-Some-scope.fault c.loop-i.invariant (omega arith)
+    (sym same ∙ sym c.in-Some-scope.ensures))
+
+pub variable_elements-loop-i-preserved : goal.variable_elements-loop-i-preserved
+variable_elements-loop-i-preserved t c =
+    let child = why (type_of c.args.schema.now c.args.elem) in
+    let same = ap₂ (λ (from to : ℕ).
+    child (c.args.start + from) (slice_range c.args.bytes.now from to)) c.offset_at-from.ensures
+    c.end_of_part.ensures in
+    VariableFrom-more child c.args.count c.args.start c.args.bytes.now c.loop-i.i c.loop-i.invariant
+    (omega arith)
+    (sym same ∙ sym c.in_default-scope.ensures)
+
+pub container-loop-i-init : goal.container-loop-i-init
+container-loop-i-init t c =
+    FieldsFrom-start c.args.schema.now.trees c.args.fields.now c.args.start c.args.bytes.now
+    (sym c.in_default.ensures)
+
+pub
+    container-part_range-from-requires-clause-known : goal.container-part_range-from-requires-clause-known
+container-part_range-from-requires-clause-known t c =
+    known_weaker c.args.id (length c.args.schema.now.trees) c.args.fields.now c.requires.known
+    c.requires.before
+
+pub container-returns-in-Some-scope : goal.container-returns-in-Some-scope
+container-returns-in-Some-scope t c =
+    sym (FieldsFrom-found c.args.schema.now.trees c.args.fields.now c.args.start c.args.bytes.now
+    c.loop-i.i c.loop-i.place c.part_range-from.result.0 c.part_range-from.result.1
+    c.index-fields-i.result c.in-Some-scope.fault
+    c.loop-i.invariant c.loop-i-test.true c.index-fields-i.is c.part_range-from.ensures
+    (sym c.in-Some-scope.ensures))
+
+pub scope-scope-requires : goal.scope-scope-requires
+scope-scope-requires t c =
+    let all : AllByRecursion (IsBelow c.args.id) c.in-Union.options.items =
+    subst (AreBelow c.args.id) c.in-Union.is c.ty.ensures.before in
+    let known : AllByRecursion (IsBelow c.args.id) c.as_slice.result.now =
+    subst (AllByRecursion (IsBelow c.args.id)) (sym c.as_slice.ensures.value) all in
+    let below : c.in-Ok-union_head.option < c.args.id =
+    c.in-Ok-union_head.ensures.below c.args.id known in
+    search rules
+
+pub scope-container-requires : goal.scope-container-requires
+scope-container-requires t c =
+    let P : List (List ℕ × ℕ) → Type 0 =
+    AllByRecursion (λ (part : List ℕ × ℕ). part.1 < c.args.id) in
+    let all : P c.in-Container.fields.items =
+    subst (AreBelow c.args.id) c.in-Container.is c.ty.ensures.before in
+    let known : P c.as_slice-in-Container.result.now =
+    subst P (sym c.as_slice-in-Container.ensures.value) all in
+    search rules

@@ -1,0 +1,339 @@
+use Rattle.std.proofs.Common.{◌∙◌, ◌≤◌, ◌+◌, ◌*◌, ◌^◌, ◌≡◌, ℕ, ap, ap₂, sym, subst, arith, rules, slice_range, length, List, ◌<◌, map, get_or, Some, None}
+use Rattle.std.specs.List.{AllByRecursion}
+use Rattle.std.proofs.lemmas.List.{take_rest, length_push}
+use Rattle.std.proofs.lemmas.Result.{err_from_is_err_and}
+use Rattle.ssz_schema.specs.Types.{SszType, union}
+use Rattle.ssz_schema.specs.Unfolding.{type_of, tree_at, tree_over, AreBelow, options_over, fields_over}
+use Rattle.ssz_schema.specs.Legal.{IsLegal}
+use Rattle.ssz_schema.specs.Sizes.{head_size, fixed_size}
+use Rattle.ssz_schema.proofs.SizeLemmas.{vector_few}
+use Rattle.ssz_value.specs.Faults.{why}
+use Rattle.ssz_value.specs.Values.{chosen, sequence, values}
+use Rattle.ssz_value.specs.Reading.{value_in}
+use Rattle.ssz_value.specs.Standing.{value_of, Stands, IsFormed, FieldsFormed}
+use Rattle.ssz_value.proofs.ValueLemmas.{chosen_is, seq_is}
+use Rattle.ssz_codec.proofs.UnionLemmas.{union_past, union_some, some_byte}
+use Rattle.ssz_codec.proofs.Elements.{FixedFrom-more, FixedFrom-found, FixedFrom-end, VariableFrom-start, VariableFrom-part, VariableFrom-more, VariableFrom-found, VariableFrom-end, fixed_found_head}
+use Rattle.ssz_codec.proofs.FieldLemmas.{FieldsFrom, FieldsFrom-start, FieldsFrom-found, FieldsFrom-more, FieldsFrom-end}
+use Rattle.ssz_value.proofs.PartLemmas.{known_weaker, values_push}
+use Rattle.ssz_value.proofs.FormLemmas.{formed_push, chosen_formed, seq_formed_fields, no_fields_formed, fields_push}
+use Rattle.ssz_codec.specs.Answers.{Decodes, Faulty}
+use Rattle.ssz_codec.proofs.ReadLemmas.{ReadFrom, ReadFrom-start, ReadFrom-fixed, ReadFrom-variable, ReadFrom-end, FieldsRead, FieldsRead-start, FieldsRead-more, FieldsRead-end, error_of_part, list_decodes}
+use Rattle.ssz_codec.proofs.OptionLemmas.{union_value, none_decodes}
+use Rattle.ssz_codec.proofs.decoding.+scope.Goals as goal
+
+pub scope-elements-requires : goal.scope-elements-requires
+scope-elements-requires t c =
+    let is = sym c.ty.ensures.form ∙ ap (tree_over c.args.schema.now.trees) c.in-Vector.is in
+    let few : c.in-Vector.count ≤ 2 ^ 24 =
+    vector_few c.args.schema.now.format
+    (tree_at c.args.schema.now.trees c.in-Vector.elem) c.in-Vector.count
+    (subst (IsLegal c.args.schema.now.format) is c.ty.ensures.legal) in
+    search rules
+
+pub scope-returns-in-Vector : goal.scope-returns-in-Vector
+scope-returns-in-Vector t c =
+    let is = sym c.ty.ensures.form ∙ ap (tree_over c.args.schema.now.trees) c.in-Vector.is in
+    subst (λ (ty : SszType).
+    Decodes (why ty c.args.start c.args.bytes.now)
+    (Stands ty (value_in ty c.args.bytes.now)) c.elements.result) (sym is) c.elements.ensures
+
+pub scope-returns-in-Ok : goal.scope-returns-in-Ok
+scope-returns-in-Ok t c =
+    let is = sym c.ty.ensures.form ∙ ap (tree_over c.args.schema.now.trees) c.in-List.is in
+    subst (λ (ty : SszType).
+    Decodes (why ty c.args.start c.args.bytes.now)
+    (Stands ty (value_in ty c.args.bytes.now)) c.elements-in-Ok.result) (sym is)
+    (list_decodes (tree_at c.args.schema.now.trees c.in-List.elem) c.in-List.limit c.in-Ok.count
+    c.args.start c.args.bytes.now c.fixed_size.result c.elements-in-Ok.result
+    c.fixed_size.ensures.exact c.in-Ok.ensures.ok c.in-Ok.ensures.fault
+    c.elements-in-Ok.ensures)
+
+pub scope-container-requires : goal.scope-container-requires
+scope-container-requires t c =
+    let P : List (List ℕ × ℕ) → Type 0 =
+    AllByRecursion (λ (part : List ℕ × ℕ). part.1 < c.args.id) in
+    let all : P c.in-Container.fields.items =
+    subst (AreBelow c.args.id) c.in-Container.is c.ty.ensures.before in
+    let known : P c.as_slice-in-Container.result.now =
+    subst P (sym c.as_slice-in-Container.ensures.value) all in
+    search rules
+
+pub scope-returns-in-Union : goal.scope-returns-in-Union
+scope-returns-in-Union t c =
+    let is : type_of c.args.schema.now c.args.id
+    ≡ union (options_over c.args.schema.now.trees c.as_slice.result.now) =
+    sym c.ty.ensures.form ∙ ap (tree_over c.args.schema.now.trees) c.in-Union.is
+    ∙ ap (λ os. union (options_over c.args.schema.now.trees os))
+    (sym c.as_slice.ensures.value) in
+    subst (λ (ty : SszType).
+    Decodes (why ty c.args.start c.args.bytes.now)
+    (Stands ty (value_in ty c.args.bytes.now)) c.chosen.result) (sym is) c.chosen.ensures
+
+pub chosen-returns-in-None : goal.chosen-returns-in-None
+chosen-returns-in-None t c =
+    subst (Faulty (why (union (options_over c.args.schema.now.trees c.args.options.now))
+    c.args.start c.args.bytes.now)) (sym c.bad-in-None.ensures)
+    (union_past c.args.schema.now.trees c.args.options.now c.args.start c.args.bytes.now
+    (some_byte c.args.bytes.now (sym c.if-is_empty.ensures)) c.in-None.ensures)
+
+pub chosen-returns-in-Some-None : goal.chosen-returns-in-Some-None
+chosen-returns-in-Some-None t c =
+    none_decodes c.args.schema.now.trees c.args.options.now c.args.start c.args.bytes.now _
+    c.no_value.result (some_byte c.args.bytes.now (sym c.if-is_empty.ensures))
+    (ap Some (sym c.in-Some-None.field-0-is)
+    ∙ c.in-Some-None.ensures) (take_rest c.args.bytes.now 1) c.no_value.ensures
+
+pub chosen-returns-in_err-inner-in-Some-Some : goal.chosen-returns-in_err-inner-in-Some-Some
+chosen-returns-in_err-inner-in-Some-Some t c =
+    let p = err_from_is_err_and c.from_residual.result c.from_residual.ensures.1 in
+    let at = union_some c.args.schema.now.trees c.args.options.now c.args.start
+    c.in-Some-Some.option c.args.bytes.now
+    (some_byte c.args.bytes.now (sym c.if-is_empty.ensures))
+    (ap Some (sym c.in-Some-Some.field-0-is) ∙ c.in-Some-Some.ensures)
+    ∙ ap (why (type_of c.args.schema.now c.in-Some-Some.option) (c.args.start + 1))
+    (sym (take_rest c.args.bytes.now 1)) in
+    rw (p.1, p.2) (error_of_part _
+    (why (union (options_over c.args.schema.now.trees c.args.options.now)) c.args.start
+    c.args.bytes.now) _ c.in_err-inner-in-Some-Some.ensures (λ f found. at ∙ found))
+
+pub chosen-returns-in_ok-new-in-Some-Some : goal.chosen-returns-in_ok-new-in-Some-Some
+chosen-returns-in_ok-new-in-Some-Some t c =
+    let at = union_some c.args.schema.now.trees c.args.options.now c.args.start
+    c.in-Some-Some.option c.args.bytes.now
+    (some_byte c.args.bytes.now (sym c.if-is_empty.ensures))
+    (ap Some (sym c.in-Some-Some.field-0-is) ∙ c.in-Some-Some.ensures)
+    ∙ ap (why (type_of c.args.schema.now c.in-Some-Some.option) (c.args.start + 1))
+    (sym (take_rest c.args.bytes.now 1)) in (
+      at ∙ c.in_ok-inner-in-Some-Some.ensures.0,
+      record {
+        value = chosen_is (get_or c.args.bytes.now 0 0) c.in_ok-new-in-Some-Some.field-0
+            ∙ ap (λ v. chosen (get_or c.args.bytes.now 0 0) (value_of v))
+            c.in_ok-new-in-Some-Some.ensures.ok
+            ∙ ap (chosen (get_or c.args.bytes.now 0 0)) (c.in_ok-inner-in-Some-Some.ensures.1.value
+            ∙ ap (value_in (type_of c.args.schema.now c.in-Some-Some.option))
+            (take_rest c.args.bytes.now 1))
+            ∙ sym (union_value c.args.schema.now.trees c.args.options.now c.in-Some-Some.option
+            c.args.bytes.now (some_byte c.args.bytes.now (sym c.if-is_empty.ensures))
+            (ap Some (sym c.in-Some-Some.field-0-is) ∙ c.in-Some-Some.ensures));
+        formed = chosen_formed c.args.schema.now.trees c.args.options.now
+            (get_or c.args.bytes.now 0 0) c.in-Some-Some.option c.in_ok-new-in-Some-Some.field-0
+            (ap Some (sym c.in-Some-Some.field-0-is) ∙ c.in-Some-Some.ensures)
+            (subst (IsFormed (type_of c.args.schema.now c.in-Some-Some.option))
+            (sym c.in_ok-new-in-Some-Some.ensures.ok)
+            c.in_ok-inner-in-Some-Some.ensures.1.formed);
+      },
+    )
+
+pub container-loop-i-init : goal.container-loop-i-init
+container-loop-i-init t c = record {
+  faultless = FieldsFrom-start c.args.schema.now.trees c.args.fields.now c.args.start
+      c.args.bytes.now (sym c.in_default.ensures);
+  read = subst (FieldsRead c.args.schema.now.trees c.args.fields.now c.args.bytes.now 0 0)
+      (sym (ap (map value_of) c.in_ok-parts.ensures.items))
+      (FieldsRead-start c.args.schema.now.trees c.args.fields.now c.args.bytes.now);
+  formed = subst (FieldsFormed (fields_over c.args.schema.now.trees c.args.fields.now))
+      (sym c.in_ok-parts.ensures.items)
+      (no_fields_formed (fields_over c.args.schema.now.trees c.args.fields.now));
+  count = ap length c.in_ok-parts.ensures.items;
+}
+
+pub
+    container-part_range-from-requires-clause-known : goal.container-part_range-from-requires-clause-known
+container-part_range-from-requires-clause-known t c =
+    known_weaker c.args.id (length c.args.schema.now.trees) c.args.fields.now c.requires.known
+    c.requires.before
+
+pub container-returns-in_err-value : goal.container-returns-in_err-value
+container-returns-in_err-value t c =
+    let p = err_from_is_err_and c.from_residual-in_err-value.result
+    c.from_residual-in_err-value.ensures.1 in
+    rw (p.1, p.2) (error_of_part _ _ _ c.in_err-value.ensures
+    (λ f found. FieldsFrom-found c.args.schema.now.trees c.args.fields.now c.args.start
+    c.args.bytes.now c.loop-i.i c.loop-i.place c.part_range-from.result.0
+    c.part_range-from.result.1 c.index-fields-i.result f
+    c.loop-i.invariant.faultless c.loop-i-test.true c.index-fields-i.is c.part_range-from.ensures
+    found))
+
+pub container-loop-i-preserved : goal.container-loop-i-preserved
+container-loop-i-preserved t c =
+    let trees = c.args.schema.now.trees in
+    let size : head_size (fixed_size (tree_at c.args.schema.now.trees c.index-fields-i.result.1))
+    ≡ c.head_len.result = sym (c.head_len.ensures ∙ ap head_size c.fixed_size.ensures.exact) in
+    let next = ap (λ n. c.loop-i.place + n) size in
+    record {
+      faultless = subst (FieldsFrom c.args.schema.now.trees c.args.fields.now c.args.start
+          c.args.bytes.now (c.loop-i.i + 1)) next
+          (FieldsFrom-more c.args.schema.now.trees c.args.fields.now c.args.start c.args.bytes.now
+          c.loop-i.i c.loop-i.place c.part_range-from.result.0 c.part_range-from.result.1
+          c.index-fields-i.result
+          c.loop-i.invariant.faultless c.loop-i-test.true c.index-fields-i.is
+          c.part_range-from.ensures c.in_ok-value.ensures.0);
+      read = subst (λ (place : ℕ).
+          FieldsRead c.args.schema.now.trees c.args.fields.now c.args.bytes.now
+          (c.loop-i.i + 1) place (map value_of c.push.new.self.items)) next
+          (subst (FieldsRead c.args.schema.now.trees c.args.fields.now c.args.bytes.now
+          (c.loop-i.i + 1) (c.loop-i.place + head_size
+          (fixed_size (tree_at c.args.schema.now.trees c.index-fields-i.result.1))))
+          (sym (values_push _ _ c.in_ok-value.value c.in_ok-push.ensures.items))
+          (FieldsRead-more c.args.schema.now.trees c.args.fields.now c.args.bytes.now c.loop-i.i
+          c.loop-i.place c.part_range-from.result.0 c.part_range-from.result.1
+          c.index-fields-i.result _ _
+          c.loop-i.invariant.read c.loop-i-test.true c.index-fields-i.is c.part_range-from.ensures
+          c.in_ok-value.ensures.1.value));
+      formed = subst (FieldsFormed (fields_over c.args.schema.now.trees c.args.fields.now))
+          (sym c.in_ok-push.ensures.items)
+          (fields_push c.args.schema.now.trees c.args.fields.now c.loop-i.parts.items c.loop-i.i
+          c.index-fields-i.result c.in_ok-value.value c.loop-i.invariant.formed
+          c.loop-i.invariant.count c.loop-i-test.true c.index-fields-i.is
+          c.in_ok-value.ensures.1.formed);
+      count = ap length c.in_ok-push.ensures.items
+          ∙ length_push c.loop-i.parts.items c.in_ok-value.value
+          ∙ ap (λ n. n + 1) c.loop-i.invariant.count;
+    }
+
+pub container-returns : goal.container-returns
+container-returns t c = (
+  FieldsFrom-end c.args.schema.now.trees c.args.fields.now c.args.start c.args.bytes.now c.loop-i.i
+      c.loop-i.place c.loop-i.invariant.faultless (omega arith),
+  record {
+    value = seq_is c.loop-i.parts
+        ∙ ap (λ vs. sequence (values vs))
+        (FieldsRead-end c.args.schema.now.trees c.args.fields.now c.args.bytes.now c.loop-i.i
+        c.loop-i.place _ c.loop-i.invariant.read (omega arith));
+    formed = seq_formed_fields
+        (fields_over c.args.schema.now.trees c.args.fields.now) c.loop-i.parts
+        c.loop-i.invariant.formed;
+  },
+)
+
+pub fixed_elements-returns-in-Some : goal.fixed_elements-returns-in-Some
+fixed_elements-returns-in-Some t c =
+    fixed_found_head (why (type_of c.args.schema.now c.args.elem)) c.args.size c.args.count
+    c.args.start c.args.bytes.now c.in-Some.fault (sym c.in-Some.ensures)
+
+pub fixed_elements-returns-in_err-value : goal.fixed_elements-returns-in_err-value
+fixed_elements-returns-in_err-value t c =
+    let p = err_from_is_err_and c.from_residual-in_err-value.result
+    c.from_residual-in_err-value.ensures.1 in
+    rw (p.1, p.2) (error_of_part _ _ _ c.in_err-value.ensures
+    (λ f found. FixedFrom-found
+    (why (type_of c.args.schema.now c.args.elem)) c.args.size c.args.count c.args.start
+    c.args.bytes.now c.loop-i.i f c.loop-i.invariant.faultless (omega arith) found))
+
+pub fixed_elements-loop-i-preserved : goal.fixed_elements-loop-i-preserved
+fixed_elements-loop-i-preserved t c =
+    record {
+      faultless = FixedFrom-more
+          (why (type_of c.args.schema.now c.args.elem)) c.args.size c.args.count c.args.start
+          c.args.bytes.now c.loop-i.i c.loop-i.invariant.faultless
+          (omega arith) c.in_ok-value.ensures.0;
+      read = subst (ReadFrom (type_of c.args.schema.now c.args.elem)
+          (Some c.args.size) c.args.count c.args.bytes.now (c.loop-i.i + 1)
+          ((c.loop-i.i + 1) * c.args.size))
+          (sym (values_push _ _ c.in_ok-value.value c.in_ok-push.ensures.items))
+          (ReadFrom-fixed (type_of c.args.schema.now c.args.elem) c.args.size c.args.count
+          c.args.bytes.now c.loop-i.i _ _ c.loop-i.invariant.read c.loop-i-test.true
+          c.in_ok-value.ensures.1.value);
+      formed = subst (AllByRecursion (IsFormed (type_of c.args.schema.now c.args.elem)))
+          (sym c.in_ok-push.ensures.items)
+          (formed_push (type_of c.args.schema.now c.args.elem) c.loop-i.parts.items
+          c.in_ok-value.value c.loop-i.invariant.formed c.in_ok-value.ensures.1.formed);
+    }
+
+pub fixed_elements-returns : goal.fixed_elements-returns
+fixed_elements-returns t c = (
+  FixedFrom-end (why (type_of c.args.schema.now c.args.elem)) c.args.size c.args.count c.args.start
+      c.args.bytes.now c.loop-i.i c.loop-i.invariant.faultless (omega arith),
+  record {
+    value = ReadFrom-end (type_of c.args.schema.now c.args.elem)
+        (Some c.args.size) c.args.count c.args.bytes.now c.loop-i.i _ _ c.loop-i.invariant.read
+        (omega arith);
+    formed = c.loop-i.invariant.formed;
+  },
+)
+
+pub variable_elements-returns : goal.variable_elements-returns
+variable_elements-returns t c = (
+  VariableFrom-end (why (type_of c.args.schema.now c.args.elem)) c.args.count c.args.start
+      c.args.bytes.now c.loop-i.i c.loop-i.invariant.faultless (omega arith),
+  record {
+    value = ReadFrom-end
+        (type_of c.args.schema.now c.args.elem) None c.args.count c.args.bytes.now c.loop-i.i _ _
+        c.loop-i.invariant.read (omega arith);
+    formed = c.loop-i.invariant.formed;
+  },
+)
+
+pub variable_elements-loop-i-init : goal.variable_elements-loop-i-init
+variable_elements-loop-i-init t c = record {
+  faultless = VariableFrom-start
+      (why (type_of c.args.schema.now c.args.elem)) c.args.count c.args.start c.args.bytes.now
+      (sym c.in_default.ensures);
+  read = subst (ReadFrom (type_of c.args.schema.now c.args.elem) None c.args.count c.args.bytes.now
+      0 (4 * 0)) (sym (ap (map value_of) c.in_ok-parts.ensures.items))
+      (ReadFrom-start (type_of c.args.schema.now c.args.elem) None c.args.count
+      (4 * 0) c.args.bytes.now (omega arith));
+  formed = subst (AllByRecursion (IsFormed (type_of c.args.schema.now c.args.elem)))
+      (sym c.in_ok-parts.ensures.items) tt;
+}
+
+pub variable_elements-slice_bounds-part-count : goal.variable_elements-slice_bounds-part-count
+variable_elements-slice_bounds-part-count t c =
+    let part = VariableFrom-part
+    (why (type_of c.args.schema.now c.args.elem)) c.args.count c.args.start c.args.bytes.now
+    c.loop-i.i c.loop-i.invariant.faultless (omega arith) in
+    omega (arith, c.offset_at-from.ensures, c.end_of_part.ensures, part.up)
+
+pub variable_elements-slice_bounds-part-start : goal.variable_elements-slice_bounds-part-start
+variable_elements-slice_bounds-part-start t c =
+    let part = VariableFrom-part
+    (why (type_of c.args.schema.now c.args.elem)) c.args.count c.args.start c.args.bytes.now
+    c.loop-i.i c.loop-i.invariant.faultless (omega arith) in
+    omega (arith, c.offset_at-from.ensures, c.end_of_part.ensures, part.up)
+
+pub variable_elements-slice_bounds-part-end : goal.variable_elements-slice_bounds-part-end
+variable_elements-slice_bounds-part-end t c =
+    let part = VariableFrom-part
+    (why (type_of c.args.schema.now c.args.elem)) c.args.count c.args.start c.args.bytes.now
+    c.loop-i.i c.loop-i.invariant.faultless (omega arith) in
+    omega (arith, c.end_of_part.ensures, part.inside)
+
+pub variable_elements-returns-in_err-value : goal.variable_elements-returns-in_err-value
+variable_elements-returns-in_err-value t c =
+    let p = err_from_is_err_and c.from_residual-in_err-value.result
+    c.from_residual-in_err-value.ensures.1 in
+    let child = why (type_of c.args.schema.now c.args.elem) in
+    let same = ap₂ (λ (from to : ℕ).
+    child (c.args.start + from) (slice_range c.args.bytes.now from to)) c.offset_at-from.ensures
+    c.end_of_part.ensures in
+    rw (p.1, p.2) (error_of_part _ _ _ c.in_err-value.ensures
+    (λ f found. VariableFrom-found
+    (why (type_of c.args.schema.now c.args.elem)) c.args.count c.args.start c.args.bytes.now
+    c.loop-i.i f c.loop-i.invariant.faultless (omega arith) (sym same ∙ found)))
+
+pub variable_elements-loop-i-preserved : goal.variable_elements-loop-i-preserved
+variable_elements-loop-i-preserved t c =
+    let child = why (type_of c.args.schema.now c.args.elem) in
+    let same = ap₂ (λ (from to : ℕ).
+    child (c.args.start + from) (slice_range c.args.bytes.now from to)) c.offset_at-from.ensures
+    c.end_of_part.ensures in
+    let value = ap₂ (λ (from to : ℕ).
+    value_in (type_of c.args.schema.now c.args.elem) (slice_range c.args.bytes.now from to))
+    c.offset_at-from.ensures c.end_of_part.ensures in
+    record {
+      faultless = VariableFrom-more
+          (why (type_of c.args.schema.now c.args.elem)) c.args.count c.args.start c.args.bytes.now
+          c.loop-i.i c.loop-i.invariant.faultless (omega arith) (sym same
+          ∙ c.in_ok-value.ensures.0);
+      read = subst (ReadFrom (type_of c.args.schema.now c.args.elem) None c.args.count
+          c.args.bytes.now (c.loop-i.i + 1) (4 * (c.loop-i.i + 1)))
+          (sym (values_push _ _ c.in_ok-value.value c.in_ok-push.ensures.items))
+          (ReadFrom-variable (type_of c.args.schema.now c.args.elem) c.args.count c.args.bytes.now
+          c.loop-i.i _ _ c.loop-i.invariant.read c.loop-i-test.true
+          (c.in_ok-value.ensures.1.value ∙ value));
+      formed = subst (AllByRecursion (IsFormed (type_of c.args.schema.now c.args.elem)))
+          (sym c.in_ok-push.ensures.items)
+          (formed_push (type_of c.args.schema.now c.args.elem) c.loop-i.parts.items
+          c.in_ok-value.value c.loop-i.invariant.formed c.in_ok-value.ensures.1.formed);
+    }

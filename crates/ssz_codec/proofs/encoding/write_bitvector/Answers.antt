@@ -1,0 +1,18 @@
+use Rattle.std.proofs.Common.{◌∙◌, List, ℕ, length, ap, sym, subst, arith}
+use Rattle.ssz_schema.proofs.Numbers.{length-le_bytes}
+use Rattle.ssz_codec.specs.Writing.{Writes}
+use Rattle.ssz_codec.proofs.WritingLemmas.{bitvector_run}
+use Rattle.ssz_codec.proofs.encoding.write_bitvector.Goals as goal
+
+pub write_bits-requires-clause-room : goal.write_bits-requires-clause-room
+write_bits-requires-clause-room c =
+    let bytes = bitvector_run c.args.n c.args.value.now c.in-Bits.run' c.in-Bits.is c.requires.value
+    in
+    omega (arith, c.requires.room, ap length bytes ∙ length-le_bytes _ _)
+
+pub returns-in-Bits : goal.returns-in-Bits
+returns-in-Bits c =
+    let bytes = bitvector_run c.args.n c.args.value.now c.in-Bits.run' c.in-Bits.is c.requires.value
+    in
+    subst (λ (bs : List ℕ). Writes bs c.write_bits.result c.write_bits.new.room)
+    (sym bytes) c.write_bits.ensures

@@ -1,0 +1,36 @@
+-- What the calls answer.
+use Rattle.std.specs.Prelude.{ℕ, ◌≡◌, ◌-◌, ◌<◌, ◌≤◌, ◌^◌, min, List, ◌++◌, length, Option, Some, None, Result, Ok, Err}
+use Rattle.ssz_schema.specs.declared.fault.Fault.{Fault}
+use Rattle.ssz_schema.specs.Types.{SszType}
+use Rattle.ssz_value.specs.declared.value.Value.{Value}
+use Rattle.ssz_value.specs.Faults.{why}
+use Rattle.ssz_value.specs.Reading.{value_in}
+use Rattle.ssz_value.specs.Standing.{Stands}
+use Rattle.ssz_codec.specs.declared.fault.DecodeFault.{DecodeFault}
+use Rattle.ssz_codec.specs.declared.fault.DecodeFault.TheVariants.{Bad, Memory}
+use Rattle.ssz_codec.specs.declared.fault.EncodeFault.{EncodeFault}
+use Rattle.ssz_codec.specs.declared.fault.EncodeFault.TheVariants.{TooLong, Memory as NoMemory}
+
+-- this is the first fault, or memory ran out
+abbrev pub Faulty : Option Fault → DecodeFault → Type 0
+Faulty fault (Bad f) = fault ≡ Some f
+Faulty fault Memory = Unit {0}
+
+-- there is no fault and the answer is as wanted, or it is the first fault, or memory ran out
+abbrev pub Decodes : {X : Type 0} → Option Fault → (X → Type 0) → Result X DecodeFault → Type 0
+Decodes fault P (Ok x) = (fault ≡ None) × P x
+Decodes fault P (Err e) = Faulty fault e
+
+-- of bytes that begin at start: the value of the type which they stand for, or their first fault
+abbrev pub DecodesTo : SszType → ℕ → List ℕ → Result Value DecodeFault → Type 0
+DecodesTo t start b = Decodes (why t start b) (Stands t (value_in t b))
+
+-- the bytes are appended, unless they are more than max or memory runs out
+abbrev pub Appends : List ℕ → ℕ → List ℕ → List ℕ → Result Unit EncodeFault → Type 0
+Appends bytes max old new (Ok _) = (length bytes ≤ max) × (new ≡ old ++ bytes)
+Appends bytes max old new (Err TooLong) = (max < length bytes) × (new ≡ old)
+Appends bytes max old new (Err NoMemory) = (length bytes ≤ max) × (new ≡ old)
+
+-- the number, or the greatest u64 where it is greater
+abbrev pub capped : ℕ → ℕ
+capped n = min n (2 ^ 64 - 1)

@@ -1,0 +1,185 @@
+ghost use Rattle.std.specs.Prelude.{◌≡◌, ◌+◌, ◌<◌, ◌≤◌, ◌^◌, length, Some, None};
+ghost use Rattle.std.specs.List.{AllByRecursion};
+ghost use Rattle.ssz_schema.specs.Types.{boolean, bitvector, bitlist, container};
+ghost use Rattle.ssz_schema.specs.Sizes.{fixed_size};
+ghost use Rattle.ssz_schema.specs.Legal.{IsSize, IsLegal};
+ghost use Rattle.ssz_schema.specs.Unfolding.{type_of, fields_over};
+ghost use Rattle.ssz_value.specs.Faults.{why, elements_fault};
+
+use super::fields::{fields_head_fault, part_range, union_head};
+use super::heads::{count_of, end_of_part, head_len, length_fault, offset_at, offsets_fault};
+use super::plain::is_plain;
+use ssz_basic::{read_bitlist, read_bitvector, read_bool};
+use ssz_schema::{Fault, Name, Schema, Ty, TypeId};
+
+/// The first fault of the bytes: None exactly where they are the encoding of a value of the type.
+///
+/// It takes no memory, whatever counts and limits the bytes or the schema claim, and its stack
+/// grows with the nesting of the type alone. It visits no element of a type in which no fault can
+/// occur.
+pub fn check(schema: &Schema, id: TypeId, bytes: &[u8]) -> Option<Fault>
+    requires known { id < length schema.now.trees }
+    requires short { length bytes.now < 2 ^ 32 }
+    ensures { result ≡ why (type_of schema.now id) 0 bytes.now }
+{
+    scope(schema, id, 0, bytes)
+}
+
+// Of bytes that begin at start.
+#[cycle(check)]
+fn scope(schema: &Schema, id: TypeId, start: u64, bytes: &[u8]) -> Option<Fault>
+    requires known { id < length schema.now.trees }
+    requires short { start + length bytes.now < 2 ^ 32 }
+    ensures { result ≡ why (type_of schema.now id) start bytes.now }
+{
+    match schema.ty(id) {
+        Ty::Uint(width) => length_fault(width.byte_count(), start, bytes),
+        Ty::Boolean => boolean(start, bytes),
+        Ty::Bitvector(n) => bitvector(*n, start, bytes),
+        Ty::Bitlist(limit) => read_bitlist(bytes, *limit, start).err(),
+        Ty::Vector(elem, count) => elements(schema, *elem, *count, start, bytes),
+        Ty::List(elem, limit) => {
+            match count_of(schema.fixed_size(*elem), *limit, start, bytes) {
+                Ok(count) => elements(schema, *elem, count, start, bytes),
+                Err(fault) => Some(fault),
+            }
+        }
+        Ty::Union(options) => match union_head(options.as_slice(), start, bytes) {
+            Ok(option) => scope(schema, option, start + 1, &bytes[1..]),
+            Err(fault) => fault,
+        },
+        Ty::Container(fields) => container(schema, id, fields.as_slice(), start, bytes),
+    }
+}
+
+fn boolean(start: u64, bytes: &[u8]) -> Option<Fault>
+    requires { start + length bytes.now < 2 ^ 32 }
+    ensures { result ≡ why boolean start bytes.now }
+{
+    if let Some(fault) = length_fault(1, start, bytes) {
+        return Some(fault);
+    }
+    read_bool(bytes[0], start).err()
+}
+
+fn bitvector(n: u64, start: u64, bytes: &[u8]) -> Option<Fault>
+    requires some { 0 < n }
+    requires few { n ≤ 2 ^ 32 }
+    requires short { start + length bytes.now < 2 ^ 32 }
+    ensures { result ≡ why (bitvector n) start bytes.now }
+{
+    if let Some(fault) = length_fault((n + 7) / 8, start, bytes) {
+        return Some(fault);
+    }
+    read_bitvector(bytes, n, start).err()
+}
+
+// Of count elements.
+#[cycle(check)]
+fn elements(schema: &Schema, elem: TypeId, count: u64, start: u64, bytes: &[u8]) -> Option<Fault>
+    requires known { elem < length schema.now.trees }
+    requires few { count ≤ 2 ^ 32 }
+    requires short { start + length bytes.now < 2 ^ 32 }
+    ensures { let t = type_of schema.now elem in
+        result ≡ elements_fault (why t) (fixed_size t) count start bytes.now }
+{
+    match schema.fixed_size(elem) {
+        Some(size) => fixed_elements(schema, elem, size, count, start, bytes),
+        None => variable_elements(schema, elem, count, start, bytes),
+    }
+}
+
+// Of count elements of this size.
+#[cycle(check)]
+fn fixed_elements(
+    schema: &Schema,
+    elem: TypeId,
+    size: u64,
+    count: u64,
+    start: u64,
+    bytes: &[u8],
+) -> Option<Fault>
+    requires known { elem < length schema.now.trees }
+    requires size { fixed_size (type_of schema.now elem) ≡ Some size }
+    requires in_range { IsSize size }
+    requires few { count ≤ 2 ^ 32 }
+    requires short { start + length bytes.now < 2 ^ 32 }
+    ensures { let t = type_of schema.now elem in
+        result ≡ elements_fault (why t) (Some size) count start bytes.now }
+{
+    if let Some(fault) = length_fault(count * size, start, bytes) {
+        return Some(fault);
+    }
+    // Asked of two elements at least, so that the question costs no more than the bytes.
+    if count > 1 {
+        if is_plain(schema, elem) {
+            return None;
+        }
+    }
+    for i in 0..count {
+        let place = (i * size) as usize;
+        let part = &bytes[place..place + size as usize];
+        if let Some(fault) = scope(schema, elem, start + place as u64, part) {
+            return Some(fault);
+        }
+    }
+    None
+}
+
+// Of count elements of a variable-size type.
+#[cycle(check)]
+fn variable_elements(
+    schema: &Schema,
+    elem: TypeId,
+    count: u64,
+    start: u64,
+    bytes: &[u8],
+) -> Option<Fault>
+    requires known { elem < length schema.now.trees }
+    requires size { fixed_size (type_of schema.now elem) ≡ None }
+    requires few { count ≤ 2 ^ 32 }
+    requires short { start + length bytes.now < 2 ^ 32 }
+    ensures { let t = type_of schema.now elem in
+        result ≡ elements_fault (why t) None count start bytes.now }
+{
+    if let Some(fault) = offsets_fault(count, start, bytes) {
+        return Some(fault);
+    }
+    for i in 0..count {
+        let from = offset_at(bytes, (4 * i) as usize) as usize;
+        let part = &bytes[from..end_of_part(count, i, bytes)];
+        if let Some(fault) = scope(schema, elem, start + from as u64, part) {
+            return Some(fault);
+        }
+    }
+    None
+}
+
+// Of a container of these fields, whose types stand before id.
+#[cycle(check)]
+fn container(
+    schema: &Schema,
+    id: TypeId,
+    fields: &[(Name, TypeId)],
+    start: u64,
+    bytes: &[u8],
+) -> Option<Fault>
+    requires known { id < length schema.now.trees }
+    requires before { AllByRecursion (λ part. part.1 < id) fields.now }
+    requires short { start + length bytes.now < 2 ^ 32 }
+    ensures { result ≡ why (container (fields_over schema.now.trees fields.now)) start bytes.now }
+{
+    if let Some(fault) = fields_head_fault(schema, fields, start, bytes) {
+        return Some(fault);
+    }
+    let mut place = 0usize;
+    for (i, field) in fields.iter().enumerate() {
+        let (from, to) = part_range(schema, field.1, fields, i, place, bytes);
+        let part = &bytes[from..to];
+        if let Some(fault) = scope(schema, field.1, start + from as u64, part) {
+            return Some(fault);
+        }
+        place += head_len(schema.fixed_size(field.1)) as usize;
+    }
+    None
+}

@@ -1,0 +1,348 @@
+ghost use Rattle.std.specs.Prelude.{◌≡◌, ◌+◌, ◌*◌, ◌<◌, ◌≤◌, ◌^◌, length, map, Some, None, Option, IfOk, nat_lt, if◌then◌else◌};
+ghost use Rattle.std.specs.List.{AllByRecursion};
+ghost use Rattle.ssz_schema.specs.declared.width.Width.TheVariants.{W8};
+ghost use Rattle.ssz_schema.specs.Types.{Options, uint, boolean, container, vector, bitvector, bitlist, union};
+ghost use Rattle.ssz_schema.specs.Sizes.{fixed_size};
+ghost use Rattle.ssz_schema.specs.Legal.{IsSize};
+ghost use Rattle.ssz_schema.specs.Bytes.{le_number, bits_of_number};
+ghost use Rattle.ssz_schema.specs.Faults.{extra};
+ghost use Rattle.ssz_schema.specs.Unfolding.{type_of, fields_over, options_over, IsBelow};
+ghost use Rattle.ssz_value.specs.Values.{chosen_none, sequence, values};
+ghost use Rattle.ssz_value.specs.Faults.{why, elements_fault};
+ghost use Rattle.ssz_value.specs.Reading.{value_in, elements_in};
+ghost use Rattle.ssz_value.specs.Laws.{Encodes};
+ghost use Rattle.ssz_value.specs.Standing.{value_of, IsValue, Stands};
+ghost use Rattle.ssz_value.specs.Shapes.{StandAlike};
+ghost use Rattle.ssz_codec.specs.declared.fault.DecodeFault.TheVariants.{Bad};
+ghost use Rattle.ssz_codec.specs.Answers.{Decodes, DecodesTo};
+
+use super::fault::DecodeFault;
+use super::fields::{fields_head_fault, part_range};
+use super::heads::{
+    count_of, end_of_part, head_len, length_fault, none_fault, offset_at, offsets_fault,
+};
+use ssz_basic::{bit, read_bitlist, read_bitvector, read_bool, read_uint};
+use ssz_chunk::Chunk;
+use ssz_schema::{BitRun, ByteRun, Fault, Name, Schema, Ty, TypeId, Width};
+use ssz_value::{Value, is_byte, option_at};
+use std::alloc::{AllocError, Global};
+
+/// The value whose encoding the bytes are. `Bad` exactly where they have a first fault, which
+/// `check` answers too.
+pub fn decode(
+    alloc: Global,
+    schema: &Schema,
+    id: TypeId,
+    bytes: &[u8],
+) -> Result<Value, DecodeFault>
+    requires known { id < length schema.now.trees }
+    requires short { length bytes.now < 2 ^ 32 }
+    ensures answer { DecodesTo (type_of schema.now id) 0 bytes.now result }
+    ensures encoding { IfOk result (λ v. Encodes (type_of schema.now id) (value_of v) bytes.now) }
+    ensures fits { IfOk result (IsValue (type_of schema.now id)) }
+{
+    // Every type of a schema is legal.
+    let _legal = schema.ty(id);
+    scope(alloc, schema, id, 0, bytes)
+}
+
+// The value of the bytes, which begin at start.
+#[cycle(scope)]
+fn scope(
+    alloc: Global,
+    schema: &Schema,
+    id: TypeId,
+    start: u64,
+    bytes: &[u8],
+) -> Result<Value, DecodeFault>
+    requires known { id < length schema.now.trees }
+    requires short { start + length bytes.now < 2 ^ 32 }
+    ensures { DecodesTo (type_of schema.now id) start bytes.now result }
+{
+    match schema.ty(id) {
+        Ty::Uint(width) => number(*width, start, bytes),
+        Ty::Boolean => boolean(start, bytes),
+        Ty::Bitvector(n) => bitvector(alloc, *n, start, bytes),
+        Ty::Bitlist(limit) => bitlist(alloc, *limit, start, bytes),
+        Ty::Vector(elem, count) => elements(alloc, schema, *elem, *count, start, bytes),
+        Ty::List(elem, limit) => {
+            match count_of(schema.fixed_size(*elem), *limit, start, bytes) {
+                Ok(count) => elements(alloc, schema, *elem, count, start, bytes),
+                Err(fault) => Err(DecodeFault::Bad(fault)),
+            }
+        }
+        Ty::Union(options) => chosen(alloc, schema, id, options.as_slice(), start, bytes),
+        Ty::Container(fields) => container(alloc, schema, id, fields.as_slice(), start, bytes),
+    }
+}
+
+fn number(width: Width, start: u64, bytes: &[u8]) -> Result<Value, DecodeFault>
+    requires { start + length bytes.now < 2 ^ 32 }
+    ensures { DecodesTo (uint width) start bytes.now result }
+{
+    if let Some(fault) = length_fault(width.byte_count(), start, bytes) {
+        return Err(DecodeFault::Bad(fault));
+    }
+    match width {
+        Width::W256 => Ok(Value::Wide(wide_chunk(bytes))),
+        _ => Ok(Value::Uint(read_uint(width, bytes))),
+    }
+}
+
+fn boolean(start: u64, bytes: &[u8]) -> Result<Value, DecodeFault>
+    requires { start + length bytes.now < 2 ^ 32 }
+    ensures { DecodesTo boolean start bytes.now result }
+{
+    if let Some(fault) = length_fault(1, start, bytes) {
+        return Err(DecodeFault::Bad(fault));
+    }
+    match read_bool(bytes[0], start) {
+        Ok(flag) => Ok(Value::Bool(flag)),
+        Err(fault) => Err(DecodeFault::Bad(fault)),
+    }
+}
+
+// The 32 bytes as a chunk.
+fn wide_chunk(bytes: &[u8]) -> Chunk
+    requires { length bytes.now ≡ 32 }
+    ensures { result.0 ≡ bytes.now }
+{
+    let mut chunk = [0; 32];
+    chunk.copy_from_slice(bytes);
+    Chunk(chunk)
+}
+
+fn bitvector(alloc: Global, n: u64, start: u64, bytes: &[u8]) -> Result<Value, DecodeFault>
+    requires some { 0 < n }
+    requires few { n ≤ 2 ^ 32 }
+    requires short { start + length bytes.now < 2 ^ 32 }
+    ensures { DecodesTo (bitvector n) start bytes.now result }
+{
+    if let Some(fault) = length_fault((n + 7) / 8, start, bytes) {
+        return Err(DecodeFault::Bad(fault));
+    }
+    if let Err(fault) = read_bitvector(bytes, n, start) {
+        return Err(DecodeFault::Bad(fault));
+    }
+    Ok(Value::Bits(read_bits(alloc, n, bytes)?))
+}
+
+fn bitlist(alloc: Global, limit: u64, start: u64, bytes: &[u8]) -> Result<Value, DecodeFault>
+    requires { start + length bytes.now < 2 ^ 32 }
+    ensures { DecodesTo (bitlist limit) start bytes.now result }
+{
+    match read_bitlist(bytes, limit, start) {
+        Ok(n) => Ok(Value::Bits(read_bits(alloc, n, bytes)?)),
+        Err(fault) => Err(DecodeFault::Bad(fault)),
+    }
+}
+
+// The first n bits of the bytes.
+fn read_bits(alloc: Global, n: u64, bytes: &[u8]) -> Result<BitRun, AllocError>
+    requires { n ≤ 8 * length bytes.now }
+    ensures { IfOk result (λ bits. bits ≡ bits_of_number n (le_number bytes.now)) }
+{
+    let mut bits = Vec::with_capacity(alloc, n as usize)?;
+    for i in 0..n {
+        bits.push(bit(bytes, i))?;
+    }
+    Ok(BitRun::from_bits(bits))
+}
+
+// Of count elements.
+#[cycle(scope)]
+fn elements(
+    alloc: Global,
+    schema: &Schema,
+    elem: TypeId,
+    count: u64,
+    start: u64,
+    bytes: &[u8],
+) -> Result<Value, DecodeFault>
+    requires known { elem < length schema.now.trees }
+    requires few { count ≤ 2 ^ 32 }
+    requires short { start + length bytes.now < 2 ^ 32 }
+    ensures { let t = type_of schema.now elem in
+        Decodes (elements_fault (why t) (fixed_size t) count start bytes.now)
+        (Stands (vector t count)
+        (sequence (values (map (value_in t) (elements_in (fixed_size t) count bytes.now)))))
+        result }
+{
+    if is_byte(schema, elem) {
+        return byte_elements(alloc, count, start, bytes);
+    }
+    match schema.fixed_size(elem) {
+        Some(size) => {
+            let parts = fixed_elements(alloc, schema, elem, size, count, start, bytes)?;
+            Ok(Value::Seq(parts))
+        }
+        None => {
+            let parts = variable_elements(alloc, schema, elem, count, start, bytes)?;
+            Ok(Value::Seq(parts))
+        }
+    }
+}
+
+// Of count numbers of one byte.
+fn byte_elements(alloc: Global, count: u64, start: u64, bytes: &[u8]) -> Result<Value, DecodeFault>
+    requires { start + length bytes.now < 2 ^ 32 }
+    ensures { Decodes (elements_fault (why (uint W8)) (Some 1) count start bytes.now)
+        (Stands (vector (uint W8) count)
+        (sequence (values (map (value_in (uint W8)) (elements_in (Some 1) count bytes.now)))))
+        result }
+{
+    if let Some(fault) = length_fault(count, start, bytes) {
+        return Err(DecodeFault::Bad(fault));
+    }
+    Ok(Value::Bytes(ByteRun::copy_of(alloc, bytes)?))
+}
+
+// Of count elements of this size.
+#[cycle(scope)]
+fn fixed_elements(
+    alloc: Global,
+    schema: &Schema,
+    elem: TypeId,
+    size: u64,
+    count: u64,
+    start: u64,
+    bytes: &[u8],
+) -> Result<Vec<Value>, DecodeFault>
+    requires known { elem < length schema.now.trees }
+    requires size { fixed_size (type_of schema.now elem) ≡ Some size }
+    requires in_range { IsSize size }
+    requires few { count ≤ 2 ^ 32 }
+    requires short { start + length bytes.now < 2 ^ 32 }
+    ensures { let t = type_of schema.now elem in
+        Decodes (elements_fault (why t) (Some size) count start bytes.now)
+        (λ parts. StandAlike t (map (value_in t) (elements_in (Some size) count bytes.now))
+        parts.items)
+        result }
+{
+    if let Some(fault) = length_fault(count * size, start, bytes) {
+        return Err(DecodeFault::Bad(fault));
+    }
+    let mut parts = Vec::with_capacity(alloc, count as usize)?;
+    for i in 0..count {
+        let place = (i * size) as usize;
+        let part = &bytes[place..place + size as usize];
+        let value = scope(alloc, schema, elem, start + place as u64, part)?;
+        parts.push(value)?;
+    }
+    Ok(parts)
+}
+
+// Of count elements of a variable-size type.
+#[cycle(scope)]
+fn variable_elements(
+    alloc: Global,
+    schema: &Schema,
+    elem: TypeId,
+    count: u64,
+    start: u64,
+    bytes: &[u8],
+) -> Result<Vec<Value>, DecodeFault>
+    requires known { elem < length schema.now.trees }
+    requires size { fixed_size (type_of schema.now elem) ≡ None }
+    requires few { count ≤ 2 ^ 32 }
+    requires short { start + length bytes.now < 2 ^ 32 }
+    ensures { let t = type_of schema.now elem in
+        Decodes (elements_fault (why t) None count start bytes.now)
+        (λ parts. StandAlike t (map (value_in t) (elements_in None count bytes.now)) parts.items)
+        result }
+{
+    if let Some(fault) = offsets_fault(count, start, bytes) {
+        return Err(DecodeFault::Bad(fault));
+    }
+    let mut parts = Vec::with_capacity(alloc, count as usize)?;
+    for i in 0..count {
+        let from = offset_at(bytes, (4 * i) as usize) as usize;
+        let part = &bytes[from..end_of_part(count, i, bytes)];
+        let value = scope(alloc, schema, elem, start + from as u64, part)?;
+        parts.push(value)?;
+    }
+    Ok(parts)
+}
+
+// Of a union of these options, whose types stand before id.
+#[cycle(scope)]
+fn chosen(
+    alloc: Global,
+    schema: &Schema,
+    id: TypeId,
+    options: &[Option<TypeId>],
+    start: u64,
+    bytes: &[u8],
+) -> Result<Value, DecodeFault>
+    requires known { id < length schema.now.trees }
+    requires before { AllByRecursion (IsBelow id) options.now }
+    requires short { start + length bytes.now < 2 ^ 32 }
+    ensures { DecodesTo (union (options_over schema.now.trees options.now)) start bytes.now result }
+{
+    if bytes.is_empty() {
+        return Err(bad(Fault::SHORT, start));
+    }
+    let selector = bytes[0];
+    match option_at(options, selector) {
+        None => Err(bad(Fault::BAD_SELECTOR, start)),
+        Some(None) => no_value(selector, start + 1, &bytes[1..]),
+        Some(Some(option)) => {
+            let inner = scope(alloc, schema, option, start + 1, &bytes[1..])?;
+            Ok(Value::Union {
+                selector,
+                inner: Some(Box::new(alloc, inner)?),
+            })
+        }
+    }
+}
+
+fn bad(code: u8, position: u64) -> DecodeFault
+    ensures { result ≡ Bad (record { code = code; position = position }) }
+{
+    DecodeFault::Bad(Fault { code, position })
+}
+
+// The option None, where no bytes follow the selector.
+fn no_value(selector: u8, start: u64, rest: &[u8]) -> Result<Value, DecodeFault>
+    ensures { Decodes (if nat_lt 0 (length rest.now) then extra start else None)
+        (λ v. (os : Options) → Stands (union os) (chosen_none selector) v) result }
+{
+    if let Some(fault) = none_fault(start, rest) {
+        return Err(DecodeFault::Bad(fault));
+    }
+    Ok(Value::Union {
+        selector,
+        inner: None,
+    })
+}
+
+// Of a container of these fields, whose types stand before id.
+#[cycle(scope)]
+fn container(
+    alloc: Global,
+    schema: &Schema,
+    id: TypeId,
+    fields: &[(Name, TypeId)],
+    start: u64,
+    bytes: &[u8],
+) -> Result<Value, DecodeFault>
+    requires known { id < length schema.now.trees }
+    requires before { AllByRecursion (λ part. part.1 < id) fields.now }
+    requires short { start + length bytes.now < 2 ^ 32 }
+    ensures { let t = container (fields_over schema.now.trees fields.now) in
+        DecodesTo t start bytes.now result }
+{
+    if let Some(fault) = fields_head_fault(schema, fields, start, bytes) {
+        return Err(DecodeFault::Bad(fault));
+    }
+    let mut parts = Vec::with_capacity(alloc, fields.len())?;
+    let mut place = 0usize;
+    for (i, field) in fields.iter().enumerate() {
+        let (from, to) = part_range(schema, field.1, fields, i, place, bytes);
+        let part = &bytes[from..to];
+        let value = scope(alloc, schema, field.1, start + from as u64, part)?;
+        parts.push(value)?;
+        place += head_len(schema.fixed_size(field.1)) as usize;
+    }
+    Ok(Value::Seq(parts))
+}

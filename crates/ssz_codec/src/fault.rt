@@ -1,0 +1,53 @@
+use ssz_schema::Fault;
+use std::alloc::{AllocError, AllocFailed};
+
+/// Why bytes give no value.
+#[derive(Clone, Copy, Debug, PartialEq, Eq)]
+pub enum DecodeFault {
+    /// They encode none: their first fault.
+    Bad(Fault),
+    /// Want of memory.
+    Memory,
+}
+
+impl From<AllocError> for DecodeFault {
+    ghost use Rattle.std.specs.Prelude.{◌≡◌};
+    ghost use Rattle.ssz_codec.specs.declared.fault.DecodeFault.TheVariants.{Memory};
+
+    ghost from_gives = { λ _ e. e ≡ Memory };
+
+    fn from(_error: AllocError) -> Self {
+        DecodeFault::Memory
+    }
+}
+
+impl<T: Drop> From<AllocFailed<T>> for DecodeFault {
+    ghost use Rattle.std.specs.Prelude.{◌≡◌};
+    ghost use Rattle.ssz_codec.specs.declared.fault.DecodeFault.TheVariants.{Memory};
+
+    ghost from_gives = { λ _ e. e ≡ Memory };
+
+    fn from(_error: AllocFailed<T>) -> Self {
+        DecodeFault::Memory
+    }
+}
+
+/// Why a value is not encoded.
+#[derive(Clone, Copy, Debug, PartialEq, Eq)]
+pub enum EncodeFault {
+    /// Its encoding is longer than the caller takes.
+    TooLong,
+    /// Want of memory.
+    Memory,
+}
+
+impl From<AllocError> for EncodeFault {
+    ghost use Rattle.std.specs.Prelude.{◌≡◌};
+    ghost use Rattle.ssz_codec.specs.declared.fault.EncodeFault.TheVariants.{Memory as NoMemory};
+
+    ghost from_gives = { λ _ e. e ≡ NoMemory };
+
+    fn from(_error: AllocError) -> Self {
+        EncodeFault::Memory
+    }
+}
