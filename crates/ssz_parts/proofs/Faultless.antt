@@ -1,0 +1,21 @@
+-- Bytes without a fault, and that their parts have none.
+use Rattle.std.proofs.Common.{◌≡◌, ℕ, ◌^◌, ◌<◌, List, length, None, sym, ap, subst, ◌∙◌}
+use Rattle.ssz_schema.specs.declared.format.Format.{Format}
+use Rattle.ssz_schema.specs.Types.{SszType}
+use Rattle.ssz_schema.specs.Legal.{IsLegal}
+use Rattle.ssz_value.specs.Faults.{why}
+use Rattle.ssz_value.specs.Reading.{value_in}
+use Rattle.ssz_value.proofs.Agree.{IsInput}
+use Rattle.ssz_value.proofs.ExactLaw.{agrees}
+
+-- bytes of the type without a fault
+pub record IsFaultless (t : SszType) (b : List ℕ) : Type 0 where
+  pub input : IsInput b
+  pub none : why t 0 b ≡ None
+
+-- bytes that have no fault at one place have none at another
+pub anywhere : (format : Format) (t : SszType) → IsLegal format t → (s u : ℕ) (b : List ℕ) → IsInput b → why t s b ≡ None → why t u b ≡ None
+anywhere format t legal s u b input h =
+    let written = (agrees format t legal).only s b input h in
+    ap (why t u) (sym written.bytes)
+    ∙ ((agrees format t legal).known u (value_in t b) written.fits (subst (λ (c : List ℕ). length c < 2 ^ 32) (sym written.bytes) input.short)).faultless

@@ -1,0 +1,16 @@
+pub mod Numbers
+pub mod Packing
+pub mod Bounds
+pub mod Rooted
+pub mod Gathering
+pub mod Unions
+pub mod FieldGathering
+pub mod Arms
+pub mod BitChunks
+pub mod ChunkLaws
+pub mod BitValues
+pub mod BasicValues
+pub mod Filling
+pub mod ValueGathering
+pub mod ValueFields
+pub mod ValueArms

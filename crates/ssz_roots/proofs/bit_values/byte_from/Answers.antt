@@ -1,0 +1,25 @@
+use Rattle.std.proofs.Common.{arith, ◌<◌, ◌≤◌, ◌∙◌, ap}
+use Rattle.ssz_schema.specs.Bytes.{bit_value}
+use Rattle.ssz_basic.proofs.PutLemmas.{ByteOf-start, ByteOf-small, ByteOf-more, ByteOf-end, bit_number, bit_small}
+use Rattle.ssz_roots.proofs.bit_values.byte_from.Goals as goal
+
+pub loop-k-init : goal.loop-k-init
+loop-k-init c = ByteOf-start _ _
+
+pub overflow_mul-byte : goal.overflow_mul-byte
+overflow_mul-byte c =
+    let small : c.loop-k.byte < 128 = ByteOf-small _ _ _ _ c.loop-k.invariant c.loop-k-test.true in
+    omega arith
+
+pub overflow_add-byte : goal.overflow_add-byte
+overflow_add-byte c =
+    let small : c.loop-k.byte < 128 = ByteOf-small _ _ _ _ c.loop-k.invariant c.loop-k-test.true in
+    let bit : c.from.result ≤ 1 = omega (arith, c.from.ensures, bit_number c.bit_or_zero.result, bit_small c.bit_or_zero.result) in
+    omega arith
+
+pub loop-k-preserved : goal.loop-k-preserved
+loop-k-preserved c =
+    ByteOf-more _ _ _ _ _ c.loop-k.invariant c.loop-k-test.true (c.from.ensures ∙ bit_number c.bit_or_zero.result ∙ ap bit_value c.bit_or_zero.ensures)
+
+pub returns : goal.returns
+returns c = ByteOf-end _ _ _ _ c.loop-k.invariant (omega arith) (omega arith)
