@@ -1,23 +1,40 @@
--- What a schema file and a value file give, by their length.
-use Rattle.std.proofs.Common.{◌≡◌, ℕ, ◌<◌, ◌≤◌, ◌^◌, List, length}
+-- What a schema file and a value file give, by their length, and the types of a schema by their names.
+use Rattle.std.proofs.Common.{◌≡◌, ℕ, ◌<◌, ◌≤◌, ◌^◌, List, length, refl}
 use Rattle.std.proofs.lemmas.Bool.{lt-ltb, le-ltb}
-use Rattle.ssz_tool.specs.Schemas.{json_of}
-use Rattle.ssz_tool.specs.Values.{first_fault}
-use Rattle.ssz_tool.specs.Jobs.{Reading, refused, reading_of, reading_of_json, Task, says, task_of_bytes, task_of_fault}
+use Rattle.ssz_outside.specs.Content.{Content}
+use Rattle.ssz_schema.specs.Types.{SszType}
+use Rattle.ssz_schema.specs.Unfolding.{Types, known_in}
+use Rattle.ssz_schema_json.specs.Schema.{HasTypes, NamedTypes, schema_of_bytes}
+use Rattle.ssz_value.specs.Faults.{why}
+use Rattle.ssz_words.specs.declared.commands.RootArgs.{RootArgs}
+use Rattle.ssz_tool.specs.Jobs.{Reading, accepted, refused, reading_of, reading_of_schema, Task, says, task_of_bytes, task_of_fault, task_of_type, task_of_reading}
 use Rattle.ssz_tool.specs.declared.line.Line.TheVariants as line
 
-pub reading_of-whole : (held bytes : List ℕ) (reading : Reading) → (held ≡ bytes) × (length bytes ≤ 2 ^ 26) → reading ≡ reading_of_json (json_of bytes) → reading_of held ≡ reading
+-- a schema file that is not too long gives what its bytes read as
+pub reading_of-whole : (held bytes : List ℕ) → (held ≡ bytes) × (length bytes ≤ 2 ^ 26)
+    → reading_of held ≡ reading_of_schema (schema_of_bytes bytes)
 unfolding reading_of
-reading_of-whole held bytes reading is given = rw (is.0, le-ltb (2 ^ 26) (length bytes) is.1, given)
+reading_of-whole held bytes is = rw (is.0, le-ltb (2 ^ 26) (length bytes) is.1) refl
 
-pub reading_of-too_long : (held : List ℕ) → 2 ^ 26 < length held → reading_of held ≡ refused line.SchemaTooLong
+pub reading_of-too_long : (held : List ℕ) → 2 ^ 26 < length held
+    → reading_of held ≡ refused line.SchemaTooLong
 unfolding reading_of
-reading_of-too_long held long = rw (lt-ltb (2 ^ 26) (length held) long)
+reading_of-too_long held long = rw (lt-ltb (2 ^ 26) (length held) long) refl
 
-pub task_of_bytes-whole : (count : ℕ) (held bytes : List ℕ) (task : Task) → (held ≡ bytes) × (length bytes ≤ 268435456) → task ≡ task_of_fault count bytes (first_fault count bytes) → task_of_bytes count held ≡ task
+-- a value file that is not too long gives what its bytes are judged as
+pub task_of_bytes-whole : (t : SszType) (most : ℕ) (held bytes : List ℕ)
+    → (held ≡ bytes) × (length bytes ≤ most)
+    → task_of_bytes t most held ≡ task_of_fault t bytes (why t 0 bytes)
 unfolding task_of_bytes
-task_of_bytes-whole count held bytes task is given = rw (is.0, le-ltb 268435456 (length bytes) is.1, given)
+task_of_bytes-whole t most held bytes is = rw (is.0, le-ltb most (length bytes) is.1) refl
 
-pub task_of_bytes-too_long : (count : ℕ) (held : List ℕ) → 268435456 < length held → task_of_bytes count held ≡ says line.TooLong
+pub task_of_bytes-too_long : (t : SszType) (most : ℕ) (held : List ℕ) → most < length held
+    → task_of_bytes t most held ≡ says line.TooLong
 unfolding task_of_bytes
-task_of_bytes-too_long count held long = rw (lt-ltb 268435456 (length held) long)
+task_of_bytes-too_long t most held long = rw (lt-ltb most (length held) long) refl
+
+-- the schema that was read knows each name for the type that the file defines
+pub task_of_reading-accepted : (held : Content) (args : RootArgs) (meant : Reading)
+    (schema : Types) (names : NamedTypes) → meant ≡ accepted names → HasTypes schema names
+    → task_of_reading held args meant ≡ task_of_type held args (known_in schema args.type_name)
+task_of_reading-accepted held args meant schema names is has = rw (is, has.types args.type_name) refl

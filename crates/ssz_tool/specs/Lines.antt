@@ -1,37 +1,53 @@
--- The texts of the lines, and their statuses.
+-- The texts of the printed lines, and their statuses (this project's).
 use Rattle.std.specs.Prelude.{ℕ, List, [], ◌∷◌, ◌++◌, Bool, true, false, codes, decimal}
 use Rattle.hex.specs.Hex.{encode_lower}
-use Rattle.ssz_tool.specs.declared.line.Fault.{Fault}
-use Rattle.ssz_tool.specs.declared.line.Line.{Line}
-use Rattle.ssz_tool.specs.declared.line.Line.TheVariants as line
 use Rattle.ssz_outside.specs.declared.status.Status.{Status}
 use Rattle.ssz_outside.specs.declared.status.Status.TheVariants as status
+use Rattle.ssz_schema.specs.FaultCodes.{code_of}
+use Rattle.ssz_schema.specs.declared.fault.Fault.{Fault}
+use Rattle.ssz_schema.specs.declared.schema_fault.SchemaFault.{SchemaFault}
+use Rattle.ssz_tool.specs.declared.line.Line.{Line}
+use Rattle.ssz_tool.specs.declared.line.Line.TheVariants as line
 
 -- a line feed after a text
 abbrev pub ended : List ℕ → List ℕ
 ended text = text ++ 10 ∷ []
 
+-- the line of the first fault of a definition, and of which
+abbrev pub definition_text : ℕ → SchemaFault → List ℕ
+definition_text number fault =
+    codes "schema S" ++ (decimal (code_of fault) ++ (codes " " ++ ended (decimal number)))
+
+-- the line of the first fault of bytes, and where it is
 abbrev pub fault_text : Fault → List ℕ
 fault_text fault = codes "invalid F" ++ (decimal fault.code ++ (codes " " ++ ended (decimal fault.position)))
 
+-- the line of a root
 abbrev pub root_text : List ℕ → List ℕ
 root_text chunk = ended (codes "root 0x" ++ encode_lower chunk)
 
+-- the line that says how the program is used
+abbrev pub usage_text : List ℕ
+usage_text = ended (codes "usage: ssz root SCHEMA TYPE FILE | run SCHEMA SCRIPT | weave SCHEMA BASE ORDER SCRIPT.. | verify ROOT FILE | work SCHEMA TYPE SEED EDITS")
+
 abbrev pub line_text : Line → List ℕ
-line_text line.Usage = ended (codes "usage: ssz root SCHEMA TYPE FILE | run SCHEMA SCRIPT | weave SCHEMA BASE ORDER SCRIPT.. | verify ROOT FILE | work SCHEMA TYPE SEED EDITS")
+line_text line.Usage = usage_text
 line_text line.SchemaTooLong = ended (codes "schema S15")
 line_text line.NotJson = ended (codes "schema S1")
 line_text line.Shape = ended (codes "schema S2")
+line_text (line.Definition number fault) = definition_text number fault
 line_text line.NoType = ended (codes "refused 0 2 NoType")
 line_text line.TooLong = ended (codes "refused 0 12 TooLong")
 line_text (line.Invalid fault) = fault_text fault
 line_text (line.Root chunk) = root_text chunk.0
 
+-- the status after a line was printed
 abbrev pub status_of : Line → Status
 status_of line.Usage = status.Usage
 status_of line.SchemaTooLong = status.SchemaFault
 status_of line.NotJson = status.SchemaFault
 status_of line.Shape = status.SchemaFault
+status_of (line.Definition number fault) = status.SchemaFault
 status_of line.NoType = status.Refused
 status_of line.TooLong = status.Refused
 status_of (line.Invalid fault) = status.Refused

@@ -1,7 +1,10 @@
 -- What the answers of the private calls stand for.
-use Rattle.std.specs.Prelude.{◌≡◌, ℕ, ◌<◌, ◌≤◌, ◌^◌, List, length, Ok, Err, ⊤}
-use Rattle.std.specs.declared.result.Result.{Result}
+use Rattle.std.specs.Prelude.{◌≡◌, ℕ, ◌<◌, ◌≤◌, ◌^◌, List, length, false, Option, None, Result, Ok, Err, ⊤}
 use Rattle.ssz_outside.specs.Outcome.{Rose}
+use Rattle.ssz_schema.specs.Unfolding.{type_of}
+use Rattle.ssz_schema_json.specs.Schema.{HasTypes, NamedTypes}
+use Rattle.ssz_schema.specs.declared.fault.Fault.{Fault}
+use Rattle.ssz_value.specs.Faults.{why}
 use Rattle.ssz_tool.specs.Jobs as job
 use Rattle.ssz_tool.specs.declared.job.Loaded.{Loaded}
 use Rattle.ssz_tool.specs.declared.job.Loaded.TheVariants as loaded
@@ -17,21 +20,38 @@ abbrev pub Loads : List ℕ → ℕ → Loaded → Type 0
 Loads held limit (loaded.Whole bytes) = (held ≡ bytes.items) × (length bytes.items ≤ limit)
 Loads held limit loaded.TooLong = limit < length held
 
+-- a file gave at most so many bytes
+abbrev pub IsWithin : ℕ → Loaded → Type 0
+IsWithin limit (loaded.Whole bytes) = length bytes.items ≤ limit
+IsWithin limit loaded.TooLong = ⊤
+
 -- a failed read is counted, and nothing else is
 abbrev pub CountsStop : {T : Type 0} → Result T Stop → ℕ → ℕ → Type 0
 CountsStop (Ok done) before now = now ≡ before
 CountsStop (Err stop.Read) before now = Rose before now
 CountsStop (Err stop.Memory) before now = now ≡ before
 
-abbrev pub reading_view : Reading → job.Reading
-reading_view (reading.Accepted containers) = job.accepted containers.items
-reading_view (reading.Refused line) = job.refused line
+-- what a schema file gave is what it was to give
+abbrev pub StandsFor : job.Reading → Reading → Type 0
+StandsFor meant (reading.Accepted schema) =
+    (names : NamedTypes) × (meant ≡ job.accepted names) × HasTypes schema names
+StandsFor meant (reading.Refused line) = meant ≡ job.refused line
+
+abbrev pub IsNoUsage : Reading → Type 0
+IsNoUsage (reading.Accepted schema) = ⊤
+IsNoUsage (reading.Refused line) = job.is_usage_reading (job.refused line) ≡ false
 
 abbrev pub task_view : Task → job.Task
 task_view (task.Says line) = job.says line
-task_view (task.Roots chunks) = job.roots chunks.items
+task_view (task.Root schema id bytes) = job.roots (type_of schema id) bytes.items
 
--- a task's value has few enough numbers for a type
-abbrev pub IsSmall : Task → Type 0
-IsSmall (task.Says line) = ⊤
-IsSmall (task.Roots chunks) = length chunks.items ≤ 2 ^ 21
+-- the bytes of a value are few enough, of a type of the schema, and have no fault
+pub record IsFaultless (trees : ℕ) (id : ℕ) (fault : Option Fault) (count : ℕ) : Type 0 where
+  pub known : id < trees
+  pub short : count < 2 ^ 32
+  pub faultless : fault ≡ None
+
+abbrev pub IsReady : Task → Type 0
+IsReady (task.Says line) = ⊤
+IsReady (task.Root schema id bytes) =
+    IsFaultless (length schema.trees) id (why (type_of schema id) 0 bytes.items) (length bytes.items)

@@ -1,21 +1,21 @@
 // From the files to what is left to do.
-ghost use Rattle.std.specs.Prelude.{◌≡◌, ◌≢◌, ℕ, List, Err, ◌≤◌, ◌+◌, ◌*◌, ◌^◌, length, map, Some, None, IfOk, false, IsOk, is_none};
+ghost use Rattle.std.specs.Prelude.{◌≡◌, ◌≢◌, ◌<◌, ◌≤◌, ◌^◌, ℕ, List, Err, length, Some, None, IfOk, IsSome, false, is_none};
 ghost use Rattle.std.specs.Option.{ForSome};
-ghost use Rattle.std.specs.Str.{bytes_eq};
 ghost use Rattle.ssz_outside.specs.Content.{contents};
-ghost use Rattle.ssz_tool.specs.Values.{first_fault};
-ghost use Rattle.ssz_tool.specs.Jobs.{reading_of_json, reading_of, task_of_fault, task_of_bytes, task_of_count, is_usage_task, is_usage_reading, task_of_root, task_of, line_of, pairs_of_task};
-ghost use Rattle.ssz_tool.specs.Schemas.{json_of, count_of};
-ghost use Rattle.ssz_tool.specs.Words.{texts, root_words};
-ghost use Rattle.ssz_tool.specs.Named.{names_of_words};
-ghost use Rattle.ssz_tool.specs.Tasks.{Loads, CountsStop, IsSmall, reading_view, task_view};
+ghost use Rattle.ssz_schema.specs.Unfolding.{type_of, known_in};
+ghost use Rattle.ssz_schema_json.specs.Schema.{schema_of_bytes};
+ghost use Rattle.ssz_value.specs.Faults.{why};
+ghost use Rattle.ssz_tool.specs.Jobs.{reading_of_schema, reading_of, task_of_fault, task_of_bytes, task_of_type, task_of_root, task_of, is_usage_task};
+ghost use Rattle.ssz_tool.specs.Tasks.{Loads, IsWithin, CountsStop, StandsFor, IsNoUsage, IsReady, task_view};
+ghost use Rattle.ssz_tool.specs.Words.{taken, texts};
 
 use crate::line::Line;
-use crate::schema::{Container, SchemaFault, count_of, read_containers};
-use crate::value::{chunks_of, first_fault};
-use crate::words::{RootWords, root_words};
-use ssz_chunk::Chunk;
+use crate::words::root_args;
+use ssz_codec::check;
 use ssz_outside::{Files, GetFault, Got};
+use ssz_schema::{Schema, TypeId};
+use ssz_schema_json::{SchemaRead, read_schema};
+use ssz_words::RootArgs;
 use std::alloc::{AllocError, Global};
 
 /// Why the files were not read.
@@ -35,7 +35,7 @@ pub enum Loaded {
 /// What a schema file gave.
 #[derive(Drop)]
 pub enum Reading {
-    Accepted(Vec<Container>),
+    Accepted(Schema),
     Refused(Line),
 }
 
@@ -43,12 +43,14 @@ pub enum Reading {
 #[derive(Drop)]
 pub enum Task {
     Says(Line),
-    Roots(Vec<Chunk>),
+    /// The root of the value of a type that these bytes encode.
+    Root(Schema, TypeId, Vec<u8>),
 }
 
 fn load<F: Files>(alloc: Global, files: &mut F, name: &str, max: u64) -> Result<Loaded, Stop>
     ensures loaded { ForSome (F.content files.old)
         (λ held. IfOk result (Loads (contents held name.now) max)) }
+    ensures within { IfOk result (IsWithin max) }
     ensures fails { F.readable files.old name.now → result ≢ Err Stop.Read }
     ensures readable { (other : List ℕ) → F.readable files.old other → F.readable files.new other }
     ensures content { F.content files.new ≡ F.content files.old }
@@ -66,24 +68,25 @@ fn load<F: Files>(alloc: Global, files: &mut F, name: &str, max: u64) -> Result<
 
 const MOST_SCHEMA_BYTES: u64 = 1 << 26;
 
-const MOST_VALUE_BYTES: u64 = 268435456;
-
 fn reading_of_bytes(alloc: Global, bytes: &[u8]) -> Result<Reading, AllocError>
-    ensures value { IfOk result (λ reading. reading_view reading ≡ reading_of_json (json_of bytes.now)) }
-    ensures usage { IfOk result (λ reading. is_usage_reading (reading_view reading) ≡ false) }
+    ensures value { IfOk result (StandsFor (reading_of_schema (schema_of_bytes bytes.now))) }
+    ensures usage { IfOk result IsNoUsage }
 {
-    match read_containers(alloc, bytes) {
-        Ok(containers) => Ok(Reading::Accepted(containers)),
-        Err(SchemaFault::NotJson) => Ok(Reading::Refused(Line::NotJson)),
-        Err(SchemaFault::Shape) => Ok(Reading::Refused(Line::Shape)),
-        Err(SchemaFault::Memory) => Err(AllocError),
+    match read_schema(alloc, bytes) {
+        Ok(schema) => Ok(Reading::Accepted(schema)),
+        Err(SchemaRead::NotJson) => Ok(Reading::Refused(Line::NotJson)),
+        Err(SchemaRead::Shape) => Ok(Reading::Refused(Line::Shape)),
+        Err(SchemaRead::Def { number, fault }) => {
+            Ok(Reading::Refused(Line::Definition(number, fault)))
+        }
+        Err(SchemaRead::Memory) => Err(AllocError),
     }
 }
 
-fn read_schema<F: Files>(alloc: Global, files: &mut F, name: &str) -> Result<Reading, Stop>
-    ensures usage { IfOk result (λ reading. is_usage_reading (reading_view reading) ≡ false) }
+fn read_schema_file<F: Files>(alloc: Global, files: &mut F, name: &str) -> Result<Reading, Stop>
+    ensures usage { IfOk result IsNoUsage }
     ensures read { ForSome (F.content files.old) (λ held. IfOk result
-        (λ reading. reading_of (contents held name.now) ≡ reading_view reading)) }
+        (StandsFor (reading_of (contents held name.now)))) }
     ensures fails { F.readable files.old name.now → result ≢ Err Stop.Read }
     ensures readable { (other : List ℕ) → F.readable files.old other → F.readable files.new other }
     ensures content { F.content files.new ≡ F.content files.old }
@@ -100,85 +103,81 @@ fn read_schema<F: Files>(alloc: Global, files: &mut F, name: &str) -> Result<Rea
     }
 }
 
-fn task_of_bytes(alloc: Global, bytes: &[u8], count: usize) -> Result<Task, AllocError>
-    requires { count ≤ 2 ^ 21 }
-    ensures value { IfOk result (λ task. task_view task
-        ≡ task_of_fault count bytes.now (first_fault count bytes.now)) }
-    ensures small { IfOk result IsSmall }
+fn task_of_bytes(schema: Schema, id: TypeId, bytes: Vec<u8>) -> Task
+    requires known { id < length schema.trees }
+    requires short { length bytes.items < 2 ^ 32 }
+    ensures value { task_view result ≡ task_of_fault (type_of schema id) bytes.items
+        (why (type_of schema id) 0 bytes.items) }
+    ensures ready { IsReady result }
 {
-    match first_fault(count, bytes) {
-        Some(fault) => Ok(Task::Says(Line::Invalid(fault))),
-        None => Ok(Task::Roots(chunks_of(alloc, bytes, count)?)),
+    match check(&schema, id, &bytes) {
+        Some(fault) => Task::Says(Line::Invalid(fault)),
+        None => Task::Root(schema, id, bytes),
     }
 }
 
 fn task_of_file<F: Files>(
     alloc: Global,
     files: &mut F,
-    name: &str,
-    count: usize,
+    args: &RootArgs,
+    schema: Schema,
+    id: TypeId,
 ) -> Result<Task, Stop>
-    requires { count ≤ 2 ^ 21 }
+    requires { id < length schema.trees }
     ensures read { ForSome (F.content files.old) (λ held. IfOk result (λ task.
-        task_of_bytes count (contents held name.now) ≡ task_view task)) }
-    ensures small { IfOk result IsSmall }
+        task_of_bytes (type_of schema id) args.now.max_bytes (contents held args.now.file)
+        ≡ task_view task)) }
+    ensures ready { IfOk result IsReady }
     ensures usage { IfOk result (λ task. is_usage_task (task_view task) ≡ false) }
-    ensures fails { F.readable files.old name.now → result ≢ Err Stop.Read }
+    ensures fails { F.readable files.old args.now.file → result ≢ Err Stop.Read }
     ensures readable { (other : List ℕ) → F.readable files.old other → F.readable files.new other }
     ensures content { F.content files.new ≡ F.content files.old }
     ensures get_faults { CountsStop result (F.get_faults files.old) (F.get_faults files.new) }
     ensures put_faults { F.put_faults files.new ≡ F.put_faults files.old }
 {
-    match load(alloc, files, name, MOST_VALUE_BYTES) {
-        Ok(Loaded::Whole(bytes)) => match task_of_bytes(alloc, &bytes, count) {
-            Ok(task) => Ok(task),
-            Err(_) => Err(Stop::Memory),
-        },
+    match load(alloc, files, args.file.as_str(), args.max_bytes as u64) {
+        Ok(Loaded::Whole(bytes)) => Ok(task_of_bytes(schema, id, bytes)),
         Ok(Loaded::TooLong) => Ok(Task::Says(Line::TooLong)),
         Err(stop) => Err(stop),
     }
 }
 
-fn task_of_count<F: Files>(
+fn task_of_schema<F: Files>(
     alloc: Global,
     files: &mut F,
-    name: &str,
-    count: Option<usize>,
+    args: &RootArgs,
+    schema: Schema,
 ) -> Result<Task, Stop>
-    requires { ForSome count (λ n. n ≤ 2 ^ 21) }
     ensures read { ForSome (F.content files.old) (λ held. IfOk result (λ task.
-        task_of_count held name.now count ≡ task_view task)) }
-    ensures small { IfOk result IsSmall }
+        task_of_type held args.now (known_in schema args.now.type_name) ≡ task_view task)) }
+    ensures ready { IfOk result IsReady }
     ensures usage { IfOk result (λ task. is_usage_task (task_view task) ≡ false) }
-    ensures fails { F.readable files.old name.now → result ≢ Err Stop.Read }
+    ensures fails { F.readable files.old args.now.file → result ≢ Err Stop.Read }
     ensures readable { (other : List ℕ) → F.readable files.old other → F.readable files.new other }
     ensures content { F.content files.new ≡ F.content files.old }
     ensures get_faults { CountsStop result (F.get_faults files.old) (F.get_faults files.new) }
     ensures put_faults { F.put_faults files.new ≡ F.put_faults files.old }
 {
-    match count {
-        Some(count) => task_of_file(alloc, files, name, count),
+    match schema.find(args.type_name.as_str()) {
+        Some(id) => task_of_file(alloc, files, args, schema, id),
         None => Ok(Task::Says(Line::NoType)),
     }
 }
 
-fn task_of_root<F: Files>(alloc: Global, files: &mut F, names: &RootWords<'_>) -> Result<Task, Stop>
+fn task_of_root<F: Files>(alloc: Global, files: &mut F, args: &RootArgs) -> Result<Task, Stop>
     ensures read { ForSome (F.content files.old) (λ held. IfOk result (λ task.
-        task_of_root held (names_of_words names.now) ≡ task_view task)) }
-    ensures small { IfOk result IsSmall }
+        task_of_root held args.now ≡ task_view task)) }
+    ensures ready { IfOk result IsReady }
     ensures usage { IfOk result (λ task. is_usage_task (task_view task) ≡ false) }
-    ensures fails { F.readable files.old names.now.schema.now → F.readable files.old names.now.file.now
+    ensures fails { F.readable files.old args.now.schema → F.readable files.old args.now.file
         → result ≢ Err Stop.Read }
     ensures readable { (other : List ℕ) → F.readable files.old other → F.readable files.new other }
     ensures content { F.content files.new ≡ F.content files.old }
     ensures get_faults { CountsStop result (F.get_faults files.old) (F.get_faults files.new) }
     ensures put_faults { F.put_faults files.new ≡ F.put_faults files.old }
 {
-    match read_schema(alloc, files, names.schema) {
-        Ok(Reading::Accepted(containers)) => {
-            let count = count_of(&containers, names.type_name);
-            task_of_count(alloc, files, names.file, count)
-        }
+    match read_schema_file(alloc, files, args.schema.as_str()) {
+        Ok(Reading::Accepted(schema)) => task_of_schema(alloc, files, args, schema),
         Ok(Reading::Refused(line)) => Ok(Task::Says(line)),
         Err(stop) => Err(stop),
     }
@@ -188,19 +187,20 @@ fn task_of_root<F: Files>(alloc: Global, files: &mut F, names: &RootWords<'_>) -
 pub fn task_of<F: Files>(alloc: Global, files: &mut F, words: &[String]) -> Result<Task, Stop>
     ensures read { ForSome (F.content files.old) (λ held. IfOk result (λ task.
         task_of held (texts words.now) ≡ task_view task)) }
-    ensures small { IfOk result IsSmall }
+    ensures ready { IfOk result IsReady }
     ensures usage { IfOk result (λ task. is_usage_task (task_view task)
-        ≡ is_none (root_words (texts words.now))) }
-    ensures not_taken { root_words (texts words.now) ≡ None → IsOk result }
-    ensures fails { ForSome (root_words (texts words.now)) (λ names.
-        F.readable files.old names.schema → F.readable files.old names.file → result ≢ Err Stop.Read) }
+        ≡ is_none (taken (texts words.now))) }
+    ensures taken { result ≡ Err Stop.Read → IsSome (taken (texts words.now)) }
+    ensures fails { ForSome (taken (texts words.now)) (λ args.
+        F.readable files.old args.schema → F.readable files.old args.file → result ≢ Err Stop.Read) }
     ensures readable { (other : List ℕ) → F.readable files.old other → F.readable files.new other }
     ensures content { F.content files.new ≡ F.content files.old }
     ensures get_faults { CountsStop result (F.get_faults files.old) (F.get_faults files.new) }
     ensures put_faults { F.put_faults files.new ≡ F.put_faults files.old }
 {
-    match root_words(words) {
-        Some(names) => task_of_root(alloc, files, &names),
-        None => Ok(Task::Says(Line::Usage)),
+    match root_args(alloc, words) {
+        Ok(Some(args)) => task_of_root(alloc, files, &args),
+        Ok(None) => Ok(Task::Says(Line::Usage)),
+        Err(_) => Err(Stop::Memory),
     }
 }

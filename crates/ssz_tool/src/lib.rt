@@ -1,16 +1,15 @@
 //! The program over files, a sink and a hasher.
+//!
+//! `run` is the top call: the words give a task by reading files (`job`), the task gives a line by hashing (`top`), and
+//! the line is said. Files, hasher and sink never meet in one function. The main theorem stands on `run`.
 #![tactic(auto)]
 
 mod job;
 mod line;
-mod root;
-mod schema;
 mod top;
-mod value;
 mod words;
 
-pub use line::{Fault, Line};
-pub use schema::{Container, SchemaFault, read_containers};
+pub use line::Line;
 pub use top::run;
 
 #[cfg(test)]

@@ -1,29 +1,33 @@
 // The lines that the program prints, and its statuses.
 ghost use Rattle.std.specs.Prelude.{◌≡◌, ◌↔◌, IsTrue, IfOk, string_bytes};
 ghost use Rattle.ssz_outside.specs.Job.{IsFinished};
-ghost use Rattle.ssz_tool.specs.Lines.{fault_text, root_text, line_text, status_of, is_usage};
+ghost use Rattle.ssz_tool.specs.Lines.{definition_text, fault_text, root_text, line_text, status_of, is_usage};
 
 use ssz_chunk::Chunk;
 use ssz_outside::Status;
+use ssz_schema::{Fault, SchemaFault};
 use std::alloc::{AllocError, Global};
-
-/// Why bytes are no encoding.
-#[derive(Clone, Copy, Debug, PartialEq, Eq)]
-pub struct Fault {
-    pub code: u8,
-    pub position: u64,
-}
 
 /// A line of the command `root`.
 #[derive(Clone, Copy, Debug, PartialEq, Eq)]
 pub enum Line {
+    /// The words are not taken.
     Usage,
+    /// The schema file is longer than 2^26 bytes.
     SchemaTooLong,
+    /// The schema file is no JSON.
     NotJson,
+    /// The JSON is no schema document.
     Shape,
+    /// The number of the first definition that has a fault, and its first fault.
+    Definition(usize, SchemaFault),
+    /// No type has the name.
     NoType,
+    /// The value file is longer than `--max-bytes`.
     TooLong,
+    /// The bytes encode no value of the type.
     Invalid(Fault),
+    /// The root of the value.
     Root(Chunk),
 }
 
@@ -36,6 +40,7 @@ pub fn line_text(alloc: Global, line: &Line) -> Result<String, AllocError>
         Line::SchemaTooLong => String::from_str(alloc, "schema S15\n"),
         Line::NotJson => String::from_str(alloc, "schema S1\n"),
         Line::Shape => String::from_str(alloc, "schema S2\n"),
+        Line::Definition(number, fault) => definition_text(alloc, *number, *fault),
         Line::NoType => String::from_str(alloc, "refused 0 2 NoType\n"),
         Line::TooLong => String::from_str(alloc, "refused 0 12 TooLong\n"),
         Line::Invalid(fault) => fault_text(alloc, *fault),
@@ -45,6 +50,13 @@ pub fn line_text(alloc: Global, line: &Line) -> Result<String, AllocError>
 
 const USAGE: &str =
     "usage: ssz root SCHEMA TYPE FILE | run SCHEMA SCRIPT | weave SCHEMA BASE ORDER SCRIPT.. | verify ROOT FILE | work SCHEMA TYPE SEED EDITS\n";
+
+fn definition_text(alloc: Global, number: usize, fault: SchemaFault) -> Result<String, AllocError>
+    ensures { IfOk result (λ text. string_bytes text ≡ definition_text number fault) }
+{
+    let code = fault.code();
+    format!(in alloc; "schema S{code} {number}\n")
+}
 
 fn fault_text(alloc: Global, fault: Fault) -> Result<String, AllocError>
     ensures { IfOk result (λ text. string_bytes text ≡ fault_text fault) }
@@ -62,6 +74,7 @@ fn root_text(alloc: Global, chunk: &Chunk) -> Result<String, AllocError>
     format!(in alloc; "root 0x{digits}\n")
 }
 
+/// The status after a line was printed.
 pub fn status_of(line: &Line) -> Status
     ensures value { result ≡ status_of line.now }
     ensures finished { IsFinished result }
@@ -69,7 +82,9 @@ pub fn status_of(line: &Line) -> Status
 {
     match line {
         Line::Usage => Status::Usage,
-        Line::SchemaTooLong | Line::NotJson | Line::Shape => Status::SchemaFault,
+        Line::SchemaTooLong | Line::NotJson | Line::Shape | Line::Definition(_, _) => {
+            Status::SchemaFault
+        }
         Line::NoType | Line::TooLong | Line::Invalid(_) => Status::Refused,
         Line::Root(_) => Status::Accepted,
     }

@@ -4,35 +4,210 @@ use ssz_outside::{Files, MemFiles, MemSink, QuietFiles, QuietSink, Status};
 use std::alloc::{AllocError, Global};
 use std::test::Fail;
 
-// Containers of one, two and four numbers.
-const SCHEMA: &str =
-    "{\"ssz\":1,\"types\":[[\"O\",{\"container\":[[\"a\",\"uint64\"]]}],[\"P\",{\"container\":[[\"a\",\"uint64\"],[\"b\",\"uint64\"]]}],[\"R\",{\"container\":[[\"a\",\"uint64\"],[\"b\",\"uint64\"],[\"c\",\"uint64\"],[\"d\",\"uint64\"]]}]]}";
+const SCHEMA: &str = "{\"ssz\":1,\"types\":[
+    [\"O\",{\"container\":[[\"a\",\"uint64\"]]}],
+    [\"P\",{\"container\":[[\"a\",\"uint64\"],[\"b\",\"uint64\"]]}],
+    [\"R\",{\"container\":[[\"a\",\"uint64\"],[\"b\",\"uint64\"],[\"c\",\"uint64\"],[\"d\",\"uint64\"]]}],
+    [\"M\",{\"container\":[[\"a\",\"uint16\"],[\"b\",{\"list\":[\"uint8\",4]}]]}],
+    [\"K\",{\"container\":[[\"a\",\"boolean\"],[\"b\",{\"list\":[\"uint8\",4]}]]}],
+    [\"U\",{\"union\":[null,\"uint64\"]}],
+    [\"Lists\",{\"list\":[{\"list\":[\"uint8\",4]},4]}],
+    [\"Many\",{\"list\":[{\"list\":[\"uint8\",4]},1099511627776]}],
+    [\"One\",{\"list\":[{\"list\":[\"uint8\",4]},1]}],
+    [\"Ms\",{\"list\":[\"M\",4]}],
+    [\"Two\",{\"container\":[[\"a\",{\"list\":[\"uint16\",4]}],[\"b\",{\"list\":[\"uint8\",4]}]]}],
+    [\"V\",{\"union\":[\"uint8\",{\"list\":[\"uint64\",2]}]}],
+    [\"Bools\",{\"vector\":[\"boolean\",3]}],
+    [\"Numbers\",{\"list\":[\"uint64\",4]}],
+    [\"None\",{\"list\":[\"uint64\",0]}],
+    [\"Bytes\",{\"list\":[\"uint8\",1099511627776]}],
+    [\"Bits3\",{\"bitlist\":3}],
+    [\"Bits8\",{\"bitlist\":8}],
+    [\"BitsMany\",{\"bitlist\":1099511627776}],
+    [\"Four\",{\"bitvector\":4}],
+    [\"Eight\",{\"bitvector\":8}],
+    [\"Bytes4\",{\"vector\":[\"byte\",4]}],
+    [\"Bytes32\",{\"vector\":[\"byte\",32]}],
+    [\"Bytes48\",{\"vector\":[\"byte\",48]}],
+    [\"Bytes96\",{\"vector\":[\"byte\",96]}],
+    [\"ForkData\",{\"container\":[[\"current_version\",\"Bytes4\"],[\"genesis_validators_root\",\"Bytes32\"]]}],
+    [\"DepositData\",{\"container\":[[\"pubkey\",\"Bytes48\"],[\"withdrawal_credentials\",\"Bytes32\"],[\"amount\",\"uint64\"],[\"signature\",\"Bytes96\"]]}],
+    [\"Deposits\",{\"list\":[\"DepositData\",4294967296]}]
+]}";
 
-// The roots of the full trees of zero chunks of depth 1 and 2, from the deposit contract of Ethereum.
+const USAGE: &str =
+    "usage: ssz root SCHEMA TYPE FILE | run SCHEMA SCRIPT | weave SCHEMA BASE ORDER SCRIPT.. | verify ROOT FILE | work SCHEMA TYPE SEED EDITS\n";
+
+// The roots of two and of four zero chunks, known from the deposit contract of Ethereum.
 const ROOT_OF_TWO: &str =
     "root 0xf5a5fd42d16a20302798ef6ed309979b43003d2320d9f0e8ea9831a92759fb4b\n";
 
 const ROOT_OF_FOUR: &str =
     "root 0xdb56114e00fdd4c1f85c892bf35ac9a89289aaecb1ebd0a96cde606a748b5d71\n";
 
-const ROOT_OF_ONE: &str =
-    "root 0x0100000000000000000000000000000000000000000000000000000000000000\n";
+// A type, the digits of a value's bytes, and what `root` prints by SHA-256.
+const BY_SHA: [(&str, &str, &str); 36] = [
+    ("P", "00000000000000000000000000000000", ROOT_OF_TWO),
+    (
+        "R",
+        "0000000000000000000000000000000000000000000000000000000000000000",
+        ROOT_OF_FOUR,
+    ),
+    (
+        "O",
+        "0100000000000000",
+        "root 0x0100000000000000000000000000000000000000000000000000000000000000\n",
+    ),
+    (
+        "uint64",
+        "0100000000000000",
+        "root 0x0100000000000000000000000000000000000000000000000000000000000000\n",
+    ),
+    ("P", "000000000000000000000000000000", "invalid F1 0\n"),
+    ("P", "0000000000000000000000000000000000", "invalid F2 16\n"),
+    ("M", "aabb070000000102", "invalid F4 2\n"),
+    ("M", "aabb06", "invalid F1 0\n"),
+    ("Lists", "0800000007000000", "invalid F6 4\n"),
+    ("Lists", "0800000009000000", "invalid F5 4\n"),
+    ("K", "0206000000", "invalid F4 1\n"),
+    ("K", "0205000000", "invalid F3 0\n"),
+    ("Bits8", "01", ROOT_OF_TWO),
+    ("Bits8", "", "invalid F10 0\n"),
+    ("Bits8", "00", "invalid F10 0\n"),
+    ("Bits3", "10", "invalid F8 0\n"),
+    ("Four", "10", "invalid F9 0\n"),
+    (
+        "Eight",
+        "10",
+        "root 0x1000000000000000000000000000000000000000000000000000000000000000\n",
+    ),
+    ("U", "00", ROOT_OF_TWO),
+    ("U", "0000", "invalid F2 1\n"),
+    ("U", "02", "invalid F11 0\n"),
+    ("U", "", "invalid F1 0\n"),
+    ("Numbers", "", ROOT_OF_TWO),
+    ("None", "0000000000000000", "invalid F8 0\n"),
+    ("None", "0000000000", "invalid F7 0\n"),
+    (
+        "uint256",
+        "ffffffffffffffffffffffffffffffffffffffffffffffffffffffffffffffff",
+        "root 0xffffffffffffffffffffffffffffffffffffffffffffffffffffffffffffffff\n",
+    ),
+    (
+        "uint256",
+        "ffffffffffffffffffffffffffffffffffffffffffffffffffffffffffffff",
+        "invalid F1 0\n",
+    ),
+    (
+        "uint256",
+        "ffffffffffffffffffffffffffffffffffffffffffffffffffffffffffffffff00",
+        "invalid F2 32\n",
+    ),
+    ("One", "08000000ff000000", "invalid F8 0\n"),
+    ("V", "0100000000000000", "invalid F7 1\n"),
+    ("V", "80", "invalid F11 0\n"),
+    ("Bools", "010203", "invalid F3 1\n"),
+    ("BitsMany", "ff00", "invalid F10 1\n"),
+    ("Absent", "00", "refused 0 2 NoType\n"),
+    // The fork digest of phase 0 on mainnet begins with b5303f2a.
+    (
+        "ForkData",
+        "000000004b363db94e286120d76eb905340fdd4e54bfe9f06bf33ff6cf5ad27f511bfe95",
+        "root 0xb5303f2ad2010d699a76c8e62350947421a3e4a979779642cfdb0f6668986b25\n",
+    ),
+    // The root of the empty deposit contract.
+    (
+        "Deposits",
+        "",
+        "root 0xd70a234731285c6804c2a4f56711ddb8c82c99740f207854891028af34e27e5e\n",
+    ),
+];
 
-const USAGE: &str =
-    "usage: ssz root SCHEMA TYPE FILE | run SCHEMA SCRIPT | weave SCHEMA BASE ORDER SCRIPT.. | verify ROOT FILE | work SCHEMA TYPE SEED EDITS\n";
+// The same by the xor of pairs.
+const BY_XOR: [(&str, &str, &str); 9] = [
+    (
+        "M",
+        "aabb060000000102",
+        "root 0xbb000000000000000000000000000000000000000000000000000000000000ab\n",
+    ),
+    (
+        "Bytes",
+        "0102030405",
+        "root 0x0000000000000000000000000000000000000000000000000000000001020304\n",
+    ),
+    ("Many", "fcffffff", "invalid F5 0\n"),
+    ("Many", "00000000", "invalid F4 0\n"),
+    ("Many", "0600000000000000", "invalid F4 0\n"),
+    ("Many", "080000", "invalid F1 0\n"),
+    ("Ms", "04000000aabb070000000102", "invalid F4 6\n"),
+    ("Two", "080000000c000000010203", "invalid F5 4\n"),
+    ("Two", "080000000b000000010203", "invalid F7 8\n"),
+];
 
-const ONE: [u8; 8] = [1, 0, 0, 0, 0, 0, 0, 0];
+// Words, a schema, a value, and what is printed.
+const OTHERS: [(&[&str], &str, &[u8], &str); 14] = [
+    (&["ssz"], SCHEMA, b"", USAGE),
+    (&["ssz", "verify", "zz", "f"], SCHEMA, b"", USAGE),
+    (&["ssz", "run", "s", "v"], SCHEMA, b"", USAGE),
+    (&["ssz", "root", "--help"], SCHEMA, b"", USAGE),
+    (
+        &["ssz", "root", "s", "Eight", "v", "--max-bytes", "0"],
+        SCHEMA,
+        b"\x10",
+        "refused 0 12 TooLong\n",
+    ),
+    (
+        &["ssz", "root", "--max-bytes=8", "s", "P", "v"],
+        SCHEMA,
+        b"12345678",
+        "invalid F1 0\n",
+    ),
+    (
+        &["ssz", "root", "--max-bytes=8", "s", "P", "v"],
+        SCHEMA,
+        b"123456789",
+        "refused 0 12 TooLong\n",
+    ),
+    (&["ssz", "root", "s", "P", "v"], "{", b"", "schema S1\n"),
+    (
+        &["ssz", "root", "s", "P", "v"],
+        "{\"ssz\":3,\"types\":[]}",
+        b"",
+        "schema S2\n",
+    ),
+    (
+        &["ssz", "root", "s", "P", "v"],
+        "{\"ssz\":1,\"types\":[[\"P\",{\"vector\":[\"uint8\",0]}]]}",
+        b"",
+        "schema S6 0\n",
+    ),
+    (
+        &["ssz", "root", "s", "P", "v"],
+        "{\"ssz\":1,\"types\":[[\"T\",\"byte\"],[\"T\",\"V\"]]}",
+        b"",
+        "schema S4 1\n",
+    ),
+    (
+        &["ssz", "root", "s", "P", "v"],
+        "{\"ssz\":1,\"types\":[[\"P\",{\"list\":[\"uint64\",4611686018427387904]}]]}",
+        b"",
+        "schema S11 0\n",
+    ),
+    (
+        &["ssz", "root", "s", "P", "v"],
+        "{\"ssz\":2,\"types\":[[\"P\",{\"list\":[\"uint64\",4611686018427387904]}]]}",
+        b"1",
+        "invalid F7 0\n",
+    ),
+    (
+        &["ssz", "root", "s", "uint8", "v"],
+        "{\"ssz\":1,\"types\":[]}",
+        b"12",
+        "invalid F2 1\n",
+    ),
+];
 
-#[derive(Drop)]
-struct Case<'a> {
-    words: &'a [&'a str],
-    schema: &'a str,
-    value: &'a [u8],
-    printed: &'a str,
-    status: Status,
-}
-
-fn words_of(alloc: Global, words: &[&str]) -> Result<Vec<String>, AllocError> {
+fn owned(alloc: Global, words: &[&str]) -> Result<Vec<String>, AllocError> {
     let mut owned = Vec::new(alloc);
     for word in words {
         owned.push(String::from_str(alloc, word)?)?;
@@ -40,100 +215,77 @@ fn words_of(alloc: Global, words: &[&str]) -> Result<Vec<String>, AllocError> {
     Ok(owned)
 }
 
-fn case_of<'a>(
-    words: &'a [&'a str],
-    schema: &'a str,
-    value: &'a [u8],
-    printed: &'a str,
-    status: Status,
-) -> Case<'a> {
-    Case {
-        words,
-        schema,
-        value,
-        printed,
-        status,
+// The status that goes with a line.
+fn status_for(line: &str) -> Status {
+    if line.starts_with("root") {
+        Status::Accepted
+    } else if line.starts_with("usage") {
+        Status::Usage
+    } else if line.starts_with("schema") {
+        Status::SchemaFault
+    } else {
+        Status::Refused
     }
 }
 
-// The standard's own examples, and each refusal once.
+// What the words print over files that never fail, and the status.
+fn printed<H: PairHash>(
+    alloc: Global,
+    words: &[&str],
+    schema: &str,
+    value: &[u8],
+    hasher: &mut H,
+) -> Result<(Vec<u8>, Status), AllocError> {
+    let mut files = QuietFiles::new(alloc)?;
+    files.give("s", schema.as_bytes())?;
+    files.give("v", value)?;
+    let mut out = QuietSink::new(alloc)?;
+    let words = owned(alloc, words)?;
+    let status = run(alloc, &words, &mut files, &mut out, hasher);
+    Ok((Vec::from_slice(alloc, out.taken())?, status))
+}
+
 #[test]
-fn prints_the_line_of_its_words(rt: HostRuntime) -> Result<(), Fail> {
+fn prints_roots_and_first_faults(rt: HostRuntime) -> Result<(), Fail> {
     let alloc = rt.alloc();
-    let zeros = [0u8; 32];
-    let one = ["ssz", "root", "s", "O", "v"];
-    let two = ["ssz", "root", "s", "P", "v"];
-    let four = ["ssz", "root", "s", "R", "v"];
-    let number = ["ssz", "root", "s", "uint64", "v"];
-    let unknown = ["ssz", "root", "s", "Q", "v"];
-    let narrow = ["ssz", "root", "s", "uint32", "v"];
-    let cases = [
-        case_of(&two, SCHEMA, &zeros[..16], ROOT_OF_TWO, Status::Accepted),
-        case_of(&four, SCHEMA, &zeros, ROOT_OF_FOUR, Status::Accepted),
-        case_of(&one, SCHEMA, &ONE, ROOT_OF_ONE, Status::Accepted),
-        case_of(&number, SCHEMA, &ONE, ROOT_OF_ONE, Status::Accepted),
-        case_of(
-            &two,
-            SCHEMA,
-            &zeros[..15],
-            "invalid F1 0\n",
-            Status::Refused,
-        ),
-        case_of(
-            &two,
-            SCHEMA,
-            &zeros[..17],
-            "invalid F2 16\n",
-            Status::Refused,
-        ),
-        case_of(
-            &unknown,
-            SCHEMA,
-            &ONE,
-            "refused 0 2 NoType\n",
-            Status::Refused,
-        ),
-        case_of(
-            &narrow,
-            SCHEMA,
-            &ONE,
-            "refused 0 2 NoType\n",
-            Status::Refused,
-        ),
-        case_of(&two, "{", &ONE, "schema S1\n", Status::SchemaFault),
-        case_of(
-            &two,
-            "{\"ssz\":3,\"types\":[]}",
-            &ONE,
-            "schema S2\n",
-            Status::SchemaFault,
-        ),
-        case_of(&["ssz"], SCHEMA, &ONE, USAGE, Status::Usage),
-        case_of(
-            &["ssz", "verify", "zz", "f"],
-            SCHEMA,
-            &ONE,
-            USAGE,
-            Status::Usage,
-        ),
-        case_of(
-            &["ssz", "root", "s", "P", "-v"],
-            SCHEMA,
-            &ONE,
-            USAGE,
-            Status::Usage,
-        ),
-    ];
-    for case in &cases {
-        let mut files = QuietFiles::new(alloc)?;
-        files.give("s", case.schema.as_bytes())?;
-        files.give("v", case.value)?;
-        let mut out = QuietSink::new(alloc)?;
-        let words = words_of(alloc, case.words)?;
-        let status = run(alloc, &words, &mut files, &mut out, &mut ShaPair::new());
-        assert_eq!(rt; status, case.status);
-        assert_eq!(rt; out.taken(), case.printed.as_bytes());
+    for (name, digits, line) in BY_SHA {
+        let value = hex::decode(alloc, digits)?;
+        let words = ["ssz", "root", "s", name, "v"];
+        let (text, status) = printed(alloc, &words, SCHEMA, &value, &mut ShaPair::new())?;
+        assert_eq!(rt; text.as_slice(), line.as_bytes(), "{name} {digits}");
+        assert_eq!(rt; status, status_for(line));
     }
+    for (name, digits, line) in BY_XOR {
+        let value = hex::decode(alloc, digits)?;
+        let words = ["ssz", "root", "s", name, "v"];
+        let (text, status) = printed(alloc, &words, SCHEMA, &value, &mut XorPair::new())?;
+        assert_eq!(rt; text.as_slice(), line.as_bytes(), "{name} {digits}");
+        assert_eq!(rt; status, status_for(line));
+    }
+    Ok(())
+}
+
+#[test]
+fn prints_what_is_refused(rt: HostRuntime) -> Result<(), Fail> {
+    let alloc = rt.alloc();
+    for (words, schema, value, line) in OTHERS {
+        let (text, status) = printed(alloc, words, schema, value, &mut XorPair::new())?;
+        assert_eq!(rt; text.as_slice(), line.as_bytes());
+        assert_eq!(rt; status, status_for(line));
+    }
+    Ok(())
+}
+
+// The chunk of one byte, up the zero trees of 35 levels, and the length: 126 pairs for the zero
+// table and 36.
+#[test]
+fn hashes_one_byte_of_a_long_list(rt: HostRuntime) -> Result<(), Fail> {
+    let mut hasher = XorPair::new();
+    let words = ["ssz", "root", "s", "Bytes", "v"];
+    let (text, _) = printed(rt.alloc(), &words, SCHEMA, &[5], &mut hasher)?;
+    let line = "root 0x0100000000000000000000000000000000000000000000000000000005000000\n";
+    assert_eq!(rt; text.as_slice(), line.as_bytes());
+    assert_eq!(rt; hasher.count(), 126 + 36);
     Ok(())
 }
 
@@ -145,7 +297,7 @@ fn a_failed_put_ends_the_run(rt: HostRuntime) -> Result<(), Fail> {
     files.give("s", SCHEMA.as_bytes())?;
     files.give("v", &[0; 16])?;
     let mut out = MemSink::new(alloc, &[1])?;
-    let words = words_of(alloc, &["ssz", "root", "s", "P", "v"])?;
+    let words = owned(alloc, &["ssz", "root", "s", "P", "v"])?;
     let status = run(alloc, &words, &mut files, &mut out, &mut ShaPair::new());
     assert_eq!(rt; status, Status::WriteFault);
     assert_eq!(rt; out.taken(), &ROOT_OF_TWO.as_bytes()[..36]);
@@ -158,7 +310,7 @@ fn an_absent_schema_prints_nothing(rt: HostRuntime) -> Result<(), Fail> {
     let mut files = MemFiles::new(alloc, &[])?;
     let mut out = MemSink::new(alloc, &[])?;
     let mut hasher = XorPair::new();
-    let words = words_of(alloc, &["ssz", "root", "s", "P", "v"])?;
+    let words = owned(alloc, &["ssz", "root", "s", "P", "v"])?;
     let status = run(alloc, &words, &mut files, &mut out, &mut hasher);
     assert_eq!(rt; status, Status::ReadFault);
     assert_eq!(rt; out.taken().len(), 0);

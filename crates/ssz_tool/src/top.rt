@@ -1,45 +1,33 @@
 // The top call.
-ghost use Rattle.std.specs.Prelude.{◌≡◌, ◌≢◌, ◌≤◌, ◌+◌, ◌^◌, ℕ, length, map, Bool, Some, IsNone, IsSome};
+ghost use Rattle.std.specs.Prelude.{◌≡◌, ◌≢◌, ◌≤◌, ◌+◌, ℕ, Bool, Some, IsNone, IsSome};
 ghost use Rattle.std.specs.Option.{ForSome};
 ghost use Rattle.ssz_outside.specs.Content.{Content};
 ghost use Rattle.ssz_outside.specs.Outcome.{Rose};
-ghost use Rattle.ssz_chunk.specs.Tree.{root, full};
-ghost use Rattle.ssz_tool.specs.Values.{depth_of, leaf_of, pairs_of};
+ghost use Rattle.ssz_outside.specs.Job.{Ends, Finishes, CountsRun, IsThatOrStopped, line_job};
 ghost use Rattle.ssz_tool.specs.Jobs.{line_of, pairs_of_task};
 ghost use Rattle.ssz_tool.specs.Lines.{line_text, status_of};
 ghost use Rattle.ssz_tool.specs.Runs.{job_of, pairs_allowed};
-ghost use Rattle.ssz_outside.specs.Job.{Ends, Finishes, CountsRun, IsThatOrStopped, line_job};
-ghost use Rattle.ssz_tool.specs.Tasks.{IsSmall, task_view};
-ghost use Rattle.ssz_tool.specs.Words.{texts, root_words};
+ghost use Rattle.ssz_tool.specs.Tasks.{IsReady, task_view};
+ghost use Rattle.ssz_tool.specs.Words.{taken, texts};
 
 use crate::job::{Stop, Task, task_of};
 use crate::line::{Line, line_text, status_of};
-use crate::root::root_of_full;
-use crate::value::depth_of;
-use ssz_chunk::{Chunk, PairHash, ZeroTable};
+use ssz_chunk::{PairHash, ZeroTable};
 use ssz_outside::{Files, Sink, Status, say_line};
+use ssz_roots::root_of_bytes;
 use std::alloc::Global;
 
-fn root_of<H: PairHash>(chunks: &[Chunk], hasher: &mut H) -> Chunk
-    requires { length chunks.now ≤ 2 ^ 21 }
-    ensures value { result.0
-        ≡ root H.pair_of (full (depth_of (length chunks.now)) (map leaf_of chunks.now)) }
-    ensures pairs { H.pairs hasher.new
-        ≤ H.pairs hasher.old + (126 + pairs_of (length chunks.now)) }
-{
-    let depth = depth_of(chunks.len());
-    let zeros = ZeroTable::new(hasher);
-    root_of_full(chunks, depth, &zeros, hasher)
-}
-
 fn line_of<H: PairHash>(task: &Task, hasher: &mut H) -> Line
-    requires { IsSmall task.now }
+    requires { IsReady task.now }
     ensures value { result ≡ line_of H.pair_of (task_view task.now) }
     ensures pairs { H.pairs hasher.new ≤ H.pairs hasher.old + pairs_of_task (task_view task.now) }
 {
     match task {
         Task::Says(line) => *line,
-        Task::Roots(chunks) => Line::Root(root_of(chunks, hasher)),
+        Task::Root(schema, id, bytes) => {
+            let zeros = ZeroTable::new(hasher);
+            Line::Root(root_of_bytes(schema, *id, bytes, &zeros, hasher))
+        }
     }
 }
 
@@ -69,11 +57,11 @@ fn run_words<F: Files, S: Sink, H: PairHash>(
         (S.pieces out.old) (S.pieces out.new) (F.content files.new)) }
     ensures counts { CountsRun result (F.get_faults files.old) (F.get_faults files.new)
         (F.put_faults files.old) (F.put_faults files.new) (S.faults out.old) (S.faults out.new) }
-    ensures usage { result ≡ Status.Usage → IsNone (root_words (texts words.now)) }
-    ensures not_taken { IsNone (root_words (texts words.now)) → IsThatOrStopped Status.Usage result }
-    ensures taken { result ≡ Status.ReadFault → IsSome (root_words (texts words.now)) }
-    ensures readable { ForSome (root_words (texts words.now)) (λ names. F.readable files.old names.schema
-        → F.readable files.old names.file → result ≢ Status.ReadFault) }
+    ensures usage { result ≡ Status.Usage → IsNone (taken (texts words.now)) }
+    ensures not_taken { IsNone (taken (texts words.now)) → IsThatOrStopped Status.Usage result }
+    ensures taken { result ≡ Status.ReadFault → IsSome (taken (texts words.now)) }
+    ensures readable { ForSome (taken (texts words.now)) (λ args. F.readable files.old args.schema
+        → F.readable files.old args.file → result ≢ Status.ReadFault) }
     ensures pairs { ForSome (F.content files.old) (λ held. H.pairs hasher.new
         ≤ H.pairs hasher.old + pairs_allowed (texts words.now) held) }
 {
@@ -115,13 +103,13 @@ pub fn run<F: Files, S: Sink, H: PairHash>(
         (F.put_faults files.old) (F.put_faults files.new) (S.faults out.old) (S.faults out.new) }
 
     // Words that are not taken are refused as such, and no others; no file is read for them.
-    ensures usage { result ≡ Status.Usage → IsNone (root_words (texts words.now)) }
-    ensures not_taken { IsNone (root_words (texts words.now)) → IsThatOrStopped Status.Usage result }
-    ensures taken { result ≡ Status.ReadFault → IsSome (root_words (texts words.now)) }
+    ensures usage { result ≡ Status.Usage → IsNone (taken (texts words.now)) }
+    ensures not_taken { IsNone (taken (texts words.now)) → IsThatOrStopped Status.Usage result }
+    ensures taken { result ≡ Status.ReadFault → IsSome (taken (texts words.now)) }
 
     // A read fails only of the files that the words name.
-    ensures readable { ForSome (root_words (texts words.now)) (λ names. F.readable files.old names.schema
-        → F.readable files.old names.file → result ≢ Status.ReadFault) }
+    ensures readable { ForSome (taken (texts words.now)) (λ args. F.readable files.old args.schema
+        → F.readable files.old args.file → result ≢ Status.ReadFault) }
 
     // The pairs hashed: those of the value, beyond the zero table.
     ensures pairs { ForSome (F.content files.old) (λ held. H.pairs hasher.new

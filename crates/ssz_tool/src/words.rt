@@ -1,66 +1,30 @@
-// The words of the command line.
-ghost use Rattle.std.specs.Prelude.{◌≡◌, option_map};
-ghost use Rattle.ssz_tool.specs.Words.{texts, is_plain, root_names, root_words};
-ghost use Rattle.ssz_tool.specs.Named.{names_of_words};
+// The words that the program takes.
+ghost use Rattle.std.specs.Prelude.{◌≡◌, IfOk, Some};
+ghost use Rattle.ssz_tool.specs.Words.{standing, taken, texts};
 
-/// What the command `root` names.
-#[derive(Clone, Copy)]
-pub struct RootWords<'a> {
-    pub schema: &'a str,
-    pub type_name: &'a str,
-    pub file: &'a str,
-}
+use ssz_words::{Command, RootArgs, WordsFault, read_words};
+use std::alloc::{AllocError, Global};
 
-// Whether a word does not begin with `-`.
-fn is_plain(word: &str) -> bool
-    ensures { result ≡ is_plain word.now }
+// The arguments of a command whose part of the program stands: another joins here.
+fn standing(command: Command) -> Option<RootArgs>
+    ensures { result ≡ standing (Some command) }
 {
-    match word.as_bytes().first() {
-        Some(first) => *first != b'-',
-        None => true,
+    match command {
+        Command::Root(args) => Some(args),
+        Command::Run(_) => None,
+        Command::Weave(_) => None,
+        Command::Verify(_) => None,
+        Command::Work(_) => None,
     }
 }
 
-fn root_names<'a>(
-    command: &str,
-    schema: &'a str,
-    type_name: &'a str,
-    file: &'a str,
-) -> Option<RootWords<'a>>
-    ensures { option_map names_of_words result
-        ≡ root_names command.now schema.now type_name.now file.now }
+/// What the words ask for, of which the first is the program's name, where they are taken.
+pub fn root_args(alloc: Global, words: &[String]) -> Result<Option<RootArgs>, AllocError>
+    ensures { IfOk result (λ args. args ≡ taken (texts words.now)) }
 {
-    if command != "root" {
-        return None;
-    }
-    if !is_plain(schema) {
-        return None;
-    }
-    if !is_plain(type_name) {
-        return None;
-    }
-    if !is_plain(file) {
-        return None;
-    }
-    Some(RootWords {
-        schema,
-        type_name,
-        file,
-    })
-}
-
-/// What five words name, the first of them the program's name.
-pub fn root_words(words: &[String]) -> Option<RootWords<'_>>
-    ensures { option_map names_of_words result ≡ root_words (texts words.now) }
-{
-    if words.len() == 5 {
-        root_names(
-            words[1].as_str(),
-            words[2].as_str(),
-            words[3].as_str(),
-            words[4].as_str(),
-        )
-    } else {
-        None
+    match read_words(alloc, words) {
+        Ok(command) => Ok(standing(command)),
+        Err(WordsFault::NotTaken) => Ok(None),
+        Err(WordsFault::Memory) => Err(AllocError),
     }
 }
