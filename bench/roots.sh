@@ -18,8 +18,12 @@ J
 python3 - <<'P'
 import random
 random.seed(1)
-open("list.bin", "wb").write(random.randbytes(1 << 28))
-open("containers.bin", "wb").write(random.randbytes(64 * 1000000))
+with open("list.bin", "wb") as file:
+    for _ in range(256):
+        file.write(random.randbytes(1 << 20))
+with open("containers.bin", "wb") as file:
+    for _ in range(64):
+        file.write(random.randbytes(1000000))
 P
 timed() { /usr/bin/time -f '%U %S %M' -o took "$@" > said; read user sys kib < took; echo "  $(awk "BEGIN{print $user + $sys}") s, peak $((kib / 1024)) MiB: $(cat said)"; }
 for row in "Numbers list" "Cs containers"; do
