@@ -1,0 +1,10 @@
+pub mod PathWalk
+pub mod Within
+pub mod HelperLists
+pub mod HelperNodes
+pub mod Walking
+pub mod PairSteps
+pub mod NodeSets
+pub mod Starting
+pub mod Lowest
+pub mod Prefixes

@@ -1,0 +1,4 @@
+pub mod Helpers
+pub mod Laws
+pub mod Walk
+pub mod Faults

@@ -1,0 +1,113 @@
+// The index of the part that a path names.
+ghost use Rattle.std.specs.Prelude.{◌≡◌, ◌+◌, ◌*◌, ◌<◌, ◌≤◌, ◌^◌, length, IsSome};
+ghost use Rattle.std.specs.Option.{ForSome};
+ghost use Rattle.ssz_schema.specs.Unfolding.{type_of};
+ghost use Rattle.ssz_schema.specs.Sizes.{basic_size, levels};
+ghost use Rattle.ssz_schema.specs.declared.path.PathStep.TheVariants.{Field, Index};
+ghost use Rattle.ssz_schema.specs.Paths.{step_type};
+ghost use Rattle.ssz_schema.specs.Indices.{element_position, step_levels, step_position, generalized_index};
+
+use super::gindex::Gindex;
+use ssz_schema::{Name, PathStep, Schema, Ty, TypeId, field_at};
+
+impl Gindex {
+    /// The place, in the tree of a value of this type of the schema, of the part at the path: its
+    /// node, or the leaf in which it lies. None exactly where the path does not fit the type
+    /// (merkle-proofs.md, SSZ object to index).
+    pub fn of_path(schema: &Schema, id: TypeId, path: &[PathStep]) -> Option<Gindex>
+        requires { id < length schema.now.trees }
+        ensures { result ≡ generalized_index (type_of schema.now id) path.now }
+    {
+        // A legal type has at most 126 levels, so that each index fits.
+        let _legal = schema.ty(id);
+        let mut number = 1u128;
+        let mut part = id;
+        for step in path {
+            let Some(next) = schema.step_type(part, step) else {
+                return None;
+            };
+            let levels = step_levels(schema, part, step);
+            number = number * 2u128.pow(levels) + u128::from(step_position(schema, part, step));
+            part = next;
+        }
+        Gindex::new(number)
+    }
+}
+
+// How many levels the step goes down.
+fn step_levels(schema: &Schema, id: TypeId, step: &PathStep) -> u32
+    requires { id < length schema.now.trees }
+    ensures { result ≡ step_levels (type_of schema.now id) step.now }
+{
+    match schema.ty(id) {
+        Ty::Container(_) | Ty::Vector(_, _) | Ty::Bitvector(_) => schema.depth(id),
+        Ty::List(_, _) | Ty::Bitlist(_) => match step {
+            PathStep::Index(_) => schema.depth(id) + 1,
+            _ => 1,
+        },
+        Ty::Uint(_) | Ty::Boolean | Ty::Union(_) => 1,
+    }
+}
+
+// To which of the nodes so many levels down the step leads, where it fits.
+fn step_position(schema: &Schema, id: TypeId, step: &PathStep) -> u64
+    requires known { id < length schema.now.trees }
+    requires fits { IsSome (step_type (type_of schema.now id) step.now) }
+    ensures { result ≡ step_position (type_of schema.now id) step.now }
+{
+    match step {
+        PathStep::Field(name) => field_position(schema, id, name),
+        PathStep::Index(i) => index_position(schema, id, *i),
+        PathStep::Len | PathStep::Selector => 1,
+        PathStep::Option(_) => 0,
+    }
+}
+
+fn field_position(schema: &Schema, id: TypeId, name: &Name) -> u64
+    requires known { id < length schema.now.trees }
+    requires fits { IsSome (step_type (type_of schema.now id) (Field name.now)) }
+    ensures { result ≡ step_position (type_of schema.now id) (Field name.now) }
+{
+    let Ty::Container(fields) = schema.ty(id) else {
+        return 0;
+    };
+    match field_at(fields.as_slice(), name) {
+        Some(number) => number as u64,
+        None => 0,
+    }
+}
+
+fn index_position(schema: &Schema, id: TypeId, i: u64) -> u64
+    requires { id < length schema.now.trees }
+    ensures { result ≡ step_position (type_of schema.now id) (Index i) }
+{
+    match schema.ty(id) {
+        Ty::Vector(elem, _) | Ty::List(elem, _) => element_position(basic_size(schema, *elem), i),
+        Ty::Bitvector(_) | Ty::Bitlist(_) => i / 256,
+        Ty::Uint(_) | Ty::Boolean | Ty::Container(_) | Ty::Union(_) => 0,
+    }
+}
+
+// The size of a basic type, and None of a composite one.
+fn basic_size(schema: &Schema, id: TypeId) -> Option<u64>
+    requires { id < length schema.now.trees }
+    ensures exact { result ≡ basic_size (type_of schema.now id) }
+    ensures at_most { ForSome result (λ z. z ≤ 32) }
+{
+    match schema.ty(id) {
+        Ty::Uint(width) => Some(width.byte_count()),
+        Ty::Boolean => Some(1),
+        _ => None,
+    }
+}
+
+// The chunk in which element i begins, given the elements' size where they are basic.
+fn element_position(size: Option<u64>, i: u64) -> u64
+    requires { ForSome size (λ z. z ≤ 32) }
+    ensures { result ≡ element_position size i }
+{
+    match size {
+        Some(size) => (u128::from(i) * u128::from(size) / 32) as u64,
+        None => i,
+    }
+}
