@@ -1,0 +1,15 @@
+use Rattle.std.proofs.Common.{◌≡◌, ap, sym, subst}
+use Rattle.ssz_arena.specs.Content.{Content}
+use Rattle.ssz_arena.specs.Invariant.{CanJoin, IsArena}
+use Rattle.ssz_arena.proofs.Sound.{arena-push}
+use Rattle.ssz_arena.proofs.arena.Arena.push.Goals as goal
+
+pub invariant_of-self : goal.invariant_of-self
+invariant_of-self g c =
+    let seen : c.args.self.now.nodes ≡ c.self.inside.nodes.items =
+    ap (λ (a : Content). a.nodes) (sym c.self.view_is) in
+    let joins : CanJoin g.H.PairHash.pair_of c.self.inside.nodes.items c.args.node =
+    subst (λ ns. CanJoin g.H.PairHash.pair_of ns c.args.node) seen c.requires.node in
+    subst (IsArena g.H.PairHash.pair_of) (sym c.push_reserved.ensures.items)
+    (arena-push g.H.PairHash.pair_of c.self.inside.nodes.items c.args.node c.self.invariant
+    joins)

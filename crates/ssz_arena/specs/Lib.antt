@@ -1,0 +1,7 @@
+pub mod Content
+pub mod Invariant
+pub mod Filled
+pub mod Shown
+pub mod Replaced
+pub mod Compacted
+pub mod Copied

@@ -1,0 +1,294 @@
+ghost use Rattle.std.specs.Prelude.{◌≡◌, ℕ, ◌+◌, ◌-◌, ◌<◌, ◌≤◌, ◌↔◌, [], ◌∷◌, ◌++◌, All, IfOk, OnOk, OnErr, IfSome, IfNone, IsSome, IsNone, Some, None};
+ghost use Rattle.ssz_chunk.specs.declared.TheConstants.{LEVELS};
+ghost use Rattle.ssz_chunk.specs.Chunk.{CountsUp};
+ghost use Rattle.ssz_chunk.specs.Index.{at, at_way, digits, levels, put};
+ghost use Rattle.ssz_chunk.specs.Tree.{leaf, pair, root, zero_tree};
+ghost use Rattle.ssz_arena.specs.Compacted.{IsCompaction};
+ghost use Rattle.ssz_arena.specs.Content.{IsNodeOf, KeepsNodes, node_count, todo, tree_of, unhashed};
+ghost use Rattle.ssz_arena.specs.Invariant.{CanJoin};
+ghost use Rattle.ssz_arena.specs.Replaced.{AddsPairs, IsReplaced};
+ghost use Rattle.ssz_arena.specs.Shown.{Shows};
+
+use super::compaction::{copied, marked, places_of};
+use super::hashing::fill;
+use super::node::{Node, NodeId, NodeRef, ZERO_TREES};
+use ssz_chunk::{Chunk, LEVELS, PairHash, ZeroTable};
+use ssz_gindex::Gindex;
+use std::alloc::{AllocError, Global};
+use std::marker::{Model, PhantomData};
+
+/// Nodes that only grow in number, each a tree of chunks, named by `NodeId`s. What the root of a
+/// pair is, the hasher's type says.
+#[derive(Debug, Drop)]
+pub struct Arena<H: PairHash> {
+    nodes: Vec<Node>,
+    hasher: PhantomData<H>,
+}
+
+/// What a compaction makes: an arena, and the nodes in it, in the order of those asked for.
+#[derive(Debug, Drop)]
+pub struct Compacted<H: PairHash> {
+    pub arena: Arena<H>,
+    pub ids: Vec<NodeId>,
+}
+
+// The nodes, and for how many more there is room.
+impl<H: PairHash> Model for Arena<H> {
+    ghost use Rattle.std.specs.Prelude.{◌-◌, vec_len, vec_capacity};
+    ghost use Rattle.ssz_arena.specs.Content.{Content};
+    ghost use Rattle.ssz_arena.specs.Invariant.{IsArena};
+
+    ghost Value = { Content };
+
+    ghost view = { λ a. record {
+      nodes = a.nodes.items;
+      spare = vec_capacity a.nodes - vec_len a.nodes;
+    } };
+
+    ghost invariant = { λ a. IsArena H.pair_of a.nodes.items };
+}
+
+impl<H: PairHash> Arena<H> {
+    /// An arena of the zero trees alone, which hashes LEVELS pairs. Fails for want of memory, and
+    /// has then hashed nothing.
+    pub fn start(alloc: Global, hasher: &mut H) -> Result<Self, AllocError>
+        ensures unhashed { IfOk result (λ arena. unhashed arena ≡ 0) }
+        ensures nodes { IfOk result (λ arena. node_count arena ≡ LEVELS + 1) }
+        ensures counts { OnOk result (CountsUp LEVELS (H.pairs hasher.old) (H.pairs hasher.new)) }
+        ensures err { OnErr result (hasher.new ≡ hasher.old) }
+    {
+        let mut nodes = Vec::with_capacity(alloc, ZERO_TREES)?;
+        let zeros = ZeroTable::new(hasher);
+        nodes.push_reserved(Node::Leaf(Chunk::ZERO));
+        for d in 0..LEVELS {
+            let below = NodeId(d as usize);
+            nodes.push_reserved(Node::Pair(below, below, Some(*zeros.get(d + 1))));
+        }
+        Ok(Arena {
+            nodes,
+            hasher: PhantomData,
+        })
+    }
+
+    /// How many nodes there are.
+    pub fn len(&self) -> usize
+        ensures { result ≡ node_count self.now }
+    {
+        self.nodes.len()
+    }
+
+    /// Makes room for n more nodes. Fails for want of memory.
+    pub fn reserve(&mut self, n: usize) -> Result<(), AllocError>
+        ensures nodes { self.new.nodes ≡ self.old.nodes }
+        ensures ok { OnOk result (n ≤ self.new.spare) }
+        ensures more { self.old.spare ≤ self.new.spare }
+    {
+        self.nodes.reserve(n)
+    }
+
+    // A new node, which can stand behind the others.
+    fn push(&mut self, node: Node) -> NodeId
+        requires room { 0 < self.old.spare }
+        requires node { CanJoin H.pair_of self.old.nodes node }
+        ensures id { result.0 ≡ node_count self.old }
+        ensures nodes { self.new.nodes ≡ self.old.nodes ++ node ∷ [] }
+        ensures spare { self.new.spare + 1 ≡ self.old.spare }
+    {
+        let id = NodeId(self.nodes.len());
+        self.nodes.push_reserved(node);
+        id
+    }
+
+    /// A new leaf. Takes one of the spare nodes.
+    pub fn leaf(&mut self, chunk: Chunk) -> NodeId
+        requires { 0 < self.old.spare }
+        ensures node { IsNodeOf self.new result }
+        ensures tree { tree_of self.new result ≡ leaf chunk.0 }
+        ensures todo { todo self.new result ≡ 0 }
+        ensures keeps { KeepsNodes self.old self.new }
+        ensures unhashed { unhashed self.new ≡ unhashed self.old }
+        ensures count { node_count self.new ≡ node_count self.old + 1 }
+        ensures spare { self.new.spare + 1 ≡ self.old.spare }
+    {
+        self.push(Node::Leaf(chunk))
+    }
+
+    /// A new pair, whose root is not hashed yet. Takes one of the spare nodes.
+    pub fn pair(&mut self, left: NodeId, right: NodeId) -> NodeId
+        requires room { 0 < self.old.spare }
+        requires left { IsNodeOf self.old left }
+        requires right { IsNodeOf self.old right }
+        ensures node { IsNodeOf self.new result }
+        ensures tree { tree_of self.new result
+            ≡ pair (tree_of self.old left) (tree_of self.old right) }
+        ensures todo { todo self.new result ≡ 1 + todo self.old left + todo self.old right }
+        ensures keeps { KeepsNodes self.old self.new }
+        ensures unhashed { unhashed self.new ≡ unhashed self.old + 1 }
+        ensures count { node_count self.new ≡ node_count self.old + 1 }
+        ensures spare { self.new.spare + 1 ≡ self.old.spare }
+    {
+        self.push(Node::Pair(left, right, None))
+    }
+
+    /// The full tree of zero chunks of depth d, which is at most LEVELS.
+    pub fn zero(&self, d: u32) -> NodeId
+        requires { d ≤ LEVELS }
+        ensures node { IsNodeOf self.now result }
+        ensures tree { tree_of self.now result ≡ zero_tree d }
+        ensures todo { todo self.now result ≡ 0 }
+    {
+        let _ = &self.nodes;
+        NodeId(d as usize)
+    }
+
+    /// What the node shows: the chunk of a leaf, or the children of a pair.
+    pub fn node(&self, id: NodeId) -> NodeRef<'_>
+        requires { IsNodeOf self.now id }
+        ensures { Shows self.now id result }
+    {
+        match &self.nodes[id.0] {
+            Node::Leaf(chunk) => NodeRef::Leaf(chunk),
+            Node::Pair(left, right, _) => NodeRef::Pair(*left, *right),
+        }
+    }
+
+    /// The root of the node's tree, if nothing is to be hashed for it: always of a leaf, and of a
+    /// pair once its root, or that of a pair above it, was asked for.
+    pub fn cached(&self, id: NodeId) -> Option<&Chunk>
+        requires { IsNodeOf self.now id }
+        ensures some { IsSome result ↔ (todo self.now id ≡ 0) }
+        ensures root { IfSome result (λ chunk. chunk.now.0 ≡ root H.pair_of (tree_of self.now id)) }
+    {
+        match &self.nodes[id.0] {
+            Node::Leaf(chunk) => Some(chunk),
+            Node::Pair(_, _, cached) => cached.as_ref(),
+        }
+    }
+
+    /// The root of the node's tree (simple-serialize.md, Merkleization). Hashes those of its pairs
+    /// that have no root yet, each once, and keeps what was hashed.
+    pub fn root(&mut self, id: NodeId, hasher: &mut H) -> Chunk
+        requires { IsNodeOf self.old id }
+        ensures value { result.0 ≡ root H.pair_of (tree_of self.old id) }
+        ensures keeps { KeepsNodes self.old self.new }
+        ensures count { node_count self.new ≡ node_count self.old }
+        ensures spare { self.new.spare ≡ self.old.spare }
+        ensures hashed { todo self.new id ≡ 0 }
+        ensures todo { H.pairs hasher.new ≤ H.pairs hasher.old + todo self.old id }
+        ensures falls { unhashed self.new ≤ unhashed self.old }
+        // Each pair that got its root was hashed once, and nothing else was.
+        ensures counts { CountsUp (unhashed self.old - unhashed self.new)
+            (H.pairs hasher.old) (H.pairs hasher.new) }
+    {
+        fill(&mut self.nodes, id, hasher)
+    }
+
+    /// The node at a generalized index below this one, which is at 1 (merkle-proofs.md, Generalized
+    /// Merkle tree index). None exactly where the index leads below a leaf.
+    pub fn down(&self, id: NodeId, index: Gindex) -> Option<NodeId>
+        requires { IsNodeOf self.now id }
+        ensures none { IsNone result ↔ (at (tree_of self.now id) index ≡ None) }
+        ensures node { IfSome result (IsNodeOf self.now) }
+        ensures tree { IfSome result (λ found.
+            at (tree_of self.now id) index ≡ Some (tree_of self.now found)) }
+    {
+        let number = index.get();
+        // No index is 0, but its type does not tell that here.
+        let mut steps = index.levels();
+        let mut place = id;
+        'steps: while steps > 0 {
+            steps -= 1;
+            match self.node(place) {
+                NodeRef::Leaf(_) => return None,
+                NodeRef::Pair(left, right) => {
+                    place = if (number >> steps) % 2 == 1 {
+                        right
+                    } else {
+                        left
+                    };
+                }
+            }
+        }
+        Some(place)
+    }
+
+    // The node with another node at the end of a way: the last `steps` binary digits of a number.
+    fn replace_steps(
+        &mut self,
+        id: NodeId,
+        steps: u32,
+        number: u128,
+        other: NodeId,
+    ) -> Option<NodeId>
+        requires node { IsNodeOf self.old id }
+        requires other { IsNodeOf self.old other }
+        requires few { steps < 128 }
+        requires room { steps ≤ self.old.spare }
+        ensures none { IfNone result ((self.new ≡ self.old)
+            × (at_way (tree_of self.old id) (digits steps number) ≡ None)) }
+        ensures some { IfSome result (λ made.
+            IsReplaced self.old self.new id other made (digits steps number) steps) }
+        ensures adds { AddsPairs steps self.old self.new }
+    {
+        if steps == 0 {
+            return Some(other);
+        }
+        match self.node(id) {
+            NodeRef::Leaf(_) => None,
+            NodeRef::Pair(left, right) => {
+                if (number >> (steps - 1)) % 2 == 1 {
+                    let made = self.replace_steps(right, steps - 1, number, other)?;
+                    Some(self.pair(left, made))
+                } else {
+                    let made = self.replace_steps(left, steps - 1, number, other)?;
+                    Some(self.pair(made, right))
+                }
+            }
+        }
+    }
+
+    /// A node with the tree of `id`, but with the tree of `other` at a generalized index. What is
+    /// beside the way there is shared, and the pairs on it are new: at most as many of the spare
+    /// nodes as the index has levels. None, and nothing changes, exactly where the index leads
+    /// below a leaf.
+    pub fn replace(&mut self, id: NodeId, index: Gindex, other: NodeId) -> Option<NodeId>
+        requires node { IsNodeOf self.old id }
+        requires other { IsNodeOf self.old other }
+        requires room { levels index ≤ self.old.spare }
+        ensures none { IsNone result ↔ (at (tree_of self.old id) index ≡ None) }
+        ensures refused { IfNone result (self.new ≡ self.old) }
+        ensures node { IfSome result (IsNodeOf self.new) }
+        ensures tree { IfSome result (λ made.
+            put (tree_of self.old id) index (tree_of self.old other)
+            ≡ Some (tree_of self.new made)) }
+        ensures todo { IfSome result (λ made.
+            todo self.new made ≤ todo self.old id + levels index + todo self.old other) }
+        ensures keeps { KeepsNodes self.old self.new }
+        ensures unhashed { unhashed self.new ≤ unhashed self.old + levels index }
+        ensures count { node_count self.new ≤ node_count self.old + levels index }
+        ensures spare { self.old.spare ≤ self.new.spare + levels index }
+    {
+        let number = index.get();
+        // No index is 0, but its type does not tell that here.
+        self.replace_steps(id, index.levels(), number, other)
+    }
+
+    /// A fresh arena of what some nodes lead to, with the roots that they keep, and these nodes in
+    /// it: at most LEVELS + 1 nodes and those that they reach. Nothing is hashed. Fails for want of
+    /// memory.
+    pub fn compact(&self, roots: &[NodeId]) -> Result<Compacted<H>, AllocError>
+        requires { All (IsNodeOf self.now) roots.now }
+        ensures { IfOk result (λ made. IsCompaction self.now made.arena roots.now made.ids.items) }
+    {
+        let alloc = *self.nodes.allocator();
+        let old = self.nodes.as_slice();
+        let marks = marked(alloc, old, roots)?;
+        let (nodes, places) = copied::<H>(alloc, old, &marks)?;
+        let ids = places_of(alloc, &places, roots)?;
+        let arena = Arena {
+            nodes,
+            hasher: PhantomData,
+        };
+        Ok(Compacted { arena, ids })
+    }
+}
