@@ -1,0 +1,15 @@
+pub mod Within
+pub mod KnownChunks
+pub mod HelperIndices
+pub mod Calculating
+pub mod Levels
+pub mod Searching
+pub mod Descending
+pub mod TextSteps
+pub mod ReadingSteps
+pub mod AscendingSteps
+pub mod Permuted
+pub mod EntryTexts
+pub mod TextLaws
+pub mod Judging
+pub mod Judged

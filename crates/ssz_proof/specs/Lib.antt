@@ -1,0 +1,6 @@
+pub mod Calculation
+pub mod Multiproof
+pub mod Text
+pub mod Judgement
+pub mod Laws
+pub mod Descent

@@ -1,0 +1,93 @@
+ghost use Rattle.std.specs.Prelude.{◌≡◌, ℕ, ◌+◌, ◌++◌, ◌<◌, ◌≤◌, ◌↔◌, ◌∷◌, [], IsTrue, MatchOption, option_map, sum_by};
+ghost use Rattle.ssz_chunk.specs.Index.{levels};
+ghost use Rattle.ssz_proof.specs.Calculation.{calculated, chunk_at, indices_of};
+ghost use Rattle.ssz_proof.specs.Multiproof.{IsOrdered, known_of};
+ghost use Rattle.ssz_proof.specs.Descent.{IsAscending, IsDescending, IsReached, levels_below};
+
+use crate::entry::Entry;
+use crate::proof::Proof;
+use ssz_chunk::{Chunk, PairHash};
+
+/// The root that a proof leads to (calculate_multi_merkle_root). Takes no memory, and hashes at
+/// most as many pairs as its leaves have levels together.
+pub fn calc<H: PairHash>(proof: &Proof, hasher: &mut H) -> Chunk
+    ensures value { result.0 ≡ calculated H.pair_of (known_of proof.now) 1 }
+    ensures rises { H.pairs hasher.old ≤ H.pairs hasher.new }
+    ensures pairs { H.pairs hasher.new
+        ≤ H.pairs hasher.old + sum_by levels (indices_of proof.now.leaves) }
+{
+    calculate(proof.leaves(), proof.nodes(), 1, hasher)
+}
+
+/// Whether a proof leads to this root (verify_merkle_multiproof): it hashes what `calc` does.
+pub fn verify<H: PairHash>(proof: &Proof, root: &Chunk, hasher: &mut H) -> bool
+    ensures value { IsTrue result ↔ (calculated H.pair_of (known_of proof.now) 1 ≡ root.now.0) }
+    ensures rises { H.pairs hasher.old ≤ H.pairs hasher.new }
+    ensures pairs { H.pairs hasher.new
+        ≤ H.pairs hasher.old + sum_by levels (indices_of proof.now.leaves) }
+{
+    calc(proof, hasher) == *root
+}
+
+// The chunk at an index that is on the way to a leaf, or known.
+fn calculate<H: PairHash>(leaves: &[Entry], nodes: &[Entry], index: u128, hasher: &mut H) -> Chunk
+    requires ordered { IsOrdered (record { leaves = leaves.now; nodes = nodes.now }) }
+    requires positive { 0 < index }
+    requires reached { IsReached leaves.now nodes.now index }
+    ensures value { result.0 ≡ calculated H.pair_of (leaves.now ++ nodes.now) index }
+    ensures rises { H.pairs hasher.old ≤ H.pairs hasher.new }
+    ensures pairs { H.pairs hasher.new
+        ≤ H.pairs hasher.old + levels_below index (indices_of leaves.now) }
+{
+    if let Some(chunk) = find(leaves, index) {
+        return chunk;
+    }
+    if let Some(chunk) = find_descending(nodes, index) {
+        return chunk;
+    }
+    let left = calculate(leaves, nodes, 2 * index, hasher);
+    let right = calculate(leaves, nodes, 2 * index + 1, hasher);
+    hasher.pair(&left, &right)
+}
+
+// The entry in the middle, those before it and those behind it.
+fn split_middle(entries: &[Entry]) -> Option<(&[Entry], &Entry, &[Entry])>
+    ensures { MatchOption result (entries.now ≡ [])
+        (λ parts. entries.now ≡ parts.0.now ++ parts.1.now ∷ parts.2.now) }
+{
+    let (before, rest) = entries.split_at(entries.len() / 2);
+    let (entry, behind) = rest.split_first()?;
+    Some((before, entry, behind))
+}
+
+// The chunk at an index, of entries in ascending order.
+fn find(entries: &[Entry], index: u128) -> Option<Chunk>
+    requires { IsAscending (indices_of entries.now) }
+    ensures { option_map (λ chunk. chunk.0) result ≡ chunk_at entries.now index }
+{
+    let mut rest = entries;
+    while let Some((before, entry, behind)) = split_middle(rest) {
+        let at = entry.index.get();
+        if index == at {
+            return Some(entry.chunk);
+        }
+        rest = if index < at { before } else { behind };
+    }
+    None
+}
+
+// The chunk at an index, of entries in descending order.
+fn find_descending(entries: &[Entry], index: u128) -> Option<Chunk>
+    requires { IsDescending (indices_of entries.now) }
+    ensures { option_map (λ chunk. chunk.0) result ≡ chunk_at entries.now index }
+{
+    let mut rest = entries;
+    while let Some((before, entry, behind)) = split_middle(rest) {
+        let at = entry.index.get();
+        if index == at {
+            return Some(entry.chunk);
+        }
+        rest = if at < index { before } else { behind };
+    }
+    None
+}
