@@ -1,6 +1,10 @@
--- What the command `root` does over files.
-use Rattle.std.specs.Prelude.{ℕ, ◌+◌, ◌^◌, nat_lt, List, length, Bool, false, Option, Some, None, Result, Ok, Err, if◌then◌else◌}
+-- What the commands do over files.
+use Rattle.std.specs.Prelude.{ℕ, ◌+◌, ◌^◌, nat_lt, List, length, bytes_eq, sum_by, Bool, false, Option, Some, None, Result, Ok, Err, if◌then◌else◌}
+use Rattle.ssz_chunk.specs.Index.{levels}
 use Rattle.ssz_outside.specs.Content.{Content, contents}
+use Rattle.ssz_proof.specs.Calculation.{calculated, indices_of}
+use Rattle.ssz_proof.specs.Multiproof.{Multiproof, known_of}
+use Rattle.ssz_proof.specs.Judgement.{multiproof_of}
 use Rattle.ssz_schema.specs.Types.{SszType}
 use Rattle.ssz_schema.specs.Lookup.{lookup_name}
 use Rattle.ssz_schema.specs.declared.fault.Fault.{Fault}
@@ -12,16 +16,20 @@ use Rattle.ssz_value.specs.Reading.{value_in}
 use Rattle.ssz_value.specs.Trees.{hash_tree_root}
 use Rattle.ssz_value.specs.Pairs.{pairs}
 use Rattle.ssz_words.specs.declared.commands.RootArgs.{RootArgs}
+use Rattle.ssz_words.specs.declared.commands.VerifyArgs.{VerifyArgs}
 use Rattle.ssz_tool.specs.Lines.{is_usage}
 use Rattle.ssz_tool.specs.Words.{taken}
 use Rattle.ssz_tool.specs.declared.line.Line.{Line}
 use Rattle.ssz_tool.specs.declared.line.Line.TheVariants as line
+use Rattle.ssz_tool.specs.declared.words.Asked.{Asked}
+use Rattle.ssz_tool.specs.declared.words.Asked.TheVariants as asked
 
--- What is left to do once the files are read: a line to print, or the root to take of the value
--- of a type that bytes encode.
+-- What is left to do once the files are read: a line to print, the root to take of the value of a
+-- type that bytes encode, or a root to compare with the one that a multiproof leads to.
 pub data Task : Type 0 where
   says : Line → Task
   roots : SszType → List ℕ → Task
+  verifies : List ℕ → Multiproof → Task
 
 -- what the bytes of a schema file give: types by their names, or the line that refuses them
 pub data Reading : Type 0 where
@@ -65,27 +73,53 @@ task_of_reading held args (accepted names) =
 abbrev pub task_of_root : Content → RootArgs → Task
 task_of_root held args = task_of_reading held args (reading_of (contents held args.schema))
 
-abbrev pub task_of_args : Content → Option RootArgs → Task
-task_of_args held None = says line.Usage
-task_of_args held (Some args) = task_of_root held args
+abbrev pub task_of_lists : List ℕ → Option Multiproof → Task
+task_of_lists root None = says line.BadProof
+task_of_lists root (Some lists) = verifies root lists
+
+-- what the bytes of a proof file give, of which there are at most 2 ^ 26
+unfoldable pub task_of_proof : List ℕ → List ℕ → Task
+task_of_proof root bytes =
+    if nat_lt (2 ^ 26) (length bytes) then says line.BadProof
+    else task_of_lists root (multiproof_of bytes)
+
+-- the task of `verify ROOT FILE`
+abbrev pub task_of_verify : Content → VerifyArgs → Task
+task_of_verify held args = task_of_proof args.root (contents held args.file)
+
+abbrev pub task_of_asked : Content → Option Asked → Task
+task_of_asked held None = says line.Usage
+task_of_asked held (Some (asked.Root args)) = task_of_root held args
+task_of_asked held (Some (asked.Verify args)) = task_of_verify held args
 
 -- the task of these words
 abbrev pub task_of : Content → List (List ℕ) → Task
-task_of held words = task_of_args held (taken words)
+task_of held words = task_of_asked held (taken words)
+
+-- the line of a root that was calculated, where another was wanted or the same
+abbrev pub line_of_root : List ℕ → List ℕ → Line
+line_of_root wanted made =
+    if bytes_eq made wanted then line.Valid else line.Unlike (record { 0 = made })
 
 -- the line that a task prints
 abbrev pub line_of : (List ℕ → List ℕ → List ℕ) → Task → Line
 line_of pair_of (says line) = line
-line_of pair_of (roots t bytes) = line.Root (record { 0 = hash_tree_root pair_of t (value_in t bytes) })
+line_of pair_of (roots t bytes) =
+    line.Root (record { 0 = hash_tree_root pair_of t (value_in t bytes) })
+line_of pair_of (verifies root lists) =
+    line_of_root root (calculated pair_of (known_of lists) 1)
 
--- how many pairs a task may hash: 126 for the zero table, and those of the value
+-- how many pairs a task may hash: 126 for the zero table and those of the value; of a multiproof
+-- the levels of its leaves together
 abbrev pub pairs_of_task : Task → ℕ
 pairs_of_task (says line) = 0
 pairs_of_task (roots t bytes) = 126 + pairs t (value_in t bytes)
+pairs_of_task (verifies root lists) = sum_by levels (indices_of lists.leaves)
 
 abbrev pub is_usage_task : Task → Bool
 is_usage_task (says line) = is_usage line
 is_usage_task (roots t bytes) = false
+is_usage_task (verifies root lists) = false
 
 abbrev pub is_usage_reading : Reading → Bool
 is_usage_reading (accepted names) = false

@@ -26,6 +26,10 @@ fault_text fault = codes "invalid F" ++ (decimal fault.code ++ (codes " " ++ end
 abbrev pub root_text : List ℕ → List ℕ
 root_text chunk = ended (codes "root 0x" ++ encode_lower chunk)
 
+-- the line of a root that a proof leads to in place of the one wanted
+abbrev pub unlike_text : List ℕ → List ℕ
+unlike_text chunk = ended (codes "unlike 0x" ++ encode_lower chunk)
+
 -- the line that says how the program is used
 abbrev pub usage_text : List ℕ
 usage_text = ended (codes "usage: ssz root SCHEMA TYPE FILE | run SCHEMA SCRIPT | weave SCHEMA BASE ORDER SCRIPT.. | verify ROOT FILE | work SCHEMA TYPE SEED EDITS")
@@ -40,6 +44,9 @@ line_text line.NoType = ended (codes "refused 0 2 NoType")
 line_text line.TooLong = ended (codes "refused 0 12 TooLong")
 line_text (line.Invalid fault) = fault_text fault
 line_text (line.Root chunk) = root_text chunk.0
+line_text line.BadProof = ended (codes "badproof")
+line_text line.Valid = ended (codes "valid")
+line_text (line.Unlike chunk) = unlike_text chunk.0
 
 -- the status after a line was printed
 abbrev pub status_of : Line → Status
@@ -52,6 +59,9 @@ status_of line.NoType = status.Refused
 status_of line.TooLong = status.Refused
 status_of (line.Invalid fault) = status.Refused
 status_of (line.Root chunk) = status.Accepted
+status_of line.BadProof = status.Refused
+status_of line.Valid = status.Accepted
+status_of (line.Unlike chunk) = status.Refused
 
 -- whether a line says how the program is used
 abbrev pub is_usage : Line → Bool

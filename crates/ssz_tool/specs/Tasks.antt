@@ -44,6 +44,12 @@ IsNoUsage (reading.Refused line) = job.is_usage_reading (job.refused line) ≡ f
 abbrev pub task_view : Task → job.Task
 task_view (task.Says line) = job.says line
 task_view (task.Root schema id bytes) = job.roots (type_of schema id) bytes.items
+task_view (task.Verify root proof) = job.verifies root.0 proof
+
+-- two tasks that print the same line, whatever hasher there is, and may hash as many pairs
+pub record DoesSame (meant made : job.Task) : Type 0 where
+  pub lines : (pair_of : List ℕ → List ℕ → List ℕ) → job.line_of pair_of meant ≡ job.line_of pair_of made
+  pub pairs : job.pairs_of_task meant ≡ job.pairs_of_task made
 
 -- the bytes of a value are few enough, of a type of the schema, and have no fault
 pub record IsFaultless (trees : ℕ) (id : ℕ) (fault : Option Fault) (count : ℕ) : Type 0 where
@@ -55,3 +61,4 @@ abbrev pub IsReady : Task → Type 0
 IsReady (task.Says line) = ⊤
 IsReady (task.Root schema id bytes) =
     IsFaultless (length schema.trees) id (why (type_of schema id) 0 bytes.items) (length bytes.items)
+IsReady (task.Verify root proof) = ⊤

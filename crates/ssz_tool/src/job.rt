@@ -1,18 +1,22 @@
 // From the files to what is left to do.
 ghost use Rattle.std.specs.Prelude.{◌≡◌, ◌≢◌, ◌<◌, ◌≤◌, ◌^◌, ℕ, List, Err, length, Some, None, IfOk, IsSome, false, is_none};
+ghost use Rattle.std.specs.List.{AllByRecursion};
 ghost use Rattle.std.specs.Option.{ForSome};
 ghost use Rattle.ssz_outside.specs.Content.{contents};
 ghost use Rattle.ssz_schema.specs.Unfolding.{type_of, known_in};
 ghost use Rattle.ssz_schema_json.specs.Schema.{schema_of_bytes};
 ghost use Rattle.ssz_value.specs.Faults.{why};
-ghost use Rattle.ssz_tool.specs.Jobs.{reading_of_schema, reading_of, task_of_fault, task_of_bytes, task_of_type, task_of_root, task_of, is_usage_task};
-ghost use Rattle.ssz_tool.specs.Tasks.{Loads, IsWithin, CountsStop, StandsFor, IsNoUsage, IsReady, task_view};
-ghost use Rattle.ssz_tool.specs.Words.{taken, texts};
+ghost use Rattle.ssz_tool.specs.Jobs.{reading_of_schema, reading_of, task_of_fault, task_of_bytes, task_of_type, task_of_root, task_of, task_of_asked, is_usage_task};
+ghost use Rattle.ssz_tool.specs.Tasks.{Loads, IsWithin, CountsStop, StandsFor, IsNoUsage, IsReady, DoesSame, task_view};
+ghost use Rattle.ssz_tool.specs.Words.{files_of, taken, texts};
 
 use crate::line::Line;
-use crate::words::root_args;
+use crate::verifying::task_of_verify;
+use crate::words::{Asked, read_asked};
+use ssz_chunk::Chunk;
 use ssz_codec::check;
 use ssz_outside::{Files, GetFault, Got};
+use ssz_proof::Proof;
 use ssz_schema::{Schema, TypeId};
 use ssz_schema_json::{SchemaRead, read_schema};
 use ssz_words::RootArgs;
@@ -45,9 +49,12 @@ pub enum Task {
     Says(Line),
     /// The root of the value of a type that these bytes encode.
     Root(Schema, TypeId, Vec<u8>),
+    /// Whether a proof leads to this root.
+    Verify(Chunk, Proof),
 }
 
-fn load<F: Files>(alloc: Global, files: &mut F, name: &str, max: u64) -> Result<Loaded, Stop>
+/// What a file gives, of at most max bytes.
+pub fn load<F: Files>(alloc: Global, files: &mut F, name: &str, max: u64) -> Result<Loaded, Stop>
     ensures loaded { ForSome (F.content files.old)
         (λ held. IfOk result (Loads (contents held name.now) max)) }
     ensures within { IfOk result (IsWithin max) }
@@ -183,23 +190,41 @@ fn task_of_root<F: Files>(alloc: Global, files: &mut F, args: &RootArgs) -> Resu
     }
 }
 
-/// The task of these words: the usage line, or what the files give.
-pub fn task_of<F: Files>(alloc: Global, files: &mut F, words: &[String]) -> Result<Task, Stop>
+fn task_of_asked<F: Files>(alloc: Global, files: &mut F, asked: &Asked) -> Result<Task, Stop>
     ensures read { ForSome (F.content files.old) (λ held. IfOk result (λ task.
-        task_of held (texts words.now) ≡ task_view task)) }
+        DoesSame (task_of_asked held (Some asked.now)) (task_view task))) }
     ensures ready { IfOk result IsReady }
-    ensures usage { IfOk result (λ task. is_usage_task (task_view task)
-        ≡ is_none (taken (texts words.now))) }
-    ensures taken { result ≡ Err Stop.Read → IsSome (taken (texts words.now)) }
-    ensures fails { ForSome (taken (texts words.now)) (λ args.
-        F.readable files.old args.schema → F.readable files.old args.file → result ≢ Err Stop.Read) }
+    ensures usage { IfOk result (λ task. is_usage_task (task_view task) ≡ false) }
+    ensures fails { AllByRecursion (F.readable files.old) (files_of asked.now)
+        → result ≢ Err Stop.Read }
     ensures readable { (other : List ℕ) → F.readable files.old other → F.readable files.new other }
     ensures content { F.content files.new ≡ F.content files.old }
     ensures get_faults { CountsStop result (F.get_faults files.old) (F.get_faults files.new) }
     ensures put_faults { F.put_faults files.new ≡ F.put_faults files.old }
 {
-    match root_args(alloc, words) {
-        Ok(Some(args)) => task_of_root(alloc, files, &args),
+    match asked {
+        Asked::Root(args) => task_of_root(alloc, files, args),
+        Asked::Verify(args) => task_of_verify(alloc, files, args),
+    }
+}
+
+/// The task of these words: the usage line, or what the files give.
+pub fn task_of<F: Files>(alloc: Global, files: &mut F, words: &[String]) -> Result<Task, Stop>
+    ensures read { ForSome (F.content files.old) (λ held. IfOk result (λ task.
+        DoesSame (task_of held (texts words.now)) (task_view task))) }
+    ensures ready { IfOk result IsReady }
+    ensures usage { IfOk result (λ task. is_usage_task (task_view task)
+        ≡ is_none (taken (texts words.now))) }
+    ensures taken { result ≡ Err Stop.Read → IsSome (taken (texts words.now)) }
+    ensures fails { ForSome (taken (texts words.now)) (λ asked.
+        AllByRecursion (F.readable files.old) (files_of asked) → result ≢ Err Stop.Read) }
+    ensures readable { (other : List ℕ) → F.readable files.old other → F.readable files.new other }
+    ensures content { F.content files.new ≡ F.content files.old }
+    ensures get_faults { CountsStop result (F.get_faults files.old) (F.get_faults files.new) }
+    ensures put_faults { F.put_faults files.new ≡ F.put_faults files.old }
+{
+    match read_asked(alloc, words) {
+        Ok(Some(asked)) => task_of_asked(alloc, files, &asked),
         Ok(None) => Ok(Task::Says(Line::Usage)),
         Err(_) => Err(Stop::Memory),
     }

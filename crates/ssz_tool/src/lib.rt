@@ -7,6 +7,7 @@
 mod job;
 mod line;
 mod top;
+mod verifying;
 mod words;
 
 pub use line::Line;

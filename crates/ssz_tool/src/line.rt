@@ -1,14 +1,14 @@
 // The lines that the program prints, and its statuses.
 ghost use Rattle.std.specs.Prelude.{◌≡◌, ◌↔◌, IsTrue, IfOk, string_bytes};
 ghost use Rattle.ssz_outside.specs.Job.{IsFinished};
-ghost use Rattle.ssz_tool.specs.Lines.{definition_text, fault_text, root_text, line_text, status_of, is_usage};
+ghost use Rattle.ssz_tool.specs.Lines.{definition_text, fault_text, root_text, unlike_text, line_text, status_of, is_usage};
 
 use ssz_chunk::Chunk;
 use ssz_outside::Status;
 use ssz_schema::{Fault, SchemaFault};
 use std::alloc::{AllocError, Global};
 
-/// A line of the command `root`.
+/// A line that the program prints.
 #[derive(Clone, Copy, Debug, PartialEq, Eq)]
 pub enum Line {
     /// The words are not taken.
@@ -29,6 +29,12 @@ pub enum Line {
     Invalid(Fault),
     /// The root of the value.
     Root(Chunk),
+    /// The file is no proof, or longer than 2^26 bytes.
+    BadProof,
+    /// The proof leads to the root.
+    Valid,
+    /// The root that the proof leads to, which is another.
+    Unlike(Chunk),
 }
 
 /// The text of a line, with its line feed.
@@ -45,6 +51,9 @@ pub fn line_text(alloc: Global, line: &Line) -> Result<String, AllocError>
         Line::TooLong => String::from_str(alloc, "refused 0 12 TooLong\n"),
         Line::Invalid(fault) => fault_text(alloc, *fault),
         Line::Root(chunk) => root_text(alloc, chunk),
+        Line::BadProof => String::from_str(alloc, "badproof\n"),
+        Line::Valid => String::from_str(alloc, "valid\n"),
+        Line::Unlike(chunk) => unlike_text(alloc, chunk),
     }
 }
 
@@ -74,6 +83,14 @@ fn root_text(alloc: Global, chunk: &Chunk) -> Result<String, AllocError>
     format!(in alloc; "root 0x{digits}\n")
 }
 
+fn unlike_text(alloc: Global, chunk: &Chunk) -> Result<String, AllocError>
+    ensures { IfOk result (λ text. string_bytes text ≡ unlike_text chunk.now.0) }
+{
+    let digits = hex::encode(alloc, chunk.0.as_slice())?;
+    let digits = digits.as_str();
+    format!(in alloc; "unlike 0x{digits}\n")
+}
+
 /// The status after a line was printed.
 pub fn status_of(line: &Line) -> Status
     ensures value { result ≡ status_of line.now }
@@ -85,7 +102,9 @@ pub fn status_of(line: &Line) -> Status
         Line::SchemaTooLong | Line::NotJson | Line::Shape | Line::Definition(_, _) => {
             Status::SchemaFault
         }
-        Line::NoType | Line::TooLong | Line::Invalid(_) => Status::Refused,
-        Line::Root(_) => Status::Accepted,
+        Line::NoType | Line::TooLong | Line::Invalid(_) | Line::BadProof | Line::Unlike(_) => {
+            Status::Refused
+        }
+        Line::Root(_) | Line::Valid => Status::Accepted,
     }
 }

@@ -1,21 +1,40 @@
 // The top call.
-ghost use Rattle.std.specs.Prelude.{◌≡◌, ◌≢◌, ◌≤◌, ◌+◌, ℕ, Bool, Some, IsNone, IsSome};
+ghost use Rattle.std.specs.Prelude.{◌≡◌, ◌≢◌, ◌≤◌, ◌+◌, ℕ, Bool, Some, IsNone, IsSome, sum_by};
+ghost use Rattle.std.specs.List.{AllByRecursion};
 ghost use Rattle.std.specs.Option.{ForSome};
+ghost use Rattle.ssz_chunk.specs.Index.{levels};
 ghost use Rattle.ssz_outside.specs.Content.{Content};
 ghost use Rattle.ssz_outside.specs.Outcome.{Rose};
 ghost use Rattle.ssz_outside.specs.Job.{Ends, Finishes, CountsRun, IsThatOrStopped, line_job};
-ghost use Rattle.ssz_tool.specs.Jobs.{line_of, pairs_of_task};
+ghost use Rattle.ssz_proof.specs.Calculation.{calculated, indices_of};
+ghost use Rattle.ssz_proof.specs.Multiproof.{known_of};
+ghost use Rattle.ssz_tool.specs.Jobs.{line_of, line_of_root, pairs_of_task};
 ghost use Rattle.ssz_tool.specs.Lines.{line_text, status_of};
 ghost use Rattle.ssz_tool.specs.Runs.{job_of, pairs_allowed};
 ghost use Rattle.ssz_tool.specs.Tasks.{IsReady, task_view};
-ghost use Rattle.ssz_tool.specs.Words.{taken, texts};
+ghost use Rattle.ssz_tool.specs.Words.{files_of, taken, texts};
 
 use crate::job::{Stop, Task, task_of};
 use crate::line::{Line, line_text, status_of};
-use ssz_chunk::{PairHash, ZeroTable};
+use ssz_chunk::{Chunk, PairHash, ZeroTable};
 use ssz_outside::{Files, Sink, Status, say_line};
+use ssz_proof::{Proof, calc};
 use ssz_roots::root_of_bytes;
 use std::alloc::Global;
+
+fn verdict<H: PairHash>(root: &Chunk, proof: &Proof, hasher: &mut H) -> Line
+    ensures value { result
+        ≡ line_of_root root.now.0 (calculated H.pair_of (known_of proof.now) 1) }
+    ensures pairs { H.pairs hasher.new
+        ≤ H.pairs hasher.old + sum_by levels (indices_of proof.now.leaves) }
+{
+    let made = calc(proof, hasher);
+    if made == *root {
+        Line::Valid
+    } else {
+        Line::Unlike(made)
+    }
+}
 
 fn line_of<H: PairHash>(task: &Task, hasher: &mut H) -> Line
     requires { IsReady task.now }
@@ -28,6 +47,7 @@ fn line_of<H: PairHash>(task: &Task, hasher: &mut H) -> Line
             let zeros = ZeroTable::new(hasher);
             Line::Root(root_of_bytes(schema, *id, bytes, &zeros, hasher))
         }
+        Task::Verify(root, proof) => verdict(root, proof, hasher),
     }
 }
 
@@ -60,8 +80,8 @@ fn run_words<F: Files, S: Sink, H: PairHash>(
     ensures usage { result ≡ Status.Usage → IsNone (taken (texts words.now)) }
     ensures not_taken { IsNone (taken (texts words.now)) → IsThatOrStopped Status.Usage result }
     ensures taken { result ≡ Status.ReadFault → IsSome (taken (texts words.now)) }
-    ensures readable { ForSome (taken (texts words.now)) (λ args. F.readable files.old args.schema
-        → F.readable files.old args.file → result ≢ Status.ReadFault) }
+    ensures readable { ForSome (taken (texts words.now)) (λ asked.
+        AllByRecursion (F.readable files.old) (files_of asked) → result ≢ Status.ReadFault) }
     ensures pairs { ForSome (F.content files.old) (λ held. H.pairs hasher.new
         ≤ H.pairs hasher.old + pairs_allowed (texts words.now) held) }
 {
@@ -108,10 +128,11 @@ pub fn run<F: Files, S: Sink, H: PairHash>(
     ensures taken { result ≡ Status.ReadFault → IsSome (taken (texts words.now)) }
 
     // A read fails only of the files that the words name.
-    ensures readable { ForSome (taken (texts words.now)) (λ args. F.readable files.old args.schema
-        → F.readable files.old args.file → result ≢ Status.ReadFault) }
+    ensures readable { ForSome (taken (texts words.now)) (λ asked.
+        AllByRecursion (F.readable files.old) (files_of asked) → result ≢ Status.ReadFault) }
 
-    // The pairs hashed: those of the value, beyond the zero table.
+    // The pairs hashed: of a value its own, beyond the zero table; of a proof those that its leaves
+    // have levels.
     ensures pairs { ForSome (F.content files.old) (λ held. H.pairs hasher.new
         ≤ H.pairs hasher.old + pairs_allowed (texts words.now) held) }
 {

@@ -2,25 +2,32 @@
 ghost use Rattle.std.specs.Prelude.{◌≡◌, IfOk, Some};
 ghost use Rattle.ssz_tool.specs.Words.{standing, taken, texts};
 
-use ssz_words::{Command, RootArgs, WordsFault, read_words};
+use ssz_words::{Command, RootArgs, VerifyArgs, WordsFault, read_words};
 use std::alloc::{AllocError, Global};
 
-// The arguments of a command whose part of the program stands: another joins here.
-fn standing(command: Command) -> Option<RootArgs>
+/// A command whose part of the program stands, with its arguments.
+#[derive(Debug, Drop)]
+pub enum Asked {
+    Root(RootArgs),
+    Verify(VerifyArgs),
+}
+
+// Another command joins here.
+fn standing(command: Command) -> Option<Asked>
     ensures { result ≡ standing (Some command) }
 {
     match command {
-        Command::Root(args) => Some(args),
+        Command::Root(args) => Some(Asked::Root(args)),
+        Command::Verify(args) => Some(Asked::Verify(args)),
         Command::Run(_) => None,
         Command::Weave(_) => None,
-        Command::Verify(_) => None,
         Command::Work(_) => None,
     }
 }
 
 /// What the words ask for, of which the first is the program's name, where they are taken.
-pub fn root_args(alloc: Global, words: &[String]) -> Result<Option<RootArgs>, AllocError>
-    ensures { IfOk result (λ args. args ≡ taken (texts words.now)) }
+pub fn read_asked(alloc: Global, words: &[String]) -> Result<Option<Asked>, AllocError>
+    ensures { IfOk result (λ asked. asked ≡ taken (texts words.now)) }
 {
     match read_words(alloc, words) {
         Ok(command) => Ok(standing(command)),

@@ -1,0 +1,12 @@
+use Rattle.std.proofs.Common.{◌≡◌}
+use Rattle.ssz_tool.specs.Jobs.{task_of_root}
+use Rattle.ssz_tool.specs.Tasks.{DoesSame, task_view}
+use Rattle.ssz_tool.proofs.Verdicts.{DoesSame-equal, IfOk-weaker}
+use Rattle.ssz_tool.proofs.job.task_of_asked.Goals as goal
+
+pub returns-in-Root-clause-read : goal.returns-in-Root-clause-read
+returns-in-Root-clause-read g c = λ held told.
+    rw c.in-Root.is
+    (IfOk-weaker (λ task. task_of_root held c.in-Root.args ≡ task_view task)
+    (λ task. DoesSame (task_of_root held c.in-Root.args) (task_view task))
+    (λ task same. DoesSame-equal _ _ same) c.task_of_root.result (c.task_of_root.ensures.read held told))
