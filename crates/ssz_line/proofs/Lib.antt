@@ -1,0 +1,4 @@
+pub mod WordsLemmas
+pub mod SplitLemmas
+pub mod ReadAll
+pub mod FileLemmas

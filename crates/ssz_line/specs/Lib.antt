@@ -1,0 +1,5 @@
+pub mod Words
+pub mod Single
+pub mod Paths
+pub mod Reading
+pub mod Parts

@@ -1,0 +1,26 @@
+//! The words of a line of a script, and what a single word may spell: a name, a file's name, a
+//! literal, a number, a path or an index.
+//!
+//! Words lie in the line and are not copied; what is read from one has memory of its own. The
+//! definitions that say which word spells what stand in specs/: `Words` (the words of a line),
+//! `Single` and `Paths`.
+#![tactic(auto)]
+
+mod fault;
+mod file_name;
+mod identifier;
+mod index;
+mod parts;
+mod path;
+mod single;
+#[cfg(test)]
+mod tests;
+mod words;
+
+pub use fault::LineFault;
+pub use file_name::FileName;
+pub use identifier::Identifier;
+pub use index::Index;
+pub use path::{read_index, read_path};
+pub use single::{read_file, read_literal, read_name, read_selector};
+pub use words::Words;

@@ -1,0 +1,5 @@
+pub mod Grammar
+pub mod Lines
+pub mod Texts
+pub mod OneLine
+pub mod Next

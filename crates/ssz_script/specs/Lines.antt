@@ -1,0 +1,37 @@
+-- The lines of a script with their numbers, and the statements among them (this project's).
+use Rattle.std.specs.Prelude.{ℕ, suc, List, [], ◌∷◌, Option, Some, None}
+use Rattle.std.specs.Str.Lines.{lines}
+use Rattle.ssz_script.specs.declared.statement.Statement.{Statement}
+use Rattle.ssz_script.specs.declared.partial.PartialStatement.{PartialStatement}
+use Rattle.ssz_script.specs.Grammar.{Word, Form, statements, partial_statements, line_of}
+
+-- lines that are numbered on from n
+abbrev pub numbered_from : ℕ → List (List ℕ) → List (ℕ × List ℕ)
+numbered_from n [] = []
+numbered_from n (line ∷ more) = (n, line) ∷ numbered_from (suc n) more
+
+-- The lines of a text, numbered from 1. A line feed ends a line; the last line may lack it. One
+-- carriage return before a line feed is dropped.
+abbrev pub numbered_lines : List ℕ → List (ℕ × List ℕ)
+numbered_lines text = numbered_from 1 (lines text)
+
+-- a line's number and its statement, if it is one, before others; nothing where the line says
+-- nothing
+abbrev pub before : {S : Type 0} → ℕ → Option (Option S) → List (ℕ × Option S) → List (ℕ × Option S)
+before n None rest = (n, None) ∷ rest
+before n (Some None) rest = rest
+before n (Some (Some statement)) rest = (n, Some statement) ∷ rest
+
+-- what lines say, by the table of statements
+abbrev pub said : {S : Type 0} → List (Word × Form S) → List (ℕ × List ℕ) → List (ℕ × Option S)
+said rows [] = []
+said rows (line ∷ more) = before line.0 (line_of rows line.1) (said rows more)
+
+-- the statements of a script: each has its line's number, and is None where the line is not of the
+-- grammar
+abbrev pub statements_in : List ℕ → List (ℕ × Option Statement)
+statements_in script = said statements (numbered_lines script)
+
+-- the same of a script for a partial tree
+abbrev pub partial_statements_in : List ℕ → List (ℕ × Option PartialStatement)
+partial_statements_in script = said partial_statements (numbered_lines script)
