@@ -1,6 +1,10 @@
-//! Roots of small values of the consensus layer's types, by the schemas of examples/ethereum.
+//! Roots of small values of the consensus layer's types, and indices of parts of them, by the schemas of
+//! examples/ethereum.
 #![tactic(auto)]
 
+mod indices;
+
+use indices::print_indices;
 use ssz_chunk::ShaPair;
 use ssz_outside::{DirFiles, OutSink, Status};
 use ssz_tool::run;
@@ -60,6 +64,9 @@ fn main(rt: HostRuntime) -> ExitCode {
         if status != Status::Accepted {
             return ExitCode::from(status as u8);
         }
+    }
+    if print_indices(&rt, "deneb.json").is_err() {
+        return ExitCode::FAILURE;
     }
     ExitCode::SUCCESS
 }
