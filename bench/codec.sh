@@ -47,7 +47,7 @@ with tempfile.TemporaryDirectory() as folder:
     with open("schema.json", "w") as file:
         file.write(SCHEMA)
     for name, make, size in KINDS:
-        for total in (1 << 18, 1 << 21, 1 << 24):
+        for total in (1 << 22, 1 << 24, 1 << 26):
             value = make(total // size)
             with open("value.bin", "wb") as file:
                 file.write(value)
