@@ -1,6 +1,6 @@
 #!/bin/sh
-# Speed of check, decode and encode at three sizes of three kinds of value, beside a copy of the same
-# bytes: the MB/s should not fall as the values grow.
+# Speed of check, decode and encode at four sizes of three kinds of value, beside a copy of the same
+# bytes, whose MB/s fall too where the value leaves the caches.
 # Run it after 'rt run' in crates/bench_codec, which builds the program.
 set -eu
 cd "$(dirname "$0")/.."
@@ -47,7 +47,7 @@ with tempfile.TemporaryDirectory() as folder:
     with open("schema.json", "w") as file:
         file.write(SCHEMA)
     for name, make, size in KINDS:
-        for total in (1 << 22, 1 << 24, 1 << 26):
+        for total in (1 << 18, 1 << 21, 1 << 24, 1 << 26):
             value = make(total // size)
             with open("value.bin", "wb") as file:
                 file.write(value)

@@ -12,7 +12,8 @@ use ssz_gindex::Gindex;
 use std::alloc::Global;
 use std::env;
 
-const USAGE: &str = "usage: bench_arena near|far|pairs DEPTH COUNT, with a depth of at most 32";
+const USAGE: &str =
+    "usage: bench_arena same|near|far|pairs DEPTH COUNT, with a depth of at most 32";
 
 // From an edit's leaf to the next one's: an odd number that leads all over the leaves.
 const FAR: u32 = 2_654_435_761;
@@ -79,6 +80,10 @@ fn main(rt: HostRuntime) -> Result<()> {
     }
     let mut hasher = ShaPair::new();
     match work.as_str() {
+        "same" => {
+            let nodes = edit(rt.alloc(), depth, count, 0, &mut hasher)?;
+            println!(rt; "{nodes} nodes")?;
+        }
         "near" => {
             let nodes = edit(rt.alloc(), depth, count, 1, &mut hasher)?;
             println!(rt; "{nodes} nodes")?;
