@@ -5,6 +5,8 @@ pub mod Basic
 pub mod Sequences
 pub mod Composite
 pub mod ExactLaw
+pub mod ChunkLaw
+pub mod PartLaw
 pub mod TreeLaw
 pub mod ValueLemmas
 pub mod SizeLaw

@@ -24,7 +24,7 @@ values-items (value_before v vs) = ap (λ ws. value_before v ws) (values-items v
 
 -- the length of joined parts that are all fixed-size
 
-fixed_rest : (y z : ℕ) (rest : Option ℕ) → option_map (λ n. y + n) rest ≡ Some z
+pub fixed_rest : (y z : ℕ) (rest : Option ℕ) → option_map (λ n. y + n) rest ≡ Some z
     → (x : ℕ) × (rest ≡ Some x) × (y + x ≡ z)
 fixed_rest y z None e = cc
 fixed_rest y z (Some x) e = (x, refl, same_some (y + x) z e)

@@ -1,107 +1,27 @@
 -- Two values of one type with one tree are one value.
-use Rattle.std.proofs.Common.{ℕ, zero, suc, ◌+◌, ◌-◌, ◌*◌, ◌/◌, ◌^◌, ◌<◌, ◌≤◌, ◌≡◌, inl, inr, Bool, List, [], ◌∷◌, ◌++◌, length, take, drop, map, Option, Some, None, refl, sym, ap, ap₂, ◌∙◌, subst, arith, length-append, length-take, length-drop, take-append-drop, take_at, take_all, drop_at, zero-mul, mul-le-mul_right, le_trans}
+use Rattle.std.proofs.Common.{ℕ, ◌+◌, ◌*◌, ◌/◌, ◌^◌, ◌<◌, ◌≤◌, ◌≡◌, Bool, List, [], ◌∷◌, ◌++◌, length, take, drop, map, Option, Some, None, refl, sym, ap, ap₂, ◌∙◌, subst, arith, length-append, take_at, drop_at, zero-mul, mul-le-mul_right, le_trans}
 use Rattle.ssz_value.specs.Reading.{value_in}
 use Rattle.std.specs.List.{AllByRecursion, concat}
-use Rattle.std.proofs.lemmas.List.{length-map, take-take, take-append-le, length-take-le}
-use Rattle.std.proofs.lemmas.Bool.{cases_lt}
+use Rattle.std.proofs.lemmas.List.{length-map}
 use Rattle.ssz_schema.specs.declared.width.Width.{Width}
 use Rattle.ssz_schema.specs.declared.width.Width.TheVariants.{W8, W16, W32, W64, W128, W256}
 use Rattle.ssz_schema.specs.declared.format.Format.{Format}
 use Rattle.ssz_schema.specs.declared.format.Format.TheVariants.{One, Two}
 use Rattle.ssz_schema.specs.Types.{SszType, Fields, Options, uint, boolean, container, vector, list, bitvector, bitlist, union, no_fields, field, no_options, none_option, option}
 use Rattle.ssz_schema.specs.Legal.{greatest_limit, IsLegal, AreLegalFields, AreLegalOptions}
-use Rattle.ssz_schema.specs.Sizes.{byte_count, basic_size, fixed_size, element_chunks, depth, field_count, option_count}
+use Rattle.ssz_schema.specs.Sizes.{byte_count, basic_size, fixed_size, element_chunks, depth}
 use Rattle.ssz_schema.proofs.DepthLemmas.{depth_of-holds}
 use Rattle.ssz_schema.specs.Bytes.{le_bytes, number_of_bits, le_number, bits_of_number}
-use Rattle.ssz_value.specs.Values.{SszValue, sequence, bits, chosen, chosen_none, Values, items, values, Fits, FitFields, FitsOption, IsNoneOption}
+use Rattle.ssz_value.specs.Values.{SszValue, sequence, bits, items, Fits}
 use Rattle.ssz_value.specs.Encoding.{enc}
-use Rattle.ssz_chunk.specs.Chunk.{zero_chunk}
-use Rattle.ssz_chunk.specs.Tree.{Tree, leaf, pair, full}
-use Rattle.ssz_value.specs.Trees.{number_chunk, padded, chunks, pack, pack_bits, element_leaves, tree, field_trees, option_tree}
+use Rattle.ssz_chunk.specs.Tree.{Tree, leaf, full}
+use Rattle.ssz_value.specs.Trees.{padded, pack, pack_bits, element_leaves, tree}
 use Rattle.ssz_schema.proofs.Numbers.{length-le_bytes, le_number-le_bytes}
 use Rattle.ssz_schema.proofs.Bits.{number_of_bits_lt, bits_of_number-number_of_bits, power_up, power_of_bytes}
 use Rattle.ssz_value.proofs.Agree.{Agrees, same_some}
-use Rattle.ssz_value.proofs.Sequences.{values-items}
 use Rattle.ssz_value.proofs.ExactLaw.{agrees}
-
-same_leaf : (a b : List ℕ) → leaf a ≡ leaf b → a ≡ b
-same_leaf a b e = cc
-
-same_left : (a b c d : Tree) → pair a b ≡ pair c d → a ≡ c
-same_left a b c d e = cc
-
-same_right : (a b c d : Tree) → pair a b ≡ pair c d → b ≡ d
-same_right a b c d e = cc
-
--- a full tree tells its leaves
-half_length : (n : ℕ) (xs : List Tree) → length (drop n xs) ≡ length xs - n
-half_length n xs = length-drop n xs
-
-pub same_full : (d : ℕ) (xs ys : List Tree) → length xs ≡ length ys → length xs ≤ 2 ^ d
-    → full d xs ≡ full d ys → xs ≡ ys
-unfolding full
-same_full zero [] [] e few h = refl
-same_full zero [] (y ∷ ys) e few h = absurd (omega arith)
-same_full zero (x ∷ xs) [] e few h = absurd (omega arith)
-same_full zero (x ∷ []) (y ∷ []) e few h = ap (λ t. t ∷ []) h
-same_full zero (x ∷ []) (y ∷ z ∷ ys) e few h = absurd (omega arith)
-same_full zero (x ∷ z ∷ xs) (y ∷ ys) e few h = absurd (omega arith)
-same_full (suc d) xs ys e few h =
-    let low = same_full d (take (2 ^ d) xs) (take (2 ^ d) ys)
-    (omega (arith, length-take (2 ^ d) xs, length-take (2 ^ d) ys))
-    (omega (arith, length-take (2 ^ d) xs)) (same_left _ _ _ _ h) in
-    let high = same_full d (drop (2 ^ d) xs) (drop (2 ^ d) ys)
-    (omega (arith, length-drop (2 ^ d) xs, length-drop (2 ^ d) ys))
-    (omega (arith, length-drop (2 ^ d) xs)) (same_right _ _ _ _ h) in
-    sym (take-append-drop (2 ^ d) xs) ∙ ap₂ ◌++◌ low high ∙ take-append-drop (2 ^ d) ys
-
--- chunks tell the bytes, where it is known how many there are
-same_padded : (a b : List ℕ) → length a ≡ length b → length a ≤ 32 → padded a ≡ padded b → a ≡ b
-same_padded a b e few h = sym (unpad a few) ∙ ap₂ take e h ∙ unpad b (omega arith)
-  where
-    unpad : (a : List ℕ) → length a ≤ 32 → take (length a) (padded a) ≡ a
-    unpad a few = take-take (length a) 32 (a ++ zero_chunk) few
-        ∙ take_at a zero_chunk (length a) refl
-
-padded-take : (a : List ℕ) → padded (take 32 a) ≡ padded a
-padded-take a = elim (cases_lt (length a) 32) [
-  | inl less ↦ ap padded (take_all 32 a (omega arith))
-  | inr more ↦ take_at (take 32 a) zero_chunk 32 (length-take-le 32 a more)
-      ∙ sym (take-append-le 32 a zero_chunk more)
-]
-
-same_chunks : (count : ℕ) (a b : List ℕ) → length a ≡ length b → length a ≤ 32 * count
-    → chunks count a ≡ chunks count b → a ≡ b
-same_chunks zero [] [] e few h = refl
-same_chunks zero [] (y ∷ b) e few h = absurd (omega arith)
-same_chunks zero (x ∷ a) b e few h = absurd (omega arith)
-same_chunks (suc count) a b e few h =
-    let first : padded a ≡ padded b = cc in
-    let others : chunks count (drop 32 a) ≡ chunks count (drop 32 b) = cc in
-    let low = same_padded (take 32 a) (take 32 b)
-    (omega (arith, length-take 32 a, length-take 32 b)) (omega (arith, length-take 32 a))
-    (padded-take a ∙ first ∙ sym (padded-take b)) in
-    let high = same_chunks count (drop 32 a) (drop 32 b)
-    (omega (arith, length-drop 32 a, length-drop 32 b))
-    (omega (arith, length-drop 32 a)) others in
-    sym (take-append-drop 32 a) ∙ ap₂ ◌++◌ low high ∙ take-append-drop 32 b
-
-same_pack : (a b : List ℕ) → length a ≡ length b → pack a ≡ pack b → a ≡ b
-same_pack a b e h = same_chunks ((length a + 31) / 32) a b e (omega arith) (h
-    ∙ ap (λ n. chunks ((n + 31) / 32) b) (sym e))
-
-same_leaves : (xs ys : List (List ℕ)) → map leaf xs ≡ map leaf ys → xs ≡ ys
-same_leaves [] [] e = refl
-same_leaves [] (y ∷ ys) e = cc
-same_leaves (x ∷ xs) [] e = cc
-same_leaves (x ∷ xs) (y ∷ ys) e =
-    let first : leaf x ≡ leaf y = cc in
-    let others : map leaf xs ≡ map leaf ys = cc in
-    ap₂ ◌∷◌ (same_leaf x y first) (same_leaves xs ys others)
-
-length-chunks : (count : ℕ) (a : List ℕ) → length (chunks count a) ≡ count
-length-chunks zero a = refl
-length-chunks (suc count) a = ap suc (length-chunks count (drop 32 a))
+use Rattle.ssz_value.proofs.ChunkLaw.{same_leaf, same_left, same_right, same_full, same_padded, same_pack, same_leaves, length-chunks}
+use Rattle.ssz_value.proofs.PartLaw.{TellsApart, sequence_is, same_number, no_fields_tell, field_tells, container_tells, no_options_tell, option_tells, none_option_tells, union_tells, FieldsTell, OptionsTell}
 
 -- values of one type with one encoding
 enc_tells : (t : SszType) → Agrees t → (v w : SszValue) → Fits t v → Fits t w
@@ -117,10 +37,6 @@ basic_tells t z law size few v w fit fits h =
     let other : length (enc t w) ≡ z = law.sized z w size fits in
     enc_tells t law v w fit fits (omega (arith, long))
     (same_padded (enc t v) (enc t w) (long ∙ sym other) (omega (arith, long)) (same_leaf _ _ h))
-
--- a type whose tree tells its values
-pub record TellsApart (t : SszType) : Type 0 where
-  pub apart : (v w : SszValue) → Fits t v → Fits t w → tree t v ≡ tree t w → v ≡ w
 
 -- elements
 
@@ -215,9 +131,6 @@ chunks_le t (Some z) m n le = div_up (m * z) (n * z) (mul-le-mul_right z le)
     div_up a b h = omega arith
 chunks_le t None m n le = le
 
-sequence_is : (vs ws : Values) → items vs ≡ items ws → sequence vs ≡ sequence ws
-sequence_is vs ws e = ap sequence (sym (values-items vs) ∙ ap values e ∙ values-items ws)
-
 vector_tells : (t : SszType) (n : ℕ) → Agrees t → TellsApart t → (v w : SszValue)
     → Fits (vector t n) v → Fits (vector t n) w → tree (vector t n) v ≡ tree (vector t n) w → v ≡ w
 unfolding leaves_of
@@ -228,10 +141,6 @@ vector_tells t n law laws (sequence vs) (sequence ws) fit fits h =
     (depth_of-holds (element_chunks (basic_size t) n))) h)
 vector_tells t n law laws (sequence vs) _ fit fits h = absurd fits
 vector_tells t n law laws _ _ fit fits h = absurd fit
-
-same_number : (m n : ℕ) → m < 256 ^ 32 → n < 256 ^ 32 → number_chunk m ≡ number_chunk n → m ≡ n
-same_number m n below less e =
-    sym (le_number-le_bytes 32 m below) ∙ ap le_number e ∙ le_number-le_bytes 32 n less
 
 list_tells : (t : SszType) (limit : ℕ) → limit ≤ 2 ^ 62 → Agrees t → TellsApart t → (v w : SszValue)
     → Fits (list t limit) v → Fits (list t limit) w → tree (list t limit) v ≡ tree (list t limit) w
@@ -301,160 +210,6 @@ bitlist_tells limit few (bits xs) (bits bs) fit fits h =
     (omega (arith, depth_of-holds ((limit + 255) / 256), fit)) (same_left _ _ _ _ h))
 bitlist_tells limit few (bits xs) _ fit fits h = absurd fits
 bitlist_tells limit few _ _ fit fits h = absurd fit
-
--- fields
-
-pub record FieldsTell (fs : Fields) : Type 0 where
-  pub apart : (vs ws : List SszValue) → FitFields fs vs → FitFields fs ws
-      → field_trees fs vs ≡ field_trees fs ws → vs ≡ ws
-
-no_fields_tell : (vs ws : List SszValue) → FitFields no_fields vs → FitFields no_fields ws → vs ≡ ws
-no_fields_tell [] [] fit fits = refl
-no_fields_tell [] (w ∷ ws) fit fits = absurd fits
-no_fields_tell (v ∷ vs) ws fit fits = absurd fit
-
-field_tells : (name : List ℕ) (t : SszType) (fs : Fields) → TellsApart t → FieldsTell fs
-    → (vs ws : List SszValue) → FitFields (field name t fs) vs → FitFields (field name t fs) ws
-    → field_trees (field name t fs) vs ≡ field_trees (field name t fs) ws → vs ≡ ws
-field_tells name t fs law laws [] ws fit fits h = absurd fit
-field_tells name t fs law laws (v ∷ vs) [] fit fits h = absurd fits
-field_tells name t fs law laws (v ∷ vs) (w ∷ ws) fit fits h =
-    let first : tree t v ≡ tree t w = cc in
-    let others : field_trees fs vs ≡ field_trees fs ws = cc in
-    ap₂ ◌∷◌ (law.apart v w fit.0 fits.0 first) (laws.apart vs ws fit.1 fits.1 others)
-
-length-field_trees : (fs : Fields) (vs : List SszValue) → FitFields fs vs
-    → length (field_trees fs vs) ≡ field_count fs
-length-field_trees no_fields [] fit = refl
-length-field_trees no_fields (v ∷ vs) fit = absurd fit
-length-field_trees (field name t fs) [] fit = absurd fit
-length-field_trees (field name t fs) (v ∷ vs) fit = omega (arith, length-field_trees fs vs fit.1)
-
-container_tells : (fs : Fields) → FieldsTell fs → (v w : SszValue) → Fits (container fs) v
-    → Fits (container fs) w → tree (container fs) v ≡ tree (container fs) w → v ≡ w
-container_tells fs laws (sequence vs) (sequence ws) fit fits h =
-    let long = length-field_trees fs (items vs) fit in
-    sequence_is vs ws (laws.apart (items vs) (items ws) fit fits
-    (same_full (depth (container fs)) (field_trees fs (items vs)) (field_trees fs (items ws)) (long
-    ∙ sym (length-field_trees fs (items ws) fits))
-    (omega (arith, long, depth_of-holds (field_count fs))) h))
-container_tells fs laws (sequence vs) _ fit fits h = absurd fits
-container_tells fs laws _ _ fit fits h = absurd fit
-
--- options
-
-pub record OptionsTell (os : Options) : Type 0 where
-  pub apart : (k : ℕ) (v w : SszValue) → FitsOption os k v → FitsOption os k w
-      → option_tree os k v ≡ option_tree os k w → v ≡ w
-  pub not_none : (k : ℕ) (v : SszValue) → FitsOption os k v → IsNoneOption os k → ⊥
-  pub within : (k : ℕ) (v : SszValue) → FitsOption os k v → k < option_count os
-  pub none_within : (k : ℕ) → IsNoneOption os k → k < option_count os
-
-no_options_tell : OptionsTell no_options
-no_options_tell = record {
-  apart = λ k v w fit fits h. absurd fit;
-  not_none =
-      λ k v fit none. absurd fit;
-  within = λ k v fit. absurd fit;
-  none_within =
-      λ k none. absurd none;
-}
-
-some_apart : (t : SszType) (os : Options) → TellsApart t → OptionsTell os → (k : ℕ) (v w : SszValue)
-    → FitsOption (option t os) k v → FitsOption (option t os) k w
-    → option_tree (option t os) k v ≡ option_tree (option t os) k w → v ≡ w
-some_apart t os law laws zero v w fit fits h = law.apart v w fit fits h
-some_apart t os law laws (suc k) v w fit fits h = laws.apart k v w fit fits h
-
-some_not_none : (t : SszType) (os : Options) → OptionsTell os → (k : ℕ) (v : SszValue)
-    → FitsOption (option t os) k v → IsNoneOption (option t os) k → ⊥
-some_not_none t os laws zero v fit none = none
-some_not_none t os laws (suc k) v fit none = laws.not_none k v fit none
-
-some_within : (t : SszType) (os : Options) → OptionsTell os → (k : ℕ) (v : SszValue)
-    → FitsOption (option t os) k v → k < option_count (option t os)
-some_within t os laws zero v fit = omega arith
-some_within t os laws (suc k) v fit = omega (arith, laws.within k v fit)
-
-some_none_within : (t : SszType) (os : Options) → OptionsTell os → (k : ℕ)
-    → IsNoneOption (option t os) k → k < option_count (option t os)
-some_none_within t os laws zero none = absurd none
-some_none_within t os laws (suc k) none = omega (arith, laws.none_within k none)
-
-option_tells : (t : SszType) (os : Options) → TellsApart t → OptionsTell os
-    → OptionsTell (option t os)
-option_tells t os law laws =
-    record {
-      apart = some_apart t os law laws;
-      not_none = some_not_none t os laws;
-      within =
-          some_within t os laws;
-      none_within = some_none_within t os laws;
-    }
-
-none_apart : (os : Options) → OptionsTell os → (k : ℕ) (v w : SszValue)
-    → FitsOption (none_option os) k v → FitsOption (none_option os) k w
-    → option_tree (none_option os) k v ≡ option_tree (none_option os) k w → v ≡ w
-none_apart os laws zero v w fit fits h = absurd fit
-none_apart os laws (suc k) v w fit fits h = laws.apart k v w fit fits h
-
-none_not_none : (os : Options) → OptionsTell os → (k : ℕ) (v : SszValue)
-    → FitsOption (none_option os) k v → IsNoneOption (none_option os) k → ⊥
-none_not_none os laws zero v fit none = absurd fit
-none_not_none os laws (suc k) v fit none = laws.not_none k v fit none
-
-none_within_of : (os : Options) → OptionsTell os → (k : ℕ) (v : SszValue)
-    → FitsOption (none_option os) k v → k < option_count (none_option os)
-none_within_of os laws zero v fit = absurd fit
-none_within_of os laws (suc k) v fit = omega (arith, laws.within k v fit)
-
-none_none_within : (os : Options) → OptionsTell os → (k : ℕ) → IsNoneOption (none_option os) k
-    → k < option_count (none_option os)
-none_none_within os laws zero none = omega arith
-none_none_within os laws (suc k) none = omega (arith, laws.none_within k none)
-
-none_option_tells : (os : Options) → OptionsTell os → OptionsTell (none_option os)
-none_option_tells os laws =
-    record {
-      apart = none_apart os laws;
-      not_none = none_not_none os laws;
-      within =
-          none_within_of os laws;
-      none_within = none_none_within os laws;
-    }
-
-selectors : (j k : ℕ) (a b : Tree) → j < 128 → k < 128
-    → pair a (leaf (number_chunk j)) ≡ pair b (leaf (number_chunk k)) → j ≡ k
-selectors j k a b below less h =
-    same_number j k (omega arith) (omega arith) (same_leaf _ _ (same_right _ _ _ _ h))
-
-chosen_tells : (os : Options) → OptionsTell os → (j k : ℕ) (v w : SszValue) → j ≡ k
-    → FitsOption os j v → FitsOption os k w → option_tree os j v ≡ option_tree os k w
-    → chosen j v ≡ chosen k w
-chosen_tells os laws j k v w e fit fits h =
-    ap₂ chosen e (laws.apart j v w fit (subst (λ (n : ℕ). FitsOption os n w) (sym e) fits) (h
-    ∙ ap (λ n. option_tree os n w) (sym e)))
-
-union_tells : (os : Options) → option_count os ≤ 128 → OptionsTell os → (v w : SszValue)
-    → Fits (union os) v → Fits (union os) w → tree (union os) v ≡ tree (union os) w → v ≡ w
-union_tells os few laws (chosen j v) (chosen k w) fit fits h =
-    chosen_tells os laws j k v w
-    (selectors j k _ _ (omega (arith, laws.within j v fit))
-    (omega (arith, laws.within k w fits)) h) fit fits (same_left _ _ _ _ h)
-union_tells os few laws (chosen j v) (chosen_none k) fit fits h =
-    let e = selectors j k _ _ (omega (arith, laws.within j v fit))
-    (omega (arith, laws.none_within k fits)) h in
-    absurd (laws.not_none j v fit (subst (λ (n : ℕ). IsNoneOption os n) (sym e) fits))
-union_tells os few laws (chosen_none j) (chosen k w) fit fits h =
-    let e = selectors j k _ _ (omega (arith, laws.none_within j fit))
-    (omega (arith, laws.within k w fits)) h in
-    absurd (laws.not_none k w fits (subst (λ (n : ℕ). IsNoneOption os n) e fit))
-union_tells os few laws (chosen_none j) (chosen_none k) fit fits h =
-    ap chosen_none (selectors j k _ _ (omega (arith, laws.none_within j fit))
-    (omega (arith, laws.none_within k fits)) h)
-union_tells os few laws (chosen j v) _ fit fits h = absurd fits
-union_tells os few laws (chosen_none j) _ fit fits h = absurd fits
-union_tells os few laws _ _ fit fits h = absurd fit
 
 width_few : (w : Width) → byte_count w ≤ 32
 width_few W8 = omega arith
