@@ -1,6 +1,7 @@
 pub mod OffsetLemmas
 pub mod PlainLemmas
 pub mod Elements
+pub mod HeadLemmas
 pub mod FieldLemmas
 pub mod UnionLemmas
 pub mod OptionLemmas
@@ -9,3 +10,5 @@ pub mod BitLemmas
 pub mod ReadLemmas
 pub mod LengthLemmas
 pub mod WritingLemmas
+pub mod RoomLemmas
+pub mod EncodingLemmas

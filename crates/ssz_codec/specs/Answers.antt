@@ -1,11 +1,14 @@
 -- What the calls answer.
-use Rattle.std.specs.Prelude.{ℕ, ◌≡◌, ◌-◌, ◌<◌, ◌≤◌, ◌^◌, min, List, ◌++◌, length, Option, Some, None, Result, Ok, Err}
+use Rattle.std.specs.Prelude.{ℕ, ◌≡◌, ◌-◌, ◌<◌, ◌≤◌, ◌^◌, min, List, ◌++◌, length, map, Option, Some, None, Result, Ok, Err}
 use Rattle.ssz_schema.specs.declared.fault.Fault.{Fault}
-use Rattle.ssz_schema.specs.Types.{SszType}
+use Rattle.ssz_schema.specs.declared.width.Width.{Width}
+use Rattle.ssz_schema.specs.Types.{SszType, uint}
+use Rattle.ssz_schema.specs.Sizes.{byte_count}
 use Rattle.ssz_value.specs.declared.value.Value.{Value}
 use Rattle.ssz_value.specs.Faults.{why}
-use Rattle.ssz_value.specs.Reading.{value_in}
+use Rattle.ssz_value.specs.Reading.{value_in, elements_in}
 use Rattle.ssz_value.specs.Standing.{Stands}
+use Rattle.ssz_value.specs.Shapes.{StandAlike}
 use Rattle.ssz_codec.specs.declared.fault.DecodeFault.{DecodeFault}
 use Rattle.ssz_codec.specs.declared.fault.DecodeFault.TheVariants.{Bad, Memory}
 use Rattle.ssz_codec.specs.declared.fault.EncodeFault.{EncodeFault}
@@ -24,6 +27,11 @@ Decodes fault P (Err e) = Faulty fault e
 -- of bytes that begin at start: the value of the type which they stand for, or their first fault
 abbrev pub DecodesTo : SszType → ℕ → List ℕ → Result Value DecodeFault → Type 0
 DecodesTo t start b = Decodes (why t start b) (Stands t (value_in t b))
+
+-- these are count numbers of this width one after another
+abbrev pub AreNumbers : Width → ℕ → List ℕ → List Value → Type 0
+AreNumbers w count b =
+    StandAlike (uint w) (map (value_in (uint w)) (elements_in (Some (byte_count w)) count b))
 
 -- the bytes are appended, unless they are more than max or memory runs out
 abbrev pub Appends : List ℕ → ℕ → List ℕ → List ℕ → Result Unit EncodeFault → Type 0

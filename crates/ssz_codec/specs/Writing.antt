@@ -1,10 +1,8 @@
 -- Bytes that are written into room for them.
-use Rattle.std.specs.Prelude.{ℕ, ◌+◌, ◌<◌, ◌≤◌, ◌≡◌, List, [], ◌++◌, length, take, Option, Some, None, Result, Ok, Err}
+use Rattle.std.specs.Prelude.{ℕ, ◌+◌, ◌≡◌, List, [], ◌++◌, length, take, Option, Some, None}
 use Rattle.ssz_schema.specs.Sizes.{head_size}
 use Rattle.ssz_schema.specs.Bytes.{offset_bytes}
 use Rattle.ssz_value.specs.Encoding.{heads, bodies}
-use Rattle.ssz_codec.specs.declared.fault.EncodeFault.{EncodeFault}
-use Rattle.ssz_codec.specs.declared.fault.EncodeFault.TheVariants.{TooLong, Memory}
 
 -- the room begins with the bytes, which are so many
 pub record Writes (encoding : List ℕ) (n : ℕ) (room : List ℕ) : Type 0 where
@@ -40,9 +38,3 @@ pub record PutsAll (sizes : List (Option ℕ)) (parts : List (List ℕ)) (n : �
   pub fixed : front ≡ heads sizes parts (length front)
   pub variable : take n back ≡ bodies sizes parts
   pub count : n ≡ length (bodies sizes parts)
-
--- the bytes are appended, unless they are too many or memory runs out
-abbrev pub Appends : List ℕ → ℕ → List ℕ → List ℕ → Result Unit EncodeFault → Type 0
-Appends bytes max old new (Ok _) = (length bytes ≤ max) × (new ≡ old ++ bytes)
-Appends bytes max old new (Err TooLong) = (max < length bytes) × (new ≡ old)
-Appends bytes max old new (Err Memory) = (length bytes ≤ max) × (new ≡ old)

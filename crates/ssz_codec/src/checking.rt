@@ -165,11 +165,12 @@ fn container(
     bytes: &[u8],
 ) -> Option<Fault>
     requires known { id < length schema.now.trees }
+    requires form { type_of schema.now id ≡ container (fields_over schema.now.trees fields.now) }
     requires before { AllByRecursion (λ part. part.1 < id) fields.now }
     requires short { start + length bytes.now < 2 ^ 32 }
     ensures { result ≡ why (container (fields_over schema.now.trees fields.now)) start bytes.now }
 {
-    if let Some(fault) = fields_head_fault(schema, fields, start, bytes) {
+    if let Some(fault) = fields_head_fault(schema, id, fields, start, bytes) {
         return Some(fault);
     }
     let mut place = 0usize;

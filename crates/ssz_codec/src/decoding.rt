@@ -16,16 +16,15 @@ ghost use Rattle.ssz_value.specs.Shapes.{StandAlike};
 ghost use Rattle.ssz_codec.specs.declared.fault.DecodeFault.TheVariants.{Bad};
 ghost use Rattle.ssz_codec.specs.Answers.{Decodes, DecodesTo};
 
+use super::basics::{bitlist, bitvector, boolean, byte_elements, number, numbers};
 use super::fault::DecodeFault;
 use super::fields::{fields_head_fault, part_range};
 use super::heads::{
     count_of, end_of_part, head_len, length_fault, none_fault, offset_at, offsets_fault,
 };
-use ssz_basic::{bit, read_bitlist, read_bitvector, read_bool, read_uint};
-use ssz_chunk::Chunk;
-use ssz_schema::{BitRun, ByteRun, Fault, Name, Schema, Ty, TypeId, Width};
+use ssz_schema::{Fault, Name, Schema, Ty, TypeId};
 use ssz_value::{Value, is_byte, option_at};
-use std::alloc::{AllocError, Global};
+use std::alloc::Global;
 
 /// The value whose encoding the bytes are. `Bad` exactly where they have a first fault, which
 /// `check` answers too.
@@ -76,79 +75,6 @@ fn scope(
     }
 }
 
-fn number(width: Width, start: u64, bytes: &[u8]) -> Result<Value, DecodeFault>
-    requires { start + length bytes.now < 2 ^ 32 }
-    ensures { DecodesTo (uint width) start bytes.now result }
-{
-    if let Some(fault) = length_fault(width.byte_count(), start, bytes) {
-        return Err(DecodeFault::Bad(fault));
-    }
-    match width {
-        Width::W256 => Ok(Value::Wide(wide_chunk(bytes))),
-        _ => Ok(Value::Uint(read_uint(width, bytes))),
-    }
-}
-
-fn boolean(start: u64, bytes: &[u8]) -> Result<Value, DecodeFault>
-    requires { start + length bytes.now < 2 ^ 32 }
-    ensures { DecodesTo boolean start bytes.now result }
-{
-    if let Some(fault) = length_fault(1, start, bytes) {
-        return Err(DecodeFault::Bad(fault));
-    }
-    match read_bool(bytes[0], start) {
-        Ok(flag) => Ok(Value::Bool(flag)),
-        Err(fault) => Err(DecodeFault::Bad(fault)),
-    }
-}
-
-// The 32 bytes as a chunk.
-fn wide_chunk(bytes: &[u8]) -> Chunk
-    requires { length bytes.now ≡ 32 }
-    ensures { result.0 ≡ bytes.now }
-{
-    let mut chunk = [0; 32];
-    chunk.copy_from_slice(bytes);
-    Chunk(chunk)
-}
-
-fn bitvector(alloc: Global, n: u64, start: u64, bytes: &[u8]) -> Result<Value, DecodeFault>
-    requires some { 0 < n }
-    requires few { n ≤ 2 ^ 32 }
-    requires short { start + length bytes.now < 2 ^ 32 }
-    ensures { DecodesTo (bitvector n) start bytes.now result }
-{
-    if let Some(fault) = length_fault((n + 7) / 8, start, bytes) {
-        return Err(DecodeFault::Bad(fault));
-    }
-    if let Err(fault) = read_bitvector(bytes, n, start) {
-        return Err(DecodeFault::Bad(fault));
-    }
-    Ok(Value::Bits(read_bits(alloc, n, bytes)?))
-}
-
-fn bitlist(alloc: Global, limit: u64, start: u64, bytes: &[u8]) -> Result<Value, DecodeFault>
-    requires { start + length bytes.now < 2 ^ 32 }
-    ensures { DecodesTo (bitlist limit) start bytes.now result }
-{
-    match read_bitlist(bytes, limit, start) {
-        Ok(n) => Ok(Value::Bits(read_bits(alloc, n, bytes)?)),
-        Err(fault) => Err(DecodeFault::Bad(fault)),
-    }
-}
-
-// The first n bits of the bytes.
-fn read_bits(alloc: Global, n: u64, bytes: &[u8]) -> Result<BitRun, AllocError>
-    requires { n ≤ 8 * length bytes.now }
-    ensures { IfOk result (λ bits. bits ≡ bits_of_number n (le_number bytes.now)) }
-{
-    let mut bits = Vec::with_capacity(alloc, n as usize)?;
-    for i in 0..n {
-        bits.push(bit(bytes, i))?;
-    }
-    Ok(BitRun::from_bits(bits))
-}
-
 // Of count elements.
 #[cycle(scope)]
 fn elements(
@@ -183,20 +109,6 @@ fn elements(
     }
 }
 
-// Of count numbers of one byte.
-fn byte_elements(alloc: Global, count: u64, start: u64, bytes: &[u8]) -> Result<Value, DecodeFault>
-    requires { start + length bytes.now < 2 ^ 32 }
-    ensures { Decodes (elements_fault (why (uint W8)) (Some 1) count start bytes.now)
-        (Stands (vector (uint W8) count)
-        (sequence (values (map (value_in (uint W8)) (elements_in (Some 1) count bytes.now)))))
-        result }
-{
-    if let Some(fault) = length_fault(count, start, bytes) {
-        return Err(DecodeFault::Bad(fault));
-    }
-    Ok(Value::Bytes(ByteRun::copy_of(alloc, bytes)?))
-}
-
 // Of count elements of this size.
 #[cycle(scope)]
 fn fixed_elements(
@@ -221,6 +133,9 @@ fn fixed_elements(
 {
     if let Some(fault) = length_fault(count * size, start, bytes) {
         return Err(DecodeFault::Bad(fault));
+    }
+    if let Ty::Uint(width) = schema.ty(elem) {
+        return Ok(numbers(alloc, *width, count, bytes)?);
     }
     let mut parts = Vec::with_capacity(alloc, count as usize)?;
     for i in 0..count {
@@ -327,12 +242,13 @@ fn container(
     bytes: &[u8],
 ) -> Result<Value, DecodeFault>
     requires known { id < length schema.now.trees }
+    requires form { type_of schema.now id ≡ container (fields_over schema.now.trees fields.now) }
     requires before { AllByRecursion (λ part. part.1 < id) fields.now }
     requires short { start + length bytes.now < 2 ^ 32 }
     ensures { let t = container (fields_over schema.now.trees fields.now) in
         DecodesTo t start bytes.now result }
 {
-    if let Some(fault) = fields_head_fault(schema, fields, start, bytes) {
+    if let Some(fault) = fields_head_fault(schema, id, fields, start, bytes) {
         return Err(DecodeFault::Bad(fault));
     }
     let mut parts = Vec::with_capacity(alloc, fields.len())?;

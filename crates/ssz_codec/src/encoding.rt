@@ -1,7 +1,7 @@
-ghost use Rattle.std.specs.Prelude.{◌≡◌, ◌<◌, ◌≤◌, ◌+◌, ◌^◌, length, map, replicate, Option};
+ghost use Rattle.std.specs.Prelude.{◌≡◌, ◌<◌, ◌≤◌, ◌+◌, ◌^◌, [], length, map, replicate, Some, Option};
 ghost use Rattle.std.specs.List.{AllByRecursion};
 ghost use Rattle.ssz_schema.specs.Types.{container, union, uint, boolean, bitvector, bitlist};
-ghost use Rattle.ssz_schema.specs.Sizes.{fixed_size, head_size, part_sizes};
+ghost use Rattle.ssz_schema.specs.Sizes.{byte_count, fixed_size, head_size, part_sizes};
 ghost use Rattle.ssz_schema.specs.Legal.{IsLegal};
 ghost use Rattle.ssz_schema.specs.Bytes.{le_bytes, number_of_bits, delimited, bits_size};
 ghost use Rattle.ssz_schema.specs.Unfolding.{type_of, fields_over, options_over, IsBelow};
@@ -208,11 +208,29 @@ fn put_elements(
         PutsAll (replicate (length parts.now) (fixed_size t)) (map (enc t) (map value_of parts.now))
         result front.new back.new }
 {
+    if let Ty::Uint(width) = schema.ty(elem) {
+        put_numbers(*width, parts, front);
+        return 0;
+    }
     let mut at = (0usize, 0usize);
     for part in parts {
         at = put_part(schema, elem, part, at, front, back);
     }
     at.1
+}
+
+// Writes numbers of this width, without asking for the type of each.
+fn put_numbers(width: Width, parts: &[Value], front: &mut [u8])
+    requires parts { AllByRecursion (IsValue (uint width)) parts.now }
+    requires front { length front.old
+        ≡ heads_length (replicate (length parts.now) (Some (byte_count width))) }
+    ensures { PutsAll (replicate (length parts.now) (Some (byte_count width)))
+        (map (enc (uint width)) (map value_of parts.now)) 0 front.new [] }
+{
+    let mut place = 0usize;
+    for part in parts {
+        place += write_number(width, part, &mut front[place..]);
+    }
 }
 
 // Writes a part behind those before it.

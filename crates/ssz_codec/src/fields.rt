@@ -1,13 +1,13 @@
 ghost use Rattle.std.specs.Prelude.{◌≡◌, ◌+◌, ◌<◌, ◌≤◌, ◌^◌, length, drop, Some, Option, IsOk, IfOk, IfErr, IfSome, IfNone, List, ℕ};
 ghost use Rattle.std.specs.List.{AllByRecursion};
-ghost use Rattle.ssz_schema.specs.Types.{SszType, union};
+ghost use Rattle.ssz_schema.specs.Types.{SszType, container, union};
 ghost use Rattle.ssz_schema.specs.Sizes.{part_sizes, head_size, fixed_size};
 ghost use Rattle.ssz_schema.specs.Unfolding.{fields_over, type_of, options_over, tree_at, IsBelow};
 ghost use Rattle.ssz_value.specs.Encoding.{heads_length};
 ghost use Rattle.ssz_value.specs.Faults.{head_fault, next_offset, why};
 ghost use Rattle.ssz_codec.specs.Ranges.{part_range};
 
-use super::heads::{head_len, none_fault, offset_at, offset_fault};
+use super::heads::{head_len, length_fault, none_fault, offset_at, offset_fault};
 use ssz_schema::{Fault, Name, Schema, TypeId};
 use ssz_value::option_at;
 
@@ -31,18 +31,25 @@ pub fn heads_within(schema: &Schema, fields: &[(Name, TypeId)], limit: u64) -> O
     Some(heads)
 }
 
-/// The first fault of the head of a container of these fields.
+/// The first fault of the head of the container type, whose fields these are.
 pub fn fields_head_fault(
     schema: &Schema,
+    id: TypeId,
     fields: &[(Name, TypeId)],
     start: u64,
     bytes: &[u8],
 ) -> Option<Fault>
+    requires container { id < length schema.now.trees }
+    requires form { type_of schema.now id ≡ container (fields_over schema.now.trees fields.now) }
     requires known { AllByRecursion (λ part. part.1 < length schema.now.trees) fields.now }
     requires short { start + length bytes.now < 2 ^ 32 }
     ensures { let sizes = part_sizes (fields_over schema.now.trees fields.now) in
         result ≡ head_fault sizes start bytes.now }
 {
+    // With no offset among them, the fixed parts are all.
+    if let Some(size) = schema.fixed_size(id) {
+        return length_fault(size, start, bytes);
+    }
     match heads_within(schema, fields, bytes.len() as u64) {
         Some(heads) => fields_offsets_fault(schema, fields, heads, start, bytes),
         None => Some(Fault {

@@ -4,6 +4,7 @@
 //! without a fault. `encode` appends the encoding of a value. Each is one pass over the bytes.
 #![tactic(auto)]
 
+mod basics;
 mod checking;
 mod decoding;
 mod encoding;

@@ -1,5 +1,6 @@
-use Rattle.std.proofs.Common.{◌∙◌, ◌*◌, ◌≤◌, ◌+◌, ◌^◌, ℕ, ap, ap₂, sym, subst, arith, rules, slice_range, length, List, ◌<◌}
-use Rattle.ssz_schema.specs.Unfolding.{type_of, tree_at, tree_over, AreBelow, IsBelow}
+use Rattle.std.proofs.Common.{◌∙◌, ◌≡◌, ◌*◌, ◌≤◌, ◌+◌, ◌^◌, ℕ, ap, ap₂, sym, subst, arith, rules, slice_range, length, List, ◌<◌}
+use Rattle.ssz_schema.specs.Types.{container}
+use Rattle.ssz_schema.specs.Unfolding.{type_of, tree_at, tree_over, AreBelow, IsBelow, fields_over}
 use Rattle.std.specs.List.{AllByRecursion}
 use Rattle.ssz_schema.specs.Legal.{IsLegal}
 use Rattle.ssz_schema.proofs.SizeLemmas.{vector_few}
@@ -135,4 +136,9 @@ scope-container-requires t c =
     subst (AreBelow c.args.id) c.in-Container.is c.ty.ensures.before in
     let known : P c.as_slice-in-Container.result.now =
     subst P (sym c.as_slice-in-Container.ensures.value) all in
+    let form : type_of c.args.schema.now c.args.id
+    ≡ container (fields_over c.args.schema.now.trees c.as_slice-in-Container.result.now) =
+    sym c.ty.ensures.form ∙ ap (tree_over c.args.schema.now.trees) c.in-Container.is
+    ∙ ap (λ fs. container (fields_over c.args.schema.now.trees fs))
+    (sym c.as_slice-in-Container.ensures.value) in
     search rules

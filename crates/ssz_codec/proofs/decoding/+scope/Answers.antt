@@ -2,14 +2,18 @@ use Rattle.std.proofs.Common.{◌∙◌, ◌≤◌, ◌+◌, ◌*◌, ◌^◌, �
 use Rattle.std.specs.List.{AllByRecursion}
 use Rattle.std.proofs.lemmas.List.{take_rest, length_push}
 use Rattle.std.proofs.lemmas.Result.{err_from_is_err_and}
-use Rattle.ssz_schema.specs.Types.{SszType, union}
+use Rattle.ssz_schema.specs.Types.{SszType, uint, container, union}
 use Rattle.ssz_schema.specs.Unfolding.{type_of, tree_at, tree_over, AreBelow, options_over, fields_over}
 use Rattle.ssz_schema.specs.Legal.{IsLegal}
-use Rattle.ssz_schema.specs.Sizes.{head_size, fixed_size}
+use Rattle.ssz_schema.specs.Sizes.{byte_count, head_size, fixed_size}
 use Rattle.ssz_schema.proofs.SizeLemmas.{vector_few}
 use Rattle.ssz_value.specs.Faults.{why}
 use Rattle.ssz_value.specs.Values.{chosen, sequence, values}
-use Rattle.ssz_value.specs.Reading.{value_in}
+use Rattle.ssz_value.specs.Reading.{value_in, elements_in}
+use Rattle.ssz_value.specs.Shapes.{StandAlike}
+use Rattle.ssz_value.proofs.Agree.{length_from_fault, same_some}
+use Rattle.ssz_codec.specs.Plain.{is_plain}
+use Rattle.ssz_codec.proofs.PlainLemmas.{clean_of, elements_clean}
 use Rattle.ssz_value.specs.Standing.{value_of, Stands, IsFormed, FieldsFormed}
 use Rattle.ssz_value.proofs.ValueLemmas.{chosen_is, seq_is}
 use Rattle.ssz_codec.proofs.UnionLemmas.{union_past, union_some, some_byte}
@@ -57,6 +61,11 @@ scope-container-requires t c =
     subst (AreBelow c.args.id) c.in-Container.is c.ty.ensures.before in
     let known : P c.as_slice-in-Container.result.now =
     subst P (sym c.as_slice-in-Container.ensures.value) all in
+    let form : type_of c.args.schema.now c.args.id
+    ≡ container (fields_over c.args.schema.now.trees c.as_slice-in-Container.result.now) =
+    sym c.ty.ensures.form ∙ ap (tree_over c.args.schema.now.trees) c.in-Container.is
+    ∙ ap (λ fs. container (fields_over c.args.schema.now.trees fs))
+    (sym c.as_slice-in-Container.ensures.value) in
     search rules
 
 pub scope-returns-in-Union : goal.scope-returns-in-Union
@@ -211,6 +220,29 @@ pub fixed_elements-returns-in-Some : goal.fixed_elements-returns-in-Some
 fixed_elements-returns-in-Some t c =
     fixed_found_head (why (type_of c.args.schema.now c.args.elem)) c.args.size c.args.count
     c.args.start c.args.bytes.now c.in-Some.fault (sym c.in-Some.ensures)
+
+-- of numbers, none of which can have a fault
+pub fixed_elements-returns-in-Uint : goal.fixed_elements-returns-in-Uint
+fixed_elements-returns-in-Uint t c =
+    let w = c.in-Uint.width in
+    let is : type_of c.args.schema.now c.args.elem ≡ uint c.in-Uint.width =
+    sym c.ty.ensures.form ∙ ap (tree_over c.args.schema.now.trees) c.in-Uint.is in
+    let same : byte_count c.in-Uint.width ≡ c.args.size =
+    same_some (byte_count w) c.args.size (sym (ap fixed_size is) ∙ c.requires.size) in
+    let whole = length_from_fault (c.args.count * c.args.size) c.args.start c.args.bytes.now
+    (sym c.in_default.ensures) in (
+      elements_clean (type_of c.args.schema.now c.args.elem) c.args.size c.args.count c.args.start
+          c.args.bytes.now (clean_of (type_of c.args.schema.now c.args.elem) (ap is_plain is))
+          c.requires.size (λ i. omega (arith, c.type_inv.bytes i)) whole,
+      subst (λ (ty : SszType).
+          StandAlike ty (map (value_in ty)
+          (elements_in (Some c.args.size) c.args.count c.args.bytes.now))
+          c.in_ok-numbers.field-0.items) (sym is)
+          (subst (λ (z : ℕ). StandAlike (uint c.in-Uint.width)
+          (map (value_in (uint c.in-Uint.width))
+          (elements_in (Some z) c.args.count c.args.bytes.now))
+          c.in_ok-numbers.field-0.items) same c.in_ok-numbers.ensures),
+    )
 
 pub fixed_elements-returns-in_err-value : goal.fixed_elements-returns-in_err-value
 fixed_elements-returns-in_err-value t c =

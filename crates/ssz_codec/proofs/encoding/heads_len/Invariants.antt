@@ -1,4 +1,4 @@
-use Rattle.ssz_codec.proofs.WritingLemmas.{HeadSum}
+use Rattle.ssz_codec.proofs.RoomLemmas.{HeadSum}
 use Rattle.ssz_codec.proofs.encoding.heads_len.Given as goal
 
 abbrev pub invariant-loop-field : goal.invariant-loop-field

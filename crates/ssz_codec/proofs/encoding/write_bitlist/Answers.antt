@@ -1,7 +1,7 @@
 use Rattle.std.proofs.Common.{◌∙◌, List, ℕ, length, ap, sym, subst, arith}
 use Rattle.ssz_schema.proofs.Numbers.{length-le_bytes}
 use Rattle.ssz_codec.specs.Writing.{Writes}
-use Rattle.ssz_codec.proofs.WritingLemmas.{bitlist_run}
+use Rattle.ssz_codec.proofs.EncodingLemmas.{bitlist_run}
 use Rattle.ssz_codec.proofs.encoding.write_bitlist.Goals as goal
 
 pub write_bits-requires-clause-room : goal.write_bits-requires-clause-room

@@ -1,7 +1,7 @@
 use Rattle.std.proofs.Common.{◌∙◌, ap, sym, refl, arith}
 use Rattle.ssz_schema.specs.Bytes.{bits_size}
 use Rattle.ssz_schema.proofs.Numbers.{length-le_bytes}
-use Rattle.ssz_codec.proofs.WritingLemmas.{run_writes}
+use Rattle.ssz_codec.proofs.EncodingLemmas.{run_writes}
 use Rattle.ssz_codec.proofs.encoding.write_bits.Goals as goal
 
 pub slice_bounds-put_bits-end : goal.slice_bounds-put_bits-end

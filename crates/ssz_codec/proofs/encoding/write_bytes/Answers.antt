@@ -1,5 +1,5 @@
 use Rattle.std.proofs.Common.{refl}
-use Rattle.ssz_codec.proofs.WritingLemmas.{run_writes}
+use Rattle.ssz_codec.proofs.EncodingLemmas.{run_writes}
 use Rattle.ssz_codec.proofs.encoding.write_bytes.Goals as goal
 
 pub returns : goal.returns

@@ -2,7 +2,7 @@ use Rattle.std.proofs.Common.{◌∙◌, ap}
 use Rattle.ssz_value.specs.Standing.{value_of}
 use Rattle.ssz_value.proofs.ValueLemmas.{flag_is}
 use Rattle.ssz_basic.proofs.PutLemmas.{bit_number}
-use Rattle.ssz_codec.proofs.WritingLemmas.{flag_writes}
+use Rattle.ssz_codec.proofs.EncodingLemmas.{flag_writes}
 use Rattle.ssz_codec.proofs.encoding.write_flag.Goals as goal
 
 pub returns-in-Bool : goal.returns-in-Bool

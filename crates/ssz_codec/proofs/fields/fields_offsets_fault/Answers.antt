@@ -1,4 +1,4 @@
-use Rattle.ssz_codec.proofs.FieldLemmas.{HeadFrom-start}
+use Rattle.ssz_codec.proofs.HeadLemmas.{HeadFrom-start}
 use Rattle.ssz_codec.proofs.fields.fields_offsets_fault.Goals as goal
 
 pub loop-field-init : goal.loop-field-init

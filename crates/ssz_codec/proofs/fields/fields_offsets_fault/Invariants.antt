@@ -1,4 +1,4 @@
-use Rattle.ssz_codec.proofs.FieldLemmas.{HeadFrom}
+use Rattle.ssz_codec.proofs.HeadLemmas.{HeadFrom}
 use Rattle.ssz_codec.proofs.fields.fields_offsets_fault.Given as goal
 
 abbrev pub invariant-loop-field : goal.invariant-loop-field

@@ -1,4 +1,4 @@
-use Rattle.ssz_codec.proofs.FieldLemmas.{HeadsFrom}
+use Rattle.ssz_codec.proofs.HeadLemmas.{HeadsFrom}
 use Rattle.ssz_codec.proofs.fields.heads_within.Given as goal
 
 abbrev pub invariant-loop-field : goal.invariant-loop-field

@@ -4,7 +4,7 @@ use Rattle.ssz_value.proofs.Agree.{length_from_fault}
 use Rattle.ssz_value.proofs.ValueLemmas.{bytes_are}
 use Rattle.ssz_value.proofs.FormLemmas.{bytes_are_formed}
 use Rattle.ssz_codec.proofs.ByteLemmas.{bytes_clean, bytes_found, bytes_read}
-use Rattle.ssz_codec.proofs.decoding.byte_elements.Goals as goal
+use Rattle.ssz_codec.proofs.basics.byte_elements.Goals as goal
 
 pub returns-in-Some : goal.returns-in-Some
 returns-in-Some c = bytes_found c.args.count c.args.start c.args.bytes.now c.in-Some.fault

@@ -1,7 +1,7 @@
 use Rattle.std.proofs.Common.{◌∙◌, ◌++◌, ◌∷◌, [], ap₂, sym}
 use Rattle.ssz_schema.specs.Bytes.{le_number}
 use Rattle.ssz_codec.proofs.BitLemmas.{bits_of_number-more}
-use Rattle.ssz_codec.proofs.decoding.read_bits.Goals as goal
+use Rattle.ssz_codec.proofs.basics.read_bits.Goals as goal
 
 pub loop-i-preserved : goal.loop-i-preserved
 loop-i-preserved c =
