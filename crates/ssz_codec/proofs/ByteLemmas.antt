@@ -8,7 +8,7 @@ use Rattle.ssz_value.specs.Values.{number}
 use Rattle.ssz_value.specs.Faults.{why, scopes, bytes_of, alike_fault, elements_fault, length_fault}
 use Rattle.ssz_value.specs.Reading.{value_in, elements_in}
 use Rattle.ssz_value.proofs.Agree.{right_length, no_fault}
-use Rattle.ssz_codec.proofs.Elements.{head_fault-alike, fixed_found_head}
+use Rattle.ssz_parts.proofs.ElementFaults.{head_fault-alike, fixed_found_head}
 
 -- the byte at a place
 one_byte : (b : List ℕ) (place : ℕ) → place < length b

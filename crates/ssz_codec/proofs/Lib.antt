@@ -1,9 +1,4 @@
-pub mod OffsetLemmas
 pub mod PlainLemmas
-pub mod Elements
-pub mod HeadLemmas
-pub mod FieldLemmas
-pub mod UnionLemmas
 pub mod OptionLemmas
 pub mod ByteLemmas
 pub mod BitLemmas

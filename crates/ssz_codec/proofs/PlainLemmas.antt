@@ -10,7 +10,7 @@ use Rattle.ssz_value.specs.Encoding.{heads_length}
 use Rattle.ssz_value.specs.Faults.{why, first_fault, fields_fault, alike_fault, elements_fault, scopes}
 use Rattle.ssz_value.proofs.Agree.{right_length, no_fault, same_some}
 use Rattle.ssz_codec.specs.Plain.{is_plain, are_plain}
-use Rattle.ssz_codec.proofs.Elements.{head_fault-alike}
+use Rattle.ssz_parts.proofs.ElementFaults.{head_fault-alike}
 
 -- no bytes of its size have a fault
 pub record IsClean (t : SszType) : Type 0 where

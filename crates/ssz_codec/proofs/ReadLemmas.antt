@@ -15,7 +15,7 @@ use Rattle.ssz_value.proofs.ExactLaw.{agrees}
 use Rattle.ssz_value.specs.Standing.{value_of, Stands, IsValue}
 use Rattle.ssz_value.specs.Faults.{why, elements_fault, element_count, count_fault, scopes, bytes_of, offset_at, next_offset, ◌otherwise◌}
 use Rattle.ssz_value.specs.Reading.{value_in, elements_in, fields_in}
-use Rattle.ssz_codec.specs.Ranges.{part_range}
+use Rattle.ssz_parts.specs.Ranges.{part_range}
 use Rattle.ssz_value.proofs.PartLemmas.{Part, sizes_of, size_at, drop_part}
 use Rattle.ssz_codec.specs.declared.fault.DecodeFault.{DecodeFault}
 use Rattle.ssz_codec.specs.declared.fault.DecodeFault.TheVariants.{Bad, Memory}

@@ -11,9 +11,9 @@ ghost use Rattle.ssz_value.specs.Standing.{Stands};
 ghost use Rattle.ssz_codec.specs.Answers.{AreNumbers, Decodes, DecodesTo};
 
 use super::fault::DecodeFault;
-use super::heads::length_fault;
 use ssz_basic::{bit, read_bitlist, read_bitvector, read_bool, read_uint};
 use ssz_chunk::Chunk;
+use ssz_parts::length_fault;
 use ssz_schema::{BitRun, ByteRun, Width};
 use ssz_value::Value;
 use std::alloc::{AllocError, Global};

@@ -1,15 +1,17 @@
 ghost use Rattle.std.specs.Prelude.{◌≡◌, ◌+◌, ◌<◌, ◌≤◌, ◌^◌, length, Some, None};
 ghost use Rattle.std.specs.List.{AllByRecursion};
-ghost use Rattle.ssz_schema.specs.Types.{boolean, bitvector, bitlist, container};
+ghost use Rattle.ssz_schema.specs.Types.{boolean, bitvector, container};
 ghost use Rattle.ssz_schema.specs.Sizes.{fixed_size};
-ghost use Rattle.ssz_schema.specs.Legal.{IsSize, IsLegal};
+ghost use Rattle.ssz_schema.specs.Legal.{IsSize};
 ghost use Rattle.ssz_schema.specs.Unfolding.{type_of, fields_over};
 ghost use Rattle.ssz_value.specs.Faults.{why, elements_fault};
 
-use super::fields::{fields_head_fault, part_range, union_head};
-use super::heads::{count_of, end_of_part, head_len, length_fault, offset_at, offsets_fault};
 use super::plain::is_plain;
 use ssz_basic::{read_bitlist, read_bitvector, read_bool};
+use ssz_parts::{
+    count_of, end_of_part, fields_head_fault, head_len, length_fault, offset_at, offsets_fault,
+    part_range, union_head,
+};
 use ssz_schema::{Fault, Name, Schema, Ty, TypeId};
 
 /// The first fault of the bytes: None exactly where they are the encoding of a value of the type.

@@ -1,10 +1,8 @@
 ghost use Rattle.std.specs.Prelude.{◌≡◌, ◌+◌, ◌*◌, ◌<◌, ◌≤◌, ◌^◌, length, map, Some, None, Option, IfOk, nat_lt, if◌then◌else◌};
 ghost use Rattle.std.specs.List.{AllByRecursion};
-ghost use Rattle.ssz_schema.specs.declared.width.Width.TheVariants.{W8};
-ghost use Rattle.ssz_schema.specs.Types.{Options, uint, boolean, container, vector, bitvector, bitlist, union};
+ghost use Rattle.ssz_schema.specs.Types.{Options, boolean, container, vector, bitvector, bitlist, union};
 ghost use Rattle.ssz_schema.specs.Sizes.{fixed_size};
 ghost use Rattle.ssz_schema.specs.Legal.{IsSize};
-ghost use Rattle.ssz_schema.specs.Bytes.{le_number, bits_of_number};
 ghost use Rattle.ssz_schema.specs.Faults.{extra};
 ghost use Rattle.ssz_schema.specs.Unfolding.{type_of, fields_over, options_over, IsBelow};
 ghost use Rattle.ssz_value.specs.Values.{chosen_none, sequence, values};
@@ -18,9 +16,9 @@ ghost use Rattle.ssz_codec.specs.Answers.{Decodes, DecodesTo};
 
 use super::basics::{bitlist, bitvector, boolean, byte_elements, number, numbers};
 use super::fault::DecodeFault;
-use super::fields::{fields_head_fault, part_range};
-use super::heads::{
-    count_of, end_of_part, head_len, length_fault, none_fault, offset_at, offsets_fault,
+use ssz_parts::{
+    count_of, end_of_part, fields_head_fault, head_len, length_fault, none_fault, offset_at,
+    offsets_fault, part_range,
 };
 use ssz_schema::{Fault, Name, Schema, Ty, TypeId};
 use ssz_value::{Value, is_byte, option_at};

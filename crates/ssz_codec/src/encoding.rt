@@ -12,9 +12,9 @@ ghost use Rattle.ssz_codec.specs.Answers.{Appends};
 ghost use Rattle.ssz_codec.specs.Writing.{Writes, PutsPart, PutsAll, body_of};
 
 use super::fault::EncodeFault;
-use super::heads::head_len;
 use super::measuring::encoded_len;
 use ssz_basic::{put_bits, put_uint};
+use ssz_parts::head_len;
 use ssz_schema::{BitRun, Name, Schema, Ty, TypeId, Width};
 use ssz_value::{Value, option_at, wide_bytes};
 

@@ -9,8 +9,6 @@ mod checking;
 mod decoding;
 mod encoding;
 mod fault;
-mod fields;
-mod heads;
 mod measuring;
 mod plain;
 #[cfg(test)]

@@ -11,8 +11,8 @@ use Rattle.ssz_value.specs.Faults.{Scope, scopes, bytes_of, head_fault, alike_fa
 use Rattle.ssz_value.specs.Reading.{elements_in}
 use Rattle.ssz_value.proofs.Agree.{IsInput, AreInputs, AreInputs-scopes, no_faults, length_from_fault, length-scopes, length-bytes_of}
 use Rattle.ssz_value.proofs.Cut.{passes}
-use Rattle.ssz_parts.proofs.Heads.{head_fault-alike, heads_length-none}
-use Rattle.ssz_parts.proofs.InRange.{InRange, first_in_range}
+use Rattle.ssz_parts.proofs.ElementFaults.{head_fault-alike, heads_length-none}
+use Rattle.ssz_parts.proofs.FieldLemmas.{InRange, first_in_range}
 use Rattle.ssz_parts.proofs.Faultless.{IsFaultless, anywhere}
 
 -- elements of one size

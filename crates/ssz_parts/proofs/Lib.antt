@@ -1,6 +1,7 @@
-pub mod InRange
-pub mod Heads
+pub mod OffsetLemmas
+pub mod ElementFaults
+pub mod HeadLemmas
 pub mod Faultless
-pub mod ElementLemmas
 pub mod FieldLemmas
+pub mod ElementLemmas
 pub mod UnionLemmas

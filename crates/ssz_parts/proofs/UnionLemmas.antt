@@ -8,7 +8,8 @@ use Rattle.ssz_schema.specs.Unfolding.{tree_at, options_over, IsBelow}
 use Rattle.ssz_value.specs.Faults.{why, option_fault}
 use Rattle.ssz_schema.specs.Faults.{extra, bad_selector}
 
-option_count-over : (trees : List SszType) (ids : List (Option ℕ)) → option_count (options_over trees ids) ≡ length ids
+option_count-over : (trees : List SszType) (ids : List (Option ℕ))
+    → option_count (options_over trees ids) ≡ length ids
 option_count-over trees [] = refl
 option_count-over trees (None ∷ ids) = omega (arith, option_count-over trees ids)
 option_count-over trees (Some id ∷ ids) = omega (arith, option_count-over trees ids)
@@ -18,25 +19,71 @@ none_past [] k e = omega arith
 none_past (id ∷ ids) zero e = cc
 none_past (id ∷ ids) (suc k) e = omega (arith, none_past ids k e)
 
-some_within : (ids : List (Option ℕ)) (k : ℕ) (o : Option ℕ) → Some o ≡ slice_get ids k → k < length ids
+some_within : (ids : List (Option ℕ)) (k : ℕ) (o : Option ℕ) → Some o ≡ slice_get ids k
+    → k < length ids
 some_within [] k o e = cc
 some_within (id ∷ ids) zero o e = omega arith
 some_within (id ∷ ids) (suc k) o e = omega (arith, some_within ids k o e)
 
-option_fault-some : (trees : List SszType) (ids : List (Option ℕ)) (k id s : ℕ) (b : List ℕ) → Some (Some id) ≡ slice_get ids k → option_fault (options_over trees ids) k s b ≡ why (tree_at trees id) s b
+option_fault-none : (trees : List SszType) (ids : List (Option ℕ)) (k s : ℕ) (b : List ℕ)
+    → Some None ≡ slice_get ids k
+    → option_fault (options_over trees ids) k s b ≡ cond (ltb 0 (length b)) (extra s) None
+option_fault-none trees [] k s b e = cc
+option_fault-none trees (None ∷ ids) zero s b e = refl
+option_fault-none trees (Some id ∷ ids) zero s b e = cc
+option_fault-none trees (None ∷ ids) (suc k) s b e = option_fault-none trees ids k s b e
+option_fault-none trees (Some id ∷ ids) (suc k) s b e = option_fault-none trees ids k s b e
+
+option_fault-some : (trees : List SszType) (ids : List (Option ℕ)) (k id s : ℕ) (b : List ℕ)
+    → Some (Some id) ≡ slice_get ids k
+    → option_fault (options_over trees ids) k s b ≡ why (tree_at trees id) s b
 option_fault-some trees [] k id s b e = cc
 option_fault-some trees (None ∷ ids) zero id s b e = cc
-option_fault-some trees (Some other ∷ ids) zero id s b e = let same : other ≡ id = cc in ap (λ n. why (tree_at trees n) s b) same
+option_fault-some trees (Some other ∷ ids) zero id s b e = let same : other ≡ id =
+    cc in ap (λ n. why (tree_at trees n) s b) same
 option_fault-some trees (None ∷ ids) (suc k) id s b e = option_fault-some trees ids k id s b e
 option_fault-some trees (Some other ∷ ids) (suc k) id s b e = option_fault-some trees ids k id s b e
 
-pub union_past : (trees : List SszType) (ids : List (Option ℕ)) (s : ℕ) (b : List ℕ) → 0 < length b → None ≡ slice_get ids (get_or b 0 0) → why (union (options_over trees ids)) s b ≡ bad_selector s
+pub option_below : (ids : List (Option ℕ)) (k id count : ℕ) → Some (Some id) ≡ slice_get ids k
+    → AllByRecursion (IsBelow count) ids → id < count
+option_below [] k id count e all = cc
+option_below (None ∷ ids) zero id count e all = cc
+option_below (Some other ∷ ids) zero id count e all = let same : other ≡ id =
+    cc in subst (λ (n : ℕ). n < count) same all.0
+option_below (None ∷ ids) (suc k) id count e all = option_below ids k id count e all.1
+option_below (Some other ∷ ids) (suc k) id count e all = option_below ids k id count e all.1
+
+pub union_past : (trees : List SszType) (ids : List (Option ℕ)) (s : ℕ) (b : List ℕ) → 0 < length b
+    → None ≡ slice_get ids (get_or b 0 0)
+    → why (union (options_over trees ids)) s b ≡ bad_selector s
 union_past trees ids s [] some e = absurd (omega arith)
-union_past trees ids s (k ∷ b) some e = cond-false _ _ _ (le-ltb k (option_count (options_over trees ids)) (omega (arith, none_past ids k e, option_count-over trees ids)))
+union_past trees ids s (k ∷ b) some e =
+    cond-false _ _ _ (le-ltb k (option_count (options_over trees ids))
+    (omega (arith, none_past ids k e, option_count-over trees ids)))
 
-union_within : (trees : List SszType) (ids : List (Option ℕ)) (s k : ℕ) (b : List ℕ) (o : Option ℕ) → Some o ≡ slice_get ids k → why (union (options_over trees ids)) s (k ∷ b) ≡ option_fault (options_over trees ids) k (s + 1) b
-union_within trees ids s k b o e = cond-true _ _ _ (lt-ltb k (option_count (options_over trees ids)) (omega (arith, some_within ids k o e, option_count-over trees ids)))
+union_within : (trees : List SszType) (ids : List (Option ℕ)) (s k : ℕ) (b : List ℕ) (o : Option ℕ)
+    → Some o ≡ slice_get ids k
+    → why (union (options_over trees ids)) s (k ∷ b)
+    ≡ option_fault (options_over trees ids) k (s + 1) b
+union_within trees ids s k b o e =
+    cond-true _ _ _ (lt-ltb k (option_count (options_over trees ids))
+    (omega (arith, some_within ids k o e, option_count-over trees ids)))
 
-pub union_some : (trees : List SszType) (ids : List (Option ℕ)) (s id : ℕ) (b : List ℕ) → 0 < length b → Some (Some id) ≡ slice_get ids (get_or b 0 0) → why (union (options_over trees ids)) s b ≡ why (tree_at trees id) (s + 1) (drop 1 b)
+pub union_none : (trees : List SszType) (ids : List (Option ℕ)) (s : ℕ) (b : List ℕ) → 0 < length b
+    → Some None ≡ slice_get ids (get_or b 0 0)
+    → why (union (options_over trees ids)) s b
+    ≡ cond (ltb 0 (length (drop 1 b))) (extra (s + 1)) None
+union_none trees ids s [] some e = absurd (omega arith)
+union_none trees ids s (k ∷ b) some e =
+    union_within trees ids s k b None e ∙ option_fault-none trees ids k (s + 1) b e
+
+pub union_some : (trees : List SszType) (ids : List (Option ℕ)) (s id : ℕ) (b : List ℕ)
+    → 0 < length b → Some (Some id) ≡ slice_get ids (get_or b 0 0)
+    → why (union (options_over trees ids)) s b ≡ why (tree_at trees id) (s + 1) (drop 1 b)
 union_some trees ids s id [] some e = absurd (omega arith)
-union_some trees ids s id (k ∷ b) some e = union_within trees ids s k b (Some id) e ∙ option_fault-some trees ids k id (s + 1) b e
+union_some trees ids s id (k ∷ b) some e =
+    union_within trees ids s k b (Some id) e ∙ option_fault-some trees ids k id (s + 1) b e
+
+pub some_byte : (b : List ℕ) → eqb (length b) 0 ≡ false → 0 < length b
+some_byte [] e = cc
+some_byte (x ∷ b) e = omega arith

@@ -61,8 +61,8 @@ fn variable_at<'a>(count: u64, i: u64, bytes: &'a [u8]) -> &'a [u8]
     part
 }
 
-// Where element i of count variable-size ones ends: at the next offset, or at the end.
-fn end_of_part(count: u64, i: u64, bytes: &[u8]) -> usize
+/// Where element i of count variable-size ones ends: at the next offset, or at the end.
+pub fn end_of_part(count: u64, i: u64, bytes: &[u8]) -> usize
     requires below { i < count }
     requires room { 4 * count ≤ length bytes.now }
     ensures { result ≡ next_offset (replicate (count - (i + 1)) None) (4 * i + 4) bytes.now }

@@ -1,15 +1,24 @@
-//! Where the parts of an encoding lie: the elements of a vector or list, and the fields of a container, as slices of bytes
-//! without a fault (simple-serialize.md, Serialization).
+//! Where the parts of an encoding lie, and the first fault of what stands before them: the number of
+//! elements, the head of elements or fields, the selector of a union (simple-serialize.md,
+//! Serialization, Deserialization).
 //!
-//! `element_count` and `element_at` are for elements of one type, `part_range` for the fields of a container, one after
-//! another. A caller who goes down into the parts knows that they have no fault either (`proofs/Faultless.antt`), so that it
-//! needs no answer for bad bytes. No call takes memory.
+//! A head is what the fixed parts take: the parts of fixed size themselves, and the offsets of the
+//! others. `count_of`, `length_fault`, `offsets_fault`, `fields_head_fault` and `union_head` find
+//! the fault of a head; behind a head without a fault, `element_at`, `end_of_part` and `part_range`
+//! find the parts. A caller who goes down into parts of bytes without a fault knows that they have
+//! none either (`proofs/Faultless.antt`). No call takes memory.
 #![tactic(auto)]
 
 mod elements;
+mod field_heads;
 mod fields;
+mod heads;
 mod offsets;
+mod unions;
 
-pub use elements::{element_at, element_count};
+pub use elements::{element_at, element_count, end_of_part};
+pub use field_heads::fields_head_fault;
 pub use fields::part_range;
+pub use heads::{count_of, length_fault, none_fault, offsets_fault};
 pub use offsets::{head_len, offset_at};
+pub use unions::union_head;

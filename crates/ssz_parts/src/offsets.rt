@@ -2,6 +2,8 @@ ghost use Rattle.std.specs.Prelude.{◌≡◌, ◌+◌, ◌≤◌, length};
 ghost use Rattle.ssz_schema.specs.Sizes.{head_size};
 ghost use Rattle.ssz_value.specs.Faults.{offset_at};
 
+use ssz_offsets::read_offset;
+
 /// What a part takes among the fixed parts: itself, or an offset of 4 bytes where it is variable-size (size None).
 pub fn head_len(size: Option<u64>) -> u64
     ensures { result ≡ head_size size }
@@ -17,6 +19,5 @@ pub fn offset_at(bytes: &[u8], place: usize) -> u32
     requires { place + 4 ≤ length bytes.now }
     ensures { result ≡ offset_at bytes.now place }
 {
-    let high = u32::from(bytes[place + 2]) + 256 * u32::from(bytes[place + 3]);
-    u32::from(bytes[place]) + 256 * (u32::from(bytes[place + 1]) + 256 * high)
+    read_offset(&bytes[place..place + 4])
 }

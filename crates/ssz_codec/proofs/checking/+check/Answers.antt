@@ -7,8 +7,8 @@ use Rattle.ssz_schema.proofs.SizeLemmas.{vector_few}
 use Rattle.ssz_value.specs.Faults.{why}
 use Rattle.ssz_value.proofs.Agree.{length_from_fault}
 use Rattle.ssz_codec.proofs.PlainLemmas.{clean_of, elements_clean}
-use Rattle.ssz_codec.proofs.Elements.{FixedFrom-more, FixedFrom-found, FixedFrom-end, VariableFrom-start, VariableFrom-part, VariableFrom-more, VariableFrom-found, fixed_found_head}
-use Rattle.ssz_codec.proofs.FieldLemmas.{FieldsFrom-start, FieldsFrom-found}
+use Rattle.ssz_parts.proofs.ElementFaults.{FixedFrom-more, FixedFrom-found, FixedFrom-end, VariableFrom-start, VariableFrom-part, VariableFrom-more, VariableFrom-found, fixed_found_head}
+use Rattle.ssz_parts.proofs.FieldLemmas.{FieldsFrom-start, FieldsFrom-found}
 use Rattle.ssz_value.proofs.PartLemmas.{known_weaker}
 use Rattle.ssz_codec.proofs.checking.+check.Goals as goal
 

@@ -1,8 +1,8 @@
 use Rattle.std.proofs.Common.{◌+◌, ◌*◌}
 use Rattle.ssz_schema.specs.Unfolding.{type_of}
 use Rattle.ssz_value.specs.Faults.{why}
-use Rattle.ssz_codec.proofs.FieldLemmas.{FieldsFrom}
-use Rattle.ssz_codec.proofs.Elements.{FixedFrom, VariableFrom}
+use Rattle.ssz_parts.proofs.FieldLemmas.{FieldsFrom}
+use Rattle.ssz_parts.proofs.ElementFaults.{FixedFrom, VariableFrom}
 use Rattle.ssz_codec.proofs.checking.+check.Given as goal
 
 abbrev pub decreases-scope : goal.decreases-scope

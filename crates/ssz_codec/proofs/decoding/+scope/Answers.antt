@@ -16,9 +16,9 @@ use Rattle.ssz_codec.specs.Plain.{is_plain}
 use Rattle.ssz_codec.proofs.PlainLemmas.{clean_of, elements_clean}
 use Rattle.ssz_value.specs.Standing.{value_of, Stands, IsFormed, FieldsFormed}
 use Rattle.ssz_value.proofs.ValueLemmas.{chosen_is, seq_is}
-use Rattle.ssz_codec.proofs.UnionLemmas.{union_past, union_some, some_byte}
-use Rattle.ssz_codec.proofs.Elements.{FixedFrom-more, FixedFrom-found, FixedFrom-end, VariableFrom-start, VariableFrom-part, VariableFrom-more, VariableFrom-found, VariableFrom-end, fixed_found_head}
-use Rattle.ssz_codec.proofs.FieldLemmas.{FieldsFrom, FieldsFrom-start, FieldsFrom-found, FieldsFrom-more, FieldsFrom-end}
+use Rattle.ssz_parts.proofs.UnionLemmas.{union_past, union_some, some_byte}
+use Rattle.ssz_parts.proofs.ElementFaults.{FixedFrom-more, FixedFrom-found, FixedFrom-end, VariableFrom-start, VariableFrom-part, VariableFrom-more, VariableFrom-found, VariableFrom-end, fixed_found_head}
+use Rattle.ssz_parts.proofs.FieldLemmas.{FieldsFrom, FieldsFrom-start, FieldsFrom-found, FieldsFrom-more, FieldsFrom-end}
 use Rattle.ssz_value.proofs.PartLemmas.{known_weaker, values_push}
 use Rattle.ssz_value.proofs.FormLemmas.{formed_push, chosen_formed, seq_formed_fields, no_fields_formed, fields_push}
 use Rattle.ssz_codec.specs.Answers.{Decodes, Faulty}

@@ -3,8 +3,8 @@ use Rattle.std.specs.List.{AllByRecursion}
 use Rattle.ssz_schema.specs.Unfolding.{type_of, fields_over}
 use Rattle.ssz_value.specs.Faults.{why}
 use Rattle.ssz_value.specs.Standing.{value_of, IsFormed, FieldsFormed}
-use Rattle.ssz_codec.proofs.FieldLemmas.{FieldsFrom}
-use Rattle.ssz_codec.proofs.Elements.{FixedFrom, VariableFrom}
+use Rattle.ssz_parts.proofs.FieldLemmas.{FieldsFrom}
+use Rattle.ssz_parts.proofs.ElementFaults.{FixedFrom, VariableFrom}
 use Rattle.ssz_codec.proofs.ReadLemmas.{ReadFrom, FieldsRead}
 use Rattle.ssz_codec.proofs.decoding.+scope.Given as goal
 

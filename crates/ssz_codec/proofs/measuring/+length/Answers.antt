@@ -8,7 +8,7 @@ use Rattle.ssz_value.specs.Standing.{value_of, IsValue}
 use Rattle.ssz_value.specs.Sizes.{size, fields_size}
 use Rattle.ssz_value.proofs.ValueLemmas.{seq_is, bytes_are}
 use Rattle.ssz_value.proofs.Sequences.{items-values}
-use Rattle.ssz_codec.proofs.UnionLemmas.{option_below}
+use Rattle.ssz_parts.proofs.UnionLemmas.{option_below}
 use Rattle.ssz_value.specs.Shapes.{IsSequence, AreFields, parts_of}
 use Rattle.ssz_codec.specs.Answers.{capped}
 use Rattle.ssz_value.proofs.FormLemmas.{seq_elements, bytes_elements, seq_fields, chosen_fits, union_inner, chosen_option, value_of_chosen}

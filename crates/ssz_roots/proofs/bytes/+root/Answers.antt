@@ -15,7 +15,7 @@ use Rattle.ssz_value.proofs.PartLemmas.{known_weaker, part_known, size_at}
 use Rattle.ssz_roots.proofs.FieldGathering.{FirstFields, FirstFields-start, FirstFields-room, FirstFields-faultless, FirstFields-more, FirstFields-root, FirstFields-counts}
 use Rattle.ssz_schema.specs.Unfolding.{Types}
 use Rattle.ssz_value.proofs.Agree.{length_from_fault}
-use Rattle.ssz_parts.proofs.Heads.{head_fault-alike}
+use Rattle.ssz_parts.proofs.ElementFaults.{head_fault-alike}
 use Rattle.ssz_roots.proofs.Bounds.{IsBasic-basic}
 use Rattle.ssz_roots.proofs.Rooted.{ArePacked, ArePacked-basic}
 use Rattle.ssz_roots.proofs.Unions.{union_root, union_pairs, union_chosen, union_rest, below_at}

@@ -1,5 +1,5 @@
-use Rattle.ssz_codec.proofs.HeadLemmas.{HeadFrom-start}
-use Rattle.ssz_codec.proofs.fields.fields_offsets_fault.Goals as goal
+use Rattle.ssz_parts.proofs.HeadLemmas.{HeadFrom-start}
+use Rattle.ssz_parts.proofs.field_heads.fields_offsets_fault.Goals as goal
 
 pub loop-field-init : goal.loop-field-init
 loop-field-init c =

@@ -1,7 +1,7 @@
 use Rattle.std.proofs.Common.{◌≡◌, ◌+◌, ◌-◌, ◌∙◌, take, drop, ap, arith}
 use Rattle.ssz_schema.specs.Bytes.{le_number}
 use Rattle.ssz_offsets.proofs.Patches.{room_of_four}
-use Rattle.ssz_codec.proofs.heads.offset_at.Goals as goal
+use Rattle.ssz_parts.proofs.offsets.offset_at.Goals as goal
 
 pub read_offset-requires : goal.read_offset-requires
 read_offset-requires c = room_of_four c.args.bytes.now c.args.place c.requires

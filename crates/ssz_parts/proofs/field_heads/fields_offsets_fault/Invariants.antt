@@ -1,5 +1,5 @@
-use Rattle.ssz_codec.proofs.HeadLemmas.{HeadFrom}
-use Rattle.ssz_codec.proofs.fields.fields_offsets_fault.Given as goal
+use Rattle.ssz_parts.proofs.HeadLemmas.{HeadFrom}
+use Rattle.ssz_parts.proofs.field_heads.fields_offsets_fault.Given as goal
 
 abbrev pub invariant-loop-field : goal.invariant-loop-field
 invariant-loop-field l =

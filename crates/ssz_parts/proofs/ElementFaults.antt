@@ -6,8 +6,8 @@ use Rattle.ssz_value.specs.Encoding.{heads_length}
 use Rattle.ssz_value.proofs.Agree.{right_length}
 use Rattle.ssz_value.proofs.Cut.{passes, chosen_none_of}
 use Rattle.ssz_value.specs.Faults.{alike_fault, elements_fault, scopes, head_fault, first_fault, later_fault, next_offset, offset_at, length_fault, ◌otherwise◌}
-use Rattle.ssz_codec.specs.Heads.{offset_fault}
-use Rattle.ssz_codec.proofs.OffsetLemmas.{first_found, found_in, none_in}
+use Rattle.ssz_parts.specs.Heads.{offset_fault}
+use Rattle.ssz_parts.proofs.OffsetLemmas.{first_found, found_in, none_in}
 
 -- so many elements are left
 left : (count i : ℕ) → i < count → count - i ≡ suc (count - (i + 1))
@@ -135,7 +135,7 @@ later_in_order (None ∷ sizes) place before s b low h =
     let after = passes (ltb (offset_at b place) before) _ _ within.1 in
     record { up = ltb-false _ _ after.0; inside = ltb-false _ _ within.0 }
 
-heads_length-none : (count : ℕ) → heads_length (replicate count None) ≡ 4 * count
+pub heads_length-none : (count : ℕ) → heads_length (replicate count None) ≡ 4 * count
 heads_length-none zero = refl
 heads_length-none (suc count) = ap (λ n. 4 + n) (heads_length-none count) ∙ omega arith
 

@@ -1,23 +1,13 @@
 ghost use Rattle.std.specs.Prelude.{◌≡◌, ◌+◌, ◌-◌, ◌*◌, ◌<◌, ◌≤◌, ◌^◌, length, replicate, IfOk, Option, None, nat_lt, if◌then◌else◌};
 ghost use Rattle.std.specs.Option.{ForSome};
 ghost use Rattle.std.specs.Result.{result_err};
-ghost use Rattle.ssz_schema.specs.Sizes.{head_size};
 ghost use Rattle.ssz_schema.specs.Faults.{extra};
-ghost use Rattle.ssz_value.specs.Faults.{length_fault, offset_at, count_fault, element_count, head_fault, next_offset};
-ghost use Rattle.ssz_codec.specs.Heads.{offset_fault};
+ghost use Rattle.ssz_value.specs.Faults.{length_fault, offset_at, count_fault, element_count, head_fault};
+ghost use Rattle.ssz_parts.specs.Heads.{offset_fault};
 
-use ssz_offsets::{check_first, check_next, read_offset};
+use super::offsets::offset_at;
+use ssz_offsets::{check_first, check_next};
 use ssz_schema::Fault;
-
-/// What a part takes among the fixed parts: itself, or an offset.
-pub fn head_len(size: Option<u64>) -> u64
-    ensures { result ≡ head_size size }
-{
-    match size {
-        Some(size) => size,
-        None => 4,
-    }
-}
 
 /// The fault of bytes that are not exactly so many.
 pub fn length_fault(size: u64, start: u64, bytes: &[u8]) -> Option<Fault>
@@ -51,14 +41,6 @@ pub fn none_fault(start: u64, bytes: &[u8]) -> Option<Fault>
         code: Fault::EXTRA,
         position: start,
     })
-}
-
-/// The offset that stands at this place.
-pub fn offset_at(bytes: &[u8], place: usize) -> u32
-    requires { place + 4 ≤ length bytes.now }
-    ensures { result ≡ offset_at bytes.now place }
-{
-    read_offset(&bytes[place..place + 4])
 }
 
 /// How many elements a list has, or what makes their number wrong.
@@ -152,18 +134,5 @@ pub fn offset_fault(
     match before {
         None => check_first(found, end, position).err(),
         Some(before) => check_next(found, before, len, position).err(),
-    }
-}
-
-/// Where part i of count variable-size parts ends: at the next offset, or at the end.
-pub fn end_of_part(count: u64, i: u64, bytes: &[u8]) -> usize
-    requires below { i < count }
-    requires room { 4 * count ≤ length bytes.now }
-    ensures { result ≡ next_offset (replicate (count - (i + 1)) None) (4 * i + 4) bytes.now }
-{
-    if i + 1 < count {
-        offset_at(bytes, (4 * i + 4) as usize) as usize
-    } else {
-        bytes.len()
     }
 }

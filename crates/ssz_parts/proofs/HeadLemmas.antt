@@ -8,8 +8,8 @@ use Rattle.ssz_schema.specs.declared.fault.Fault.{Fault}
 use Rattle.ssz_value.specs.Encoding.{heads_length}
 use Rattle.ssz_value.specs.Faults.{offset_at, head_fault, first_fault, later_fault}
 use Rattle.ssz_value.proofs.PartLemmas.{Part, sizes_of, size_at, sizes_from}
-use Rattle.ssz_codec.specs.Heads.{offset_fault}
-use Rattle.ssz_codec.proofs.OffsetLemmas.{first_found, found_in, none_in}
+use Rattle.ssz_parts.specs.Heads.{offset_fault}
+use Rattle.ssz_parts.proofs.OffsetLemmas.{first_found, found_in, none_in}
 use Rattle.ssz_value.proofs.Cut.{chosen_none_of}
 use Rattle.ssz_value.proofs.Agree.{no_some}
 use Rattle.ssz_value.proofs.Sequences.{fixed_rest, total_size-heads}

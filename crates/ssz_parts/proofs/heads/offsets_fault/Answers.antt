@@ -1,8 +1,8 @@
 use Rattle.std.proofs.Common.{◌∙◌, ◌==◌, ◌*◌, ap, sym, arith, eqb-true}
 use Rattle.std.specs.Result.{result_err}
 use Rattle.ssz_value.proofs.Cut.{chosen_none_of}
-use Rattle.ssz_codec.proofs.Elements.{head_fault-short, head_fault-first, later-start, later-found, later-next}
-use Rattle.ssz_codec.proofs.heads.offsets_fault.Goals as goal
+use Rattle.ssz_parts.proofs.ElementFaults.{head_fault-short, head_fault-first, later-start, later-found, later-next}
+use Rattle.ssz_parts.proofs.heads.offsets_fault.Goals as goal
 
 pub returns-then-len-count : goal.returns-then-len-count
 returns-then-len-count c =

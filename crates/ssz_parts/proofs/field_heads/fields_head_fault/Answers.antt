@@ -1,8 +1,8 @@
 use Rattle.std.proofs.Common.{◌∙◌, ◌≡◌, Some, ap, sym}
 use Rattle.ssz_schema.specs.Sizes.{fixed_size, part_sizes, total_size}
 use Rattle.ssz_schema.specs.Unfolding.{fields_over}
-use Rattle.ssz_codec.proofs.HeadLemmas.{head_fault-fixed}
-use Rattle.ssz_codec.proofs.fields.fields_head_fault.Goals as goal
+use Rattle.ssz_parts.proofs.HeadLemmas.{head_fault-fixed}
+use Rattle.ssz_parts.proofs.field_heads.fields_head_fault.Goals as goal
 
 pub returns-in-Some : goal.returns-in-Some
 returns-in-Some c =
