@@ -37,7 +37,11 @@ pub fixed_sum : (format : Format) (t : SszType) (z : ℕ) (vs : List Value) → 
 fixed_sum format t z [] legal fixed all = sym (zero-mul z)
 fixed_sum format t z (v ∷ vs) legal fixed all =
     sum_by-cons (λ v. part_length (fixed_size t) (size t v)) (value_of v) (map value_of vs)
-    ∙ omega (arith, fixed_part format t z (value_of v) legal fixed all.0.fits, fixed_sum format t z vs legal fixed all.1)
+    ∙ omega (
+      arith,
+      fixed_part format t z (value_of v) legal fixed all.0.fits,
+      fixed_sum format t z vs legal fixed all.1,
+    )
 
 -- the sum so far and that of the parts from i on
 pub record SumFrom (f : SszValue → ℕ) (parts : List Value) (i total : ℕ) : Type 0 where

@@ -12,27 +12,36 @@ use Rattle.ssz_merkle.specs.Frontier.{whole_pairs}
 use Rattle.ssz_merkle.proofs.Binary.{IsFollowed, shr-above, shr-below, low-within}
 
 -- one more chunk makes a pair on each level up to its last zeros
-whole_pairs-next : (d last low q : ℕ) → IsFollowed last low q → whole_pairs d (last + 1) ≡ whole_pairs d last + min d low
+whole_pairs-next : (d last low q : ℕ) → IsFollowed last low q → whole_pairs d (last + 1)
+    ≡ whole_pairs d last + min d low
 unfolding whole_pairs
 whole_pairs-next zero last low q is = omega arith
 whole_pairs-next (suc d) last low q is = ⊎_elim
-    (λ (above : low < suc d). omega (arith, whole_pairs-next d last low q is, shr-above last low q (suc d) is above))
+    (λ (above : low < suc d). omega (
+      arith,
+      whole_pairs-next d last low q is,
+      shr-above last low q (suc d) is above,
+    ))
     (λ (below : suc d ≤ low).
-    let pair : ((last + 1) / 2 ^ suc d ≡ (2 * q + 1) * 2 ^ (low - suc d)) × (last / 2 ^ suc d + 1 ≡ (2 * q + 1) * 2 ^ (low - suc d)) =
+    let pair : ((last + 1) / 2 ^ suc d ≡ (2 * q + 1) * 2 ^ (low - suc d))
+    × (last / 2 ^ suc d + 1 ≡ (2 * q + 1) * 2 ^ (low - suc d)) =
     shr-below last low q (suc d) is below in
     omega (arith, whole_pairs-next d last low q is, pair.0, pair.1))
     (cases_lt low (suc d))
 
 -- the pairs that a push makes
-pub CountsUp-push : (depth last low q old new : ℕ) → IsFollowed last low q → last < 2 ^ depth → CountsUp low old new
+pub CountsUp-push : (depth last low q old new : ℕ) → IsFollowed last low q → last < 2 ^ depth
+    → CountsUp low old new
     → CountsUp (whole_pairs depth (last + 1) - whole_pairs depth last) old new
 CountsUp-push depth last low q old new is room counted =
     let made : low ≡ whole_pairs depth (last + 1) - whole_pairs depth last =
     omega (arith, whole_pairs-next depth last low q is, low-within last low q depth is room) in
     subst (λ n. CountsUp n old new) made counted
 
--- above some chunks stands, on each level past their number's last zeros, one pair that is not whole
-grow-whole_pairs : (d last low q : ℕ) → IsFollowed last low q → grow d (last + 1) ≡ whole_pairs d (last + 1) + (d - low)
+-- above some chunks stands, on each level past their number's last zeros, one pair that is not
+-- whole
+grow-whole_pairs : (d last low q : ℕ) → IsFollowed last low q → grow d (last + 1)
+    ≡ whole_pairs d (last + 1) + (d - low)
 unfolding grow whole_pairs
 grow-whole_pairs zero last low q is = omega arith
 grow-whole_pairs (suc d) last low q is = ⊎_elim
@@ -41,26 +50,31 @@ grow-whole_pairs (suc d) last low q is = ⊎_elim
     let rest : 0 < (last + 1) % 2 ^ suc d = some_rest last (2 ^ suc d) (pow_pos (suc d)) same in
     omega (arith, grow-whole_pairs d last low q is, rest))
     (λ (below : suc d ≤ low).
-    let pair : ((last + 1) / 2 ^ suc d ≡ (2 * q + 1) * 2 ^ (low - suc d)) × (last / 2 ^ suc d + 1 ≡ (2 * q + 1) * 2 ^ (low - suc d)) =
+    let pair : ((last + 1) / 2 ^ suc d ≡ (2 * q + 1) * 2 ^ (low - suc d))
+    × (last / 2 ^ suc d + 1 ≡ (2 * q + 1) * 2 ^ (low - suc d)) =
     shr-below last low q (suc d) is below in
-    let none : (last + 1) % 2 ^ suc d ≡ 0 = no_rest last (2 ^ suc d) (pow_pos (suc d)) (omega (arith, pair.0, pair.1)) in
+    let none : (last + 1) % 2 ^ suc d ≡ 0 = no_rest last (2 ^ suc d) (pow_pos (suc d))
+    (omega (arith, pair.0, pair.1)) in
     omega (arith, grow-whole_pairs d last low q is, none))
     (cases_lt low (suc d))
   where
     some_rest : (n m : ℕ) → 0 < m → (n + 1) / m ≡ n / m → 0 < (n + 1) % m
-    some_rest n m positive same = parts ((n + 1) % m) ((n + 1) / m * m) (n / m * m) n (ap (λ a. a * m) same) (omega arith) (omega arith)
+    some_rest n m positive same = parts ((n + 1) % m) ((n + 1) / m * m) (n / m * m) n
+        (ap (λ a. a * m) same) (omega arith) (omega arith)
       where
         parts : (r a b n : ℕ) → a ≡ b → n + 1 ≡ a + r → b ≤ n → 0 < r
         parts r a b n same is least = omega arith
 
     no_rest : (n m : ℕ) → 0 < m → (n + 1) / m ≡ n / m + 1 → (n + 1) % m ≡ 0
-    no_rest n m positive next = parts ((n + 1) % m) ((n + 1) / m * m) (n / m) m n (ap (λ a. a * m) next) (omega arith) (omega arith)
+    no_rest n m positive next = parts ((n + 1) % m) ((n + 1) / m * m) (n / m) m n
+        (ap (λ a. a * m) next) (omega arith) (omega arith)
       where
         parts : (r a b m n : ℕ) → a ≡ (b + 1) * m → n + 1 ≡ a + r → n < b * m + m → r ≡ 0
         parts r a b m n same is most = omega arith
 
 -- the pairs that are made at the end
-pub CountsUp-finish : (depth last low q old new : ℕ) → IsFollowed last low q → CountsUp (depth - low) old new
+pub CountsUp-finish : (depth last low q old new : ℕ) → IsFollowed last low q
+    → CountsUp (depth - low) old new
     → CountsUp (grow depth (last + 1) - whole_pairs depth (last + 1)) old new
 CountsUp-finish depth last low q old new is counted =
     let made : depth - low ≡ grow depth (last + 1) - whole_pairs depth (last + 1) =
@@ -68,7 +82,8 @@ CountsUp-finish depth last low q old new is counted =
     subst (λ n. CountsUp n old new) made counted
 
 -- nothing is hashed where nothing was pushed
-pub CountsUp-empty : (depth pushed count : ℕ) → pushed ≡ 0 → CountsUp (grow depth pushed - whole_pairs depth pushed) count count
+pub CountsUp-empty : (depth pushed count : ℕ) → pushed ≡ 0
+    → CountsUp (grow depth pushed - whole_pairs depth pushed) count count
 CountsUp-empty depth pushed count none =
     let no_pair : 0 ≡ grow depth pushed - whole_pairs depth pushed =
     omega (arith, ap (grow depth) none, grow-zero depth) in
@@ -84,7 +99,11 @@ whole_pairs-zero (suc d) = omega (arith, whole_pairs-zero d, div-eq_of_lt (pow_p
 pub whole_pairs-rises : (d n : ℕ) → whole_pairs d n ≤ whole_pairs d (n + 1)
 unfolding whole_pairs
 whole_pairs-rises zero n = omega arith
-whole_pairs-rises (suc d) n = omega (arith, whole_pairs-rises d n, shr_mono (suc d) (let more : n ≤ n + 1 = omega arith in more))
+whole_pairs-rises (suc d) n = omega (
+  arith,
+  whole_pairs-rises d n,
+  shr_mono (suc d) (let more : n ≤ n + 1 = omega arith in more),
+)
 
 -- the whole pairs are among all
 pub whole_pairs-le-grow : (d n : ℕ) → whole_pairs d n ≤ grow d n

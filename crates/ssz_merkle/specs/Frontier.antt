@@ -1,4 +1,5 @@
--- What an accumulator keeps of the chunks that were pushed (simple-serialize.md, Merkleization: merkleize).
+-- What an accumulator keeps of the chunks that were pushed (simple-serialize.md, Merkleization:
+-- merkleize).
 use Rattle.std.specs.Prelude.{◌≡◌, ℕ, zero, suc, ◌+◌, ◌*◌, ◌/◌, ◌^◌, List, [], length, map, take, drop, slice_index_or}
 use Rattle.std.specs.Int.{bit_at}
 use Rattle.ssz_chunk.specs.declared.Chunk.{Chunk}
@@ -18,13 +19,17 @@ leaves chunks = map leaf chunks
 abbrev pub block : ℕ → List (List ℕ) → List (List ℕ)
 block k chunks = take (2 ^ k) (drop (length chunks / 2 ^ suc k * 2 ^ suc k) chunks)
 
--- the chunks were pushed: where the binary digit k of their number is 1, the root at k is that of these 2 ^ k chunks
-pub record Holds (pair_of : List ℕ → List ℕ → List ℕ) (chunks : List (List ℕ)) (frontier : Frontier) : Type 0 where
+-- the chunks were pushed: where the binary digit k of their number is 1, the root at k is that of
+-- these 2 ^ k chunks
+pub record Holds (pair_of : List ℕ → List ℕ → List ℕ) (chunks : List (List ℕ))
+    (frontier : Frontier) : Type 0 where
   pub number : frontier.pushed ≡ length chunks
   pub roots : (k : ℕ) → bit_at (length chunks) k ≡ 1
-      → (slice_index_or frontier.roots k (record { 0 = [] })).0 ≡ root pair_of (full k (leaves (block k chunks)))
+      → (slice_index_or frontier.roots k (record { 0 = [] })).0
+      ≡ root pair_of (full k (leaves (block k chunks)))
 
--- the pairs of a full tree of depth d both of whose trees are whole, over its first n places: on each level j the
+-- the pairs of a full tree of depth d both of whose trees are whole, over its first n places: on
+-- each level j the
 -- n / 2 ^ j, rounded down
 unfoldable pub whole_pairs : ℕ → ℕ → ℕ
 whole_pairs zero n = 0

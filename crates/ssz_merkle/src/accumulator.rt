@@ -10,7 +10,8 @@ use std::marker::Model;
 // A root for each level, the tree's own included.
 const ROOTS: usize = LEVELS as usize + 1;
 
-/// The chunks that were pushed so far on a full tree of chunks, by the roots of the whole subtrees that they make:
+/// The chunks that were pushed so far on a full tree of chunks, by the roots of the whole subtrees
+/// that they make:
 /// one for each binary digit 1 of their number.
 #[derive(Drop)]
 pub struct Accumulator<'a, H: PairHash> {
@@ -27,9 +28,11 @@ impl<'a, H: PairHash> Model for Accumulator<'a, H> {
 
     ghost Value = { Frontier };
 
-    ghost view = { λ stack. record { depth = stack.depth; pushed = stack.pushed; roots = stack.roots } };
+    ghost view = { λ stack.
+        record { depth = stack.depth; pushed = stack.pushed; roots = stack.roots } };
 
-    ghost invariant = { λ stack. (stack.depth ≤ 126) × (stack.pushed ≤ 2 ^ stack.depth) × (length stack.roots ≡ 127) };
+    ghost invariant = { λ stack. (stack.depth ≤ 126) × (stack.pushed ≤ 2 ^ stack.depth)
+        × (length stack.roots ≡ 127) };
 }
 
 impl<'a, H: PairHash> Accumulator<'a, H> {
@@ -58,7 +61,8 @@ impl<'a, H: PairHash> Accumulator<'a, H> {
         ensures holds { (chunks : List (List ℕ)) → Holds H.pair_of chunks self.old
             → Holds H.pair_of (chunks ++ chunk.now.0 ∷ []) self.new }
         ensures counts { CountsUp (whole_pairs self.old.depth (self.old.pushed + 1)
-            - whole_pairs self.old.depth self.old.pushed) (H.pairs hasher.old) (H.pairs hasher.new) }
+            - whole_pairs self.old.depth self.old.pushed)
+            (H.pairs hasher.old) (H.pairs hasher.new) }
     {
         let mut carry = *chunk;
         let whole = self.pushed.trailing_ones();
@@ -71,13 +75,15 @@ impl<'a, H: PairHash> Accumulator<'a, H> {
     }
 
     /// The root of the full tree of the chunks that were pushed, with zero chunks behind them.
-    /// Hashes the pairs that are not whole, one a level, each with a zero subtree from the table or with the root to its left.
+    /// Hashes the pairs that are not whole, one a level, each with a zero subtree from the table or
+    /// with the root to its left.
     #[inline(always)]
     pub fn finish(self, hasher: &mut H) -> Chunk
         ensures root { (chunks : List (List ℕ)) → Holds H.pair_of chunks self.entry
             → result.0 ≡ root H.pair_of (full self.entry.depth (leaves chunks)) }
         ensures counts { CountsUp (grow self.entry.depth self.entry.pushed
-            - whole_pairs self.entry.depth self.entry.pushed) (H.pairs hasher.old) (H.pairs hasher.new) }
+            - whole_pairs self.entry.depth self.entry.pushed)
+            (H.pairs hasher.old) (H.pairs hasher.new) }
     {
         self.root(hasher)
     }
@@ -87,7 +93,8 @@ impl<'a, H: PairHash> Accumulator<'a, H> {
         ensures root { (chunks : List (List ℕ)) → Holds H.pair_of chunks self.now
             → result.0 ≡ root H.pair_of (full self.now.depth (leaves chunks)) }
         ensures counts { CountsUp (grow self.now.depth self.now.pushed
-            - whole_pairs self.now.depth self.now.pushed) (H.pairs hasher.old) (H.pairs hasher.new) }
+            - whole_pairs self.now.depth self.now.pushed)
+            (H.pairs hasher.old) (H.pairs hasher.new) }
     {
         if self.pushed == 0 {
             return *self.zeros.get(self.depth);

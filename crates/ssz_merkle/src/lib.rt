@@ -1,7 +1,10 @@
-//! Chunks of bytes, and the root of a full tree of chunks, made as the chunks come (simple-serialize.md, Merkleization).
+//! Chunks of bytes, and the root of a full tree of chunks, made as the chunks come
+//! (simple-serialize.md, Merkleization).
 //!
-//! `chunk_at` is the packing: bytes cut into chunks, the last one padded. An `Accumulator` is the merkleization with a
-//! limit: it takes the chunks one after another, keeps one root for each level, and hashes each pair once. What it keeps
+//! `chunk_at` is the packing: bytes cut into chunks, the last one padded. An `Accumulator` is the
+//! merkleization with a
+//! limit: it takes the chunks one after another, keeps one root for each level, and hashes each
+//! pair once. What it keeps
 //! is defined in `specs/Frontier.antt`. No call takes memory.
 #![tactic(auto)]
 

@@ -3,7 +3,8 @@ ghost use Rattle.ssz_merkle.specs.Packing.{chunk_of, padded};
 
 use ssz_chunk::Chunk;
 
-/// Chunk i of the bytes: the 32 bytes from 32 * i on. The last chunk has zeros behind the bytes, and a chunk past their
+/// Chunk i of the bytes: the 32 bytes from 32 * i on. The last chunk has zeros behind the bytes,
+/// and a chunk past their
 /// end is zero (simple-serialize.md, Merkleization: pack).
 #[inline]
 pub fn chunk_at(bytes: &[u8], i: usize) -> Chunk

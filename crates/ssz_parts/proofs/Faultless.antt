@@ -14,8 +14,10 @@ pub record IsFaultless (t : SszType) (b : List ℕ) : Type 0 where
   pub none : why t 0 b ≡ None
 
 -- bytes that have no fault at one place have none at another
-pub anywhere : (format : Format) (t : SszType) → IsLegal format t → (s u : ℕ) (b : List ℕ) → IsInput b → why t s b ≡ None → why t u b ≡ None
+pub anywhere : (format : Format) (t : SszType) → IsLegal format t → (s u : ℕ) (b : List ℕ)
+    → IsInput b → why t s b ≡ None → why t u b ≡ None
 anywhere format t legal s u b input h =
     let written = (agrees format t legal).only s b input h in
     ap (why t u) (sym written.bytes)
-    ∙ ((agrees format t legal).known u (value_in t b) written.fits (subst (λ (c : List ℕ). length c < 2 ^ 32) (sym written.bytes) input.short)).faultless
+    ∙ ((agrees format t legal).known u (value_in t b) written.fits
+    (subst (λ (c : List ℕ). length c < 2 ^ 32) (sym written.bytes) input.short)).faultless

@@ -6,7 +6,8 @@ ghost use Rattle.ssz_value.specs.Reading.{elements_in};
 
 use super::offsets::offset_at;
 
-/// How many elements of this size (None for variable-size ones) a list has, whose bytes have no fault.
+/// How many elements of this size (None for variable-size ones) a list has, whose bytes have no
+/// fault.
 pub fn element_count(size: Option<u64>, limit: u64, bytes: &[u8]) -> u64
     requires size { ForSome size IsSize }
     requires faultless { count_fault size limit 0 bytes.now ≡ None }
@@ -24,7 +25,8 @@ pub fn element_count(size: Option<u64>, limit: u64, bytes: &[u8]) -> u64
     }
 }
 
-/// The bytes of element i of count elements of this size (None for variable-size ones), whose head has no fault.
+/// The bytes of element i of count elements of this size (None for variable-size ones), whose head
+/// has no fault.
 pub fn element_at<'a>(size: Option<u64>, count: u64, i: u64, bytes: &'a [u8]) -> &'a [u8]
     requires head { head_fault (replicate count size) 0 bytes.now ≡ None }
     requires below { i < count }

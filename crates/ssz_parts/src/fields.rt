@@ -22,7 +22,8 @@ pub fn part_range(
     requires below { i < length fields.now }
     requires known { AllByRecursion (λ part. part.1 < length schema.now.trees) fields.now }
     requires room { place + head_size (fixed_size (type_of schema.now field))
-        + heads_length (part_sizes (fields_over schema.now.trees (drop (i + 1) fields.now))) ≤ length bytes.now }
+        + heads_length (part_sizes (fields_over schema.now.trees (drop (i + 1) fields.now)))
+        ≤ length bytes.now }
     requires short { length bytes.now < 2 ^ 32 }
     ensures { result ≡ part_range (fixed_size (type_of schema.now field))
         (part_sizes (fields_over schema.now.trees (drop (i + 1) fields.now))) place bytes.now }
@@ -39,9 +40,11 @@ pub fn part_range(
 // The first offset of these fields, whose fixed parts begin at place, or the end.
 fn next_offset(schema: &Schema, fields: &[(Name, TypeId)], place: usize, bytes: &[u8]) -> usize
     requires known { AllByRecursion (λ part. part.1 < length schema.now.trees) fields.now }
-    requires room { place + heads_length (part_sizes (fields_over schema.now.trees fields.now)) ≤ length bytes.now }
+    requires room { place + heads_length (part_sizes (fields_over schema.now.trees fields.now))
+        ≤ length bytes.now }
     requires short { length bytes.now < 2 ^ 32 }
-    ensures { result ≡ next_offset (part_sizes (fields_over schema.now.trees fields.now)) place bytes.now }
+    ensures { result ≡ next_offset (part_sizes (fields_over schema.now.trees fields.now))
+        place bytes.now }
 {
     let mut place = place;
     for field in fields {

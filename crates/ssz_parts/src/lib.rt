@@ -1,4 +1,5 @@
-//! Where the parts of an encoding lie, and the first fault of what stands before them: the number of
+//! Where the parts of an encoding lie, and the first fault of what stands before them: the number
+//! of
 //! elements, the head of elements or fields, the selector of a union (simple-serialize.md,
 //! Serialization, Deserialization).
 //!

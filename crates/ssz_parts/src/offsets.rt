@@ -4,7 +4,8 @@ ghost use Rattle.ssz_value.specs.Faults.{offset_at};
 
 use ssz_offsets::read_offset;
 
-/// What a part takes among the fixed parts: itself, or an offset of 4 bytes where it is variable-size (size None).
+/// What a part takes among the fixed parts: itself, or an offset of 4 bytes where it is
+/// variable-size (size None).
 pub fn head_len(size: Option<u64>) -> u64
     ensures { result ≡ head_size size }
 {

@@ -23,7 +23,8 @@ use Rattle.ssz_roots.proofs.ChunkLaws.{padded-le_bytes}
 -- a basic value is a number, 32 bytes or a truth value, and its encoding has the type's size
 
 -- a number
-number_of_width : (k n : ℕ) → n < 256 ^ k → (le_bytes 32 n ≡ padded (le_bytes k n)) × (length (le_bytes k n) ≡ k)
+number_of_width : (k n : ℕ) → n < 256 ^ k → (le_bytes 32 n ≡ padded (le_bytes k n))
+    × (length (le_bytes k n) ≡ k)
 number_of_width k n fits = (sym (padded-le_bytes k n fits), length-le_bytes k n)
 
 same_size : (k z n : ℕ) → Some k ≡ Some z → n ≡ k → n ≡ z
@@ -31,11 +32,16 @@ same_size k z n e is = cc
 
 pub number_basic : (t : SszType) (z n : ℕ) → basic_size t ≡ Some z → Fits t (number n)
     → (le_bytes 32 n ≡ padded (enc t (number n))) × (length (enc t (number n)) ≡ z)
-number_basic (uint W8) z n e fits = let h = number_of_width 1 n fits in (h.0, same_size 1 z (length (le_bytes 1 n)) e h.1)
-number_basic (uint W16) z n e fits = let h = number_of_width 2 n fits in (h.0, same_size 2 z (length (le_bytes 2 n)) e h.1)
-number_basic (uint W32) z n e fits = let h = number_of_width 4 n fits in (h.0, same_size 4 z (length (le_bytes 4 n)) e h.1)
-number_basic (uint W64) z n e fits = let h = number_of_width 8 n fits in (h.0, same_size 8 z (length (le_bytes 8 n)) e h.1)
-number_basic (uint W128) z n e fits = let h = number_of_width 16 n fits in (h.0, same_size 16 z (length (le_bytes 16 n)) e h.1)
+number_basic (uint W8) z n e fits = let h = number_of_width 1 n fits in
+    (h.0, same_size 1 z (length (le_bytes 1 n)) e h.1)
+number_basic (uint W16) z n e fits = let h = number_of_width 2 n fits in
+    (h.0, same_size 2 z (length (le_bytes 2 n)) e h.1)
+number_basic (uint W32) z n e fits = let h = number_of_width 4 n fits in
+    (h.0, same_size 4 z (length (le_bytes 4 n)) e h.1)
+number_basic (uint W64) z n e fits = let h = number_of_width 8 n fits in
+    (h.0, same_size 8 z (length (le_bytes 8 n)) e h.1)
+number_basic (uint W128) z n e fits = let h = number_of_width 16 n fits in
+    (h.0, same_size 16 z (length (le_bytes 16 n)) e h.1)
 number_basic (uint W256) z n e fits = absurd fits
 number_basic boolean z n e fits = absurd fits
 number_basic (container fs) z n e fits = cc
@@ -48,7 +54,10 @@ number_basic (union os) z n e fits = cc
 -- 32 bytes
 pub wide_basic : (t : SszType) (z : ℕ) (b : List ℕ) → basic_size t ≡ Some z → Fits t (wide b)
     → (b ≡ padded (enc t (wide b))) × (length (enc t (wide b)) ≡ z)
-wide_basic (uint W256) z b e fits = (sym (take_at b zero_chunk 32 fits.0), same_size 32 z (length b) e fits.0)
+wide_basic (uint W256) z b e fits = (
+  sym (take_at b zero_chunk 32 fits.0),
+  same_size 32 z (length b) e fits.0,
+)
 wide_basic (uint W8) z b e fits = absurd fits
 wide_basic (uint W16) z b e fits = absurd fits
 wide_basic (uint W32) z b e fits = absurd fits
@@ -87,7 +96,8 @@ IsOther (wide b) = ⊥
 IsOther (truth b) = ⊥
 IsOther _ = Unit {0}
 
-pub basic_only : (t : SszType) (z : ℕ) (v : SszValue) → basic_size t ≡ Some z → Fits t v → IsOther v → ⊥
+pub basic_only : (t : SszType) (z : ℕ) (v : SszValue) → basic_size t ≡ Some z → Fits t v → IsOther v
+    → ⊥
 basic_only (uint W8) z (sequence vs) e fits other = fits
 basic_only (uint W8) z (bits bs) e fits other = fits
 basic_only (uint W8) z (chosen k v) e fits other = fits
@@ -145,11 +155,16 @@ basic_only (bitlist m) z v e fits other = cc
 basic_only (union os) z v e fits other = cc
 
 -- the encodings of values of a basic type have its size
-pub encodings_sized : (t : SszType) (z : ℕ) (vs : List Value) → basic_size t ≡ Some z → AllByRecursion (Fits t) (map value_of vs) → AreSized z (encodings_of t vs)
+pub encodings_sized : (t : SszType) (z : ℕ) (vs : List Value) → basic_size t ≡ Some z
+    → AllByRecursion (Fits t) (map value_of vs) → AreSized z (encodings_of t vs)
 encodings_sized t z [] e fits = tt
-encodings_sized t z (v ∷ vs) e fits = (one t z (value_of v) e fits.0, encodings_sized t z vs e fits.1)
+encodings_sized t z (v ∷ vs) e fits = (
+  one t z (value_of v) e fits.0,
+  encodings_sized t z vs e fits.1,
+)
   where
-    one : (t : SszType) (z : ℕ) (v : SszValue) → basic_size t ≡ Some z → Fits t v → length (enc t v) ≡ z
+    one : (t : SszType) (z : ℕ) (v : SszValue) → basic_size t ≡ Some z → Fits t v → length (enc t v)
+        ≡ z
     one t z (number n) e fits = (number_basic t z n e fits).1
     one t z (wide b) e fits = (wide_basic t z b e fits).1
     one t z (truth b) e fits = (flag_basic t z b e fits).1
@@ -163,13 +178,22 @@ pub record IsEncodedAt (t : SszType) (vs : List Value) (from k : ℕ) (v : Value
   pub fits : Fits t (value_of v)
   pub is : get_or (drop from (encodings_of t vs)) k [] ≡ enc t (value_of v)
 
-pub encoding_at : (t : SszType) (vs : List Value) (from k : ℕ) (v : Value) → k < length (drop from vs) → v ≡ get_or (drop from vs) k v → AllByRecursion (Fits t) (map value_of vs)
+pub encoding_at : (t : SszType) (vs : List Value) (from k : ℕ) (v : Value) → k
+    < length (drop from vs) → v ≡ get_or (drop from vs) k v
+    → AllByRecursion (Fits t) (map value_of vs)
     → IsEncodedAt t vs from k v
 encoding_at t vs zero k v within is fits = at vs k within is fits
   where
-    at : (vs : List Value) (k : ℕ) → k < length vs → v ≡ get_or vs k v → AllByRecursion (Fits t) (map value_of vs) → IsEncodedAt t vs 0 k v
+    at : (vs : List Value) (k : ℕ) → k < length vs → v ≡ get_or vs k v
+        → AllByRecursion (Fits t) (map value_of vs) → IsEncodedAt t vs 0 k v
     at [] k within is fits = absurd (omega arith)
-    at (w ∷ vs) zero within is fits = record { fits = subst (λ (x : Value). Fits t (value_of x)) (sym is) fits.0; is = ap (λ (x : Value). enc t (value_of x)) (sym is) }
-    at (w ∷ vs) (suc k) within is fits = let h = at vs k (omega arith) is fits.1 in record { fits = h.fits; is = h.is }
+    at (w ∷ vs) zero within is fits = record {
+      fits =
+          subst (λ (x : Value). Fits t (value_of x)) (sym is) fits.0;
+      is = ap (λ (x : Value). enc t (value_of x)) (sym is);
+    }
+    at (w ∷ vs) (suc k) within is fits = let h = at vs k (omega arith) is fits.1 in
+        record { fits = h.fits; is = h.is }
 encoding_at t [] (suc from) k v within is fits = absurd (omega arith)
-encoding_at t (w ∷ vs) (suc from) k v within is fits = let h = encoding_at t vs from k v within is fits.1 in record { fits = h.fits; is = h.is }
+encoding_at t (w ∷ vs) (suc from) k v within is fits = let h =
+    encoding_at t vs from k v within is fits.1 in record { fits = h.fits; is = h.is }

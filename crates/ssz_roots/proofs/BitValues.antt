@@ -29,17 +29,22 @@ behind (suc k) (b ∷ bs) =
 
 pub bits_fit : (bs : List Bool) → number_of_bits bs < 256 ^ ((length bs + 7) / 8)
 bits_fit bs =
-    let up : 2 ^ length bs ≤ 2 ^ (8 * ((length bs + 7) / 8)) = power_up (length bs) (8 * ((length bs + 7) / 8)) (omega arith) in
+    let up : 2 ^ length bs ≤ 2 ^ (8 * ((length bs + 7) / 8)) =
+    power_up (length bs) (8 * ((length bs + 7) / 8)) (omega arith) in
     omega (arith, number_of_bits_lt bs, up, power_of_bytes ((length bs + 7) / 8))
 
 -- chunk i of the bytes of the bits is that of the bits behind the first 256 * i
-pub bits_chunk_is : (bs : List Bool) (i : ℕ) → 256 * i < length bs → le_bytes 32 (number_of_bits (drop (256 * i) bs)) ≡ chunk_of (bytes_of_bits bs) i
+pub bits_chunk_is : (bs : List Bool) (i : ℕ) → 256 * i < length bs
+    → le_bytes 32 (number_of_bits (drop (256 * i) bs)) ≡ chunk_of (bytes_of_bits bs) i
 bits_chunk_is bs i within =
-    let power : 256 ^ (32 * i) ≡ 2 ^ (256 * i) = power_of_bytes (32 * i) ∙ ap (λ k. 2 ^ k) (let k : 8 * (32 * i) ≡ 256 * i = omega arith in k) in
+    let power : 256 ^ (32 * i) ≡ 2 ^ (256 * i) = power_of_bytes (32 * i)
+    ∙ ap (λ k. 2 ^ k) (let k : 8 * (32 * i) ≡ 256 * i = omega arith in k) in
     sym (chunk_of-le_bytes ((length bs + 7) / 8) (number_of_bits bs) i (bits_fit bs) (omega arith)
     ∙ ap (λ p. le_bytes 32 (number_of_bits bs / p)) power ∙ ap (le_bytes 32) (behind (256 * i) bs))
 
 -- all chunks of them
-pub pack_bits-chunks : (bs : List Bool) (count : ℕ) → count ≡ (length bs + 255) / 256 → chunks count (bytes_of_bits bs) ≡ pack_bits bs
+pub pack_bits-chunks : (bs : List Bool) (count : ℕ) → count ≡ (length bs + 255) / 256
+    → chunks count (bytes_of_bits bs) ≡ pack_bits bs
 pack_bits-chunks bs count is =
-    ap (λ k. chunks k (bytes_of_bits bs)) (omega (arith, is, length-le_bytes ((length bs + 7) / 8) (number_of_bits bs)))
+    ap (λ k. chunks k (bytes_of_bits bs)) (omega
+    (arith, is, length-le_bytes ((length bs + 7) / 8) (number_of_bits bs)))

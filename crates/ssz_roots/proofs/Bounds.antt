@@ -42,8 +42,17 @@ same_some : (a b : ℕ) → Some a ≡ Some b → a ≡ b
 same_some a b e = cc
 
 pub IsBasic-basic : (t : SszType) (z : ℕ) → basic_size t ≡ Some z → IsBasic t z
-IsBasic-basic (uint w) z e = record { few = omega (arith, byte_count-few w, same_some (byte_count w) z e); fixed = e; no_pairs = λ v. refl }
-IsBasic-basic boolean z e = record { few = omega (arith, same_some 1 z e); fixed = e; no_pairs = λ v. refl }
+IsBasic-basic (uint w) z e = record {
+  few = omega
+      (arith, byte_count-few w, same_some (byte_count w) z e);
+  fixed = e;
+  no_pairs = λ v. refl;
+}
+IsBasic-basic boolean z e = record {
+  few = omega (arith, same_some 1 z e);
+  fixed = e;
+  no_pairs = λ v. refl;
+}
 IsBasic-basic (container fs) z e = cc
 IsBasic-basic (vector t n) z e = cc
 IsBasic-basic (list t n) z e = cc
@@ -51,10 +60,12 @@ IsBasic-basic (bitvector n) z e = cc
 IsBasic-basic (bitlist n) z e = cc
 IsBasic-basic (union os) z e = cc
 
-pub no_pairs_in : (t : SszType) (z : ℕ) → IsBasic t z → (vs : List SszValue) → sum_by (pairs t) vs ≡ 0
+pub no_pairs_in : (t : SszType) (z : ℕ) → IsBasic t z → (vs : List SszValue) → sum_by (pairs t) vs
+    ≡ 0
 no_pairs_in t z basic [] = refl
 no_pairs_in t z basic (v ∷ vs) =
-    let step : sum_by (pairs t) (v ∷ vs) ≡ sum_by (pairs t) (v ∷ []) + sum_by (pairs t) vs = sum_by-append (pairs t) (v ∷ []) vs in
+    let step : sum_by (pairs t) (v ∷ vs) ≡ sum_by (pairs t) (v ∷ []) + sum_by (pairs t) vs =
+    sum_by-append (pairs t) (v ∷ []) vs in
     let one : sum_by (pairs t) (v ∷ []) ≡ pairs t v = zero-add (pairs t v) in
     omega (arith, step, one, basic.no_pairs v, no_pairs_in t z basic vs)
 
@@ -65,38 +76,56 @@ packed_few z n m small few = let h : z * n ≤ z * m = mul-le-mul_left z few in 
 packed_below : (z n : ℕ) → z ≤ 32 → (n * z + 31) / 32 ≤ n
 packed_below z n small = let h : n * z ≤ n * 32 = mul-le-mul_left n small in omega arith
 
-chunks_by : (t : SszType) (size : Option ℕ) (n m : ℕ) → basic_size t ≡ size → n ≤ m → (element_chunks size n ≤ element_chunks size m) × (element_chunks size n ≤ n)
+chunks_by : (t : SszType) (size : Option ℕ) (n m : ℕ) → basic_size t ≡ size → n ≤ m
+    → (element_chunks size n ≤ element_chunks size m) × (element_chunks size n ≤ n)
 chunks_by t None n m e few = (few, omega arith)
-chunks_by t (Some z) n m e few = let basic = IsBasic-basic t z e in (packed_few z n m basic.few few, packed_below z n basic.few)
+chunks_by t (Some z) n m e few = let basic = IsBasic-basic t z e in
+    (packed_few z n m basic.few few, packed_below z n basic.few)
 
 -- the full tree of a type has room for its chunks
 pub record HasRoom (count depth : ℕ) : Type 0 where
   pub few : count ≤ 2 ^ depth
   pub shallow : depth ≤ 126
 
-pub vector_room : (format : Format) (elem : SszType) (n : ℕ) → IsLegal format (vector elem n) → HasRoom (element_chunks (basic_size elem) n) (depth (vector elem n))
+pub vector_room : (format : Format) (elem : SszType) (n : ℕ) → IsLegal format (vector elem n)
+    → HasRoom (element_chunks (basic_size elem) n) (depth (vector elem n))
 vector_room format elem n legal =
     let few : n ≤ 2 ^ 24 = vector_few format elem n legal in
     let some = chunks_by elem (basic_size elem) n n refl (omega arith) in
-    record { few = depth_of-holds (element_chunks (basic_size elem) n); shallow = omega (arith, legal.2.levels, levels_few format) }
+    record {
+      few = depth_of-holds (element_chunks (basic_size elem) n);
+      shallow = omega (arith, legal.2.levels, levels_few format);
+    }
 
-pub list_room : (format : Format) (elem : SszType) (limit count : ℕ) → IsLegal format (list elem limit) → count ≤ limit → HasRoom (element_chunks (basic_size elem) count) (depth (list elem limit))
+pub list_room : (format : Format) (elem : SszType) (limit count : ℕ)
+    → IsLegal format (list elem limit) → count ≤ limit
+    → HasRoom (element_chunks (basic_size elem) count) (depth (list elem limit))
 list_room format elem limit count legal within =
     let all = chunks_by elem (basic_size elem) limit limit refl (omega arith) in
     let some = chunks_by elem (basic_size elem) count limit refl within in
-    let covers : element_chunks (basic_size elem) limit ≤ 2 ^ depth (list elem limit) = depth_of-holds (element_chunks (basic_size elem) limit) in
-    record { few = omega (arith, some.0, covers); shallow = omega (arith, legal.2.levels, levels_few format) }
+    let covers : element_chunks (basic_size elem) limit
+    ≤ 2 ^ depth (list elem limit) = depth_of-holds (element_chunks (basic_size elem) limit) in
+    record {
+      few = omega (arith, some.0, covers);
+      shallow = omega (arith, legal.2.levels, levels_few format);
+    }
 
-pub bitvector_room : (format : Format) (n len : ℕ) → IsLegal format (bitvector n) → len ≡ (n + 7) / 8 → HasRoom ((len + 31) / 32) (depth (bitvector n))
+pub bitvector_room : (format : Format) (n len : ℕ) → IsLegal format (bitvector n) → len
+    ≡ (n + 7) / 8 → HasRoom ((len + 31) / 32) (depth (bitvector n))
 bitvector_room format n len legal e =
     let few : (n + 7) / 8 ≤ 2 ^ 24 = legal.1.default_length in
     let same : (len + 31) / 32 ≡ (n + 255) / 256 = omega arith in
     let covers : (n + 255) / 256 ≤ 2 ^ depth (bitvector n) = depth_of-holds ((n + 255) / 256) in
-    record { few = omega (arith, covers, same); shallow = omega (arith, legal.1.levels, levels_few format) }
+    record {
+      few = omega (arith, covers, same);
+      shallow =
+          omega (arith, legal.1.levels, levels_few format);
+    }
 
 -- a chunk holds a whole number of values of a basic type
 pub basic_divides : (t : SszType) (z : ℕ) → basic_size t ≡ Some z → z * (32 / z) ≡ 32
-basic_divides (uint w) z e = subst (λ n. n * (32 / n) ≡ 32) (same_some (byte_count w) z e) (width_divides w)
+basic_divides (uint w) z e = subst (λ n. n * (32 / n) ≡ 32) (same_some (byte_count w) z e)
+    (width_divides w)
   where
     width_divides : (w : Width) → byte_count w * (32 / byte_count w) ≡ 32
     width_divides W8 = refl

@@ -3,7 +3,8 @@ use Rattle.std.proofs.Common.{◌≡◌, ℕ, zero, suc, ◌+◌, ◌/◌, ◌%�
 use Rattle.ssz_schema.specs.Bytes.{le_bytes}
 
 -- the bytes of a small number are zeros at the end
-pub le_bytes-zeros : (count more n : ℕ) → n < 256 ^ count → le_bytes (count + more) n ≡ le_bytes count n ++ replicate more 0
+pub le_bytes-zeros : (count more n : ℕ) → n < 256 ^ count → le_bytes (count + more) n
+    ≡ le_bytes count n ++ replicate more 0
 le_bytes-zeros zero more n small = none more n (omega arith)
   where
     none : (more n : ℕ) → n ≡ 0 → le_bytes (zero + more) n ≡ replicate more 0

@@ -4,4 +4,5 @@ use Rattle.ssz_schema.specs.Faults.{last_byte, highest_bit}
 
 -- the highest 1 bit of the last byte is 0
 abbrev pub undelimited : List ℕ → List ℕ
-undelimited bytes = slice_set bytes (length bytes - 1) (last_byte bytes - 2 ^ highest_bit (last_byte bytes))
+undelimited bytes = slice_set bytes (length bytes - 1)
+    (last_byte bytes - 2 ^ highest_bit (last_byte bytes))

@@ -27,7 +27,8 @@ field_values fs b = fields_in fs (bytes_of (scopes (part_sizes fs) 0 b))
 -- the root of what a union holds: of the value of the option of this number, or of None
 abbrev pub chosen_root : (List ℕ → List ℕ → List ℕ) → List SszType → Option ℕ → List ℕ → List ℕ
 chosen_root pair_of trees None b = zero_chunk
-chosen_root pair_of trees (Some id) b = root pair_of (tree (tree_at trees id) (value_in (tree_at trees id) b))
+chosen_root pair_of trees (Some id) b = root pair_of
+    (tree (tree_at trees id) (value_in (tree_at trees id) b))
 
 abbrev pub chosen_pairs : List SszType → Option ℕ → List ℕ → ℕ
 chosen_pairs trees None b = 0

@@ -42,9 +42,12 @@ pub fn packed_values_root<H: PairHash>(
     requires size { size * (32 / size) ≡ 32 }
     requires depth { depth ≤ LEVELS }
     requires few { (length parts.now * size + 31) / 32 ≤ 2 ^ depth }
-    ensures root { (t : SszType) → basic_size t ≡ Some size → AllByRecursion (Fits t) (map value_of parts.now)
-        → result.0 ≡ root H.pair_of (full depth (leaves (pack (concat (encodings_of t parts.now))))) }
-    ensures counts { CountsUp (grow depth ((length parts.now * size + 31) / 32)) (H.pairs hasher.old) (H.pairs hasher.new) }
+    ensures root { (t : SszType) → basic_size t ≡ Some size
+        → AllByRecursion (Fits t) (map value_of parts.now)
+        → result.0 ≡ root H.pair_of
+        (full depth (leaves (pack (concat (encodings_of t parts.now))))) }
+    ensures counts { CountsUp (grow depth ((length parts.now * size + 31) / 32))
+        (H.pairs hasher.old) (H.pairs hasher.new) }
 {
     let per = 32 / size;
     let count = (parts.len() + (per - 1)) / per;
@@ -59,7 +62,8 @@ pub fn packed_values_root<H: PairHash>(
 fn values_chunk(size: usize, i: usize, parts: &[Value]) -> Chunk
     requires size { size * (32 / size) ≡ 32 }
     requires within { 32 * i < length parts.now * size }
-    ensures { (t : SszType) → basic_size t ≡ Some size → AllByRecursion (Fits t) (map value_of parts.now)
+    ensures { (t : SszType) → basic_size t ≡ Some size
+        → AllByRecursion (Fits t) (map value_of parts.now)
         → result.0 ≡ chunk_of (concat (encodings_of t parts.now)) i }
 {
     let rest = &parts[32 / size * i..];

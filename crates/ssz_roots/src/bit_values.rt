@@ -19,7 +19,8 @@ pub fn bit_values_root<H: PairHash>(
     requires depth { depth ≤ LEVELS }
     requires few { (length bits.now + 255) / 256 ≤ 2 ^ depth }
     ensures root { result.0 ≡ root H.pair_of (full depth (leaves (pack_bits bits.now))) }
-    ensures counts { CountsUp (grow depth ((length bits.now + 255) / 256)) (H.pairs hasher.old) (H.pairs hasher.new) }
+    ensures counts { CountsUp (grow depth ((length bits.now + 255) / 256)) (H.pairs hasher.old)
+        (H.pairs hasher.new) }
 {
     let count = (bits.len() + 255) / 256;
     let mut chunks = Accumulator::new(zeros, depth);

@@ -34,8 +34,10 @@ pub fn bits_root<H: PairHash>(
     requires short { length bytes.now < 2 ^ 32 }
     requires len { len < 2 ^ 63 }
     requires few { (len + 255) / 256 ≤ 2 ^ depth }
-    ensures root { result.0 ≡ root H.pair_of (full depth (leaves (chunks ((len + 255) / 256) (undelimited bytes.now)))) }
-    ensures counts { CountsUp (grow depth ((len + 255) / 256)) (H.pairs hasher.old) (H.pairs hasher.new) }
+    ensures root { result.0 ≡ root H.pair_of (full depth
+        (leaves (chunks ((len + 255) / 256) (undelimited bytes.now)))) }
+    ensures counts { CountsUp (grow depth ((len + 255) / 256)) (H.pairs hasher.old)
+        (H.pairs hasher.new) }
 {
     let count = (len + 255) / 256;
     let mut chunks = Accumulator::new(zeros, depth);

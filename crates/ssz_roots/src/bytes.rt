@@ -32,8 +32,10 @@ pub fn root_of_bytes<H: PairHash>(
     requires known { id < length schema.now.trees }
     requires short { length bytes.now < 2 ^ 32 }
     requires faultless { why (type_of schema.now id) 0 bytes.now ≡ None }
-    ensures root { result.0 ≡ hash_tree_root H.pair_of (type_of schema.now id) (value_in (type_of schema.now id) bytes.now) }
-    ensures counts { CountsUp (pairs (type_of schema.now id) (value_in (type_of schema.now id) bytes.now))
+    ensures root { result.0 ≡ hash_tree_root H.pair_of (type_of schema.now id)
+        (value_in (type_of schema.now id) bytes.now) }
+    ensures counts { CountsUp (pairs (type_of schema.now id)
+        (value_in (type_of schema.now id) bytes.now))
         (H.pairs hasher.old) (H.pairs hasher.new) }
 {
     match schema.ty(id) {
@@ -100,11 +102,14 @@ fn elements_root<H: PairHash>(
     requires depth { depth ≤ 126 }
     requires few { element_chunks (basic_size (type_of schema.now elem)) count ≤ 2 ^ depth }
     requires short { length bytes.now < 2 ^ 32 }
-    requires faultless { elements_fault (why (type_of schema.now elem)) (fixed_size (type_of schema.now elem)) count 0 bytes.now ≡ None }
+    requires faultless { elements_fault (why (type_of schema.now elem))
+        (fixed_size (type_of schema.now elem)) count 0 bytes.now ≡ None }
     ensures root { result.0 ≡ root H.pair_of (full depth (element_trees (type_of schema.now elem)
         (element_values (type_of schema.now elem) count bytes.now))) }
-    ensures counts { CountsUp (grow depth (element_chunks (basic_size (type_of schema.now elem)) count)
-        + sum_by (pairs (type_of schema.now elem)) (element_values (type_of schema.now elem) count bytes.now))
+    ensures counts { CountsUp (grow depth (element_chunks (basic_size (type_of schema.now elem))
+        count)
+        + sum_by (pairs (type_of schema.now elem))
+        (element_values (type_of schema.now elem) count bytes.now))
         (H.pairs hasher.old) (H.pairs hasher.new) }
 {
     match basic_size(schema, elem) {
@@ -129,11 +134,13 @@ fn parts_root<H: PairHash>(
     requires depth { depth ≤ 126 }
     requires few { count ≤ 2 ^ depth }
     requires short { length bytes.now < 2 ^ 32 }
-    requires faultless { elements_fault (why (type_of schema.now elem)) (fixed_size (type_of schema.now elem)) count 0 bytes.now ≡ None }
+    requires faultless { elements_fault (why (type_of schema.now elem))
+        (fixed_size (type_of schema.now elem)) count 0 bytes.now ≡ None }
     ensures root { result.0 ≡ root H.pair_of (full depth (map (tree (type_of schema.now elem))
         (element_values (type_of schema.now elem) count bytes.now))) }
     ensures counts { CountsUp (grow depth count
-        + sum_by (pairs (type_of schema.now elem)) (element_values (type_of schema.now elem) count bytes.now))
+        + sum_by (pairs (type_of schema.now elem))
+        (element_values (type_of schema.now elem) count bytes.now))
         (H.pairs hasher.old) (H.pairs hasher.new) }
 {
     let size = schema.fixed_size(elem);
@@ -163,11 +170,13 @@ fn container_root<H: PairHash>(
     requires depth { depth ≤ 126 }
     requires few { length fields.now ≤ 2 ^ depth }
     requires short { length bytes.now < 2 ^ 32 }
-    requires faultless { why (container (fields_over schema.now.trees fields.now)) 0 bytes.now ≡ None }
+    requires faultless { why (container (fields_over schema.now.trees fields.now)) 0 bytes.now
+        ≡ None }
     ensures root { let fs = fields_over schema.now.trees fields.now in
         result.0 ≡ root H.pair_of (full depth (field_trees fs (field_values fs bytes.now))) }
     ensures counts { let fs = fields_over schema.now.trees fields.now in
-        CountsUp (grow depth (length fields.now) + field_pairs fs (field_values fs bytes.now)) (H.pairs hasher.old) (H.pairs hasher.new) }
+        CountsUp (grow depth (length fields.now) + field_pairs fs (field_values fs bytes.now))
+        (H.pairs hasher.old) (H.pairs hasher.new) }
 {
     let mut roots = Accumulator::new(zeros, depth);
     let mut place = 0usize;
@@ -195,7 +204,8 @@ fn union_root<H: PairHash>(
     requires before { AllByRecursion (IsBelow id) options.now }
     requires legal { AreLegalOptions schema.now.format (options_over schema.now.trees options.now) }
     requires short { length bytes.now < 2 ^ 32 }
-    requires faultless { why (union (options_over schema.now.trees options.now)) 0 bytes.now ≡ None }
+    requires faultless { why (union (options_over schema.now.trees options.now)) 0 bytes.now
+        ≡ None }
     ensures root { let t = union (options_over schema.now.trees options.now) in
         result.0 ≡ root H.pair_of (tree t (value_in t bytes.now)) }
     ensures counts { let t = union (options_over schema.now.trees options.now) in
@@ -222,7 +232,8 @@ fn option_root<H: PairHash>(
     requires short { length bytes.now < 2 ^ 32 }
     requires faultless { IfSome option (λ some. why (type_of schema.now some) 0 bytes.now ≡ None) }
     ensures root { result.0 ≡ chosen_root H.pair_of schema.now.trees option bytes.now }
-    ensures counts { CountsUp (chosen_pairs schema.now.trees option bytes.now) (H.pairs hasher.old) (H.pairs hasher.new) }
+    ensures counts { CountsUp (chosen_pairs schema.now.trees option bytes.now) (H.pairs hasher.old)
+        (H.pairs hasher.new) }
 {
     match option {
         Some(option) => root_of_bytes(schema, option, bytes, zeros, hasher),

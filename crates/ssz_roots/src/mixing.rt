@@ -5,7 +5,8 @@ use ssz_basic::put_uint;
 use ssz_chunk::Chunk;
 use ssz_schema::Width;
 
-/// The number as a chunk, least significant byte first (simple-serialize.md, Merkleization: mix_in_length, mix_in_selector).
+/// The number as a chunk, least significant byte first (simple-serialize.md, Merkleization:
+/// mix_in_length, mix_in_selector).
 pub fn number_chunk(number: u128) -> Chunk
     ensures { result.0 ≡ number_chunk number }
 {

@@ -20,7 +20,8 @@ pub fn packed_root<H: PairHash>(
     requires depth { depth ≤ 126 }
     requires few { (length bytes.now + 31) / 32 ≤ 2 ^ depth }
     ensures root { result.0 ≡ root H.pair_of (full depth (leaves (pack bytes.now))) }
-    ensures counts { CountsUp (grow depth ((length bytes.now + 31) / 32)) (H.pairs hasher.old) (H.pairs hasher.new) }
+    ensures counts { CountsUp (grow depth ((length bytes.now + 31) / 32)) (H.pairs hasher.old)
+        (H.pairs hasher.new) }
 {
     if depth == 0 {
         return chunk_at(bytes, 0);

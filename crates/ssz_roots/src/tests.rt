@@ -60,7 +60,8 @@ fn optional(alloc: Global, some: TypeExpr) -> Result<TypeExpr, AllocError> {
     Ok(TypeExpr::Union(options))
 }
 
-// The root of the value that the bytes encode, where they have no fault, and where it is the same by both ways.
+// The root of the value that the bytes encode, where they have no fault, and where it is the same
+// by both ways.
 fn root_of<H: PairHash>(alloc: Global, ty: &TypeExpr, bytes: &[u8], hasher: &mut H) -> Option<Chunk>
     requires { length bytes.now < 2 ^ 32 }
 {

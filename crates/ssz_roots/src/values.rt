@@ -21,7 +21,8 @@ use ssz_merkle::Accumulator;
 use ssz_schema::{Name, Schema, Ty, TypeId};
 use ssz_value::{Value, bits_of, option_at, part_count};
 
-/// The root of a value of the type (hash_tree_root). The hasher counts exactly the pairs of the value.
+/// The root of a value of the type (hash_tree_root). The hasher counts exactly the pairs of the
+/// value.
 #[cycle(value)]
 pub fn root_of_value<H: PairHash>(
     schema: &Schema,
@@ -32,8 +33,10 @@ pub fn root_of_value<H: PairHash>(
 ) -> Chunk
     requires known { id < length schema.now.trees }
     requires value { IsValue (type_of schema.now id) value.now }
-    ensures root { result.0 ≡ hash_tree_root H.pair_of (type_of schema.now id) (value_of value.now) }
-    ensures counts { CountsUp (pairs (type_of schema.now id) (value_of value.now)) (H.pairs hasher.old) (H.pairs hasher.new) }
+    ensures root { result.0
+        ≡ hash_tree_root H.pair_of (type_of schema.now id) (value_of value.now) }
+    ensures counts { CountsUp (pairs (type_of schema.now id) (value_of value.now))
+        (H.pairs hasher.old) (H.pairs hasher.new) }
 {
     match schema.ty(id) {
         Ty::Uint(_) => basic_chunk(value),
@@ -81,10 +84,14 @@ fn sequence_root<H: PairHash>(
     requires known { elem < length schema.now.trees }
     requires value { IsSequence (type_of schema.now elem) value.now }
     requires depth { depth ≤ LEVELS }
-    requires few { element_chunks (basic_size (type_of schema.now elem)) (part_count_of (value_of value.now)) ≤ 2 ^ depth }
-    ensures root { result.0 ≡ root H.pair_of (full depth (element_trees (type_of schema.now elem) (parts_of (value_of value.now)))) }
-    ensures counts { CountsUp (grow depth (element_chunks (basic_size (type_of schema.now elem)) (part_count_of (value_of value.now)))
-        + sum_by (pairs (type_of schema.now elem)) (parts_of (value_of value.now))) (H.pairs hasher.old) (H.pairs hasher.new) }
+    requires few { element_chunks (basic_size (type_of schema.now elem))
+        (part_count_of (value_of value.now)) ≤ 2 ^ depth }
+    ensures root { result.0 ≡ root H.pair_of (full depth
+        (element_trees (type_of schema.now elem) (parts_of (value_of value.now)))) }
+    ensures counts { CountsUp (grow depth (element_chunks (basic_size (type_of schema.now elem))
+        (part_count_of (value_of value.now)))
+        + sum_by (pairs (type_of schema.now elem)) (parts_of (value_of value.now)))
+        (H.pairs hasher.old) (H.pairs hasher.new) }
 {
     match value {
         Value::Bytes(run) => packed_root(depth, run.as_slice(), zeros, hasher),
@@ -110,8 +117,10 @@ fn values_root<H: PairHash>(
     requires depth { depth ≤ LEVELS }
     requires few { length parts.now ≤ 2 ^ depth }
     requires values { AllByRecursion (IsValue (type_of schema.now elem)) parts.now }
-    ensures root { result.0 ≡ root H.pair_of (full depth (map (tree (type_of schema.now elem)) (map value_of parts.now))) }
-    ensures counts { CountsUp (grow depth (length parts.now) + sum_by (pairs (type_of schema.now elem)) (map value_of parts.now))
+    ensures root { result.0 ≡ root H.pair_of (full depth
+        (map (tree (type_of schema.now elem)) (map value_of parts.now))) }
+    ensures counts { CountsUp (grow depth (length parts.now) + sum_by
+        (pairs (type_of schema.now elem)) (map value_of parts.now))
         (H.pairs hasher.old) (H.pairs hasher.new) }
 {
     let mut roots = Accumulator::new(zeros, depth);
@@ -141,7 +150,8 @@ fn container_value_root<H: PairHash>(
     ensures root { let fs = fields_over schema.now.trees fields.now in
         result.0 ≡ root H.pair_of (full depth (field_trees fs (parts_of (value_of value.now)))) }
     ensures counts { let fs = fields_over schema.now.trees fields.now in
-        CountsUp (grow depth (length fields.now) + field_pairs fs (parts_of (value_of value.now))) (H.pairs hasher.old) (H.pairs hasher.new) }
+        CountsUp (grow depth (length fields.now) + field_pairs fs (parts_of (value_of value.now)))
+        (H.pairs hasher.old) (H.pairs hasher.new) }
 {
     match value {
         Value::Seq(parts) => {
@@ -170,7 +180,8 @@ fn fields_root<H: PairHash>(
     ensures root { let fs = fields_over schema.now.trees fields.now in
         result.0 ≡ root H.pair_of (full depth (field_trees fs (map value_of parts.now))) }
     ensures counts { let fs = fields_over schema.now.trees fields.now in
-        CountsUp (grow depth (length fields.now) + field_pairs fs (map value_of parts.now)) (H.pairs hasher.old) (H.pairs hasher.new) }
+        CountsUp (grow depth (length fields.now) + field_pairs fs (map value_of parts.now))
+        (H.pairs hasher.old) (H.pairs hasher.new) }
 {
     let mut roots = Accumulator::new(zeros, depth);
     for (i, field) in fields.iter().enumerate() {

@@ -1,4 +1,5 @@
--- What a schema file and a value file give, by their length, and the types of a schema by their names.
+-- What a schema file and a value file give, by their length, and the types of a schema by their
+-- names.
 use Rattle.std.proofs.Common.{◌≡◌, ℕ, ◌<◌, ◌≤◌, ◌^◌, List, length, refl}
 use Rattle.std.proofs.lemmas.Bool.{lt-ltb, le-ltb}
 use Rattle.ssz_outside.specs.Content.{Content}
@@ -37,4 +38,5 @@ task_of_bytes-too_long t most held long = rw (lt-ltb most (length held) long) re
 pub task_of_reading-accepted : (held : Content) (args : RootArgs) (meant : Reading)
     (schema : Types) (names : NamedTypes) → meant ≡ accepted names → HasTypes schema names
     → task_of_reading held args meant ≡ task_of_type held args (known_in schema args.type_name)
-task_of_reading-accepted held args meant schema names is has = rw (is, has.types args.type_name) refl
+task_of_reading-accepted held args meant schema names is has =
+    rw (is, has.types args.type_name) refl

@@ -48,7 +48,8 @@ task_view (task.Verify root proof) = job.verifies root.0 proof
 
 -- two tasks that print the same line, whatever hasher there is, and may hash as many pairs
 pub record DoesSame (meant made : job.Task) : Type 0 where
-  pub lines : (pair_of : List ℕ → List ℕ → List ℕ) → job.line_of pair_of meant ≡ job.line_of pair_of made
+  pub lines : (pair_of : List ℕ → List ℕ → List ℕ) → job.line_of pair_of meant
+      ≡ job.line_of pair_of made
   pub pairs : job.pairs_of_task meant ≡ job.pairs_of_task made
 
 -- the bytes of a value are few enough, of a type of the schema, and have no fault
@@ -60,5 +61,6 @@ pub record IsFaultless (trees : ℕ) (id : ℕ) (fault : Option Fault) (count : 
 abbrev pub IsReady : Task → Type 0
 IsReady (task.Says line) = ⊤
 IsReady (task.Root schema id bytes) =
-    IsFaultless (length schema.trees) id (why (type_of schema id) 0 bytes.items) (length bytes.items)
+    IsFaultless (length schema.trees) id (why (type_of schema id) 0 bytes.items)
+    (length bytes.items)
 IsReady (task.Verify root proof) = ⊤

@@ -104,7 +104,8 @@ pub fn run<F: Files, S: Sink, H: PairHash>(
     hasher: &mut H,
 ) -> Status
     // Where the files tell what they hold, no fault is counted and memory is not wanting, the job
-    // of the words is done: its text is printed, the files are those after it, its status is answered.
+    // of the words is done: its text is printed, the files are those after it, its status is
+    // answered.
     ensures main_theorem { ForSome (F.content files.old) (λ held.
         ¬ Rose (F.get_faults files.old) (F.get_faults files.new)
         → ¬ Rose (F.put_faults files.old) (F.put_faults files.new)

@@ -16,7 +16,8 @@ loop-i-preserved c =
           (sym (values_push _ _ c.narrow_in.result c.in_ok-push.ensures.items))
           (ReadFrom-fixed (uint c.args.width) size c.args.count c.args.bytes.now c.loop-i.i _ _
           c.loop-i.invariant.read c.loop-i-test.true c.narrow_in.ensures.value);
-      formed = subst (AllByRecursion (IsFormed (uint c.args.width))) (sym c.in_ok-push.ensures.items)
+      formed = subst (AllByRecursion (IsFormed (uint c.args.width)))
+          (sym c.in_ok-push.ensures.items)
           (formed_push (uint c.args.width) c.loop-i.parts.items c.narrow_in.result
           c.loop-i.invariant.formed c.narrow_in.ensures.formed);
     }

@@ -148,7 +148,8 @@ container-loop-i-init t c = record {
 }
 
 pub
-    container-part_range-from-requires-clause-known : goal.container-part_range-from-requires-clause-known
+    container-part_range-from-requires-clause-known :
+    goal.container-part_range-from-requires-clause-known
 container-part_range-from-requires-clause-known t c =
     known_weaker c.args.id (length c.args.schema.now.trees) c.args.fields.now c.requires.known
     c.requires.before

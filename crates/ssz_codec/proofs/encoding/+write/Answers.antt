@@ -193,7 +193,8 @@ write_elements-returns t c =
     (omega (arith, c.put_elements.auto.front, c.split_at_mut-front.ensures.front_len)))
 
 pub
-    write_fields-heads_len-heads-requires-clause-short : goal.write_fields-heads_len-heads-requires-clause-short
+    write_fields-heads_len-heads-requires-clause-short :
+    goal.write_fields-heads_len-heads-requires-clause-short
 write_fields-heads_len-heads-requires-clause-short t c =
     let size = fields_length c.args.schema.now.format
     (fields_over c.args.schema.now.trees c.args.fields.now) c.args.parts.now c.requires.legal.1

@@ -136,7 +136,8 @@ pub part_len-returns-in-Some : goal.part_len-returns-in-Some
 part_len-returns-in-Some t c =
     let fixed : fixed_size (type_of c.args.schema.now c.args.id) ≡ Some c.in-Some.size =
     sym c.fixed_size.ensures.exact ∙ c.in-Some.is in
-    let part = fixed_part c.args.schema.now.format (type_of c.args.schema.now c.args.id) c.in-Some.size
+    let part = fixed_part c.args.schema.now.format (type_of c.args.schema.now c.args.id)
+    c.in-Some.size
     (value_of c.args.part.now) c.ty-legal.ensures.legal fixed c.requires.value.fits in
     let small = c.fixed_size.ensures.in_range c.in-Some.size c.in-Some.is in
     omega (arith, part, small.few)
@@ -145,6 +146,7 @@ pub elements_len-returns-in-Some : goal.elements_len-returns-in-Some
 elements_len-returns-in-Some t c =
     let fixed : fixed_size (type_of c.args.schema.now c.args.elem) ≡ Some c.in-Some.size =
     sym c.fixed_size.ensures.exact ∙ c.in-Some.is in
-    let sum = fixed_sum c.args.schema.now.format (type_of c.args.schema.now c.args.elem) c.in-Some.size
+    let sum = fixed_sum c.args.schema.now.format (type_of c.args.schema.now c.args.elem)
+    c.in-Some.size
     c.args.parts.now c.ty-legal.ensures.legal fixed c.requires.parts in
     c.saturating_mul.ensures ∙ sym (ap capped sum)

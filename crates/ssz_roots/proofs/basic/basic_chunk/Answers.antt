@@ -11,4 +11,5 @@ use Rattle.ssz_roots.proofs.basic.basic_chunk.Goals as goal
 pub returns-in-Wide : goal.returns-in-Wide
 returns-in-Wide c = λ t size e fits.
     let is = ap value_of c.in-Wide.is ∙ wide_is c.in-Wide.chunk in
-    (wide_basic t size c.in-Wide.chunk.0 e (subst (Fits t) is fits)).0 ∙ ap (λ (v : SszValue). padded (enc t v)) (sym is)
+    (wide_basic t size c.in-Wide.chunk.0 e (subst (Fits t) is fits)).0
+    ∙ ap (λ (v : SszValue). padded (enc t v)) (sym is)

@@ -12,7 +12,9 @@ use Rattle.ssz_roots.proofs.basic.packed_values_root.Given as goal
 
 abbrev pub invariant-loop-i : goal.invariant-loop-i
 invariant-loop-i g l = record {
-  pushed : Pushed l.depth l.i l.chunks (g.H.PairHash.pairs l.initial.hasher) (g.H.PairHash.pairs l.hasher);
-  holds : (t : SszType) → basic_size t ≡ Some l.size → AllByRecursion (Fits t) (map value_of l.parts)
+  pushed : Pushed l.depth l.i l.chunks (g.H.PairHash.pairs l.initial.hasher)
+      (g.H.PairHash.pairs l.hasher);
+  holds : (t : SszType) → basic_size t ≡ Some l.size
+      → AllByRecursion (Fits t) (map value_of l.parts)
       → Holds g.H.PairHash.pair_of (chunks l.i (concat (encodings_of t l.parts))) l.chunks;
 }

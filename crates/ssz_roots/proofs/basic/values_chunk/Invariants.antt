@@ -11,6 +11,7 @@ use Rattle.ssz_roots.proofs.basic.values_chunk.Given as goal
 abbrev pub invariant-loop-k : goal.invariant-loop-k
 invariant-loop-k l = record {
   count : length l.bytes ≡ 32;
-  filled : (t : SszType) → basic_size t ≡ Some l.size → AllByRecursion (Fits t) (map value_of l.fn.parts)
+  filled : (t : SszType) → basic_size t ≡ Some l.size
+      → AllByRecursion (Fits t) (map value_of l.fn.parts)
       → IsFilled l.size (drop (32 / l.size * l.fn.i) (encodings_of t l.fn.parts)) l.k l.bytes;
 }

@@ -14,12 +14,18 @@ overflow_mul-byte c =
 pub overflow_add-byte : goal.overflow_add-byte
 overflow_add-byte c =
     let small : c.loop-k.byte < 128 = ByteOf-small _ _ _ _ c.loop-k.invariant c.loop-k-test.true in
-    let bit : c.from.result ≤ 1 = omega (arith, c.from.ensures, bit_number c.bit_or_zero.result, bit_small c.bit_or_zero.result) in
+    let bit : c.from.result ≤ 1 = omega (
+      arith,
+      c.from.ensures,
+      bit_number c.bit_or_zero.result,
+      bit_small c.bit_or_zero.result,
+    ) in
     omega arith
 
 pub loop-k-preserved : goal.loop-k-preserved
 loop-k-preserved c =
-    ByteOf-more _ _ _ _ _ c.loop-k.invariant c.loop-k-test.true (c.from.ensures ∙ bit_number c.bit_or_zero.result ∙ ap bit_value c.bit_or_zero.ensures)
+    ByteOf-more _ _ _ _ _ c.loop-k.invariant c.loop-k-test.true
+    (c.from.ensures ∙ bit_number c.bit_or_zero.result ∙ ap bit_value c.bit_or_zero.ensures)
 
 pub returns : goal.returns
 returns c = ByteOf-end _ _ _ _ c.loop-k.invariant (omega arith) (omega arith)

@@ -5,4 +5,6 @@ use Rattle.ssz_schema.specs.Faults.{highest_bit}
 
 pub returns : goal.returns
 returns c =
-    ap (λ n. 8 * (length c.args.bytes.now - 1) + n) (c.from.ensures ∙ c.highest_bit.ensures.exact ∙ ap highest_bit (last_byte_is c.args.bytes.now))
+    ap (λ n. 8 * (length c.args.bytes.now - 1) + n)
+    (c.from.ensures ∙ c.highest_bit.ensures.exact
+    ∙ ap highest_bit (last_byte_is c.args.bytes.now))

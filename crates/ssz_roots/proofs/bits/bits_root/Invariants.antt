@@ -3,4 +3,5 @@ use Rattle.ssz_roots.proofs.Packing.{Packed}
 use Rattle.ssz_roots.proofs.bits.bits_root.Given as goal
 
 abbrev pub invariant-loop-i : goal.invariant-loop-i
-invariant-loop-i g l = Packed g.H.PairHash.pair_of l.depth (undelimited l.bytes) l.i l.chunks (g.H.PairHash.pairs l.initial.hasher) (g.H.PairHash.pairs l.hasher)
+invariant-loop-i g l = Packed g.H.PairHash.pair_of l.depth (undelimited l.bytes) l.i l.chunks
+    (g.H.PairHash.pairs l.initial.hasher) (g.H.PairHash.pairs l.hasher)

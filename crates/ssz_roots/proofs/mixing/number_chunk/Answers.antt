@@ -4,4 +4,5 @@ use Rattle.ssz_roots.proofs.mixing.number_chunk.Goals as goal
 
 pub returns : goal.returns
 returns c =
-    ap (λ (bytes : List ℕ). bytes ++ replicate 16 0) c.put_uint.ensures ∙ sym (le_bytes-zeros 16 16 c.args.number (omega (arith, c.ranges.number.fits)))
+    ap (λ (bytes : List ℕ). bytes ++ replicate 16 0) c.put_uint.ensures
+    ∙ sym (le_bytes-zeros 16 16 c.args.number (omega (arith, c.ranges.number.fits)))

@@ -9,4 +9,5 @@ returns-in-Root-clause-read g c = λ held told.
     rw c.in-Root.is
     (IfOk-weaker (λ task. task_of_root held c.in-Root.args ≡ task_view task)
     (λ task. DoesSame (task_of_root held c.in-Root.args) (task_view task))
-    (λ task same. DoesSame-equal _ _ same) c.task_of_root.result (c.task_of_root.ensures.read held told))
+    (λ task same. DoesSame-equal _ _ same) c.task_of_root.result
+    (c.task_of_root.ensures.read held told))

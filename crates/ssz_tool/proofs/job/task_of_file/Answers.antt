@@ -11,4 +11,5 @@ returns-in-Ok-Whole-clause-read g c = λ held told.
 pub returns-in-Ok-TooLong-clause-read : goal.returns-in-Ok-TooLong-clause-read
 returns-in-Ok-TooLong-clause-read g c = λ held told.
     task_of_bytes-too_long _ c.args.args.now.max_bytes _
-    (rw (c.in-Ok-TooLong.field-0-is, c.as_str.ensures) at (c.in-Ok-TooLong.ensures.loaded held told))
+    (rw (c.in-Ok-TooLong.field-0-is, c.as_str.ensures) at
+    (c.in-Ok-TooLong.ensures.loaded held told))

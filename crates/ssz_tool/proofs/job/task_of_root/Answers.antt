@@ -4,6 +4,8 @@ use Rattle.ssz_tool.proofs.job.task_of_root.Goals as goal
 
 pub returns-in-Ok-Accepted-clause-read : goal.returns-in-Ok-Accepted-clause-read
 returns-in-Ok-Accepted-clause-read g c = λ held told.
-    let read = rw (c.in-Ok-Accepted.field-0-is, c.as_str.ensures) at (c.in-Ok-Accepted.ensures.read held told) in
-    rw (task_of_reading-accepted held c.args.args.now _ c.in-Ok-Accepted.schema read.0 read.1 read.2)
+    let read = rw (c.in-Ok-Accepted.field-0-is, c.as_str.ensures) at
+    (c.in-Ok-Accepted.ensures.read held told) in
+    rw (task_of_reading-accepted held c.args.args.now _ c.in-Ok-Accepted.schema read.0 read.1
+    read.2)
     (c.task_of_schema.ensures.read held (c.in-Ok-Accepted.ensures.content ∙ told))

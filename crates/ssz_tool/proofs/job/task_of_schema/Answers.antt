@@ -4,6 +4,8 @@ use Rattle.ssz_tool.proofs.job.task_of_schema.Goals as goal
 
 pub returns-in-Some-clause-read : goal.returns-in-Some-clause-read
 returns-in-Some-clause-read g c = λ held told.
-    let named : known_in c.args.schema c.args.args.now.type_name ≡ Some (type_of c.args.schema c.in-Some.id) =
-    ap (option_map (type_of c.args.schema)) (ap (number_of c.args.schema) (sym c.as_str.ensures) ∙ sym c.in-Some.ensures.exact) in
+    let named : known_in c.args.schema c.args.args.now.type_name
+    ≡ Some (type_of c.args.schema c.in-Some.id) =
+    ap (option_map (type_of c.args.schema)) (ap (number_of c.args.schema) (sym c.as_str.ensures)
+    ∙ sym c.in-Some.ensures.exact) in
     rw named (c.task_of_file.ensures.read held told)

@@ -6,6 +6,8 @@ use Rattle.ssz_tool.proofs.top.run_words.Goals as goal
 pub returns-in-Ok-clause-ends : goal.returns-in-Ok-clause-ends
 returns-in-Ok-clause-ends g c = λ held told.
     let kept : g.F.Files.content c.task_of.new.files ≡ Some held = c.in-Ok.ensures.content ∙ told in
-    let line : line_of g.H.PairHash.pair_of (task_of held (texts c.args.words.now)) ≡ c.line_of-line.result =
-    (c.in-Ok.ensures.read held told).lines g.H.PairHash.pair_of ∙ sym c.line_of-line.ensures.value in
+    let line : line_of g.H.PairHash.pair_of (task_of held (texts c.args.words.now))
+    ≡ c.line_of-line.result =
+    (c.in-Ok.ensures.read held told).lines g.H.PairHash.pair_of
+    ∙ sym c.line_of-line.ensures.value in
     rw (kept, line) (c.print_line.ensures.ends held (is_some (taken (texts c.args.words.now))))

@@ -11,4 +11,5 @@ returns-in-Ok-clause-read g c = λ held told.
 pub returns-in-Ok-TooLong-clause-read : goal.returns-in-Ok-TooLong-clause-read
 returns-in-Ok-TooLong-clause-read g c = λ held told.
     DoesSame-equal _ _ (task_of_proof-too_long c.args.args.now.root _
-    (rw (c.in-Ok-TooLong.field-0-is, c.as_str.ensures) at (c.in-Ok-TooLong.ensures.loaded held told)))
+    (rw (c.in-Ok-TooLong.field-0-is, c.as_str.ensures) at
+    (c.in-Ok-TooLong.ensures.loaded held told)))

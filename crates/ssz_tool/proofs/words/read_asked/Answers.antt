@@ -4,7 +4,9 @@ use Rattle.ssz_tool.specs.Words.{texts}
 use Rattle.ssz_tool.proofs.words.read_asked.Goals as goal
 
 pub returns-in-Ok : goal.returns-in-Ok
-returns-in-Ok c = c.standing.ensures ∙ sym (taken-command (texts c.args.words.now) c.in-Ok.command c.in-Ok.ensures.exact)
+returns-in-Ok c = c.standing.ensures ∙ sym (taken-command (texts c.args.words.now)
+    c.in-Ok.command c.in-Ok.ensures.exact)
 
 pub returns-in-Err-NotTaken : goal.returns-in-Err-NotTaken
-returns-in-Err-NotTaken c = sym (taken-none (texts c.args.words.now) (rw c.in-Err-NotTaken.field-0-is at c.in-Err-NotTaken.ensures.exact))
+returns-in-Err-NotTaken c = sym (taken-none (texts c.args.words.now)
+    (rw c.in-Err-NotTaken.field-0-is at c.in-Err-NotTaken.ensures.exact))
