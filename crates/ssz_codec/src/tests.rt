@@ -103,6 +103,8 @@ fn schema(alloc: Global) -> Result<Schema, Fail> {
         "Longs0",
         list(alloc, TypeExpr::Uint(Width::W64), 0)?,
     )?;
+    let wides = list(alloc, TypeExpr::Uint(Width::W256), 2)?;
+    add(all, alloc, "Wides", wides)?;
     add(all, alloc, "Two", three_fields(alloc)?)?;
     add(
         all,
@@ -125,7 +127,7 @@ fn schema(alloc: Global) -> Result<Schema, Fail> {
 
 // Bytes of a type, and the code and position of their first fault, 0 and 0 where they have none. The faults follow from the
 // rules of simple-serialize.md by hand.
-const ROWS: [(&str, &[u8], u8, u64); 46] = [
+const ROWS: [(&str, &[u8], u8, u64); 49] = [
     ("M", b"\xaa\xbb\x06\0\0\0\x01\x02", 0, 0),
     ("M", b"\xaa\xbb\x07\0\0\0\x01\x02", 4, 2),
     ("M", b"\xaa\xbb\x06", 1, 0),
@@ -152,6 +154,9 @@ const ROWS: [(&str, &[u8], u8, u64); 46] = [
     ("uint256", b"01234567890123456789012345678901", 0, 0),
     ("uint256", b"0123456789012345678901234567890", 1, 0),
     ("uint256", b"012345678901234567890123456789012", 2, 32),
+    ("Wides", b"", 0, 0),
+    ("Wides", b"01234567890123456789012345678901", 0, 0),
+    ("Wides", b"0123456789012345678901234567890", 7, 0),
     ("Two", b"\x09\0\0\0\x01\x0b\0\0\0\x01\x02\x0d", 0, 0),
     ("Two", b"\x09\0\0\0\x01\x0d\0\0\0\x01\x02\x0d", 5, 5),
     ("Two", b"\x09\0\0\0\x01\x08\0\0\0\x01\x02\x0d", 6, 5),
