@@ -1,13 +1,18 @@
 #!/bin/sh
-# Speed of check, decode and encode at four sizes of three kinds of value, beside a copy of the same
-# bytes, whose MB/s fall too where the value leaves the caches.
-# Run it after 'rt run' in crates/bench_codec, which builds the program.
+# Speed of check, decode and encode of three kinds of value at five sizes, beside a copy of the same
+# bytes; and, where valgrind is there, the instructions that each takes a byte, at three sizes.
+# Run it after 'rt run' in crates/bench_codec, which builds the program, on an idle machine.
+#
+# The C library's allocator is told to keep the memory that is given back to it. By default it hands
+# large pieces back to the system, which zeroes each page anew: then a second decode of a large value
+# is charged for the system's work, and one of a small value is not.
 set -eu
 cd "$(dirname "$0")/.."
-exec python3 - crates/bench_codec/out/bench_codec <<'PY'
-import os, resource, subprocess, sys, tempfile
+exec python3 - crates/bench_codec/out/bench_codec "${1:-3}" <<'PY'
+import os, re, resource, shutil, subprocess, sys, tempfile
 
-program = os.path.abspath(sys.argv[1])
+program, rounds = os.path.abspath(sys.argv[1]), int(sys.argv[2])
+KEEP = dict(os.environ, MALLOC_MMAP_MAX_="0", MALLOC_TRIM_THRESHOLD_=str(1 << 40), MALLOC_TOP_PAD_=str(1 << 26))
 
 SCHEMA = """{"ssz":1,"types":[
 ["Numbers",{"list":["uint64",1099511627776]}],
@@ -26,38 +31,54 @@ def variables(count):
     offsets = b"".join((4 * count + 32 * i).to_bytes(4, "little") for i in range(count))
     return offsets + (os.urandom(8) + (12).to_bytes(4, "little") + os.urandom(20)) * count
 
-def spent():
-    use = resource.getrusage(resource.RUSAGE_CHILDREN)
-    return use.ru_utime + use.ru_stime
+def command(work, name, times):
+    return [program, work, "schema.json", name, "value.bin", str(times)]
 
-# The least processor time of three runs.
-def seconds(work, name, path, times):
-    best = None
-    for _ in range(3):
-        before = spent()
-        subprocess.run([program, work, "schema.json", name, path, str(times)], check=True, capture_output=True)
-        taken = spent() - before
-        best = taken if best is None else min(best, taken)
-    return best
+# The processor time, of the program and of the system for it, least of so many runs.
+def seconds(work, name, times):
+    taken = []
+    for _ in range(rounds):
+        before = resource.getrusage(resource.RUSAGE_CHILDREN)
+        subprocess.run(command(work, name, times), check=True, capture_output=True, env=KEEP)
+        after = resource.getrusage(resource.RUSAGE_CHILDREN)
+        taken.append(after.ru_utime + after.ru_stime - before.ru_utime - before.ru_stime)
+    return min(taken)
+
+# What one more repetition takes, from as many as take about half a second.
+def one_more(work, name):
+    first, times = seconds(work, name, 1), 1
+    while (more := seconds(work, name, 1 + times) - first) < 0.5 and times < 1 << 20:
+        times = times * 2 if more < 0.05 else int(times * 0.6 / more) + 1
+    return more / times
+
+def instructions(work, name):
+    counts = []
+    for times in (1, 2):
+        run = ["valgrind", "--tool=callgrind", "--callgrind-out-file=/dev/null", *command(work, name, times)]
+        told = subprocess.run(run, check=True, capture_output=True, text=True, env=KEEP).stderr
+        counts.append(int(re.search(r"Collected : (\d+)", told).group(1)))
+    return counts[1] - counts[0]
 
 KINDS = [("Numbers", numbers, 8), ("Fixeds", fixeds, 41), ("Variables", variables, 36)]
-print("%-10s %10s %10s %10s %10s %10s   MB/s" % ("what", "bytes", "copy", "check", "decode", "encode"))
+WORKS = ("copy", "check", "decode", "encode")
+
+def table(title, sizes, cell):
+    print(title)
+    print("%-10s %10s" % ("what", "bytes") + "".join(" %10s" % work for work in WORKS))
+    for name, make, size in KINDS:
+        for total in sizes:
+            value = make(total // size)
+            with open("value.bin", "wb") as file:
+                file.write(value)
+            # A list of numbers is judged in constant time, so its check has no speed.
+            cells = ["constant" if (work, name) == ("check", "Numbers") else cell(work, name, len(value)) for work in WORKS]
+            print("%-10s %10d" % (name, len(value)) + "".join(" %10s" % cell for cell in cells), flush=True)
+
 with tempfile.TemporaryDirectory() as folder:
     os.chdir(folder)
     with open("schema.json", "w") as file:
         file.write(SCHEMA)
-    for name, make, size in KINDS:
-        for total in (1 << 18, 1 << 21, 1 << 24, 1 << 26):
-            value = make(total // size)
-            with open("value.bin", "wb") as file:
-                file.write(value)
-            cells = []
-            for work in ("copy", "check", "decode", "encode"):
-                # As many times as take about half a second, less what a run takes that does nothing.
-                times = 1
-                idle = seconds(work, name, "value.bin", 0)
-                while (taken := seconds(work, name, "value.bin", times) - idle) < 0.2 and times < 1 << 24:
-                    times *= 4
-                cells.append(len(value) * times / max(taken, 1e-9) / 1e6)
-            print("%-10s %10d %10.0f %10.0f %10.0f %10.0f" % (name, len(value), *cells), flush=True)
+    if shutil.which("valgrind"):
+        table("instructions a byte", (1 << 18, 1 << 21, 1 << 24), lambda work, name, n: "%.3f" % (instructions(work, name) / n))
+    table("MB/s", (1 << 18, 1 << 21, 1 << 24, 1 << 26, 1 << 28), lambda work, name, n: "%.0f" % (n / one_more(work, name) / 1e6))
 PY
