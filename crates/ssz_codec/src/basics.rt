@@ -77,7 +77,7 @@ pub fn numbers(
     }
 }
 
-// A loop for each form of a number, so that no form is chosen anew for each one.
+// A loop for each form of a number: a value whose form is known is built in its place.
 
 fn narrow_numbers(
     alloc: Global,

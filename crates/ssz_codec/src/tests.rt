@@ -52,76 +52,61 @@ fn add(schema: &mut Schema, alloc: Global, name: &str, expr: TypeExpr) -> Result
     Ok(())
 }
 
-fn schema(alloc: Global) -> Result<Schema, Fail> {
-    let mut schema = Schema::empty(alloc)?;
-    let all = &mut schema;
-    let small = TypeExpr::Uint(Width::W16);
-    add(
-        all,
-        alloc,
-        "M",
-        two_fields(alloc, small, bytes_to(alloc, 4)?)?,
-    )?;
-    add(
-        all,
-        alloc,
-        "K",
-        two_fields(alloc, TypeExpr::Boolean, bytes_to(alloc, 4)?)?,
-    )?;
-    add(all, alloc, "Lists4", list(alloc, bytes_to(alloc, 4)?, 4)?)?;
-    add(all, alloc, "Lists1", list(alloc, bytes_to(alloc, 4)?, 1)?)?;
-    add(
-        all,
-        alloc,
-        "ListsBig",
-        list(alloc, bytes_to(alloc, 4)?, 1 << 40)?,
-    )?;
+fn add_lists(all: &mut Schema, alloc: Global) -> Result<(), Fail> {
+    let lists = list(alloc, bytes_to(alloc, 4)?, 4)?;
+    add(all, alloc, "Lists4", lists)?;
+    let one = list(alloc, bytes_to(alloc, 4)?, 1)?;
+    add(all, alloc, "Lists1", one)?;
+    let many = list(alloc, bytes_to(alloc, 4)?, 1 << 40)?;
+    add(all, alloc, "ListsBig", many)?;
     add(all, alloc, "BytesBig", bytes_to(alloc, 1 << 40)?)?;
+    let longs = list(alloc, TypeExpr::Uint(Width::W64), 4)?;
+    add(all, alloc, "Longs4", longs)?;
+    let none = list(alloc, TypeExpr::Uint(Width::W64), 0)?;
+    add(all, alloc, "Longs0", none)?;
+    let wides = list(alloc, TypeExpr::Uint(Width::W256), 2)?;
+    add(all, alloc, "Wides", wides)?;
+    let three = TypeExpr::Vector(Box::new(alloc, TypeExpr::Boolean)?, 3);
+    add(all, alloc, "Flags3", three)
+}
+
+fn add_bits(all: &mut Schema, alloc: Global) -> Result<(), Fail> {
     add(all, alloc, "Bits8", TypeExpr::Bitlist(8))?;
     add(all, alloc, "Bits3", TypeExpr::Bitlist(3))?;
     add(all, alloc, "BitsBig", TypeExpr::Bitlist(1 << 40))?;
     add(all, alloc, "Bitvector4", TypeExpr::Bitvector(4))?;
-    add(all, alloc, "Bitvector8", TypeExpr::Bitvector(8))?;
-    let wide = TypeExpr::Uint(Width::W64);
-    add(all, alloc, "U", two_options(alloc, None, wide)?)?;
-    let longs = list(alloc, TypeExpr::Uint(Width::W64), 2)?;
-    add(
-        all,
-        alloc,
-        "Either",
-        two_options(alloc, Some(TypeExpr::Uint(Width::W8)), longs)?,
-    )?;
-    add(
-        all,
-        alloc,
-        "Longs4",
-        list(alloc, TypeExpr::Uint(Width::W64), 4)?,
-    )?;
-    add(
-        all,
-        alloc,
-        "Longs0",
-        list(alloc, TypeExpr::Uint(Width::W64), 0)?,
-    )?;
-    let wides = list(alloc, TypeExpr::Uint(Width::W256), 2)?;
-    add(all, alloc, "Wides", wides)?;
+    add(all, alloc, "Bitvector8", TypeExpr::Bitvector(8))
+}
+
+fn add_containers(all: &mut Schema, alloc: Global) -> Result<(), Fail> {
+    let small = TypeExpr::Uint(Width::W16);
+    let m = two_fields(alloc, small, bytes_to(alloc, 4)?)?;
+    add(all, alloc, "M", m)?;
+    let k = two_fields(alloc, TypeExpr::Boolean, bytes_to(alloc, 4)?)?;
+    add(all, alloc, "K", k)?;
     add(all, alloc, "Two", three_fields(alloc)?)?;
-    add(
-        all,
-        alloc,
-        "Flags",
-        two_fields(alloc, TypeExpr::Boolean, TypeExpr::Boolean)?,
-    )?;
+    let flags = two_fields(alloc, TypeExpr::Boolean, TypeExpr::Boolean)?;
+    add(all, alloc, "Flags", flags)?;
     add(all, alloc, "Ms", list(alloc, named(alloc, b"M")?, 4)?)?;
     let shorts = list(alloc, TypeExpr::Uint(Width::W16), 4)?;
-    add(
-        all,
-        alloc,
-        "Pair",
-        two_fields(alloc, shorts, bytes_to(alloc, 4)?)?,
-    )?;
-    let three = TypeExpr::Vector(Box::new(alloc, TypeExpr::Boolean)?, 3);
-    add(all, alloc, "Flags3", three)?;
+    let pair = two_fields(alloc, shorts, bytes_to(alloc, 4)?)?;
+    add(all, alloc, "Pair", pair)
+}
+
+fn add_unions(all: &mut Schema, alloc: Global) -> Result<(), Fail> {
+    let optional = two_options(alloc, None, TypeExpr::Uint(Width::W64))?;
+    add(all, alloc, "U", optional)?;
+    let longs = list(alloc, TypeExpr::Uint(Width::W64), 2)?;
+    let either = two_options(alloc, Some(TypeExpr::Uint(Width::W8)), longs)?;
+    add(all, alloc, "Either", either)
+}
+
+fn schema(alloc: Global) -> Result<Schema, Fail> {
+    let mut schema = Schema::empty(alloc)?;
+    add_lists(&mut schema, alloc)?;
+    add_bits(&mut schema, alloc)?;
+    add_containers(&mut schema, alloc)?;
+    add_unions(&mut schema, alloc)?;
     Ok(schema)
 }
 
