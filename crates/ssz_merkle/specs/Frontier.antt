@@ -29,8 +29,7 @@ pub record Holds (pair_of : List ℕ → List ℕ → List ℕ) (chunks : List (
       ≡ root pair_of (full k (leaves (block k chunks)))
 
 -- the pairs of a full tree of depth d both of whose trees are whole, over its first n places: on
--- each level j the
--- n / 2 ^ j, rounded down
+-- each level j the n / 2 ^ j, rounded down
 unfoldable pub whole_pairs : ℕ → ℕ → ℕ
 whole_pairs zero n = 0
 whole_pairs (suc d) n = whole_pairs d n + n / 2 ^ suc d

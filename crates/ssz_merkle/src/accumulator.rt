@@ -11,8 +11,7 @@ use std::marker::Model;
 const ROOTS: usize = LEVELS as usize + 1;
 
 /// The chunks that were pushed so far on a full tree of chunks, by the roots of the whole subtrees
-/// that they make:
-/// one for each binary digit 1 of their number.
+/// that they make: one for each binary digit 1 of their number.
 #[derive(Drop)]
 pub struct Accumulator<'a, H: PairHash> {
     zeros: &'a ZeroTable<H>,

@@ -2,10 +2,9 @@
 //! (simple-serialize.md, Merkleization).
 //!
 //! `chunk_at` is the packing: bytes cut into chunks, the last one padded. An `Accumulator` is the
-//! merkleization with a
-//! limit: it takes the chunks one after another, keeps one root for each level, and hashes each
-//! pair once. What it keeps
-//! is defined in `specs/Frontier.antt`. No call takes memory.
+//! merkleization with a limit: it takes the chunks one after another, keeps one root for each
+//! level, and hashes each pair once. What it keeps is defined in `specs/Frontier.antt`. No call
+//! takes memory.
 #![tactic(auto)]
 
 mod accumulator;

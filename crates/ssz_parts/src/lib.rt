@@ -1,6 +1,5 @@
 //! Where the parts of an encoding lie, and the first fault of what stands before them: the number
-//! of
-//! elements, the head of elements or fields, the selector of a union (simple-serialize.md,
+//! of elements, the head of elements or fields, the selector of a union (simple-serialize.md,
 //! Serialization, Deserialization).
 //!
 //! A head is what the fixed parts take: the parts of fixed size themselves, and the offsets of the

@@ -1,10 +1,9 @@
 //! Roots of values (simple-serialize.md, Merkleization: hash_tree_root).
 //!
 //! `root_of_bytes` goes over the bytes of a value, which have no fault, in one pass: packed parts
-//! straight from the slice, and no
-//! value made. `root_of_value` is the root of a value. Both make one accumulator for each level of
-//! nesting, count exactly the
-//! pairs of the value, and take no memory.
+//! straight from the slice, and no value made. `root_of_value` is the root of a value. Both make
+//! one accumulator for each level of nesting, count exactly the pairs of the value, and take no
+//! memory.
 #![tactic(auto)]
 
 mod basic;
