@@ -7,14 +7,16 @@ use Rattle.ssz_chunk.specs.declared.Chunk.{Chunk}
 use Rattle.ssz_arena.specs.declared.node.NodeId.{NodeId}
 use Rattle.ssz_arena.specs.declared.node.Node.{Node}
 use Rattle.ssz_arena.specs.declared.node.Node.TheVariants.{Leaf, Pair}
-use Rattle.ssz_arena.specs.Content.{Content, tree_of, todo, unhashed, is_unhashed, node_count, IsNodeOf, KeepsNodes}
+use Rattle.ssz_arena.specs.Content.{Content, tree_of, todo, unhashed, is_unhashed, node_at, node_count, IsNodeOf, KeepsNodes, KeepsTodo}
+use Rattle.ssz_arena.specs.Copied.{AreOrdered}
+use Rattle.ssz_arena.proofs.Following.{node_at-push}
 use Rattle.ssz_arena.proofs.Places.{slice_get-push}
 use Rattle.ssz_arena.proofs.Nodes.{tree, due, tree-append, due-append, tree-leaf, tree-pair, due-leaf, due-pair}
 
 -- one more node
 module _ (old new : Content) (node : Node) (pushed : new.nodes ≡ old.nodes ++ node ∷ []) where
-  pub keeps_push : KeepsNodes old new
-  keeps_push = record {
+  pub keeps_push : AreOrdered old.nodes → KeepsNodes old new
+  keeps_push ordered = record {
     count = omega (
       arith,
       ap (λ (ns : List Node). length ns) pushed,
@@ -26,7 +28,17 @@ module _ (old new : Content) (node : Node) (pushed : new.nodes ≡ old.nodes ++ 
       ap (λ ns. due ns id.0) pushed,
       due-append old.nodes (node ∷ []) id.0 h,
     );
+    ways = λ id h way. ap (λ ns. node_at ns id way) pushed
+        ∙ node_at-push old.nodes (node ∷ []) ordered id h way;
   }
+
+  pub todo_push : KeepsTodo old new
+  todo_push = record {
+    each = λ id h. ap (λ ns. due ns id.0) pushed ∙ due-append old.nodes (node ∷ []) id.0 h;
+  }
+
+  pub tree_push : (id : NodeId) → IsNodeOf old id → tree_of new id ≡ tree_of old id
+  tree_push id h = ap (λ ns. tree ns id.0) pushed ∙ tree-append old.nodes (node ∷ []) id.0 h
 
   pub count_push : node_count new ≡ node_count old + 1
   count_push = ap (λ (ns : List Node). length ns) pushed ∙ length-append old.nodes (node ∷ [])
@@ -52,11 +64,10 @@ module _ (old new : Content) (id : NodeId) (last : id.0 ≡ node_count old) wher
       (pushed : new.nodes ≡ old.nodes ++ Pair left right None ∷ []) where
     pub tree_push_pair : tree_of new id ≡ pair (tree_of old left) (tree_of old right)
     tree_push_pair =
-        let kept : KeepsNodes old new = keeps_push old new _ pushed in
         ap (tree new.nodes) last ∙ tree-pair new.nodes (node_count old) left right None
         (found_push old new _ pushed) left_in right_in
-        ∙ ap (λ t. pair t (tree_of new right)) (kept.trees left left_in)
-        ∙ ap (pair (tree_of old left)) (kept.trees right right_in)
+        ∙ ap (λ t. pair t (tree_of new right)) (tree_push old new _ pushed left left_in)
+        ∙ ap (pair (tree_of old left)) (tree_push old new _ pushed right right_in)
 
     pub todo_push_pair : todo new id ≡ 1 + todo old left + todo old right
     todo_push_pair =

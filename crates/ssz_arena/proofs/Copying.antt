@@ -82,6 +82,7 @@ copies_start p nodes marks places arena count own =
     record {
       arena = arena-take nodes 127 p arena long;
       count = count;
+      short = omega (arith, length-take 127 nodes);
       copies = λ j h m. record {
         inside = omega (arith, own j h);
         tree = ap (tree (take 127 nodes)) (own j h) ∙ tree-take nodes 127 j (omega arith);
@@ -128,6 +129,7 @@ module _ (p : List ℕ → List ℕ → List ℕ) (nodes : List Node) (marks : L
   copies_skip unmarked = record {
     arena = were.arena;
     count = count_longer;
+    short = omega (arith, were.short);
     copies = λ j h m. ⊎_elim
         (λ (here : j ≡ i). let bad : Some false ≡ Some true = sym unmarked
         ∙ ap (slice_get marks) (sym here) ∙ m in absurd (cc))
@@ -262,6 +264,7 @@ module _ (p : List ℕ → List ℕ → List ℕ) (nodes : List Node) (marks : L
         record {
           arena = arena-push p copy new were.arena (joins_at node refl);
           count = count_longer;
+          short = omega (arith, were.short, length-append copy (new ∷ []));
           copies = λ j h m. ⊎_elim
               (λ (here : j ≡ i).
               let at_i : get_or longer j nowhere ≡ place = ap (λ k. get_or longer k nowhere) here

@@ -3,8 +3,10 @@ mod Values
 pub mod Nodes
 mod Sound
 mod Zeros
+pub mod Following
 mod Seen
 mod Contents
+pub mod Parts
 mod Filling
 pub mod Indexed
 mod Replacing

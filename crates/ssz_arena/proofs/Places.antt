@@ -1,5 +1,7 @@
--- An element by its index, after a write and after a push.
-use Rattle.std.proofs.Common.{◌≡◌, ◌≢◌, ℕ, zero, suc, ◌<◌, List, [], ◌∷◌, ◌++◌, length, refl, ap, slice_get, slice_set, Some, arith}
+-- An element by its index, after a write and after a push, and in a part of the list.
+use Rattle.std.proofs.Common.{◌≡◌, ◌≢◌, ℕ, zero, suc, ◌+◌, ◌<◌, List, [], ◌∷◌, ◌++◌, length, take, drop, refl, sym, ap, ◌∙◌, slice_get, slice_set, Some, arith, length-take, length-drop}
+use Rattle.std.proofs.lemmas.List.{get_or-take, get_or-drop}
+use Rattle.std.proofs.lemmas.Option.{slice_get_within, slice_get-get_or, get_or_from_slice_get}
 
 pub slice_get-set_same : {X : Type 0} (xs : List X) (i : ℕ) (x : X) → i < length xs
     → slice_get (slice_set xs i x) i ≡ Some x
@@ -25,3 +27,18 @@ pub slice_get-push : {X : Type 0} (xs : List X) (x : X)
     → slice_get (xs ++ x ∷ []) (length xs) ≡ Some x
 slice_get-push [] x = refl
 slice_get-push (y ∷ xs) x = slice_get-push xs x
+
+pub slice_get-take : {X : Type 0} (n : ℕ) (xs : List X) (i : ℕ) (x : X)
+    → slice_get (take n xs) i ≡ Some x → slice_get xs i ≡ Some x
+slice_get-take n xs i x is =
+    let inside : i < length (take n xs) = slice_get_within (take n xs) i x is in
+    slice_get-get_or xs i x (omega (arith, inside, length-take n xs))
+    ∙ ap Some (sym (get_or-take n xs i x (omega (arith, inside, length-take n xs)))
+    ∙ get_or_from_slice_get (take n xs) i x x is)
+
+pub slice_get-drop : {X : Type 0} (n : ℕ) (xs : List X) (i : ℕ) (x : X)
+    → slice_get (drop n xs) i ≡ Some x → slice_get xs (n + i) ≡ Some x
+slice_get-drop n xs i x is =
+    let inside : i < length (drop n xs) = slice_get_within (drop n xs) i x is in
+    slice_get-get_or xs (n + i) x (omega (arith, inside, length-drop n xs))
+    ∙ ap Some (sym (get_or-drop n xs i x) ∙ get_or_from_slice_get (drop n xs) i x x is)

@@ -1,5 +1,6 @@
 -- What contracts see of an arena.
-use Rattle.std.specs.Prelude.{◌≡◌, ℕ, ◌+◌, ◌≤◌, ◌<◌, Bool, true, false, List, [], ◌∷◌, ◌++◌, Some, None, length, count_by, slice_index, slice_index_or}
+use Rattle.std.specs.Prelude.{◌≡◌, ℕ, ◌+◌, ◌≤◌, ◌<◌, Bool, true, false, List, [], ◌∷◌, ◌++◌, Option, Some, None, length, count_by, slice_get, slice_index, slice_index_or}
+use Rattle.std.specs.Option.{option_and_then}
 use Rattle.ssz_chunk.specs.Tree.{Tree, leaf, pair}
 use Rattle.ssz_arena.specs.declared.node.NodeId.{NodeId}
 use Rattle.ssz_arena.specs.declared.node.Node.{Node}
@@ -61,9 +62,28 @@ is_unhashed (Pair left right None) = true
 abbrev pub unhashed : Content → ℕ
 unhashed arena = count_by is_unhashed arena.nodes
 
--- each node of old is in new, with the same tree, and with no more to be hashed: so no cached chunk
--- is lost
+-- the child to which a step leads, false to the left
+abbrev pub child : Bool → Node → Option NodeId
+child step (Leaf chunk) = None
+child false (Pair left right cached) = Some left
+child true (Pair left right cached) = Some right
+
+-- the node at the end of a way down from one
+abbrev pub node_at : List Node → NodeId → List Bool → Option NodeId
+node_at nodes id [] = Some id
+node_at nodes id (step ∷ steps) =
+    option_and_then (λ next. node_at nodes next steps)
+    (option_and_then (child step) (slice_get nodes id.0))
+
+-- each node of old is in new, with the same tree and the same nodes below it, and with no more to be
+-- hashed: so no cached chunk is lost
 pub record KeepsNodes (old new : Content) : Type 0 where
   pub count : node_count old ≤ node_count new
   pub trees : (id : NodeId) → IsNodeOf old id → tree_of new id ≡ tree_of old id
   pub todo : (id : NodeId) → IsNodeOf old id → todo new id ≤ todo old id
+  pub ways : (id : NodeId) → IsNodeOf old id → (way : List Bool)
+      → node_at new.nodes id way ≡ node_at old.nodes id way
+
+-- as much is to be hashed for each old node as before
+pub record KeepsTodo (old new : Content) : Type 0 where
+  pub each : (id : NodeId) → IsNodeOf old id → todo new id ≡ todo old id

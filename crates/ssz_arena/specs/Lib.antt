@@ -3,5 +3,6 @@ pub mod Invariant
 pub mod Filled
 pub mod Shown
 pub mod Replaced
+pub mod Laws
 pub mod Compacted
 pub mod Copied

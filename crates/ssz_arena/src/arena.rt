@@ -1,17 +1,19 @@
-ghost use Rattle.std.specs.Prelude.{◌≡◌, ℕ, ◌+◌, ◌-◌, ◌<◌, ◌≤◌, ◌↔◌, [], ◌∷◌, ◌++◌, All, IfOk, OnOk, OnErr, IfSome, IfNone, IsSome, IsNone, Some, None};
+ghost use Rattle.std.specs.Prelude.{◌≡◌, ℕ, ◌+◌, ◌-◌, ◌<◌, ◌≤◌, ◌↔◌, ◌^◌, max, [], ◌∷◌, ◌++◌, All, IfOk, OnOk, OnErr, IfSome, IfNone, IsSome, IsNone, IsOk, Some, None};
 ghost use Rattle.ssz_chunk.specs.declared.TheConstants.{LEVELS};
 ghost use Rattle.ssz_chunk.specs.Chunk.{CountsUp};
-ghost use Rattle.ssz_chunk.specs.Index.{at, at_way, digits, levels, put};
+ghost use Rattle.ssz_chunk.specs.Index.{at, at_way, digits, levels, put, way};
 ghost use Rattle.ssz_chunk.specs.Tree.{leaf, pair, root, zero_tree};
+ghost use Rattle.ssz_arena.specs.declared.node.NodeId.{NodeId};
 ghost use Rattle.ssz_arena.specs.Compacted.{IsCompaction};
-ghost use Rattle.ssz_arena.specs.Content.{IsNodeOf, KeepsNodes, node_count, todo, tree_of, unhashed};
+ghost use Rattle.ssz_arena.specs.Content.{IsNodeOf, KeepsNodes, KeepsTodo, node_at, node_count, todo, tree_of, unhashed};
 ghost use Rattle.ssz_arena.specs.Invariant.{CanJoin};
+ghost use Rattle.ssz_arena.specs.Laws.{LawOfParts};
 ghost use Rattle.ssz_arena.specs.Replaced.{AddsPairs, IsReplaced};
 ghost use Rattle.ssz_arena.specs.Shown.{Shows};
 
 use super::compaction::{copied, marked, places_of};
 use super::hashing::fill;
-use super::node::{Node, NodeId, NodeRef, ZERO_TREES};
+use super::node::{MOST_NODES, Node, NodeId, NodeRef, ZERO_TREES};
 use ssz_chunk::{Chunk, LEVELS, PairHash, ZeroTable};
 use ssz_gindex::Gindex;
 use std::alloc::{AllocError, Global};
@@ -34,7 +36,7 @@ pub struct Compacted<H: PairHash> {
 
 // The nodes, and for how many more there is room.
 impl<H: PairHash> Model for Arena<H> {
-    ghost use Rattle.std.specs.Prelude.{◌-◌, vec_len, vec_capacity};
+    ghost use Rattle.std.specs.Prelude.{◌-◌, ◌≤◌, ◌^◌, length, min, vec_len, vec_capacity};
     ghost use Rattle.ssz_arena.specs.Content.{Content};
     ghost use Rattle.ssz_arena.specs.Invariant.{IsArena};
 
@@ -42,10 +44,11 @@ impl<H: PairHash> Model for Arena<H> {
 
     ghost view = { λ a. record {
       nodes = a.nodes.items;
-      spare = vec_capacity a.nodes - vec_len a.nodes;
+      spare = min (vec_capacity a.nodes) (2 ^ 32) - vec_len a.nodes;
     } };
 
-    ghost invariant = { λ a. IsArena H.pair_of a.nodes.items };
+    ghost invariant = { λ a. IsArena H.pair_of a.nodes.items
+        × (length a.nodes.items ≤ 2 ^ 32) };
 }
 
 impl<H: PairHash> Arena<H> {
@@ -61,7 +64,7 @@ impl<H: PairHash> Arena<H> {
         let zeros = ZeroTable::new(hasher);
         nodes.push_reserved(Node::Leaf(Chunk::ZERO));
         for d in 0..LEVELS {
-            let below = NodeId(d as usize);
+            let below = NodeId(d);
             nodes.push_reserved(Node::Pair(below, below, Some(*zeros.get(d + 1))));
         }
         Ok(Arena {
@@ -72,18 +75,60 @@ impl<H: PairHash> Arena<H> {
 
     /// How many nodes there are.
     pub fn len(&self) -> usize
-        ensures { result ≡ node_count self.now }
+        ensures count { result ≡ node_count self.now }
+        ensures few { result ≤ 2 ^ 32 }
     {
         self.nodes.len()
     }
 
-    /// Makes room for n more nodes. Fails for want of memory.
+    /// For how many more nodes there is room.
+    pub fn spare(&self) -> usize
+        ensures { result ≡ self.now.spare }
+    {
+        self.nodes.capacity().min(MOST_NODES) - self.nodes.len()
+    }
+
+    /// Where its memory is from.
+    pub fn allocator(&self) -> Global {
+        *self.nodes.allocator()
+    }
+
+    /// Makes room for n more nodes, and for as many again as there are, so that making room often
+    /// is cheap. Asks for nothing where there is room. Fails for want of memory, and where there
+    /// would be more than 2^32 nodes.
     pub fn reserve(&mut self, n: usize) -> Result<(), AllocError>
         ensures nodes { self.new.nodes ≡ self.old.nodes }
         ensures ok { OnOk result (n ≤ self.new.spare) }
         ensures more { self.old.spare ≤ self.new.spare }
+        ensures enough { n ≤ self.old.spare → IsOk result }
+        ensures stays { n ≤ self.old.spare → self.new ≡ self.old }
+        ensures err { OnErr result (self.new ≡ self.old) }
     {
+        if n <= self.spare() {
+            return Ok(());
+        }
+        if n > MOST_NODES - self.nodes.len() {
+            return Err(AllocError);
+        }
         self.nodes.reserve(n)
+    }
+
+    /// Makes room for n more nodes and for no other: for a caller that knows their number.
+    /// Asks for nothing where there is room. Fails for want of memory, and where there would be
+    /// more than 2^32 nodes.
+    pub fn reserve_exact(&mut self, n: usize) -> Result<(), AllocError>
+        ensures nodes { self.new.nodes ≡ self.old.nodes }
+        ensures ok { OnOk result (self.new.spare ≡ max n self.old.spare) }
+        ensures enough { n ≤ self.old.spare → IsOk result }
+        ensures err { OnErr result (self.new ≡ self.old) }
+    {
+        if n <= self.spare() {
+            return Ok(());
+        }
+        if n > MOST_NODES - self.nodes.len() {
+            return Err(AllocError);
+        }
+        self.nodes.reserve_exact(n)
     }
 
     // A new node, which can stand behind the others.
@@ -92,9 +137,11 @@ impl<H: PairHash> Arena<H> {
         requires node { CanJoin H.pair_of self.old.nodes node }
         ensures id { result.0 ≡ node_count self.old }
         ensures nodes { self.new.nodes ≡ self.old.nodes ++ node ∷ [] }
+        ensures keeps { KeepsNodes self.old self.new }
+        ensures same { KeepsTodo self.old self.new }
         ensures spare { self.new.spare + 1 ≡ self.old.spare }
     {
-        let id = NodeId(self.nodes.len());
+        let id = NodeId(self.nodes.len() as u32);
         self.nodes.push_reserved(node);
         id
     }
@@ -106,6 +153,7 @@ impl<H: PairHash> Arena<H> {
         ensures tree { tree_of self.new result ≡ leaf chunk.0 }
         ensures todo { todo self.new result ≡ 0 }
         ensures keeps { KeepsNodes self.old self.new }
+        ensures same { KeepsTodo self.old self.new }
         ensures unhashed { unhashed self.new ≡ unhashed self.old }
         ensures count { node_count self.new ≡ node_count self.old + 1 }
         ensures spare { self.new.spare + 1 ≡ self.old.spare }
@@ -123,6 +171,7 @@ impl<H: PairHash> Arena<H> {
             ≡ pair (tree_of self.old left) (tree_of self.old right) }
         ensures todo { todo self.new result ≡ 1 + todo self.old left + todo self.old right }
         ensures keeps { KeepsNodes self.old self.new }
+        ensures same { KeepsTodo self.old self.new }
         ensures unhashed { unhashed self.new ≡ unhashed self.old + 1 }
         ensures count { node_count self.new ≡ node_count self.old + 1 }
         ensures spare { self.new.spare + 1 ≡ self.old.spare }
@@ -138,7 +187,7 @@ impl<H: PairHash> Arena<H> {
         ensures todo { todo self.now result ≡ 0 }
     {
         let _ = &self.nodes;
-        NodeId(d as usize)
+        NodeId(d)
     }
 
     /// What the node shows: the chunk of a leaf, or the children of a pair.
@@ -146,7 +195,7 @@ impl<H: PairHash> Arena<H> {
         requires { IsNodeOf self.now id }
         ensures { Shows self.now id result }
     {
-        match &self.nodes[id.0] {
+        match &self.nodes[id.0 as usize] {
             Node::Leaf(chunk) => NodeRef::Leaf(chunk),
             Node::Pair(left, right, _) => NodeRef::Pair(*left, *right),
         }
@@ -159,7 +208,7 @@ impl<H: PairHash> Arena<H> {
         ensures some { IsSome result ↔ (todo self.now id ≡ 0) }
         ensures root { IfSome result (λ chunk. chunk.now.0 ≡ root H.pair_of (tree_of self.now id)) }
     {
-        match &self.nodes[id.0] {
+        match &self.nodes[id.0 as usize] {
             Node::Leaf(chunk) => Some(chunk),
             Node::Pair(_, _, cached) => cached.as_ref(),
         }
@@ -191,6 +240,9 @@ impl<H: PairHash> Arena<H> {
         ensures node { IfSome result (IsNodeOf self.now) }
         ensures tree { IfSome result (λ found.
             at (tree_of self.now id) index ≡ Some (tree_of self.now found)) }
+        // Below a node whose root is cached, each root is.
+        ensures todo { IfSome result (λ found. todo self.now found ≤ todo self.now id) }
+        ensures found { IfSome result (λ found. node_at self.now.nodes id (way index) ≡ Some found) }
     {
         let number = index.get();
         // No index is 0, but its type does not tell that here.
@@ -210,6 +262,13 @@ impl<H: PairHash> Arena<H> {
             }
         }
         Some(place)
+    }
+
+    /// What is to be hashed for the parts of a full tree adds up to no more than for the whole.
+    pub fn parts_add_up(&self)
+        ensures { LawOfParts self.now }
+    {
+        let _ = &self.nodes;
     }
 
     // The node with another node at the end of a way: the last `steps` binary digits of a number.
@@ -249,8 +308,8 @@ impl<H: PairHash> Arena<H> {
 
     /// A node with the tree of `id`, but with the tree of `other` at a generalized index. What is
     /// beside the way there is shared, and the pairs on it are new: at most as many of the spare
-    /// nodes as the index has levels. None, and nothing changes, exactly where the index leads
-    /// below a leaf.
+    /// nodes as the index has levels. What was to be hashed for the node that stood there is to be
+    /// hashed no longer. None, and nothing changes, exactly where the index leads below a leaf.
     pub fn replace(&mut self, id: NodeId, index: Gindex, other: NodeId) -> Option<NodeId>
         requires node { IsNodeOf self.old id }
         requires other { IsNodeOf self.old other }
@@ -263,7 +322,12 @@ impl<H: PairHash> Arena<H> {
             ≡ Some (tree_of self.new made)) }
         ensures todo { IfSome result (λ made.
             todo self.new made ≤ todo self.old id + levels index + todo self.old other) }
+        ensures saves { IfSome result (λ made. (found : NodeId)
+            → node_at self.old.nodes id (way index) ≡ Some found
+            → todo self.new made + todo self.old found
+            ≤ todo self.old id + levels index + todo self.old other) }
         ensures keeps { KeepsNodes self.old self.new }
+        ensures same { KeepsTodo self.old self.new }
         ensures unhashed { unhashed self.new ≤ unhashed self.old + levels index }
         ensures count { node_count self.new ≤ node_count self.old + levels index }
         ensures spare { self.old.spare ≤ self.new.spare + levels index }

@@ -1,4 +1,4 @@
-ghost use Rattle.std.specs.Prelude.{◌≡◌, ℕ, ◌<◌, All, map, length, IfOk};
+ghost use Rattle.std.specs.Prelude.{◌≡◌, ℕ, ◌<◌, ◌≤◌, ◌^◌, All, map, length, IfOk};
 ghost use Rattle.ssz_arena.specs.Copied.{AreMarks, AreOrdered, CopiesUpTo, HasPlaces, MarksChildren, moved_node, place_of};
 ghost use Rattle.ssz_arena.specs.Invariant.{IsArena};
 
@@ -18,15 +18,15 @@ pub(crate) fn marked(
 {
     let mut marks = vec![in alloc; false; nodes.len()]?;
     'roots: for root in roots {
-        marks[root.0] = true;
+        marks[root.0 as usize] = true;
     }
     let mut i = nodes.len();
     'children: while i > 0 {
         i -= 1;
         if marks[i] {
             if let Node::Pair(left, right, _) = nodes[i] {
-                marks[left.0] = true;
-                marks[right.0] = true;
+                marks[left.0 as usize] = true;
+                marks[right.0 as usize] = true;
             }
         }
     }
@@ -40,7 +40,7 @@ fn moved(node: Node, places: &[NodeId]) -> Node
 {
     match node {
         Node::Leaf(chunk) => Node::Leaf(chunk),
-        Node::Pair(left, right, cached) => Node::Pair(places[left.0], places[right.0], cached),
+        Node::Pair(left, right, cached) => Node::Pair(places[left.0 as usize], places[right.0 as usize], cached),
     }
 }
 
@@ -51,6 +51,7 @@ pub(crate) fn copied<H: PairHash>(
     marks: &[bool],
 ) -> Result<(Vec<Node>, Vec<NodeId>), AllocError>
     requires arena { IsArena H.pair_of nodes.now }
+    requires few { length nodes.now ≤ 2 ^ 32 }
     requires count { length marks.now ≡ length nodes.now }
     requires children { (i : ℕ) → MarksChildren nodes.now marks.now i }
     ensures { IfOk result (λ made. CopiesUpTo H.pair_of nodes.now marks.now (length nodes.now)
@@ -60,12 +61,12 @@ pub(crate) fn copied<H: PairHash>(
     let mut copy = Vec::from_slice(alloc, zeros)?;
     let mut places = Vec::with_capacity(alloc, nodes.len())?;
     'zeros: for i in 0..ZERO_TREES {
-        places.push(NodeId(i))?;
+        places.push(NodeId(i as u32))?;
     }
     'nodes: for i in ZERO_TREES..nodes.len() {
         if marks[i] {
             let node = moved(nodes[i], &places);
-            places.push(NodeId(copy.len()))?;
+            places.push(NodeId(copy.len() as u32))?;
             copy.push(node)?;
         } else {
             places.push(NodeId(0))?;
@@ -85,7 +86,7 @@ pub(crate) fn places_of(
 {
     let mut ids = Vec::new(alloc);
     for root in roots {
-        ids.push(places[root.0])?;
+        ids.push(places[root.0 as usize])?;
     }
     Ok(ids)
 }

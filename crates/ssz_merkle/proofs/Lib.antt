@@ -1,7 +1,7 @@
 pub mod Padding
-mod Binary
+pub mod Binary
 pub mod WholePairs
 pub mod Gathering
-mod Blocks
-mod Carrying
+pub mod Blocks
+pub mod Carrying
 mod Holding
