@@ -1,14 +1,18 @@
 -- The pairs that are hashed by each push, and at the end.
-use Rattle.std.proofs.Common.{◌≡◌, ℕ, zero, suc, ◌+◌, ◌-◌, ◌*◌, ◌/◌, ◌%◌, ◌^◌, ◌<◌, ◌≤◌, min, refl, ap, subst, ⊎_elim, arith}
+use Rattle.std.proofs.Common.{◌≡◌, ℕ, zero, suc, ◌+◌, ◌-◌, ◌*◌, ◌/◌, ◌%◌, ◌^◌, ◌<◌, ◌≤◌, min, refl, sym, ap, ◌∙◌, subst, ⊎_elim, arith}
+use Rattle.std.specs.List.{sum_by, range_with_len}
 use Rattle.std.proofs.Math.Nat.{div-eq_of_lt}
 use Rattle.std.proofs.Math.Pow.{shr_mono}
 use Rattle.std.proofs.lemmas.Bool.{cases_lt}
+use Rattle.std.proofs.lemmas.List.{map-id}
+use Rattle.std.proofs.lemmas.List.FromFn.{sum_by-map-range_with_len_more}
 use Rattle.std.proofs.lemmas.Nat.{pow_pos}
 use Rattle.ssz_chunk.specs.Chunk.{CountsUp}
 use Rattle.ssz_chunk.specs.Tree.{grow}
 use Rattle.ssz_chunk.proofs.Counting.{CountsUp-none}
 use Rattle.ssz_chunk.proofs.Growing.{grow-zero}
-use Rattle.ssz_merkle.specs.Frontier.{whole_pairs}
+use Rattle.ssz_merkle.specs.Frontier.{whole_pairs, push_pairs}
+use Rattle.ssz_merkle.specs.Laws.{LawOfCounts}
 use Rattle.ssz_merkle.proofs.Binary.{IsFollowed, shr-above, shr-below, low-within}
 
 -- one more chunk makes a pair on each level up to its last zeros
@@ -89,7 +93,7 @@ CountsUp-empty depth pushed count none =
     omega (arith, ap (grow depth) none, grow-zero depth) in
     subst (λ n. CountsUp n count count) no_pair (CountsUp-none count)
 
--- laws for callers
+-- nothing is whole before the first push
 pub whole_pairs-zero : (d : ℕ) → whole_pairs d 0 ≡ 0
 unfolding whole_pairs
 whole_pairs-zero zero = refl
@@ -110,3 +114,28 @@ pub whole_pairs-le-grow : (d n : ℕ) → whole_pairs d n ≤ grow d n
 unfolding whole_pairs grow
 whole_pairs-le-grow zero n = omega arith
 whole_pairs-le-grow (suc d) n = omega (arith, whole_pairs-le-grow d n)
+
+-- what n pushes make is what is whole after them
+sum_pushes : (d n : ℕ) → sum_by (push_pairs d) (range_with_len 0 n) ≡ whole_pairs d n
+sum_pushes d zero = sym (whole_pairs-zero d)
+sum_pushes d (suc n) =
+    let more : _ = sum_by-map-range_with_len_more (push_pairs d) (λ (x : ℕ). x) 0 n n
+    (omega arith) in
+    let one : suc n ≡ n + 1 = omega arith in
+    ap (λ k. sum_by (push_pairs d) (range_with_len 0 k)) one
+    ∙ sym (ap (sum_by (push_pairs d)) (map-id (range_with_len 0 (n + 1)))) ∙ more
+    ∙ ap (λ xs. sum_by (push_pairs d) xs + push_pairs d n) (map-id (range_with_len 0 n))
+    ∙ last (sum_by (push_pairs d) (range_with_len 0 n)) (whole_pairs d n) (whole_pairs d (n + 1))
+    (sum_pushes d n) (whole_pairs-rises d n)
+    ∙ ap (whole_pairs d) (sym one)
+  where
+    last : (sum a b : ℕ) → sum ≡ a → a ≤ b → sum + (b - a) ≡ b
+    last sum a b is more = omega arith
+
+pub law_of_counts : LawOfCounts
+law_of_counts d n = record {
+  none = whole_pairs-zero d;
+  rises = whole_pairs-rises d n;
+  within = whole_pairs-le-grow d n;
+  all = omega (arith, sum_pushes d n, whole_pairs-le-grow d n);
+}

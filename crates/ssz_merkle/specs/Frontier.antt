@@ -1,9 +1,9 @@
 -- What an accumulator keeps of the chunks that were pushed (simple-serialize.md, Merkleization:
 -- merkleize).
-use Rattle.std.specs.Prelude.{◌≡◌, ℕ, zero, suc, ◌+◌, ◌*◌, ◌/◌, ◌^◌, List, [], length, map, take, drop, slice_index_or}
+use Rattle.std.specs.Prelude.{◌≡◌, ℕ, zero, suc, ◌+◌, ◌-◌, ◌*◌, ◌/◌, ◌^◌, List, [], length, map, take, drop, slice_index_or}
 use Rattle.std.specs.Int.{bit_at}
 use Rattle.ssz_chunk.specs.declared.Chunk.{Chunk}
-use Rattle.ssz_chunk.specs.Tree.{Tree, leaf, root, full}
+use Rattle.ssz_chunk.specs.Tree.{Tree, leaf, root, full, grow}
 
 -- the depth of the tree, how many chunks were pushed, and a root for each level
 pub record Frontier : Type 0 where
@@ -33,3 +33,10 @@ pub record Holds (pair_of : List ℕ → List ℕ → List ℕ) (chunks : List (
 unfoldable pub whole_pairs : ℕ → ℕ → ℕ
 whole_pairs zero n = 0
 whole_pairs (suc d) n = whole_pairs d n + n / 2 ^ suc d
+
+-- the pairs that one more push hashes after n others, and those that finish hashes after n pushes
+abbrev pub push_pairs : ℕ → ℕ → ℕ
+push_pairs d n = whole_pairs d (n + 1) - whole_pairs d n
+
+abbrev pub finish_pairs : ℕ → ℕ → ℕ
+finish_pairs d n = grow d n - whole_pairs d n

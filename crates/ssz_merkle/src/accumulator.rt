@@ -1,8 +1,8 @@
-ghost use Rattle.std.specs.Prelude.{◌≡◌, ◌+◌, ◌-◌, ◌^◌, ◌<◌, ◌≤◌, ℕ, List, [], ◌∷◌, ◌++◌};
+ghost use Rattle.std.specs.Prelude.{◌≡◌, ◌+◌, ◌^◌, ◌<◌, ◌≤◌, ℕ, List, [], ◌∷◌, ◌++◌};
 ghost use Rattle.ssz_chunk.specs.declared.TheConstants.{LEVELS};
 ghost use Rattle.ssz_chunk.specs.Chunk.{CountsUp};
-ghost use Rattle.ssz_chunk.specs.Tree.{root, full, grow};
-ghost use Rattle.ssz_merkle.specs.Frontier.{Holds, leaves, whole_pairs};
+ghost use Rattle.ssz_chunk.specs.Tree.{root, full};
+ghost use Rattle.ssz_merkle.specs.Frontier.{Holds, finish_pairs, leaves, push_pairs};
 
 use ssz_chunk::{Chunk, LEVELS, PairHash, ZeroTable};
 use std::marker::Model;
@@ -59,8 +59,7 @@ impl<'a, H: PairHash> Accumulator<'a, H> {
         ensures pushed { self.new.pushed ≡ self.old.pushed + 1 }
         ensures holds { (chunks : List (List ℕ)) → Holds H.pair_of chunks self.old
             → Holds H.pair_of (chunks ++ chunk.now.0 ∷ []) self.new }
-        ensures counts { CountsUp (whole_pairs self.old.depth (self.old.pushed + 1)
-            - whole_pairs self.old.depth self.old.pushed)
+        ensures counts { CountsUp (push_pairs self.old.depth self.old.pushed)
             (H.pairs hasher.old) (H.pairs hasher.new) }
     {
         let mut carry = *chunk;
@@ -80,8 +79,7 @@ impl<'a, H: PairHash> Accumulator<'a, H> {
     pub fn finish(self, hasher: &mut H) -> Chunk
         ensures root { (chunks : List (List ℕ)) → Holds H.pair_of chunks self.entry
             → result.0 ≡ root H.pair_of (full self.entry.depth (leaves chunks)) }
-        ensures counts { CountsUp (grow self.entry.depth self.entry.pushed
-            - whole_pairs self.entry.depth self.entry.pushed)
+        ensures counts { CountsUp (finish_pairs self.entry.depth self.entry.pushed)
             (H.pairs hasher.old) (H.pairs hasher.new) }
     {
         self.root(hasher)
@@ -91,8 +89,7 @@ impl<'a, H: PairHash> Accumulator<'a, H> {
     fn root(&self, hasher: &mut H) -> Chunk
         ensures root { (chunks : List (List ℕ)) → Holds H.pair_of chunks self.now
             → result.0 ≡ root H.pair_of (full self.now.depth (leaves chunks)) }
-        ensures counts { CountsUp (grow self.now.depth self.now.pushed
-            - whole_pairs self.now.depth self.now.pushed)
+        ensures counts { CountsUp (finish_pairs self.now.depth self.now.pushed)
             (H.pairs hasher.old) (H.pairs hasher.new) }
     {
         if self.pushed == 0 {
