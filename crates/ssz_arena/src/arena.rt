@@ -93,9 +93,9 @@ impl<H: PairHash> Arena<H> {
         *self.nodes.allocator()
     }
 
-    /// Makes room for n more nodes, and for as many again as there are, so that making room often
-    /// is cheap. Asks for nothing where there is room. Fails for want of memory, and where there
-    /// would be more than 2^32 nodes.
+    /// Makes room for n more nodes, and doubles the room for all of them at least, so that little
+    /// by little is cheap too. Asks for nothing where there is room. Fails for want of memory, and
+    /// where there would be more than 2^32 nodes.
     pub fn reserve(&mut self, n: usize) -> Result<(), AllocError>
         ensures nodes { self.new.nodes ≡ self.old.nodes }
         ensures ok { OnOk result (n ≤ self.new.spare) }

@@ -6,7 +6,8 @@
 //! missing, each shared node once, and what was hashed is never lost.
 //!
 //! What a node's tree is, and how much is to be hashed for its root, is defined in
-//! `specs/Content.antt`. Only `start`, `reserve` and `compact` take memory.
+//! `specs/Content.antt`. Only `start`, `reserve`, `reserve_exact` and `compact` take memory: 48
+//! bytes for a node, of which there are at most 2^32.
 #![tactic(auto)]
 
 mod arena;

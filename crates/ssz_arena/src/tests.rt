@@ -172,3 +172,29 @@ fn compaction_leaves_what_is_reached(rt: HostRuntime) -> Result<(), Fail> {
     assert_eq!(rt; hasher.count(), count);
     Ok(())
 }
+
+#[test]
+fn room_is_made_once(rt: HostRuntime) -> Result<(), Fail> {
+    let mut hasher = XorPair::new();
+    let mut arena = Arena::start(rt.alloc(), &mut hasher)?;
+    arena.reserve_exact(5)?;
+    arena.reserve(5)?;
+    assert_eq!(rt; arena.spare(), 5);
+    // 2^32 nodes are the most, and 127 are there.
+    assert!(rt; arena.reserve((1 << 32) - 126).is_err());
+    Ok(())
+}
+
+#[test]
+fn below_a_hashed_node_all_is_hashed(rt: HostRuntime) -> Result<(), Fail> {
+    let mut hasher = XorPair::new();
+    let mut arena = Arena::start(rt.alloc(), &mut hasher)?;
+    let old = arena.zero(8);
+    let top = edited(&mut arena, old, 256 + 77, 9)?.expect(&rt, "place 77 of 2^8");
+    let index = Gindex::new(16 + 4).expect(&rt, "not 0");
+    let part = arena.down(top, index).expect(&rt, "place 4 of 2^4");
+    assert!(rt; arena.cached(part).is_none());
+    arena.root(top, &mut hasher);
+    assert!(rt; arena.cached(part).is_some());
+    Ok(())
+}
