@@ -13,7 +13,8 @@ number_after-ge n (d ∷ digits) = omega (arith, number_after-ge (n * 10 + (d - 
 pub number_after-digit : (n i : ℕ) (digits : List ℕ) → i < length digits
     → n * 10 + (get_or digits i 0 - 48) ≤ number_after n (drop i digits)
 number_after-digit n i digits h =
-    rw (drop-cons digits i 0) (number_after-ge (n * 10 + (get_or digits i 0 - 48)) (drop (suc i) digits))
+    rw (drop-cons digits i 0)
+    (number_after-ge (n * 10 + (get_or digits i 0 - 48)) (drop (suc i) digits))
 
 none_if_not : (b : Bool) (n : ℕ) → b ≡ false → None ≡ (if b then Some n else None)
 none_if_not b n h = rw h refl

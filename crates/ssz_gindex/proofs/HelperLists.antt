@@ -3,7 +3,7 @@ use Rattle.std.proofs.Common.{◌≡◌, ◌≢◌, ℕ, zero, suc, ◌+◌, ◌
 use Rattle.std.specs.List.{AllByRecursion}
 use Rattle.std.proofs.lemmas.Bool.{cases_Bool, or_cases, and_parts, eqb-true, eq-eqb, ne_eqb, false≢true, or_left, or_from, cases_eq, cond-true, cond-false}
 use Rattle.ssz_gindex.specs.Helpers.{sibling, is_on_paths, is_helper, descending, greatest, helpers}
-use Rattle.ssz_gindex.specs.Laws.{IsDescending, contains, LawOfHelpers}
+use Rattle.ssz_gindex.specs.Laws.{IsDescending, contains, IsListOfHelpers, LawOfHelpers}
 use Rattle.ssz_gindex.proofs.Within.{on_paths-small}
 
 -- a list whose numbers are all below x does not contain it
@@ -65,7 +65,7 @@ filter-below p (suc m) top h =
     keep_all (λ k. k < top) (p m) m (filter p (descending m)) h
     (filter-below p m top (omega arith))
 
-pub IsDescending-filter : (p : ℕ → Bool) (n : ℕ) → IsDescending (filter p (descending n))
+IsDescending-filter : (p : ℕ → Bool) (n : ℕ) → IsDescending (filter p (descending n))
 unfolding descending
 IsDescending-filter p zero = tt
 IsDescending-filter p (suc n) =
@@ -118,8 +118,21 @@ pub contains-helpers : (indices : List ℕ) (g : ℕ)
 contains-helpers indices g =
     contains-filter (is_helper indices) (greatest indices + 2) g (λ e. helper-small indices g e)
 
-pub law_of_helpers : LawOfHelpers
-law_of_helpers indices list down members =
-    same_descending list (helpers indices) down
-    (IsDescending-filter (is_helper indices) (greatest indices + 2))
+pub IsDescending-helpers : (indices : List ℕ) → IsDescending (helpers indices)
+IsDescending-helpers indices = IsDescending-filter (is_helper indices) (greatest indices + 2)
+
+-- no other descending list has exactly the helpers
+pub only_helpers : (indices list : List ℕ) → IsDescending list
+    → ((g : ℕ) → contains list g ≡ is_helper indices g) → list ≡ helpers indices
+only_helpers indices list down members =
+    same_descending list (helpers indices) down (IsDescending-helpers indices)
     (λ g. members g ∙ sym (contains-helpers indices g))
+
+pub law_of_helpers : LawOfHelpers
+law_of_helpers indices list = (
+  (λ is. only_helpers indices list is.descends is.exact),
+  (λ same. subst (IsListOfHelpers indices) (sym same) (record {
+    descends = IsDescending-helpers indices;
+    exact = contains-helpers indices;
+  })),
+)

@@ -15,16 +15,17 @@ use Rattle.ssz_gindex.proofs.Within.{below_from, way_below, halves_once, sibling
 some_at : {X : Type 0} (o : Option X) (x : X) → o ≡ Some x → IsSome o
 some_at o x e = ap is_some e
 
-some_from : {X : Type 0} (o : Option X) → is_some o ≡ true → (x : X) × (o ≡ Some x)
+pub some_from : {X : Type 0} (o : Option X) → is_some o ≡ true → (x : X) × (o ≡ Some x)
 some_from None e = absurd (false≢true e)
 some_from (Some x) e = (x, refl)
 
-is_pair : (node x : Tree) (step : Bool) (steps : List Bool) → at_way node (step ∷ steps) ≡ Some x
+-- a tree that has a node below its root is a pair
+pub is_pair : (node x : Tree) (step : Bool) (steps : List Bool) → at_way node (step ∷ steps) ≡ Some x
     → (left : Tree) × (right : Tree) × (node ≡ pair left right)
 is_pair (leaf chunk) x step steps e = absurd (none-some x e)
 is_pair (pair left right) x step steps e = (left, right, refl)
 
-first_digit : (n k : ℕ) → (step : Bool) × (steps : List Bool) × (digits (suc n) k ≡ step ∷ steps)
+pub first_digit : (n k : ℕ) → (step : Bool) × (steps : List Bool) × (digits (suc n) k ≡ step ∷ steps)
 unfolding digits
 first_digit n k = (eqb (k / 2 ^ n % 2) 1, digits n k, refl)
 
@@ -71,7 +72,7 @@ beside_way tree i h n positive there some e =
     children_at tree node.0 x.0 h (i % 2 ^ suc n) n positive node.1
     (sym (at_way-append_some tree node.0 (way h) (digits (suc n) (i % 2 ^ suc n)) node.1) ∙ whole)
 
-half_sibling : (g : ℕ) → 2 ≤ g → sibling g / 2 ≡ g / 2
+pub half_sibling : (g : ℕ) → 2 ≤ g → sibling g / 2 ≡ g / 2
 half_sibling g large = elim (cases_eq (g % 2) 0) [
   | inl even ↦ omega (arith, sibling-even g even)
   | inr odd ↦ omega (arith, sibling-odd g (omega arith))

@@ -1,3 +1,4 @@
+pub mod StepRoom
 pub mod PathWalk
 pub mod Within
 pub mod HelperLists

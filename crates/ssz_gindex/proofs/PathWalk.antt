@@ -21,6 +21,7 @@ use Rattle.ssz_schema.specs.Paths.{Path, step_type}
 use Rattle.ssz_schema.specs.Indices.{step_levels, step_position, step_index, generalized_index, generalized_index_from}
 use Rattle.ssz_schema.proofs.PathLemmas.{step-levels, step-below}
 use Rattle.ssz_schema.proofs.StepLemmas.{Part, found_field, missing_field}
+use Rattle.ssz_gindex.proofs.StepRoom.{step_room}
 
 few_levels : (format : Format) (t : SszType) → IsWithinLimits format t → levels t ≤ 126
 few_levels One t limits = omega (arith, limits.levels)
@@ -53,65 +54,17 @@ along-start t path few = record {
       omega (arith, most, pow-add 2 1 (levels t));
 }
 
--- what a step adds has room
-pub step_room : (t : SszType) (path : Path) (index : ℕ) (u : SszType) (step : PathStep)
-    (rest : Path) (part : SszType)
-    → IsAlong t path index u (step ∷ rest) → step_type u step ≡ Some part
-    → (index + 1) * 2 ^ step_levels u step * 2 ^ levels part ≤ 2 ^ 127
-step_room t path index u step rest part along fits =
-    let down : step_levels u step + levels part ≤ levels u = step-levels u step part fits in
-    let whole : (index + 1) * 2 ^ (step_levels u step + levels part) ≤ (index + 1) * 2 ^ levels u =
-    mul-le-mul_left (index + 1) (pow-le-pow_right (omega arith) down) in
-    let joined : (index + 1) * 2 ^
-    (step_levels u step + levels part) ≡ (index + 1) * (2 ^ step_levels u step * 2 ^ levels
-    part) =
-    ap (λ n. (index + 1) * n) (pow-add 2 (step_levels u step) (levels part)) in
-    omega (arith, along.room, whole, joined)
-
-pub step_fits : (t : SszType) (path : Path) (index : ℕ) (u : SszType) (step : PathStep)
-    (rest : Path) (part : SszType)
-    → IsAlong t path index u (step ∷ rest) → step_type u step ≡ Some part
-    → (index + 1) * 2 ^ step_levels u step ≤ 2 ^ 127
-step_fits t path index u step rest part along fits =
-    let unit : 1 ≤ 2 ^ levels part = pow_pos (levels part) in
-    omega (
-      arith,
-      step_room t path index u step rest part along fits,
-      mul-le-mul_left
-          ((index + 1) * 2 ^ step_levels u step) unit,
-    )
-
-pub power_fits : (t : SszType) (path : Path) (index : ℕ) (u : SszType) (step : PathStep)
-    (rest : Path) (part : SszType)
-    → IsAlong t path index u (step ∷ rest) → step_type u step ≡ Some part
-    → 2 ^ step_levels u step ≤ 2 ^ 127
-power_fits t path index u step rest part along fits =
-    let one : 1 ≤ index + 1 = omega arith in
-    omega (
-      arith,
-      step_fits t path index u step rest part along fits,
-      mul-le-mul_right
-          (2 ^ step_levels u step) one,
-    )
-
 pub along-step : (t : SszType) (path : Path) (index : ℕ) (u : SszType) (step : PathStep)
     (rest : Path) (part : SszType)
     → IsAlong t path index u (step ∷ rest) → step_type u step ≡ Some part
     → IsAlong t path (step_index index u step) part rest
 along-step t path index u step rest part along fits =
-    let below : step_position u step < 2 ^ step_levels u step = step-below u step part fits in
     let unit : 1 ≤ 2 ^ step_levels u step = pow_pos (step_levels u step) in
-    let next : step_index index u step + 1 ≤ (index + 1) * 2 ^ step_levels u step = omega arith in
     record {
       same = along.same ∙ ap (option_and_then
           (λ p. generalized_index_from (step_index index u step) p rest)) fits;
       some = omega (arith, mul-le-mul_left index unit, along.some);
-      room = omega (
-        arith,
-        mul-le-mul_right
-            (2 ^ levels part) next,
-        step_room t path index u step rest part along fits,
-      );
+      room = (step_room index u part step along.room fits).next;
     }
 
 -- no index where a step does not fit
@@ -158,9 +111,7 @@ missing_position types id ty parts found name answer form is items at fits =
 -- The loop over a path's steps: what is known of one that a schema answers.
 pub record GoesOn (t : SszType) (path : Path) (index : ℕ) (u : SszType) (step : PathStep)
     (rest : Path) (part : SszType) : Type 0 where
-  pub power : 2 ^ step_levels u step ≤ 2 ^ 127
-  pub place : step_position u step < 2 ^ step_levels u step
-  pub room : (index + 1) * 2 ^ step_levels u step ≤ 2 ^ 127
+  pub fits : IsSome (step_type u step)
   pub along : IsAlong t path (step_index index u step) part rest
 
 pub next-along : (types : Types) (t : SszType) (path : Path) (index id i : ℕ) (step : PathStep)
@@ -180,11 +131,7 @@ next-along types t path index id i step answer next along below item exact is =
     let fits : step_type (type_of types id) step ≡ Some (type_of types next) = sym exact
     ∙ ap (option_map (type_of types)) is in
     record {
-      power = power_fits t path index (type_of types id) step (drop (i + 1) path)
-          (type_of types next) here fits;
-      place = step-below (type_of types id) step (type_of types next) fits;
-      room = step_fits t path index (type_of types id) step (drop (i + 1) path)
-          (type_of types next) here fits;
+      fits = ap is_some fits;
       along = along-step t path index (type_of types id) step (drop (i + 1) path)
           (type_of types next) here fits;
     }
@@ -203,9 +150,3 @@ ends-along types t path index id i step answer along below item exact is =
     along-none t path index (type_of types id) step (drop (i + 1) path)
     (subst (IsAlong t path index (type_of types id)) rest along)
     (sym exact ∙ ap (option_map (type_of types)) is)
-
--- the index fits, where its parts are those of the step
-pub index_fits : (index levels position place : ℕ) → (index + 1) * 2 ^ levels ≤ 2 ^ 127
-    → place < 2 ^ levels → position ≡ place
-    → index * 2 ^ levels + position < 2 ^ 128
-index_fits index levels position place room below same = omega arith

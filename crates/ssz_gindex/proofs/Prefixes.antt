@@ -11,7 +11,7 @@ use Rattle.ssz_gindex.specs.Helpers.{is_helper, greatest, helpers}
 use Rattle.ssz_gindex.specs.Laws.{IsDescending, contains}
 use Rattle.ssz_gindex.specs.Faults.{AreHelpers}
 use Rattle.ssz_gindex.specs.Walk.{IsUpper, Walks, Met}
-use Rattle.ssz_gindex.proofs.HelperLists.{lacks, at_most_first, has_first, contains-helpers, IsDescending-filter}
+use Rattle.ssz_gindex.proofs.HelperLists.{lacks, at_most_first, has_first, contains-helpers, IsDescending-helpers}
 
 -- a descending list begins with another one that has just those of its numbers that are not below
 -- a bound
@@ -48,7 +48,7 @@ pub front-helpers : (indices : List ℕ) (waiting : ℕ → Bool) (found : List 
     → (more : List ℕ) × (helpers indices ≡ found ++ more)
 front-helpers indices waiting found bound met =
     front_of bound found (helpers indices) met.down
-    (IsDescending-filter (is_helper indices) (greatest indices + 2))
+    (IsDescending-helpers indices)
     (λ k e. (let is = met.helper k e in (is.0, contains-helpers indices k ∙ is.1)))
     (λ k e low. met.all k (sym (contains-helpers indices k) ∙ e) low)
 

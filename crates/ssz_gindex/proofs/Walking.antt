@@ -7,7 +7,7 @@ use Rattle.ssz_gindex.specs.Helpers.{sibling, is_on_paths, is_helper, helpers, A
 use Rattle.ssz_gindex.specs.Laws.{IsDescending, contains}
 use Rattle.ssz_gindex.specs.Walk.{Met}
 use Rattle.ssz_gindex.proofs.Within.{below_from, within_halves, halves_once, above_from, on_paths_from, sibling-even, sibling-odd}
-use Rattle.ssz_gindex.proofs.HelperLists.{law_of_helpers}
+use Rattle.ssz_gindex.proofs.HelperLists.{only_helpers}
 
 -- Lists and tests.
 
@@ -201,7 +201,7 @@ module _ (indices : List ℕ) (waiting : ℕ → Bool) (found : List ℕ) (bound
 
     pub ends-helpers : found ≡ helpers indices
     ends-helpers =
-        law_of_helpers indices found met.down
+        only_helpers indices found met.down
         (λ k. same_tests (contains found k) (is_helper indices k)
         (λ e. (met.helper k e).1) (λ e. met.all k e (helper_met k e)))
 

@@ -1,5 +1,5 @@
 -- What is always so of helper indices.
-use Rattle.std.specs.Prelude.{ℕ, ◌==◌, ◌≡◌, ◌≢◌, ◌<◌, Bool, true, List, [], ◌∷◌, IsSome}
+use Rattle.std.specs.Prelude.{ℕ, ◌==◌, ◌≡◌, ◌≢◌, ◌<◌, ◌↔◌, Bool, true, List, [], ◌∷◌, IsSome}
 use Rattle.std.specs.List.{list_any, AllByRecursion}
 use Rattle.ssz_chunk.specs.Tree.{Tree}
 use Rattle.ssz_chunk.specs.Index.{at}
@@ -13,11 +13,14 @@ IsDescending (g ∷ indices) = AllByRecursion (λ k. k < g) indices × IsDescend
 abbrev pub contains : List ℕ → ℕ → Bool
 contains indices g = list_any (λ k. k == g) indices
 
--- the helper indices are the one descending list of exactly the helpers
+-- a descending list of all helpers of some indices, and of nothing else
+pub record IsListOfHelpers (indices list : List ℕ) : Type 0 where
+  pub descends : IsDescending list
+  pub exact : (g : ℕ) → contains list g ≡ is_helper indices g
+
+-- the helper indices are such a list, and no other list is
 abbrev pub LawOfHelpers : Type 0
-LawOfHelpers =
-    (indices list : List ℕ) → IsDescending list
-    → ((g : ℕ) → contains list g ≡ is_helper indices g) → list ≡ helpers indices
+LawOfHelpers = (indices list : List ℕ) → IsListOfHelpers indices list ↔ (list ≡ helpers indices)
 
 -- an index at which a tree has a node
 pub record IsIn (tree : Tree) (index : ℕ) : Type 0 where

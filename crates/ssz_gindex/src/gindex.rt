@@ -1,4 +1,4 @@
-ghost use Rattle.std.specs.Prelude.{◌≡◌, ◌/◌, ◌<◌, ◌↔◌, IsSome, IfSome};
+ghost use Rattle.std.specs.Prelude.{◌≡◌, ◌+◌, ◌*◌, ◌/◌, ◌^◌, ◌<◌, ◌↔◌, IsSome, IfSome};
 ghost use Rattle.ssz_chunk.specs.Index.{levels};
 ghost use Rattle.ssz_gindex.specs.Helpers.{sibling, is_within};
 
@@ -36,6 +36,24 @@ impl Gindex {
         Some(Gindex { number })
     }
 
+    /// The index of the whole tree: 1.
+    pub fn root() -> Gindex
+        ensures { result ≡ 1 }
+    {
+        Gindex { number: 1 }
+    }
+
+    // The index so far to the right of another one, on the same level.
+    pub(crate) fn behind(number: u128, position: u64) -> Gindex
+        requires some { 0 < number }
+        requires room { number + position < 2 ^ 128 }
+        ensures { result ≡ number + position }
+    {
+        Gindex {
+            number: number + u128::from(position),
+        }
+    }
+
     /// Its number.
     pub fn get(self) -> u128
         ensures number { result ≡ self }
@@ -61,6 +79,17 @@ impl Gindex {
     {
         Gindex {
             number: self.number / 2,
+        }
+    }
+
+    /// The child to the right: 2k + 1. Below the index of a list or a union it is the place of the
+    /// length or the selector.
+    pub fn right(self) -> Gindex
+        requires { self < 2 ^ 127 }
+        ensures { result ≡ 2 * self + 1 }
+    {
+        Gindex {
+            number: 2 * self.number + 1,
         }
     }
 

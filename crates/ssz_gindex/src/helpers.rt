@@ -12,8 +12,8 @@ use std::alloc::{AllocError, Global};
 /// at the indices, the root is calculated (merkle-proofs.md, Merkle multiproofs:
 /// get_helper_indices). An index may stand more than once.
 ///
-/// Nested exactly where an index is an ancestor of another: it names the greatest such index, and
-/// the greatest index below that one. Memory is taken in proportion to the indices and the answer.
+/// Nested where an index is an ancestor of another: it names the greatest such index, and the
+/// greatest index below that one. Only want of memory, Memory, comes in place of either answer.
 pub fn helper_indices(alloc: Global, indices: &[Gindex]) -> Result<Vec<Gindex>, HelperFault>
     ensures helpers { IfOk result (λ list. list.items ≡ helpers indices.now) }
     ensures flat { OnOk result (AreFlat indices.now) }
@@ -33,11 +33,11 @@ pub fn helper_indices(alloc: Global, indices: &[Gindex]) -> Result<Vec<Gindex>, 
 }
 
 /// Whether no index is an ancestor of another, and the nodes are the helper indices of the indices
-/// in descending order. It stops at the first difference, and takes memory in proportion to the
-/// indices alone, however many nodes there are.
+/// in descending order. An error is want of memory.
 pub fn are_helpers(alloc: Global, indices: &[Gindex], nodes: &[Gindex]) -> Result<bool, AllocError>
     ensures { IfOk result (λ answer. IsTrue answer ↔ AreHelpers indices.now nodes.now) }
 {
+    // The helpers are not gathered, so that a list of too many nodes costs no memory.
     let mut walk = Walk::start(alloc, indices)?;
     for node in nodes {
         if !next_is(&mut walk, *node)? {

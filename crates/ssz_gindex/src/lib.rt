@@ -1,9 +1,9 @@
 //! Generalized indices: the places of a tree's nodes as numbers (merkle-proofs.md, Generalized
 //! Merkle tree index).
 //!
-//! `Gindex::of_path` is the place of the part that a path names. `helper_indices` are the nodes
-//! that a multiproof of some indices needs beside them, and `are_helpers` compares a list with
-//! those. Both walk up the paths to the indices, the greatest node first, and meet each node once.
+//! `Gindex::of_path` is the place of the part that a path names, step by step. `helper_indices` are
+//! the nodes that a multiproof of some indices needs beside them, and `are_helpers` compares a list
+//! with those. Both walk up the paths to the indices, the greatest node first.
 #![tactic(auto)]
 
 mod fault;

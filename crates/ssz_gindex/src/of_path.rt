@@ -5,7 +5,7 @@ ghost use Rattle.ssz_schema.specs.Unfolding.{type_of};
 ghost use Rattle.ssz_schema.specs.Sizes.{basic_size, levels};
 ghost use Rattle.ssz_schema.specs.declared.path.PathStep.TheVariants.{Field, Index};
 ghost use Rattle.ssz_schema.specs.Paths.{step_type};
-ghost use Rattle.ssz_schema.specs.Indices.{element_position, step_levels, step_position, generalized_index};
+ghost use Rattle.ssz_schema.specs.Indices.{element_position, step_levels, step_position, step_index, generalized_index};
 
 use super::gindex::Gindex;
 use ssz_schema::{Name, PathStep, Schema, Ty, TypeId, field_at};
@@ -20,17 +20,30 @@ impl Gindex {
     {
         // A legal type has at most 126 levels, so that each index fits.
         let _legal = schema.ty(id);
-        let mut number = 1u128;
+        let mut index = Gindex::root();
         let mut part = id;
         for step in path {
             let Some(next) = schema.step_type(part, step) else {
                 return None;
             };
-            let levels = step_levels(schema, part, step);
-            number = number * 2u128.pow(levels) + u128::from(step_position(schema, part, step));
+            index = index.step(schema, part, step);
             part = next;
         }
-        Gindex::new(number)
+        Some(index)
+    }
+
+    /// The place of the part that a step leads to, where this is the place of a value of the type.
+    ///
+    /// Conditions: the step fits the type, and the levels of the type have room below this index.
+    pub fn step(self, schema: &Schema, id: TypeId, step: &PathStep) -> Gindex
+        requires known { id < length schema.now.trees }
+        requires fits { IsSome (step_type (type_of schema.now id) step.now) }
+        requires room { (self + 1) * 2 ^ levels (type_of schema.now id) ≤ 2 ^ 127 }
+        ensures { result ≡ step_index self (type_of schema.now id) step.now }
+    {
+        let levels = step_levels(schema, id, step);
+        let number = self.get() * 2u128.pow(levels);
+        Gindex::behind(number, step_position(schema, id, step))
     }
 }
 

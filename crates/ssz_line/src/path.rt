@@ -21,7 +21,8 @@ fn path_step(alloc: Global, part: &[u8]) -> Result<PathStep, LineFault>
         return Ok(PathStep::Selector);
     }
     if part.starts_with(b"#") {
-        return Ok(PathStep::Option(read_selector(part.split_at(1).1)?));
+        let number = read_selector(part.split_at(1).1).ok_or(LineFault::Syntax)?;
+        return Ok(PathStep::Option(number));
     }
     if is_name(part) {
         return Ok(PathStep::Field(Name::copy_of(alloc, part)?));

@@ -69,10 +69,9 @@ pub fn read_literal(alloc: Global, word: &[u8]) -> Result<ByteRun, LineFault>
     }
 }
 
-/// The selector of a union that the word is: a decimal number from 0 to 255. Never answers
-/// `Memory`.
-pub fn read_selector(word: &[u8]) -> Result<u8, LineFault>
-    ensures { Reads result (selector word.now) }
+/// The selector of a union that the word is: a decimal number from 0 to 255. None where it is none.
+pub fn read_selector(word: &[u8]) -> Option<u8>
+    ensures { result ≡ selector word.now }
 {
-    number_of_8_bits(word).ok_or(LineFault::Syntax)
+    number_of_8_bits(word)
 }

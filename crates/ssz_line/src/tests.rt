@@ -170,8 +170,8 @@ fn numbers(rt: HostRuntime) -> Result<(), Fail> {
             "{word:?}"
         );
     }
-    assert_eq!(rt; read_selector(b"255"), Ok(255));
-    assert_eq!(rt; read_selector(b"256"), Err(LineFault::Syntax));
+    assert_eq!(rt; read_selector(b"255"), Some(255));
+    assert_eq!(rt; read_selector(b"256"), None);
     Ok(())
 }
 

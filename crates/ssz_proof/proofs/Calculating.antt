@@ -1,10 +1,10 @@
 -- The equations of a calculated root as it goes down, and the root that a tree's chunks give.
-use Rattle.std.proofs.Common.{◌≡◌, ◌≢◌, ℕ, zero, suc, ◌+◌, ◌*◌, ◌/◌, ◌%◌, ◌^◌, ◌<◌, ◌≤◌, Bool, true, false, List, [], ◌∷◌, ◌++◌, refl, sym, ap, ap₂, ◌∙◌, Some, None, is_some, unwrap_or, arith, inl, inr}
+use Rattle.std.proofs.Common.{◌≡◌, ◌≢◌, ℕ, zero, suc, ◌+◌, ◌*◌, ◌/◌, ◌%◌, ◌^◌, ◌<◌, ◌≤◌, true, false, List, [], ◌∷◌, ◌++◌, refl, sym, ap, ap₂, ◌∙◌, Some, None, is_some, unwrap_or, arith, inl, inr}
 use Rattle.std.specs.List.{AllByRecursion}
 use Rattle.std.proofs.lemmas.Bool.{false≢true, or_left}
 use Rattle.std.proofs.lemmas.Option.{none-some, same_Some}
 use Rattle.ssz_chunk.specs.Chunk.{zero_chunk}
-use Rattle.ssz_chunk.specs.Tree.{Tree, leaf, pair, root}
+use Rattle.ssz_chunk.specs.Tree.{Tree, pair, root}
 use Rattle.ssz_chunk.specs.Index.{levels, way, digits, at, at_way}
 use Rattle.ssz_chunk.proofs.Digits.{way-one}
 use Rattle.ssz_chunk.proofs.Ways.{at_way-append_some}
@@ -12,8 +12,10 @@ use Rattle.ssz_gindex.specs.Helpers.{is_within, is_on_paths, helpers}
 use Rattle.ssz_proof.specs.declared.entry.Entry.{Entry}
 use Rattle.ssz_proof.specs.Calculation.{Known, PairOf, indices_of, chunk_at, deepest, calculated_within, calculated}
 use Rattle.ssz_proof.specs.Laws.{HasChunk, LawOfProofs}
-use Rattle.ssz_proof.proofs.Within.{below_from, way_below, child_levels, child_way, child_within, root_within}
-use Rattle.ssz_proof.proofs.KnownChunks.{any_known, any_from, known-left, unknown-left, known_holds, known_deep, some_or_none, some_from}
+use Rattle.ssz_gindex.proofs.Within.{below_from, way_below}
+use Rattle.ssz_gindex.proofs.HelperNodes.{some_from, is_pair, first_digit}
+use Rattle.ssz_proof.proofs.Within.{child_levels, child_way, child_within, root_within}
+use Rattle.ssz_proof.proofs.KnownChunks.{any_known, any_from, known-left, unknown-left, known_holds, known_deep, some_or_none}
 use Rattle.ssz_proof.proofs.HelperIndices.{reached, reached-on, both_children, on_if_unknown}
 
 -- the calculation goes on from an index that is not known to both children
@@ -160,15 +162,6 @@ all_by_way pair_of tree [] all = tt
 all_by_way pair_of tree (entry ∷ known) all =
     (by_way pair_of tree entry all.0, all_by_way pair_of tree known all.1)
 
-is_pair : (node x : Tree) (b : Bool) (steps : List Bool) → at_way node (b ∷ steps) ≡ Some x
-    → (left : Tree) × (right : Tree) × (node ≡ pair left right)
-is_pair (leaf chunk) x b steps e = absurd (none-some x e)
-is_pair (pair left right) x b steps e = (left, right, refl)
-
-first_digit : (n k : ℕ) → (b : Bool) × (steps : List Bool) × (digits (suc n) k ≡ b ∷ steps)
-unfolding digits
-first_digit n k = (_, digits n k, refl)
-
 digit_left : digits 1 0 ≡ false ∷ []
 unfolding digits
 digit_left = refl
@@ -184,7 +177,13 @@ to_right : (node left right : Tree) → node ≡ pair left right
     → at_way node (digits 1 1) ≡ Some right
 to_right node left right is = ap₂ at_way is digit_right
 
-module _ (leaves nodes : Known) (complete : indices_of nodes ≡ helpers (indices_of leaves)) (pair_of : PairOf) (tree : Tree) (held : AllByRecursion (λ entry. HoldsAt pair_of tree entry.index entry.chunk.0) (leaves ++ nodes)) where
+-- each entry holds in the tree
+abbrev AllHold : PairOf → Tree → Known → Type 0
+AllHold pair_of tree known =
+    AllByRecursion (λ entry. HoldsAt pair_of tree entry.index entry.chunk.0) known
+
+module _ (leaves nodes : Known) (complete : indices_of nodes ≡ helpers (indices_of leaves))
+    (pair_of : PairOf) (tree : Tree) (held : AllHold pair_of tree (leaves ++ nodes)) where
   known_is : (g : ℕ) (node : Tree) (c : List ℕ) → at_way tree (way g) ≡ Some node
       → chunk_at (leaves ++ nodes) g ≡ Some c → root pair_of node ≡ c
   known_is g node c found e =

@@ -9,7 +9,7 @@ use Rattle.ssz_proof.specs.Calculation.{Known, PairOf, indices_of, chunk_at, dee
 use Rattle.ssz_proof.specs.Multiproof.{IsOrdered}
 use Rattle.ssz_proof.specs.Descent.{IsReached, IsAscending, IsDescending, levels_below}
 use Rattle.ssz_proof.proofs.Within.{child_levels}
-use Rattle.ssz_proof.proofs.KnownChunks.{chunk_at-append, if_some, apart_unknown}
+use Rattle.ssz_proof.proofs.KnownChunks.{unknown-left, apart_unknown}
 use Rattle.ssz_proof.proofs.HelperIndices.{on_if_unknown, IsDescending-helpers}
 use Rattle.ssz_proof.proofs.Calculating.{within-known, leaf_below, children_reached, deeper, calculated-down, root_reached}
 use Rattle.ssz_proof.proofs.Levels.{levels_below-pair}
@@ -52,7 +52,8 @@ child-fits g positive less =
     pow-le-pow_right {n = 2} (lit< tt) {i = suc (levels g)} {j = 127} (omega arith) in
     omega arith
 
-module _ (leaves nodes : Known) (ordered : IsOrdered (record { leaves = leaves; nodes = nodes })) where
+module _ (leaves nodes : Known)
+    (ordered : IsOrdered (record { leaves = leaves; nodes = nodes })) where
   pub ascends : IsAscending (indices_of leaves)
   ascends = IsAscending-from 0 (indices_of leaves) ordered.ascends
 
@@ -64,28 +65,19 @@ module _ (leaves nodes : Known) (ordered : IsOrdered (record { leaves = leaves; 
   pub starts : IsReached leaves nodes 1
   starts = root_reached leaves nodes ordered.is.complete ordered.is.some ordered.is.positive
 
-  pub leaf_is : (pair_of : PairOf) (g : ℕ) (chunk : List ℕ)
-      → Some chunk ≡ chunk_at leaves g → chunk ≡ calculated pair_of (leaves ++ nodes) g
-  leaf_is pair_of g chunk e =
-      sym (within-known pair_of (deepest (indices_of (leaves ++ nodes))) (leaves ++ nodes) g chunk
-      (chunk_at-append leaves nodes g ∙ ap (λ o. if_some o (chunk_at nodes g)) (sym e)))
-
-  pub node_is : (pair_of : PairOf) (g : ℕ) (chunk : List ℕ)
-      → None ≡ chunk_at leaves g → Some chunk ≡ chunk_at nodes g
+  pub known_is : (pair_of : PairOf) (g : ℕ) (chunk : List ℕ)
+      → Some chunk ≡ chunk_at (leaves ++ nodes) g
       → chunk ≡ calculated pair_of (leaves ++ nodes) g
-  node_is pair_of g chunk none e =
+  known_is pair_of g chunk e =
       sym (within-known pair_of (deepest (indices_of (leaves ++ nodes))) (leaves ++ nodes) g chunk
-      (chunk_at-append leaves nodes g
-      ∙ ap₂ (λ one other. if_some one other) (sym none) (sym e)))
+      (sym e))
 
   pub goes_down : (pair_of : PairOf) (g : ℕ) → 0 < g
-      → IsReached leaves nodes g → None ≡ chunk_at leaves g → None ≡ chunk_at nodes g
+      → IsReached leaves nodes g → None ≡ chunk_at (leaves ++ nodes) g
       → GoesDown pair_of leaves nodes g
-  goes_down pair_of g positive reached no_leaf no_node =
+  goes_down pair_of g positive reached none =
       let complete = ordered.is.complete in
-      let unknown : chunk_at (leaves ++ nodes) g ≡ None =
-      chunk_at-append leaves nodes g
-      ∙ ap₂ (λ one other. if_some one other) (sym no_leaf) (sym no_node) in
+      let unknown : chunk_at (leaves ++ nodes) g ≡ None = sym none in
       let below = leaf_below leaves nodes complete g reached unknown in
       let both = children_reached leaves nodes complete g positive below in
       let above : levels g < deepest (indices_of leaves) = deeper leaves nodes complete g below in
@@ -104,6 +96,6 @@ module _ (leaves nodes : Known) (ordered : IsOrdered (record { leaves = leaves; 
             ∙ ap₂ (λ l r. pair_of (calculated pair_of (leaves ++ nodes) l)
             (calculated pair_of (leaves ++ nodes) r)) left right;
         pairs = levels_below-pair g (indices_of leaves) positive
-            (apart_unknown leaves g (sym no_leaf))
+            (apart_unknown leaves g (unknown-left leaves nodes g unknown))
             (on_if_unknown leaves nodes complete g reached unknown);
       }

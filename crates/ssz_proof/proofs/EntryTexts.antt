@@ -127,7 +127,8 @@ above_slash (b ∷ xs) e =
     (ltb-true 47 b both.0, above_slash xs both.1)
 
 hex_digit : (d : ℕ) → d < 16 → 47 < slice_index lower_digits d
-hex_digit d small = All-from_recursion (λ b. 47 < b) lower_digits (above_slash lower_digits refl) d 0 small
+hex_digit d small =
+    All-from_recursion (λ b. 47 < b) lower_digits (above_slash lower_digits refl) d 0 small
 
 pub hex_bytes : (bytes : List ℕ) → ((i : ℕ) → slice_index bytes i < 256)
     → AllByRecursion (λ b. 47 < b) (encode_lower bytes)

@@ -1,4 +1,5 @@
--- What a text is judged as, and what is calculated from its lists, whatever the order of its leaves.
+-- What a text is judged as, and what is calculated from its lists, whatever the order of its
+-- leaves.
 use Rattle.std.proofs.Common.{◌≡◌, ◌≢◌, ℕ, zero, suc, ◌+◌, ◌*◌, ◌≤◌, false, eqb, List, [], ◌∷◌, ◌++◌, refl, sym, ap, ◌∙◌, Option, Some, None, unwrap_or, arith, inl, inr, All}
 use Rattle.std.specs.Prelude.{nat_eq, Contains, sum_by}
 use Rattle.std.specs.Option.{option_and_then}
@@ -21,7 +22,8 @@ judged-is lists is = rw ((lists-judged lists).1 is) refl
 
 judged-not : (lists : Multiproof) → ¬ IsMultiproof lists → judged lists ≡ None
 judged-not lists not_is =
-    rw (false_from_ne_true (is_multiproof lists) (λ yes_is. not_is ((lists-judged lists).0 yes_is))) refl
+    rw (false_from_ne_true (is_multiproof lists)
+    (λ yes_is. not_is ((lists-judged lists).0 yes_is))) refl
 
 -- the text of a proof is judged as its lists
 pub multiproof_of-read : (text : List ℕ) (proof : Multiproof) (is : IsReadAs text proof)
@@ -33,7 +35,8 @@ pub multiproof_of-refused : (text : List ℕ) → IsRefused text → multiproof_
 unfolding multiproof_of
 multiproof_of-refused text refused = at (read_text text) refl
   where
-    at : (says : Option Multiproof) → read_text text ≡ says → option_and_then judged (read_text text) ≡ None
+    at : (says : Option Multiproof) → read_text text ≡ says
+        → option_and_then judged (read_text text) ≡ None
     at None says = rw says refl
     at (Some lists) says = rw says (judged-not lists (refused lists says))
 
@@ -76,7 +79,8 @@ unknown (other ∷ known) index none entry (zero, below, is) same =
 unknown (other ∷ known) index none entry (suc k, below, is) same =
     elim (cases_Bool (eqb other.index index)) [
       | inl here ↦ none-some other.chunk.0 (sym none ∙ cond-true _ _ _ here)
-      | inr apart ↦ unknown known index (sym (cond-false _ _ _ apart) ∙ none) entry (k, omega arith, is) same
+      | inr apart ↦
+          unknown known index (sym (cond-false _ _ _ apart) ∙ none) entry (k, omega arith, is) same
     ]
 
 -- each index of entries apart is that of one
@@ -91,7 +95,8 @@ only (first ∷ known) entry apart (suc k, below, is) =
     cond-false _ _ _ (other-first known apart.0 (k, omega arith, is))
     ∙ only known entry apart.1 (k, omega arith, is)
   where
-    other-first : (rest : Known) → AllByRecursion (λ index. nat_eq first.index index ≡ false) (indices_of rest)
+    other-first : (rest : Known)
+        → AllByRecursion (λ index. nat_eq first.index index ≡ false) (indices_of rest)
         → Contains rest entry → nat_eq first.index entry.index ≡ false
     other-first [] each has = absurd (let below = has.1 in omega arith)
     other-first (next ∷ rest) each (zero, below, is) =
@@ -118,7 +123,8 @@ chunk_at-permutation xs ys index same apart = by (chunk_at xs index) refl (chunk
 
 -- what is known first, or else behind it
 chunk_at-append : (xs ys : Known) (index : ℕ)
-    → chunk_at (xs ++ ys) index ≡ elim (chunk_at xs index) [ None ↦ chunk_at ys index | Some chunk ↦ Some chunk ]
+    → chunk_at (xs ++ ys) index
+    ≡ elim (chunk_at xs index) [ None ↦ chunk_at ys index | Some chunk ↦ Some chunk ]
 chunk_at-append [] ys index = refl
 chunk_at-append (entry ∷ xs) ys index = elim (cases_Bool (eqb entry.index index)) [
   | inl here ↦ rw here refl
@@ -146,7 +152,8 @@ deepest-each (entry ∷ known) =
     (All-weaker (IsAtMost rest) (IsAtMost whole) (deeper rest whole (omega arith)) known
     (deepest-each known))
   where
-    deeper : (rest whole : ℕ) → rest ≤ whole → (other : Entry) → IsAtMost rest other → IsAtMost whole other
+    deeper : (rest whole : ℕ) → rest ≤ whole → (other : Entry) → IsAtMost rest other
+        → IsAtMost whole other
     deeper rest whole more other small = omega (arith, more, small)
 
 deepest-least : (most : ℕ) (known : Known) → All (IsAtMost most) known
@@ -163,7 +170,8 @@ deepest-permutation : (xs ys : Known) → IsPermutation xs ys
 deepest-permutation xs ys same =
     let low : deepest (indices_of xs) ≤ deepest (indices_of ys) =
     deepest-least (deepest (indices_of ys)) xs
-    (All-permutation (IsAtMost (deepest (indices_of ys))) ys xs (IsPermutation-sym xs ys same) (deepest-each ys)) in
+    (All-permutation (IsAtMost (deepest (indices_of ys))) ys xs (IsPermutation-sym xs ys same)
+    (deepest-each ys)) in
     let high : deepest (indices_of ys) ≤ deepest (indices_of xs) =
     deepest-least (deepest (indices_of xs)) ys
     (All-permutation (IsAtMost (deepest (indices_of xs))) xs ys same (deepest-each xs)) in

@@ -79,7 +79,7 @@ nested-found indices a b nested =
     (and_from (is_within a b) (not (nat_eq a b)) nested.within
     (not_from_false _ (ne_eqb a b nested.apart))))
 
-flat-from : (indices : List ℕ) → are_flat indices ≡ true → (a b : ℕ) → ¬ AreNested indices a b
+pub flat-from : (indices : List ℕ) → are_flat indices ≡ true → (a b : ℕ) → ¬ AreNested indices a b
 flat-from indices flat a b nested =
     false≢true (sym (not-true _ flat) ∙ nested-found indices a b nested)
 
@@ -123,7 +123,8 @@ multiproof-from lists yes_is =
     let leading = and_parts _ _ distinct.0 in
     record {
       some = some-from lists.leaves leading.0;
-      positive = each-from (nat_lt 0) (λ index. 0 < index) (λ index. ltb-true 0 index) leaves leading.1;
+      positive = each-from (nat_lt 0) (λ index. 0 < index) (λ index. ltb-true 0 index) leaves
+          leading.1;
       distinct = distinct-from leaves distinct.1;
       flat = flat-from leaves flat.1;
       complete = (bytes_eq-Decides (indices_of lists.nodes) (helpers leaves)).0 complete.1;

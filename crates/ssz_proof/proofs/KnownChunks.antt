@@ -139,10 +139,6 @@ pub some_or_none : {X : Type 0} (o : Option X) → ((x : X) × (o ≡ Some x)) �
 some_or_none None = inr refl
 some_or_none (Some x) = inl (x, refl)
 
-pub some_from : {X : Type 0} (o : Option X) → is_some o ≡ true → (x : X) × (o ≡ Some x)
-some_from None e = absurd (false≢true e)
-some_from (Some x) e = (x, refl)
-
 -- an index that is not known is that of no entry
 pub apart_unknown : (known : Known) (g : ℕ) → chunk_at known g ≡ None
     → AllByRecursion (λ i. g ≡ i → ⊥) (indices_of known)

@@ -8,7 +8,8 @@ use Rattle.std.proofs.lemmas.Bool.{cases_eq, cases_Bool, false≢true, cond-true
 use Rattle.ssz_chunk.specs.Index.{levels}
 use Rattle.ssz_gindex.specs.Helpers.{is_within, is_on_paths}
 use Rattle.ssz_proof.specs.Descent.{levels_below}
-use Rattle.ssz_proof.proofs.Within.{below_from, within_from, child_levels}
+use Rattle.ssz_gindex.proofs.Within.{below_from, within_from}
+use Rattle.ssz_proof.proofs.Within.{child_levels}
 
 -- the levels from g down to an index, 0 where it is not within g
 abbrev levels_to : ℕ → ℕ → ℕ

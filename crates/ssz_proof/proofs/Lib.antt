@@ -13,3 +13,4 @@ pub mod EntryTexts
 pub mod TextLaws
 pub mod Judging
 pub mod Judged
+pub mod Changed

@@ -33,7 +33,8 @@ chunk_at-later entry known g ne =
     (ne_eqb entry.index g ne)
 
 -- An order of indices, each before all later ones; entries, one of them, and those behind it.
-module _ (R : ℕ → ℕ → Type 0) (apart : (a b : ℕ) → R a b → a ≡ b → ⊥) (joins : (a b c : ℕ) → R a b → R b c → R a c) where
+module _ (R : ℕ → ℕ → Type 0) (apart : (a b : ℕ) → R a b → a ≡ b → ⊥)
+    (joins : (a b c : ℕ) → R a b → R b c → R a c) where
   all_front : (P : ℕ → Type 0) (xs ys : Known) → AllByRecursion P (indices_of (xs ++ ys))
       → AllByRecursion P (indices_of xs)
   all_front P [] ys all = tt

@@ -1,37 +1,11 @@
--- An index within another, and the children on the way between them.
-use Rattle.std.proofs.Common.{◌≡◌, ℕ, suc, ◌+◌, ◌-◌, ◌*◌, ◌/◌, ◌%◌, ◌^◌, ◌<◌, ◌≤◌, true, eqb, leb, ◌++◌, refl, sym, ap, ◌∙◌, arith}
+-- The children on the way from an index to one that is within it.
+use Rattle.std.proofs.Common.{◌≡◌, ℕ, suc, ◌+◌, ◌*◌, ◌/◌, ◌%◌, ◌^◌, ◌<◌, true, ◌++◌, refl, ap, ◌∙◌, arith}
 use Rattle.std.proofs.Math.Nat.{pow-suc, div-eq_of_lt-le}
-use Rattle.std.proofs.lemmas.Bool.{and_parts, and_from, eqb-true, eq-eqb, leb-true, le-leb}
-use Rattle.std.proofs.lemmas.Nat.{shr_split, shr-shr, pow_pos, mod_below}
+use Rattle.std.proofs.lemmas.Nat.{shr-shr}
 use Rattle.ssz_chunk.specs.Index.{levels, levels_within, way, digits}
 use Rattle.ssz_gindex.specs.Helpers.{is_within}
 use Rattle.ssz_chunk.proofs.Digits.{way-join, levels-join, has_levels}
-
--- an index within a: n levels below it
-pub record IsBelow (a g : ℕ) : Type 0 where
-  pub n : ℕ
-  pub levels : levels g ≡ levels a + n
-  pub high : g / 2 ^ n ≡ a
-
-pub below_from : (a g : ℕ) → is_within a g ≡ true → IsBelow a g
-below_from a g e =
-    let both =
-    and_parts (leb (levels a) (levels g)) (eqb (g / 2 ^ (levels g - levels a)) a) e in
-    let le : levels a ≤ levels g = leb-true (levels a) (levels g) both.0 in
-    record { n = levels g - levels a; levels = omega arith; high = eqb-true _ _ both.1 }
-
-pub within_from : (a g n : ℕ) → levels g ≡ levels a + n → g / 2 ^ n ≡ a → is_within a g ≡ true
-within_from a g n e high =
-    let less : levels g - levels a ≡ n = omega arith in
-    and_from (leb (levels a) (levels g)) (eqb (g / 2 ^ (levels g - levels a)) a)
-    (le-leb (levels a) (levels g) (omega arith))
-    (eq-eqb _ _ (ap (λ k. g / 2 ^ k) less ∙ high))
-
--- the way to an index goes on from that to one that it is within
-pub way_below : (a g n : ℕ) → 0 < a → g / 2 ^ n ≡ a → way g ≡ way a ++ digits n (g % 2 ^ n)
-way_below a g n positive high =
-    ap way (sym (shr_split g n)) ∙ ap (λ k. way (k * 2 ^ n + g % 2 ^ n)) high
-    ∙ way-join a n (g % 2 ^ n) positive (mod_below g (2 ^ n) (pow_pos n))
+use Rattle.ssz_gindex.proofs.Within.{within_from}
 
 -- the two children
 pub child_levels : (a b : ℕ) → 0 < a → b < 2 → levels (a * 2 + b) ≡ levels a + 1

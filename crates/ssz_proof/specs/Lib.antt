@@ -4,3 +4,4 @@ pub mod Text
 pub mod Judgement
 pub mod Laws
 pub mod Descent
+pub mod Changes

@@ -8,8 +8,9 @@ use crate::entry::Entry;
 use crate::proof::Proof;
 use ssz_chunk::{Chunk, PairHash};
 
-/// The root that a proof leads to (calculate_multi_merkle_root). Takes no memory, and hashes at
-/// most as many pairs as its leaves have levels together.
+/// The root that a proof leads to (calculate_multi_merkle_root): what pair_of gives from the root
+/// down to the chunks that are known. It hashes at most as many pairs as its leaves have levels
+/// together.
 pub fn calc<H: PairHash>(proof: &Proof, hasher: &mut H) -> Chunk
     ensures value { result.0 ≡ calculated H.pair_of (known_of proof.now) 1 }
     ensures rises { H.pairs hasher.old ≤ H.pairs hasher.new }
@@ -19,7 +20,8 @@ pub fn calc<H: PairHash>(proof: &Proof, hasher: &mut H) -> Chunk
     calculate(proof.leaves(), proof.nodes(), 1, hasher)
 }
 
-/// Whether a proof leads to this root (verify_merkle_multiproof): it hashes what `calc` does.
+/// Whether a proof leads to this root (verify_merkle_multiproof). It hashes at most as many pairs
+/// as its leaves have levels together.
 pub fn verify<H: PairHash>(proof: &Proof, root: &Chunk, hasher: &mut H) -> bool
     ensures value { IsTrue result ↔ (calculated H.pair_of (known_of proof.now) 1 ≡ root.now.0) }
     ensures rises { H.pairs hasher.old ≤ H.pairs hasher.new }
@@ -39,15 +41,23 @@ fn calculate<H: PairHash>(leaves: &[Entry], nodes: &[Entry], index: u128, hasher
     ensures pairs { H.pairs hasher.new
         ≤ H.pairs hasher.old + levels_below index (indices_of leaves.now) }
 {
-    if let Some(chunk) = find(leaves, index) {
-        return chunk;
-    }
-    if let Some(chunk) = find_descending(nodes, index) {
+    if let Some(chunk) = chunk_of(leaves, nodes, index) {
         return chunk;
     }
     let left = calculate(leaves, nodes, 2 * index, hasher);
     let right = calculate(leaves, nodes, 2 * index + 1, hasher);
     hasher.pair(&left, &right)
+}
+
+// The chunk at an index, of a leaf or a node.
+pub(crate) fn chunk_of(leaves: &[Entry], nodes: &[Entry], index: u128) -> Option<Chunk>
+    requires { IsOrdered (record { leaves = leaves.now; nodes = nodes.now }) }
+    ensures { option_map (λ chunk. chunk.0) result ≡ chunk_at (leaves.now ++ nodes.now) index }
+{
+    if let Some(chunk) = find(leaves, index) {
+        return Some(chunk);
+    }
+    find_descending(nodes, index)
 }
 
 // The entry in the middle, those before it and those behind it.

@@ -2,7 +2,8 @@
 //! those from which the root can be calculated together with them.
 //!
 //! A `Proof` is made of two lists or read from a text, and is then known to be complete: `calc` and
-//! `verify` ask nothing of it. A path of a chunk to the root is hashed once.
+//! `verify` ask nothing more of it. They go down from the root to the chunks that are known, and
+//! hash at most as many pairs as the leaves have levels together.
 #![tactic(auto)]
 
 mod calculation;

@@ -1,11 +1,14 @@
-ghost use Rattle.std.specs.Prelude.{◌≡◌, ◌↔◌, ◌^◌, ◌<◌, IfOk, IsTrue};
+ghost use Rattle.std.specs.Prelude.{◌≡◌, ◌↔◌, ◌^◌, ◌<◌, IfOk, IsTrue, option_map};
 ghost use Rattle.std.specs.List.{AllByRecursion};
-ghost use Rattle.ssz_proof.specs.Calculation.{indices_of};
-ghost use Rattle.ssz_proof.specs.Multiproof.{AreComplete, AscendFrom};
+ghost use Rattle.ssz_proof.specs.Calculation.{indices_of, chunk_at};
+ghost use Rattle.ssz_proof.specs.Multiproof.{AreComplete, AscendFrom, known_of};
+ghost use Rattle.ssz_proof.specs.Changes.{with_chunk, proof_with};
 ghost use Rattle.std.specs.List.Sorted.{IsPermutation, IsNonDecreasingBy};
 
+use crate::calculation::chunk_of;
 use crate::entry::Entry;
 use crate::fault::ProofFault;
+use ssz_chunk::Chunk;
 use ssz_gindex::{Gindex, are_helpers};
 use std::alloc::{AllocError, Global};
 use std::marker::Model;
@@ -51,7 +54,16 @@ impl Proof {
         Proof::of_lists(alloc, leaves, nodes)
     }
 
-    // The same of lists that it keeps.
+    /// The proof of lists that are known to be one, with the leaves in ascending order of index.
+    /// It tests nothing, and takes the lists as they are.
+    pub fn of_ordered(leaves: Vec<Entry>, nodes: Vec<Entry>) -> Proof
+        requires { IsOrdered (record { leaves = leaves.items; nodes = nodes.items }) }
+        ensures { result ≡ record { leaves = leaves.items; nodes = nodes.items } }
+    {
+        Proof { leaves, nodes }
+    }
+
+    // The same as `new`, of lists that it keeps.
     pub(crate) fn of_lists(
         alloc: Global,
         mut leaves: Vec<Entry>,
@@ -70,6 +82,31 @@ impl Proof {
         }
     }
 
+    /// A proof with the same lists, in memory of its own.
+    pub fn copy(&self, alloc: Global) -> Result<Proof, AllocError>
+        ensures { IfOk result (λ proof. proof ≡ self.now) }
+    {
+        let leaves = Vec::from_slice(alloc, &self.leaves)?;
+        let nodes = Vec::from_slice(alloc, &self.nodes)?;
+        Ok(Proof { leaves, nodes })
+    }
+
+    /// The chunk at the index, of a leaf or a node. None where it is of neither.
+    pub fn chunk(&self, index: Gindex) -> Option<Chunk>
+        ensures { option_map (λ chunk. chunk.0) result ≡ chunk_at (known_of self.now) index }
+    {
+        chunk_of(self.leaves(), self.nodes(), index.get())
+    }
+
+    /// Puts this chunk at the index, where a leaf or a node has one, and else changes nothing. The
+    /// lists keep their indices, so that they are a proof as before.
+    pub fn put(&mut self, index: Gindex, chunk: Chunk)
+        ensures { self.new ≡ proof_with self.old index chunk }
+    {
+        put_chunk(&mut self.leaves, index, chunk);
+        put_chunk(&mut self.nodes, index, chunk);
+    }
+
     /// The chunks that are proved, in ascending order of index.
     pub fn leaves(&self) -> &[Entry]
         ensures value { result.now ≡ self.now.leaves }
@@ -84,6 +121,17 @@ impl Proof {
         ensures ordered { IsOrdered self.now }
     {
         &self.nodes
+    }
+}
+
+// Puts the chunk into the entry at the index.
+fn put_chunk(entries: &mut Vec<Entry>, index: Gindex, chunk: Chunk)
+    ensures { entries.new.items ≡ with_chunk entries.old.items index chunk }
+{
+    for entry in entries.iter_mut() {
+        if entry.index == index {
+            entry.chunk = chunk;
+        }
     }
 }
 

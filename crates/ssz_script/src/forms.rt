@@ -203,7 +203,7 @@ pub fn read_choose(alloc: Global, mut words: Words<'_>) -> Result<Statement, Lin
 {
     let version = read_name(alloc, word(&mut words)?)?;
     let place = read_path(alloc, word(&mut words)?)?;
-    let number = read_selector(word(&mut words)?)?;
+    let number = read_selector(word(&mut words)?).ok_or(LineFault::Syntax)?;
     let value = match words.next() {
         None => None,
         Some(last) => Some(read_literal(alloc, last)?),

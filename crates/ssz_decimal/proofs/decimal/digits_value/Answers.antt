@@ -6,14 +6,18 @@ use Rattle.ssz_decimal.proofs.decimal.digits_value.Goals as goal
 
 pub returns-in_err-checked_mul : goal.returns-in_err-checked_mul
 returns-in_err-checked_mul c =
-    let more = number_after-digit c.loop-digit.number c.loop-digit.digit-index c.args.digits.now (omega arith) in
-    let large : 2 ^ 128 ≤ number_after 0 c.args.digits.now = omega (arith, more, c.loop-digit.invariant.value, c.in_err-checked_mul.ensures) in
+    let more = number_after-digit c.loop-digit.number c.loop-digit.digit-index c.args.digits.now
+    (omega arith) in
+    let large : 2 ^ 128 ≤ number_after 0 c.args.digits.now =
+    omega (arith, more, c.loop-digit.invariant.value, c.in_err-checked_mul.ensures) in
     c.from_residual.ensures ∙ digits_below-none (2 ^ 128) c.args.digits.now large
 
 pub returns-in_err-number : goal.returns-in_err-number
 returns-in_err-number c =
-    let more = number_after-digit c.loop-digit.number c.loop-digit.digit-index c.args.digits.now (omega arith) in
-    let large : 2 ^ 128 ≤ number_after 0 c.args.digits.now = omega (arith, more, c.loop-digit.invariant.value, c.in_err-number.ensures) in
+    let more = number_after-digit c.loop-digit.number c.loop-digit.digit-index c.args.digits.now
+    (omega arith) in
+    let large : 2 ^ 128 ≤ number_after 0 c.args.digits.now =
+    omega (arith, more, c.loop-digit.invariant.value, c.in_err-number.ensures) in
     c.from_residual-in_err-number.ensures ∙ digits_below-none (2 ^ 128) c.args.digits.now large
 
 pub returns : goal.returns

@@ -1,37 +1,27 @@
 use Rattle.std.proofs.Common.{◌∙◌, sym, ap₂, arith}
-use Rattle.ssz_proof.proofs.Descending.{ascends, descends, leaf_is, node_is, goes_down}
+use Rattle.ssz_proof.proofs.Descending.{known_is, goes_down}
 use Rattle.ssz_proof.proofs.calculation.+calculate.Goals as goal
 
-pub find-requires : goal.find-requires
-find-requires g t c = ascends c.args.leaves.now c.args.nodes.now c.requires.ordered
+pub chunk_of-requires : goal.chunk_of-requires
+chunk_of-requires g t c = c.requires.ordered
 
 pub returns-in-Some-clause-value : goal.returns-in-Some-clause-value
 returns-in-Some-clause-value g t c =
-    leaf_is c.args.leaves.now c.args.nodes.now c.requires.ordered g.H.PairHash.pair_of
+    known_is c.args.leaves.now c.args.nodes.now c.requires.ordered g.H.PairHash.pair_of
     c.args.index c.in-Some.chunk.0 c.in-Some.ensures
-
-pub find_descending-requires : goal.find_descending-requires
-find_descending-requires g t c = descends c.args.leaves.now c.args.nodes.now c.requires.ordered
-
-pub returns-in-Some-find_descending-clause-value :
-    goal.returns-in-Some-find_descending-clause-value
-returns-in-Some-find_descending-clause-value g t c =
-    node_is c.args.leaves.now c.args.nodes.now c.requires.ordered g.H.PairHash.pair_of
-    c.args.index c.in-Some-find_descending.chunk.0 c.in_default.ensures
-    c.in-Some-find_descending.ensures
 
 pub overflow_mul-index : goal.overflow_mul-index
 overflow_mul-index g t c =
     let down = goes_down c.args.leaves.now c.args.nodes.now c.requires.ordered
     g.H.PairHash.pair_of c.args.index c.requires.positive c.requires.reached
-    c.in_default.ensures c.in_default-find_descending.ensures in
+    c.in_default.ensures in
     omega (arith, down.fits)
 
 pub calculate-left-requires : goal.calculate-left-requires
 calculate-left-requires g t c κs within =
     let down = goes_down c.args.leaves.now c.args.nodes.now c.requires.ordered
     g.H.PairHash.pair_of c.args.index c.requires.positive c.requires.reached
-    c.in_default.ensures c.in_default-find_descending.ensures in (
+    c.in_default.ensures in (
       omega (arith, down.above, down.left_levels),
       (within, (c.requires.ordered, (omega (arith, c.requires.positive), down.left))),
     )
@@ -40,21 +30,21 @@ pub overflow_mul-index-2 : goal.overflow_mul-index-2
 overflow_mul-index-2 g t c =
     let down = goes_down c.args.leaves.now c.args.nodes.now c.requires.ordered
     g.H.PairHash.pair_of c.args.index c.requires.positive c.requires.reached
-    c.in_default.ensures c.in_default-find_descending.ensures in
+    c.in_default.ensures in
     omega (arith, down.fits)
 
 pub overflow_add-index : goal.overflow_add-index
 overflow_add-index g t c =
     let down = goes_down c.args.leaves.now c.args.nodes.now c.requires.ordered
     g.H.PairHash.pair_of c.args.index c.requires.positive c.requires.reached
-    c.in_default.ensures c.in_default-find_descending.ensures in
+    c.in_default.ensures in
     omega (arith, down.fits)
 
 pub calculate-right-requires : goal.calculate-right-requires
 calculate-right-requires g t c κs within =
     let down = goes_down c.args.leaves.now c.args.nodes.now c.requires.ordered
     g.H.PairHash.pair_of c.args.index c.requires.positive c.requires.reached
-    c.in_default.ensures c.in_default-find_descending.ensures in (
+    c.in_default.ensures in (
       omega (arith, down.above, down.right_levels),
       (within, (c.requires.ordered, (omega arith, down.right))),
     )
@@ -63,7 +53,7 @@ pub returns-clause-value : goal.returns-clause-value
 returns-clause-value g t c =
     let down = goes_down c.args.leaves.now c.args.nodes.now c.requires.ordered
     g.H.PairHash.pair_of c.args.index c.requires.positive c.requires.reached
-    c.in_default.ensures c.in_default-find_descending.ensures in
+    c.in_default.ensures in
     c.pair.ensures.value
     ∙ ap₂ g.H.PairHash.pair_of c.calculate-left.ensures.value c.calculate-right.ensures.value
     ∙ sym down.chunk
@@ -72,7 +62,7 @@ pub returns-clause-pairs : goal.returns-clause-pairs
 returns-clause-pairs g t c =
     let down = goes_down c.args.leaves.now c.args.nodes.now c.requires.ordered
     g.H.PairHash.pair_of c.args.index c.requires.positive c.requires.reached
-    c.in_default.ensures c.in_default-find_descending.ensures in
+    c.in_default.ensures in
     omega (
       arith,
       down.pairs,

@@ -1,0 +1,50 @@
+-- A single step has room: the indices below it fit.
+use Rattle.std.proofs.Common.{◌≡◌, ℕ, ◌+◌, ◌*◌, ◌^◌, ◌<◌, ◌≤◌, Option, Some, None, refl, ap, ◌∙◌, arith, pow-add}
+use Rattle.std.specs.Prelude.{IsSome}
+use Rattle.std.proofs.Math.Nat.{mul-le-mul_left, mul-le-mul_right, pow-le-pow_right}
+use Rattle.std.proofs.lemmas.Bool.{false≢true}
+use Rattle.std.proofs.lemmas.Nat.{pow_pos}
+use Rattle.ssz_schema.specs.declared.path.PathStep.{PathStep}
+use Rattle.ssz_schema.specs.Types.{SszType}
+use Rattle.ssz_schema.specs.Sizes.{levels}
+use Rattle.ssz_schema.specs.Paths.{step_type}
+use Rattle.ssz_schema.specs.Indices.{step_levels, step_position, step_index}
+use Rattle.ssz_schema.proofs.PathLemmas.{step-levels, step-below}
+
+pub record HasStepRoom (k : ℕ) (t u : SszType) (step : PathStep) : Type 0 where
+  pub power : 2 ^ step_levels t step ≤ 2 ^ 127
+  pub room : (k + 1) * 2 ^ step_levels t step ≤ 2 ^ 127
+  pub place : step_position t step < 2 ^ step_levels t step
+  pub next : (step_index k t step + 1) * 2 ^ levels u ≤ 2 ^ 127
+
+pub step_room : (k : ℕ) (t u : SszType) (step : PathStep) → (k + 1) * 2 ^ levels t ≤ 2 ^ 127
+    → step_type t step ≡ Some u → HasStepRoom k t u step
+step_room k t u step whole fits =
+    let down : step_levels t step + levels u ≤ levels t = step-levels t step u fits in
+    let less : step_levels t step ≤ levels t = omega arith in
+    let power : 2 ^ step_levels t step ≤ 2 ^ levels t = pow-le-pow_right (omega arith) less in
+    let room : (k + 1) * 2 ^ step_levels t step ≤ (k + 1) * 2 ^ levels t =
+    mul-le-mul_left (k + 1) power in
+    let one : 1 ≤ k + 1 = omega arith in
+    let single : 1 * 2 ^ step_levels t step ≤ (k + 1) * 2 ^ step_levels t step =
+    mul-le-mul_right (2 ^ step_levels t step) one in
+    let below : step_position t step < 2 ^ step_levels t step = step-below t step u fits in
+    let index : step_index k t step + 1 ≤ (k + 1) * 2 ^ step_levels t step = omega arith in
+    let deep : 2 ^ (step_levels t step + levels u) ≤ 2 ^ levels t =
+    pow-le-pow_right (omega arith) down in
+    let all : (k + 1) * 2 ^ (step_levels t step + levels u) ≤ (k + 1) * 2 ^ levels t =
+    mul-le-mul_left (k + 1) deep in
+    let joined : (k + 1) * 2 ^ (step_levels t step + levels u)
+    ≡ (k + 1) * (2 ^ step_levels t step * 2 ^ levels u) =
+    ap (λ n. (k + 1) * n) (pow-add 2 (step_levels t step) (levels u)) in
+    record {
+      power = omega (arith, single, room, whole);
+      room = omega (arith, room, whole);
+      place = below;
+      next = omega (arith, mul-le-mul_right (2 ^ levels u) index, all, joined, whole);
+    }
+
+-- a type that is there
+pub some_type : (o : Option SszType) → IsSome o → (u : SszType) × (o ≡ Some u)
+some_type None e = absurd (false≢true e)
+some_type (Some u) e = (u, refl)
