@@ -70,8 +70,8 @@ pub fn read_bitlist(bytes: &[u8], limit: u64, position: u64) -> Result<u64, Faul
     Ok(bits)
 }
 
-// The place of the highest 1 bit of a byte that is not 0.
-fn highest_bit(byte: u8) -> u8
+/// The place of the highest 1 bit of a byte; 0 where it has none.
+pub fn highest_bit(byte: u8) -> u8
     ensures exact { result ≡ highest_bit byte }
     ensures small { result < 8 }
 {
@@ -110,8 +110,9 @@ pub fn put_bits(bits: &BitRun, delimiter: bool, bytes: &mut [u8])
     }
 }
 
-// The byte of the eight bits from this one on.
-fn byte_from(bits: &[bool], delimiter: bool, from: usize) -> u8
+/// The byte of the eight bits from this one on, with zeros behind the last one, or behind a
+/// delimiter, a 1 that follows the bits.
+pub fn byte_from(bits: &[bool], delimiter: bool, from: usize) -> u8
     requires { from ≤ 2 ^ 40 }
     ensures { result ≡ number_of_bits (take 8 (drop from (delimited delimiter bits.now))) }
 {

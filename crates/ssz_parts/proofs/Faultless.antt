@@ -1,12 +1,14 @@
 -- Bytes without a fault, and that their parts have none.
 use Rattle.std.proofs.Common.{◌≡◌, ℕ, ◌^◌, ◌<◌, List, length, None, sym, ap, subst, ◌∙◌}
 use Rattle.ssz_schema.specs.declared.format.Format.{Format}
-use Rattle.ssz_schema.specs.Types.{SszType}
+use Rattle.ssz_schema.specs.Types.{SszType, container}
 use Rattle.ssz_schema.specs.Legal.{IsLegal}
-use Rattle.ssz_value.specs.Faults.{why}
+use Rattle.ssz_schema.specs.Unfolding.{fields_over}
+use Rattle.ssz_value.specs.Faults.{why, head_fault, fields_fault, scopes}
 use Rattle.ssz_value.specs.Reading.{value_in}
-use Rattle.ssz_value.proofs.Agree.{IsInput}
+use Rattle.ssz_value.proofs.Agree.{IsInput, no_faults}
 use Rattle.ssz_value.proofs.ExactLaw.{agrees}
+use Rattle.ssz_value.proofs.PartLemmas.{Part, sizes_of}
 
 -- bytes of the type without a fault
 pub record IsFaultless (t : SszType) (b : List ℕ) : Type 0 where
@@ -21,3 +23,16 @@ anywhere format t legal s u b input h =
     ap (why t u) (sym written.bytes)
     ∙ ((agrees format t legal).known u (value_in t b) written.fits
     (subst (λ (c : List ℕ). length c < 2 ^ 32) (sym written.bytes) input.short)).faultless
+
+-- what bytes without a fault tell of a container
+pub record IsFaultlessContainer (trees : List SszType) (parts : List Part)
+    (b : List ℕ) : Type 0 where
+  pub head : head_fault (sizes_of trees parts) 0 b ≡ None
+  pub fields : fields_fault (fields_over trees parts) 0 (scopes (sizes_of trees parts) 0 b) ≡ None
+
+pub container_faultless : (trees : List SszType) (parts : List Part) (b : List ℕ)
+    → why (container (fields_over trees parts)) 0 b ≡ None → IsFaultlessContainer trees parts b
+container_faultless trees parts b h =
+    let both = no_faults (head_fault (sizes_of trees parts) 0 b)
+    (fields_fault (fields_over trees parts) 0 (scopes (sizes_of trees parts) 0 b)) h in
+    record { head = both.0; fields = both.1 }

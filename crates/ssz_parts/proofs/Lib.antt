@@ -5,3 +5,5 @@ pub mod Faultless
 pub mod FieldLemmas
 pub mod ElementLemmas
 pub mod UnionLemmas
+pub mod ElementValues
+pub mod UnionValues

@@ -4,15 +4,10 @@ use Rattle.std.specs.List.{AllByRecursion}
 use Rattle.std.proofs.lemmas.Bool.{cond-true, cond-false}
 use Rattle.ssz_schema.specs.Types.{SszType, union}
 use Rattle.ssz_schema.specs.Sizes.{option_count}
+use Rattle.ssz_schema.proofs.OptionLemmas.{option_count-over}
 use Rattle.ssz_schema.specs.Unfolding.{tree_at, options_over, IsBelow}
 use Rattle.ssz_value.specs.Faults.{why, option_fault}
 use Rattle.ssz_schema.specs.Faults.{extra, bad_selector}
-
-option_count-over : (trees : List SszType) (ids : List (Option ℕ))
-    → option_count (options_over trees ids) ≡ length ids
-option_count-over trees [] = refl
-option_count-over trees (None ∷ ids) = omega (arith, option_count-over trees ids)
-option_count-over trees (Some id ∷ ids) = omega (arith, option_count-over trees ids)
 
 none_past : (ids : List (Option ℕ)) (k : ℕ) → None ≡ slice_get ids k → length ids ≤ k
 none_past [] k e = omega arith

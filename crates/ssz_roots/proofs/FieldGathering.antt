@@ -7,17 +7,17 @@ use Rattle.ssz_chunk.specs.Tree.{Tree, root, full, grow}
 use Rattle.ssz_schema.specs.Types.{SszType, container}
 use Rattle.ssz_schema.specs.Sizes.{head_size}
 use Rattle.ssz_schema.specs.Unfolding.{tree_at, fields_over}
-use Rattle.ssz_value.specs.Faults.{why, head_fault, fields_fault, scopes, bytes_of}
+use Rattle.ssz_value.specs.Faults.{why, scopes, bytes_of}
 use Rattle.ssz_value.specs.Reading.{value_in, fields_in}
 use Rattle.ssz_value.specs.Trees.{tree, field_trees}
 use Rattle.ssz_value.proofs.Agree.{IsInput, IsInput-range, no_faults}
 use Rattle.ssz_parts.specs.Ranges.{part_range}
 use Rattle.ssz_value.proofs.PartLemmas.{Part, sizes_of, size_at, drop_part}
 use Rattle.ssz_parts.proofs.FieldLemmas.{FieldsFrom, FieldsFrom-start, FieldsFrom-more, next_field}
-use Rattle.ssz_parts.proofs.Faultless.{anywhere, IsFaultless}
+use Rattle.ssz_parts.proofs.Faultless.{anywhere, IsFaultless, container_faultless}
 use Rattle.ssz_merkle.specs.Frontier.{Frontier, Holds, leaves, whole_pairs}
 use Rattle.ssz_merkle.proofs.Gathering.{Gathered, Gathered-start, Gathered-room, Gathered-more, Gathered-root, Gathered-counts}
-use Rattle.ssz_roots.specs.Elements.{field_values}
+use Rattle.ssz_parts.specs.PartValues.{field_values}
 use Rattle.ssz_schema.specs.Legal.{IsLegal, AreLegalFields}
 use Rattle.ssz_value.specs.Pairs.{pairs, field_pairs}
 
@@ -62,19 +62,6 @@ pub record FirstFields (pair_of : List ℕ → List ℕ → List ℕ) (depth : �
   pub count : length done ≡ i
   pub all_trees : done ++ trees_from trees (drop i parts) place b ≡ trees_from trees parts 0 b
   pub all_pairs : costs + pairs_from trees (drop i parts) place b ≡ pairs_from trees parts 0 b
-
--- what bytes without a fault tell of a container
-pub record IsFaultlessContainer (trees : List SszType) (parts : List Part)
-    (b : List ℕ) : Type 0 where
-  pub head : head_fault (sizes_of trees parts) 0 b ≡ None
-  pub fields : fields_fault (fields_over trees parts) 0 (scopes (sizes_of trees parts) 0 b) ≡ None
-
-pub container_faultless : (trees : List SszType) (parts : List Part) (b : List ℕ)
-    → why (container (fields_over trees parts)) 0 b ≡ None → IsFaultlessContainer trees parts b
-container_faultless trees parts b h =
-    let both = no_faults (head_fault (sizes_of trees parts) 0 b)
-    (fields_fault (fields_over trees parts) 0 (scopes (sizes_of trees parts) 0 b)) h in
-    record { head = both.0; fields = both.1 }
 
 pub FirstFields-start : (pair_of : List ℕ → List ℕ → List ℕ) (depth : ℕ) (frontier : Frontier)
     (trees : List SszType) (parts : List Part) (b : List ℕ) (now : ℕ)

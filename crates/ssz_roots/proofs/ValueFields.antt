@@ -1,5 +1,5 @@
 -- The roots of the values of fields, one after another.
-use Rattle.std.proofs.Common.{◌≡◌, ℕ, zero, suc, ◌+◌, ◌-◌, ◌^◌, ◌<◌, ◌≤◌, List, [], ◌∷◌, ◌++◌, length, map, drop, get_or, Option, refl, sym, ap, ap₂, subst, ◌∙◌, arith, append_assoc, length-append}
+use Rattle.std.proofs.Common.{◌≡◌, ℕ, zero, suc, ◌+◌, ◌-◌, ◌^◌, ◌<◌, ◌≤◌, List, [], ◌∷◌, ◌++◌, length, map, drop, get_or, refl, sym, ap, ap₂, subst, ◌∙◌, arith, append_assoc, length-append}
 use Rattle.std.proofs.lemmas.List.{append-nil, drop_all}
 use Rattle.ssz_chunk.specs.Chunk.{CountsUp}
 use Rattle.ssz_chunk.specs.Tree.{Tree, root, full, grow}
@@ -21,14 +21,6 @@ drop-map-next f (y ∷ xs) zero x h e = ap (λ z. f z ∷ map f xs) (sym e)
 drop-map-next f (y ∷ xs) (suc i) x h e =
     let next : suc (i + 1) ≡ suc i + 1 = omega arith in
     drop-map-next f xs i x (omega arith) e ∙ ap (λ n. f x ∷ drop n (map f (y ∷ xs))) next
-
--- as many values as fields
-pub length-fit : (trees : List SszType) (parts : List Part) (vs : List SszValue)
-    → FitFields (fields_over trees parts) vs → length vs ≡ length parts
-length-fit trees [] [] fit = refl
-length-fit trees [] (v ∷ vs) fit = absurd fit
-length-fit trees (part ∷ parts) [] fit = absurd fit
-length-fit trees (part ∷ parts) (v ∷ vs) fit = omega (arith, length-fit trees parts vs fit.1)
 
 -- the roots of the first i values were pushed
 pub record FirstFieldValues (pair_of : List ℕ → List ℕ → List ℕ) (depth : ℕ) (frontier : Frontier)

@@ -8,15 +8,17 @@ ghost use Rattle.ssz_schema.specs.Unfolding.{type_of, fields_over, options_over,
 ghost use Rattle.ssz_value.specs.Faults.{why, elements_fault};
 ghost use Rattle.ssz_value.specs.Reading.{value_in};
 ghost use Rattle.ssz_value.specs.Trees.{tree, hash_tree_root, field_trees};
-ghost use Rattle.ssz_roots.specs.Elements.{element_values, element_trees, field_values, chosen_root, chosen_pairs};
+ghost use Rattle.ssz_parts.specs.PartValues.{element_values, field_values};
+ghost use Rattle.ssz_packing.specs.Elements.{element_trees};
+ghost use Rattle.ssz_roots.specs.Chosen.{chosen_root, chosen_pairs};
 ghost use Rattle.ssz_schema.specs.Legal.{IsLegal, AreLegalFields, AreLegalOptions};
 ghost use Rattle.ssz_value.specs.Pairs.{pairs, field_pairs};
 
-use super::bits::{bitlist_len, bits_root};
-use super::mixing::number_chunk;
-use super::packed::{basic_size, packed_root};
+use super::bits::bits_root;
+use super::packed::packed_root;
 use ssz_chunk::{Chunk, PairHash, ZeroTable};
 use ssz_merkle::{Accumulator, chunk_at};
+use ssz_packing::{basic_size, bitlist_len, number_chunk};
 use ssz_parts::{element_at, element_count, head_len, part_range};
 use ssz_schema::{Name, Schema, Ty, TypeId};
 

@@ -3,19 +3,16 @@
 //! `root_of_bytes` goes over the bytes of a value, which have no fault, in one pass: packed parts
 //! straight from the slice, and no value made. `root_of_value` is the root of a value. Both make
 //! one accumulator for each level of nesting, count exactly the pairs of the value, and take no
-//! memory.
+//! memory. The chunks of packed parts are those of `ssz_packing`. Known roots are printed by the
+//! program `roots_rows`.
 #![tactic(auto)]
 
 mod basic;
 mod bit_values;
 mod bits;
 mod bytes;
-mod mixing;
 mod packed;
 mod values;
 
 pub use bytes::root_of_bytes;
 pub use values::root_of_value;
-
-#[cfg(test)]
-mod tests;

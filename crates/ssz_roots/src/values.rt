@@ -10,14 +10,14 @@ ghost use Rattle.ssz_value.specs.Standing.{value_of, IsValue};
 ghost use Rattle.ssz_value.specs.Shapes.{IsSequence, AreFields, parts_of, part_count_of};
 ghost use Rattle.ssz_value.specs.Trees.{tree, hash_tree_root, field_trees};
 ghost use Rattle.ssz_value.specs.Pairs.{pairs, field_pairs};
-ghost use Rattle.ssz_roots.specs.Elements.{element_trees};
+ghost use Rattle.ssz_packing.specs.Elements.{element_trees};
 
-use super::basic::{basic_chunk, packed_values_root};
+use super::basic::packed_values_root;
 use super::bit_values::bit_values_root;
-use super::mixing::number_chunk;
-use super::packed::{basic_size, packed_root};
+use super::packed::packed_root;
 use ssz_chunk::{Chunk, PairHash, ZeroTable};
 use ssz_merkle::Accumulator;
+use ssz_packing::{basic_chunk, basic_size, number_chunk};
 use ssz_schema::{Name, Schema, Ty, TypeId};
 use ssz_value::{Value, bits_of, option_at, part_count};
 

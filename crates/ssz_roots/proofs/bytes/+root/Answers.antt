@@ -8,7 +8,8 @@ use Rattle.ssz_value.specs.Faults.{why, head_fault, elements_fault}
 use Rattle.ssz_value.specs.Reading.{value_in, elements_in}
 use Rattle.ssz_value.specs.Trees.{tree}
 use Rattle.ssz_value.proofs.Agree.{IsInput}
-use Rattle.ssz_roots.specs.Elements.{element_values, element_trees}
+use Rattle.ssz_parts.specs.PartValues.{element_values}
+use Rattle.ssz_packing.specs.Elements.{element_trees}
 use Rattle.ssz_parts.proofs.ElementLemmas.{element_faultless, elements_head}
 use Rattle.ssz_roots.proofs.Gathering.{FirstElements-start, FirstElements-room, FirstElements-more, FirstElements-root, FirstElements-counts}
 use Rattle.ssz_value.proofs.PartLemmas.{known_weaker, part_known, size_at}
@@ -16,9 +17,11 @@ use Rattle.ssz_roots.proofs.FieldGathering.{FirstFields, FirstFields-start, Firs
 use Rattle.ssz_schema.specs.Unfolding.{Types}
 use Rattle.ssz_value.proofs.Agree.{length_from_fault}
 use Rattle.ssz_parts.proofs.ElementFaults.{head_fault-alike}
-use Rattle.ssz_roots.proofs.Bounds.{IsBasic-basic}
+use Rattle.ssz_packing.proofs.Bounds.{IsBasic-basic}
 use Rattle.ssz_roots.proofs.Rooted.{ArePacked, ArePacked-basic}
-use Rattle.ssz_roots.proofs.Unions.{union_root, union_pairs, union_chosen, union_rest, below_at}
+use Rattle.ssz_roots.proofs.Unions.{union_root, union_pairs}
+use Rattle.ssz_parts.proofs.UnionValues.{union_chosen, union_rest}
+use Rattle.ssz_packing.proofs.Options.{below_at}
 use Rattle.std.specs.Prelude.{IfSome}
 use Rattle.std.specs.List.{AllByRecursion}
 use Rattle.ssz_schema.specs.Types.{container}
@@ -26,18 +29,21 @@ use Rattle.ssz_schema.specs.Unfolding.{fields_over}
 use Rattle.ssz_merkle.specs.Frontier.{leaves}
 use Rattle.ssz_value.specs.Faults.{element_count}
 use Rattle.ssz_value.specs.Trees.{pack, field_trees}
-use Rattle.ssz_roots.specs.Elements.{field_values}
+use Rattle.ssz_parts.specs.PartValues.{field_values}
 use Rattle.ssz_value.specs.Trees.{chunks}
-use Rattle.ssz_roots.specs.Bits.{undelimited}
-use Rattle.ssz_roots.proofs.BitChunks.{HasBits-bitlist}
+use Rattle.ssz_packing.specs.Bits.{undelimited}
+use Rattle.ssz_packing.proofs.BitChunks.{HasBits-bitlist}
 use Rattle.std.proofs.Common.{◌-◌, take, ap₂, length-drop}
 use Rattle.std.proofs.lemmas.List.{take_rest}
 use Rattle.ssz_schema.specs.Unfolding.{IsBelow, AreBelow}
 use Rattle.ssz_value.specs.Trees.{number_chunk}
 use Rattle.ssz_chunk.proofs.Counting.{CountsUp-add}
-use Rattle.ssz_roots.specs.Elements.{chosen_root, chosen_pairs}
-use Rattle.ssz_roots.proofs.Arms.{chosen_at, vector_elements, list_elements, IsPackedBits-bitvector, container_fields, container_root, container_pairs}
-use Rattle.ssz_roots.proofs.Rooted.{basic_root, vector_root, vector_pairs, list_root, list_pairs, length-element_values}
+use Rattle.ssz_roots.specs.Chosen.{chosen_root, chosen_pairs}
+use Rattle.ssz_packing.proofs.Options.{chosen_at}
+use Rattle.ssz_packing.proofs.Arms.{vector_elements, list_elements, IsPackedBits-bitvector, container_fields}
+use Rattle.ssz_roots.proofs.Arms.{container_root, container_pairs}
+use Rattle.ssz_roots.proofs.Rooted.{basic_root, vector_root, vector_pairs, list_root, list_pairs}
+use Rattle.ssz_parts.proofs.ElementValues.{length-element_values}
 use Rattle.ssz_roots.proofs.bytes.+root.Goals as goal
 use Rattle.ssz_schema.specs.Legal.{IsLegal}
 use Rattle.ssz_value.specs.Pairs.{pairs, field_pairs}

@@ -1,32 +1,31 @@
-use Rattle.std.proofs.Common.{◌≡◌, ◌∙◌, ◌+◌, ◌*◌, ◌/◌, ◌^◌, ◌<◌, ◌≤◌, ℕ, List, [], length, map, slice_get, Bool, Option, Some, None, Vec, Box, Global, sym, ap, ap₂, subst, arith, rules}
+use Rattle.std.proofs.Common.{◌≡◌, ◌∙◌, ◌+◌, ◌/◌, ◌^◌, ◌<◌, ◌≤◌, ℕ, List, length, map, slice_get, Bool, Option, Some, None, Vec, Box, Global, sym, ap, ap₂, subst, arith, rules}
 use Rattle.std.specs.List.{sum_by, AllByRecursion}
 use Rattle.std.proofs.lemmas.List.{length-map}
 use Rattle.ssz_chunk.specs.Chunk.{CountsUp, zero_chunk}
 use Rattle.ssz_chunk.specs.Tree.{Tree, root, full, grow}
 use Rattle.ssz_chunk.proofs.Counting.{CountsUp-add}
 use Rattle.ssz_schema.specs.Types.{SszType, container, union}
-use Rattle.ssz_schema.specs.Sizes.{basic_size, element_chunks, depth}
-use Rattle.ssz_schema.specs.Unfolding.{type_of, tree_at, tree_over, fields_over, options_over, AreBelow, IsBelow}
+use Rattle.ssz_schema.specs.Sizes.{basic_size}
+use Rattle.ssz_schema.specs.Unfolding.{type_of, tree_at, tree_over, fields_over, options_over, AreBelow}
 use Rattle.ssz_value.specs.declared.value.Value.{Value}
 use Rattle.ssz_value.specs.declared.value.Value.TheVariants.{Bytes, Seq, Union}
-use Rattle.ssz_value.specs.Values.{SszValue, Fits, chosen, chosen_none}
+use Rattle.ssz_value.specs.Values.{chosen, chosen_none}
 use Rattle.ssz_value.specs.Standing.{value_of, IsValue}
-use Rattle.ssz_value.specs.Shapes.{IsSequence, AreFields, parts_of, part_count_of, bits_of}
-use Rattle.ssz_value.specs.Encoding.{enc}
-use Rattle.ssz_value.specs.Trees.{tree, number_chunk, padded, pack_bits, field_trees}
+use Rattle.ssz_value.specs.Shapes.{IsSequence, AreFields, parts_of}
+use Rattle.ssz_value.specs.Trees.{tree, number_chunk, pack_bits, field_trees}
 use Rattle.ssz_value.specs.Pairs.{pairs, field_pairs}
 use Rattle.ssz_value.proofs.PartLemmas.{part_known, field_count_is}
 use Rattle.ssz_value.proofs.FormLemmas.{vector_sequence, list_sequence, seq_fields, element_at, chosen_fits, union_inner, chosen_option, value_of_chosen}
 use Rattle.ssz_value.proofs.ValueLemmas.{chosen_none_is}
 use Rattle.ssz_merkle.specs.Frontier.{leaves}
-use Rattle.ssz_roots.specs.Elements.{element_trees}
-use Rattle.ssz_roots.proofs.Arms.{container_room}
-use Rattle.ssz_roots.proofs.Rooted.{basic_tree}
-use Rattle.ssz_roots.proofs.Bounds.{basic_divides}
-use Rattle.ssz_roots.proofs.Unions.{option_tree-some, below_at}
-use Rattle.ssz_roots.proofs.ValueGathering.{take-map-next, FirstValues-start, FirstValues-room, FirstValues-more, FirstValues-root, FirstValues-counts}
+use Rattle.ssz_packing.proofs.Arms.{container_room}
+use Rattle.ssz_packing.proofs.BasicTrees.{basic_tree}
+use Rattle.ssz_packing.proofs.Bounds.{basic_divides}
+use Rattle.ssz_packing.proofs.Options.{option_tree-some, below_at}
+use Rattle.ssz_packing.proofs.Lists.{take-map-next}
+use Rattle.ssz_roots.proofs.ValueGathering.{FirstValues-start, FirstValues-room, FirstValues-more, FirstValues-root, FirstValues-counts}
 use Rattle.ssz_roots.proofs.ValueFields.{FirstFieldValues-start, FirstFieldValues-room, FirstFieldValues-more, FirstFieldValues-root, FirstFieldValues-counts}
-use Rattle.ssz_roots.proofs.ValueArms.{HasPackedValues, HasValues, HasByteValues, paid, HasBitValues-bitvector, HasBitList-bitlist, HasVector-vector, HasList-list, HasContainer-container, HasPackedValues-seq, HasValues-seq, HasByteValues-bytes, parts_of_seq, field_value, fields_fit}
+use Rattle.ssz_packing.proofs.ValueArms.{HasPackedValues, HasValues, HasByteValues, paid, HasBitValues-bitvector, HasBitList-bitlist, HasVector-vector, HasList-list, HasContainer-container, HasPackedValues-seq, HasValues-seq, HasByteValues-bytes, parts_of_seq, field_value, fields_fit}
 use Rattle.ssz_roots.proofs.values.+value.Goals as goal
 
 -- values of one type

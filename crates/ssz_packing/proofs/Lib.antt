@@ -1,0 +1,13 @@
+pub mod Lists
+pub mod Numbers
+pub mod ChunkLaws
+pub mod Chunks
+pub mod Bounds
+pub mod BasicTrees
+pub mod Options
+pub mod BitChunks
+pub mod BitValues
+pub mod BasicValues
+pub mod Filling
+pub mod Arms
+pub mod ValueArms

@@ -1,0 +1,33 @@
+ghost use Rattle.std.specs.Prelude.{◌≡◌, ◌<◌, ◌^◌, length};
+ghost use Rattle.ssz_merkle.specs.Packing.{chunk_of};
+ghost use Rattle.ssz_packing.specs.Bits.{undelimited};
+ghost use Rattle.ssz_schema.specs.Faults.{bitlist_length, last_byte};
+
+use ssz_basic::highest_bit;
+use ssz_chunk::Chunk;
+use ssz_merkle::chunk_at;
+
+/// How many bits stand below the delimiter, the highest 1 bit.
+pub fn bitlist_len(bytes: &[u8]) -> u64
+    requires some { 0 < length bytes.now }
+    requires short { length bytes.now < 2 ^ 32 }
+    ensures { result ≡ bitlist_length bytes.now }
+{
+    let last = bytes[bytes.len() - 1];
+    8 * (bytes.len() as u64 - 1) + u64::from(highest_bit(last))
+}
+
+/// Chunk i of the bits of a bitlist, without the delimiter, with zeros behind the last one.
+pub fn bit_chunk_at(bytes: &[u8], i: usize) -> Chunk
+    requires some { 0 < length bytes.now }
+    requires delimited { 0 < last_byte bytes.now }
+    requires short { length bytes.now < 2 ^ 32 }
+    ensures { result.0 ≡ chunk_of (undelimited bytes.now) i }
+{
+    let mut chunk = chunk_at(bytes, i);
+    let last = bytes.len() - 1;
+    if last / 32 == i {
+        chunk.0[last % 32] = bytes[last] - (1 << highest_bit(bytes[last]));
+    }
+    chunk
+}
