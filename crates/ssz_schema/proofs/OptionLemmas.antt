@@ -6,7 +6,7 @@ use Rattle.ssz_schema.specs.Sizes.{option_levels, option_nesting, option_count}
 use Rattle.ssz_schema.specs.Unfolding.{options_over}
 use Rattle.ssz_schema.specs.Sums.{AreOptionSums, IsOption}
 
-drop_option : (ids : List (Option ℕ)) (i : ℕ) (o : Option ℕ) → i < length ids → o ≡ get_or ids i o → drop i ids ≡ o ∷ drop (i + 1) ids
+pub drop_option : (ids : List (Option ℕ)) (i : ℕ) (o : Option ℕ) → i < length ids → o ≡ get_or ids i o → drop i ids ≡ o ∷ drop (i + 1) ids
 drop_option [] i o h e = absurd (omega arith)
 drop_option (p ∷ ids) zero o h e = λ i. sym e i ∷ ids
 drop_option (p ∷ ids) (suc i) o h e =

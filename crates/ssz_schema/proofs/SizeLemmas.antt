@@ -8,10 +8,10 @@ use Rattle.ssz_schema.specs.declared.width.Width.{Width}
 use Rattle.ssz_schema.specs.declared.width.Width.TheVariants.{W8, W16, W32, W64, W128, W256}
 use Rattle.std.specs.Option.{ForSome}
 
-some_is : (a b : ℕ) → Some a ≡ Some b → a ≡ b
+pub some_is : (a b : ℕ) → Some a ≡ Some b → a ≡ b
 some_is a b e = cc
 
-none_is : (b : ℕ) → None ≡ Some b → ⊥
+pub none_is : (b : ℕ) → None ≡ Some b → ⊥
 none_is b e = cc
 
 scaled : (n z length : ℕ) (size : Option ℕ) → ((y : ℕ) → size ≡ Some y → length ≡ y) → option_map (λ y. n * y) size ≡ Some z → n * part_length size length ≡ z
@@ -109,12 +109,28 @@ ForSome-fixed_size format t legal z e = record {
 
 pub ruleset sizes = (ForSome-fixed_size)
 
--- a legal vector has few elements
-pub vector_few : (format : Format) (t : SszType) (n : ℕ) → IsLegal format (vector t n) → n ≤ 2 ^ 24
-vector_few format t n legal =
-    let long : 1 ≤ part_length (fixed_size t) (default_length t) = part_positive (fixed_size t) (default_length t) (λ z e. omega (arith, fixed_size-positive format t legal.0 z e, default_length-fixed t z e)) in
-    omega (arith, legal.2.default_length, mul-le-mul_left n long)
+-- a part adds a byte at least to the default of the whole
+pub part_length-positive : (format : Format) (t : SszType) → IsLegal format t
+    → 1 ≤ part_length (fixed_size t) (default_length t)
+part_length-positive format t legal =
+    go (fixed_size t) (default_length t)
+    (λ z e. omega (arith, fixed_size-positive format t legal z e, default_length-fixed t z e))
   where
-    part_positive : (size : Option ℕ) (length : ℕ) → ((z : ℕ) → size ≡ Some z → 0 < length) → 1 ≤ part_length size length
-    part_positive None length h = omega arith
-    part_positive (Some z) length h = h z refl
+    go : (size : Option ℕ) (length : ℕ) → ((z : ℕ) → size ≡ Some z → 0 < length)
+        → 1 ≤ part_length size length
+    go None length h = omega arith
+    go (Some z) length h = h z refl
+
+-- a legal vector has few elements
+pub vector_few : (format : Format) (t : SszType) (n : ℕ) → IsLegal format (vector t n)
+    → n ≤ 2 ^ 24
+vector_few format t n legal =
+    let long = mul-le-mul_left n (part_length-positive format t legal.0) in
+    omega (arith, legal.2.default_length, long)
+
+-- fields are no more than the bytes of their defaults
+pub fields_few : (format : Format) (fs : Fields) → AreLegalFields format fs
+    → field_count fs ≤ default_fields_length fs
+fields_few format no_fields legal = omega arith
+fields_few format (field name t fs) legal =
+    omega (arith, part_length-positive format t legal.1, fields_few format fs legal.2)

@@ -12,7 +12,7 @@ use Rattle.ssz_schema.specs.Sums.{AreSums}
 abbrev pub Part : Type 0
 Part = List ℕ × ℕ
 
-drop_field : (parts : List Part) (i : ℕ) (part : Part) → i < length parts → part ≡ get_or parts i part → drop i parts ≡ part ∷ drop (i + 1) parts
+pub drop_field : (parts : List Part) (i : ℕ) (part : Part) → i < length parts → part ≡ get_or parts i part → drop i parts ≡ part ∷ drop (i + 1) parts
 drop_field [] i part h e = absurd (omega arith)
 drop_field (p ∷ parts) zero part h e = λ i. sym e i ∷ parts
 drop_field (p ∷ parts) (suc i) part h e =

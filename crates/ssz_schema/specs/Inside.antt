@@ -71,6 +71,8 @@ pub record AreSmall (facts : Facts) : Type 0 where
   pub nesting : facts.nesting ≤ 32
   pub levels : facts.levels ≤ 126
   pub default_len : facts.default_len ≤ 2 ^ 24
+  pub chunk_count : facts.chunk_count ≤ 2 ^ 62
+  pub depth : facts.depth ≤ 62
 
 -- the entry of this number
 pub record IsEntry (types : Types) (id : ℕ) (e : Entry) : Type 0 where

@@ -1,9 +1,8 @@
 // Adding a type whose parts are there, unless it exceeds a limit.
 ghost use Rattle.std.specs.Prelude.{◌≡◌, ◌<◌, ◌≤◌, ◌^◌, Ok, Err, List, length, Option, option_map, if◌then◌else◌, bytes_eq};
 ghost use Rattle.std.specs.List.{AllByRecursion, IsDistinct};
-ghost use Rattle.std.specs.Option.{ForSome};
 ghost use Rattle.ssz_schema.specs.Types.{vector, list, bitvector, bitlist, container, union};
-ghost use Rattle.ssz_schema.specs.Sizes.{basic_size, field_count, option_count, default_option_length};
+ghost use Rattle.ssz_schema.specs.Sizes.{field_count, option_count, default_option_length};
 ghost use Rattle.ssz_schema.specs.Legal.{AreLegalFields, AreLegalOptions, IsNoneFirst, field_names, most_options};
 ghost use Rattle.ssz_schema.specs.Walk.{within_limits, of_length, of_limit};
 ghost use Rattle.ssz_schema.specs.Unfolding.{type_of, tree_over, fields_over, options_over, IsBelow};
@@ -96,19 +95,6 @@ impl Schema {
             ty: Ty::Bitlist(limit),
             facts,
         })
-    }
-
-    // The size of a basic type, or None for a composite type.
-    fn basic_size(&self, id: TypeId) -> Option<u64>
-        requires { id < length self.now.trees }
-        ensures exact { result ≡ basic_size (type_of self.now id) }
-        ensures small { ForSome result (λ z. z ≤ 32) }
-    {
-        match self.ty(id) {
-            Ty::Uint(width) => Some(width.byte_count()),
-            Ty::Boolean => Some(1),
-            _ => None,
-        }
     }
 
     pub(crate) fn add_list(&mut self, elem: TypeId, limit: u64) -> Result<TypeId, SchemaError>

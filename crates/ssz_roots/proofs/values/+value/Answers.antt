@@ -305,7 +305,7 @@ root_of_value-bit_values_root-requires-clause-few g t c =
     let form = sym c.ty.ensures.form ∙ ap (tree_over c.args.schema.now.trees) c.in-Bitvector.is in
     let h = HasBitValues-bitvector g.H.PairHash.pair_of c.args.schema.now.format
     (type_of c.args.schema.now c.args.id) c.in-Bitvector.field-0 c.depth.result
-    (value_of c.args.value.now) form c.ty.ensures.legal c.requires.value.fits c.depth.ensures in
+    (value_of c.args.value.now) form c.ty.ensures.legal c.requires.value.fits c.depth.ensures.exact in
     subst (λ (bs : List Bool). (length bs + 255) / 256 ≤ 2 ^ c.depth.result) (sym c.bits_of.ensures)
     h.few
 
@@ -316,7 +316,7 @@ root_of_value-bit_values_root-requires-clause-depth g t c =
     (HasBitValues-bitvector g.H.PairHash.pair_of c.args.schema.now.format
     (type_of c.args.schema.now c.args.id) c.in-Bitvector.field-0 c.depth.result
     (value_of c.args.value.now) form c.ty.ensures.legal c.requires.value.fits
-    c.depth.ensures).shallow
+    c.depth.ensures.exact).shallow
 
 pub root_of_value-returns-in-Bitvector-clause-root :
     goal.root_of_value-returns-in-Bitvector-clause-root
@@ -324,7 +324,7 @@ root_of_value-returns-in-Bitvector-clause-root g t c =
     let form = sym c.ty.ensures.form ∙ ap (tree_over c.args.schema.now.trees) c.in-Bitvector.is in
     let h = HasBitValues-bitvector g.H.PairHash.pair_of c.args.schema.now.format
     (type_of c.args.schema.now c.args.id) c.in-Bitvector.field-0 c.depth.result
-    (value_of c.args.value.now) form c.ty.ensures.legal c.requires.value.fits c.depth.ensures in
+    (value_of c.args.value.now) form c.ty.ensures.legal c.requires.value.fits c.depth.ensures.exact in
     c.bit_values_root.ensures.root ∙ ap (λ (bs : List Bool). root g.H.PairHash.pair_of
     (full c.depth.result (leaves (pack_bits bs)))) c.bits_of.ensures ∙ h.same
 
@@ -334,7 +334,7 @@ root_of_value-returns-in-Bitvector-clause-counts g t c =
     let form = sym c.ty.ensures.form ∙ ap (tree_over c.args.schema.now.trees) c.in-Bitvector.is in
     let h = HasBitValues-bitvector g.H.PairHash.pair_of c.args.schema.now.format
     (type_of c.args.schema.now c.args.id) c.in-Bitvector.field-0 c.depth.result
-    (value_of c.args.value.now) form c.ty.ensures.legal c.requires.value.fits c.depth.ensures in
+    (value_of c.args.value.now) form c.ty.ensures.legal c.requires.value.fits c.depth.ensures.exact in
     subst (λ n. CountsUp n (g.H.PairHash.pairs c.args.hasher.now)
     (g.H.PairHash.pairs c.bit_values_root.new.hasher))
     (ap (λ (bs : List Bool). grow c.depth.result ((length bs + 255) / 256)) c.bits_of.ensures
@@ -347,7 +347,7 @@ root_of_value-bit_values_root-root-requires-clause-few g t c =
     let h = HasBitList-bitlist g.H.PairHash.pair_of c.args.schema.now.format
     (type_of c.args.schema.now c.args.id) c.in-Bitlist.field-0 c.depth-in-Bitlist.result
     (value_of c.args.value.now) form c.ty.ensures.legal c.requires.value.fits
-    c.depth-in-Bitlist.ensures in
+    c.depth-in-Bitlist.ensures.exact in
     subst (λ (bs : List Bool). (length bs + 255) / 256 ≤ 2 ^ c.depth-in-Bitlist.result)
     (sym c.bits_of-bits.ensures) h.few
 
@@ -358,7 +358,7 @@ root_of_value-bit_values_root-root-requires-clause-depth g t c =
     (HasBitList-bitlist g.H.PairHash.pair_of c.args.schema.now.format
     (type_of c.args.schema.now c.args.id) c.in-Bitlist.field-0 c.depth-in-Bitlist.result
     (value_of c.args.value.now) form c.ty.ensures.legal c.requires.value.fits
-    c.depth-in-Bitlist.ensures).shallow
+    c.depth-in-Bitlist.ensures.exact).shallow
 
 pub root_of_value-returns-in-Bitlist-clause-root : goal.root_of_value-returns-in-Bitlist-clause-root
 root_of_value-returns-in-Bitlist-clause-root g t c =
@@ -366,7 +366,7 @@ root_of_value-returns-in-Bitlist-clause-root g t c =
     let h = HasBitList-bitlist g.H.PairHash.pair_of c.args.schema.now.format
     (type_of c.args.schema.now c.args.id) c.in-Bitlist.field-0 c.depth-in-Bitlist.result
     (value_of c.args.value.now) form c.ty.ensures.legal c.requires.value.fits
-    c.depth-in-Bitlist.ensures in
+    c.depth-in-Bitlist.ensures.exact in
     c.pair.ensures.value ∙ ap₂ g.H.PairHash.pair_of c.bit_values_root-root.ensures.root
     c.number_chunk.ensures
     ∙ ap (λ (bs : List Bool). g.H.PairHash.pair_of
@@ -380,7 +380,7 @@ root_of_value-returns-in-Bitlist-clause-counts g t c =
     let h = HasBitList-bitlist g.H.PairHash.pair_of c.args.schema.now.format
     (type_of c.args.schema.now c.args.id) c.in-Bitlist.field-0 c.depth-in-Bitlist.result
     (value_of c.args.value.now) form c.ty.ensures.legal c.requires.value.fits
-    c.depth-in-Bitlist.ensures in
+    c.depth-in-Bitlist.ensures.exact in
     subst (λ n. CountsUp n (g.H.PairHash.pairs c.args.hasher.now)
     (g.H.PairHash.pairs c.pair.new.self))
     (ap (λ (bs : List Bool). grow c.depth-in-Bitlist.result ((length bs + 255) / 256) + 1)
@@ -396,7 +396,7 @@ root_of_value-sequence_root-requires g t c =
     let h = HasVector-vector g.H.PairHash.pair_of c.args.schema.now.format
     (type_of c.args.schema.now c.args.id) ty c.in-Vector.field-1 c.depth-in-Vector.result
     (value_of c.args.value.now) form c.ty.ensures.legal c.requires.value.fits
-    c.depth-in-Vector.ensures in
+    c.depth-in-Vector.ensures.exact in
     let value : IsSequence ty c.args.value.now =
     vector_sequence ty c.in-Vector.field-1 c.args.value.now
     (subst (λ f. IsValue f c.args.value.now) form c.requires.value) in
@@ -411,7 +411,7 @@ root_of_value-returns-in-Vector-clause-root g t c =
     let h = HasVector-vector g.H.PairHash.pair_of c.args.schema.now.format
     (type_of c.args.schema.now c.args.id) ty c.in-Vector.field-1 c.depth-in-Vector.result
     (value_of c.args.value.now) form c.ty.ensures.legal c.requires.value.fits
-    c.depth-in-Vector.ensures in
+    c.depth-in-Vector.ensures.exact in
     c.sequence_root.ensures.root ∙ h.same
 
 pub root_of_value-returns-in-Vector-clause-counts :
@@ -422,7 +422,7 @@ root_of_value-returns-in-Vector-clause-counts g t c =
     let h = HasVector-vector g.H.PairHash.pair_of c.args.schema.now.format
     (type_of c.args.schema.now c.args.id) ty c.in-Vector.field-1 c.depth-in-Vector.result
     (value_of c.args.value.now) form c.ty.ensures.legal c.requires.value.fits
-    c.depth-in-Vector.ensures in
+    c.depth-in-Vector.ensures.exact in
     subst (λ n. CountsUp n (g.H.PairHash.pairs c.args.hasher.now)
     (g.H.PairHash.pairs c.sequence_root.new.hasher)) h.costs c.sequence_root.ensures.counts
 
@@ -433,7 +433,7 @@ root_of_value-sequence_root-root-requires g t c =
     let h = HasList-list g.H.PairHash.pair_of c.args.schema.now.format
     (type_of c.args.schema.now c.args.id) ty c.in-List.field-1 c.depth-in-List.result
     (value_of c.args.value.now) form c.ty.ensures.legal c.requires.value.fits
-    c.depth-in-List.ensures in
+    c.depth-in-List.ensures.exact in
     let value : IsSequence ty c.args.value.now =
     list_sequence ty c.in-List.field-1 c.args.value.now
     (subst (λ f. IsValue f c.args.value.now) form c.requires.value) in
@@ -448,7 +448,7 @@ root_of_value-returns-in-List-clause-root g t c =
     let h = HasList-list g.H.PairHash.pair_of c.args.schema.now.format
     (type_of c.args.schema.now c.args.id) ty c.in-List.field-1 c.depth-in-List.result
     (value_of c.args.value.now) form c.ty.ensures.legal c.requires.value.fits
-    c.depth-in-List.ensures in
+    c.depth-in-List.ensures.exact in
     c.pair-in-List.ensures.value ∙ ap₂ g.H.PairHash.pair_of c.sequence_root-root.ensures.root
     (c.number_chunk-in-List.ensures ∙ ap number_chunk c.part_count.ensures) ∙ h.same
 
@@ -459,7 +459,7 @@ root_of_value-returns-in-List-clause-counts g t c =
     let h = HasList-list g.H.PairHash.pair_of c.args.schema.now.format
     (type_of c.args.schema.now c.args.id) ty c.in-List.field-1 c.depth-in-List.result
     (value_of c.args.value.now) form c.ty.ensures.legal c.requires.value.fits
-    c.depth-in-List.ensures in
+    c.depth-in-List.ensures.exact in
     subst (λ n. CountsUp n (g.H.PairHash.pairs c.args.hasher.now)
     (g.H.PairHash.pairs c.pair-in-List.new.self)) h.costs
     (CountsUp-add _ 1 (g.H.PairHash.pairs c.args.hasher.now)
@@ -476,7 +476,7 @@ root_of_value-container_value_root-requires g t c =
     ∙ ap (λ (parts : List (List ℕ × ℕ)). container (fields_over trees parts)) fields in
     let room = container_room c.args.schema.now.format (type_of c.args.schema.now c.args.id)
     trees c.as_slice.result.now c.depth-in-Container.result form c.ty.ensures.legal
-    c.depth-in-Container.ensures in
+    c.depth-in-Container.ensures.exact in
     let value : IsValue (container (fields_over trees c.as_slice.result.now)) c.args.value.now =
     subst (λ f. IsValue f c.args.value.now) form c.requires.value in
     let P : List (List ℕ × ℕ) → Type 0 = AllByRecursion
@@ -497,7 +497,7 @@ root_of_value-returns-in-Container-clause-root g t c =
     c.container_value_root.ensures.root
     ∙ (HasContainer-container g.H.PairHash.pair_of (type_of c.args.schema.now c.args.id)
     trees c.as_slice.result.now c.depth-in-Container.result (value_of c.args.value.now)
-    form c.requires.value.fits c.depth-in-Container.ensures).same
+    form c.requires.value.fits c.depth-in-Container.ensures.exact).same
 
 pub root_of_value-returns-in-Container-clause-counts :
     goal.root_of_value-returns-in-Container-clause-counts
@@ -511,7 +511,7 @@ root_of_value-returns-in-Container-clause-counts g t c =
     (g.H.PairHash.pairs c.container_value_root.new.hasher))
     (HasContainer-container g.H.PairHash.pair_of (type_of c.args.schema.now c.args.id)
     trees c.as_slice.result.now c.depth-in-Container.result (value_of c.args.value.now)
-    form c.requires.value.fits c.depth-in-Container.ensures).costs
+    form c.requires.value.fits c.depth-in-Container.ensures.exact).costs
     c.container_value_root.ensures.counts
 
 -- a union
