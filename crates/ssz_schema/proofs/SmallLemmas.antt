@@ -15,8 +15,15 @@ most_levels-small Two = omega arith
 
 -- every legal type is within the limits, basic types too
 pub legal_within : (format : Format) (t : SszType) → IsLegal format t → IsWithinLimits format t
-legal_within format (uint w) legal = record { nesting = omega arith; levels = omega arith; default_length = omega (arith, byte_count-small w) }
-legal_within format boolean legal = record { nesting = omega arith; levels = omega arith; default_length = omega arith }
+legal_within format (uint w) legal =
+    record {
+      nesting = omega arith;
+      levels = omega arith;
+      default_length =
+          omega (arith, byte_count-small w);
+    }
+legal_within format boolean legal =
+    record { nesting = omega arith; levels = omega arith; default_length = omega arith }
 legal_within format (container fs) legal = legal.3
 legal_within format (vector elem n) legal = legal.2
 legal_within format (list elem limit) legal = legal.2
@@ -24,7 +31,8 @@ legal_within format (bitvector n) legal = legal.1
 legal_within format (bitlist limit) legal = legal.1
 legal_within format (union os) legal = legal.4
 
-pub small_facts : (format : Format) (t : SszType) (facts : Facts) → IsLegal format t → AreFactsOf facts t → AreSmall facts
+pub small_facts : (format : Format) (t : SszType) (facts : Facts) → IsLegal format t
+    → AreFactsOf facts t → AreSmall facts
 small_facts format t facts legal are =
     let within = legal_within format t legal in
     record {

@@ -60,7 +60,8 @@ pub record IsSoundButLimits (format : Format) (done : List SszType) (e : Entry) 
 module _ (format : Format) where
   abbrev pub AreSound : List SszType → List Entry → Type 0
   AreSound done [] = Unit {0}
-  AreSound done (e ∷ entries) = IsSound format done e × AreSound (done ++ tree_over done e.ty ∷ []) entries
+  AreSound done (e ∷ entries) = IsSound format done e
+      × AreSound (done ++ tree_over done e.ty ∷ []) entries
 
 -- each name is that of one of count types
 abbrev pub NamesAreBelow : List (List ℕ × ℕ) → ℕ → Type 0

@@ -38,7 +38,8 @@ impl Schema {
     // Adds a type if it keeps the limits.
     fn add_within_limits(&mut self, entry: Entry) -> Result<TypeId, SchemaError>
         requires { IsSoundButLimits self.old.format self.old.trees entry }
-        ensures { Resolves IsType (within_limits self.old.format (tree_over self.old.trees entry.ty)) self.old self.new result }
+        ensures { Resolves IsType (within_limits self.old.format
+            (tree_over self.old.trees entry.ty)) self.old self.new result }
     {
         if entry.facts.nesting > MOST_NESTING {
             return Err(SchemaError::Fault(SchemaFault::Nest));
@@ -53,7 +54,8 @@ impl Schema {
     }
 
     pub(crate) fn add_bitvector(&mut self, n: u64) -> Result<TypeId, SchemaError>
-        ensures { Resolves IsType (of_length self.old.format n (bitvector n)) self.old self.new result }
+        ensures { Resolves IsType (of_length self.old.format n (bitvector n)) self.old self.new
+            result }
     {
         if n == 0 {
             return Err(SchemaError::Fault(SchemaFault::ZeroLength));
@@ -76,7 +78,8 @@ impl Schema {
     }
 
     pub(crate) fn add_bitlist(&mut self, limit: u64) -> Result<TypeId, SchemaError>
-        ensures { Resolves IsType (of_limit self.old.format limit (bitlist limit)) self.old self.new result }
+        ensures { Resolves IsType (of_limit self.old.format limit (bitlist limit)) self.old self.new
+            result }
     {
         if limit > self.format().greatest_limit() {
             return Err(SchemaError::Fault(SchemaFault::LimitTooBig));
@@ -99,7 +102,8 @@ impl Schema {
 
     pub(crate) fn add_list(&mut self, elem: TypeId, limit: u64) -> Result<TypeId, SchemaError>
         requires { elem < length self.old.trees }
-        ensures { Resolves IsType (of_limit self.old.format limit (list (type_of self.old elem) limit)) self.old self.new result }
+        ensures { Resolves IsType (of_limit self.old.format limit
+            (list (type_of self.old elem) limit)) self.old self.new result }
     {
         if limit > self.format().greatest_limit() {
             return Err(SchemaError::Fault(SchemaFault::LimitTooBig));
@@ -123,7 +127,8 @@ impl Schema {
 
     pub(crate) fn add_vector(&mut self, elem: TypeId, n: u64) -> Result<TypeId, SchemaError>
         requires { elem < length self.old.trees }
-        ensures { Resolves IsType (of_length self.old.format n (vector (type_of self.old elem) n)) self.old self.new result }
+        ensures { Resolves IsType (of_length self.old.format n (vector (type_of self.old elem) n))
+            self.old self.new result }
     {
         if n == 0 {
             return Err(SchemaError::Fault(SchemaFault::ZeroLength));
@@ -183,8 +188,10 @@ impl Schema {
         requires some { 0 < length fields.items }
         requires known { AllByRecursion (λ part. part.1 < length self.old.trees) fields.items }
         requires legal { AreLegalFields self.old.format (fields_over self.old.trees fields.items) }
-        requires distinct { IsDistinct bytes_eq (field_names (fields_over self.old.trees fields.items)) }
-        ensures { Resolves IsType (within_limits self.old.format (container (fields_over self.old.trees fields.items))) self.old self.new result }
+        requires distinct { IsDistinct bytes_eq
+            (field_names (fields_over self.old.trees fields.items)) }
+        ensures { Resolves IsType (within_limits self.old.format
+            (container (fields_over self.old.trees fields.items))) self.old self.new result }
     {
         let sums = self.sums(fields.as_slice());
         let chunk_count = fields.len() as u64;
@@ -254,9 +261,11 @@ impl Schema {
         requires some { 0 < length options.items }
         requires few { length options.items ≤ most_options }
         requires known { AllByRecursion (IsBelow (length self.old.trees)) options.items }
-        requires legal { AreLegalOptions self.old.format (options_over self.old.trees options.items) }
+        requires legal { AreLegalOptions self.old.format
+            (options_over self.old.trees options.items) }
         requires none { IsNoneFirst (options_over self.old.trees options.items) }
-        ensures { Resolves IsType (within_limits self.old.format (union (options_over self.old.trees options.items))) self.old self.new result }
+        ensures { Resolves IsType (within_limits self.old.format
+            (union (options_over self.old.trees options.items))) self.old self.new result }
     {
         let (option_levels, option_nesting) = self.options_sums(options.as_slice());
         let first = self.default_of_first(options.as_slice());

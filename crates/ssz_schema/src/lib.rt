@@ -1,8 +1,8 @@
 //! The types of SimpleSerialize: how they are written, which are legal, and what is read off them.
 //!
-//! A `Schema` keeps named types, each proved legal when it was added, with its sizes, chunk count, depth and levels at
-//! hand. The definitions of types, of numbers and bits as bytes, and of paths with their generalized indices stand in
-//! specs/, for this crate and all above it.
+//! A `Schema` keeps named types, each proved legal when it was added, with its sizes, chunk count,
+//! depth and levels at hand. The definitions of types, of numbers and bits as bytes, and of paths
+//! with their generalized indices stand in specs/, for this crate and all above it.
 #![tactic(auto)]
 
 mod adding;

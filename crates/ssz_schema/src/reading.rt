@@ -23,11 +23,12 @@ pub fn field_at(fields: &[(Name, TypeId)], name: &Name) -> Option<usize>
 }
 
 impl Schema {
-    /// The type of the part that the step leads to from a value of the type, or None exactly where the step does not
-    /// fit the type.
+    /// The type of the part that the step leads to from a value of the type, or None exactly
+    /// where the step does not fit the type.
     pub fn step_type(&self, id: TypeId, step: &PathStep) -> Option<TypeId>
         requires { id < length self.now.trees }
-        ensures exact { option_map (type_of self.now) result ≡ step_type (type_of self.now id) step.now }
+        ensures exact { option_map (type_of self.now) result
+            ≡ step_type (type_of self.now id) step.now }
         ensures known { ForSome result (λ part. part < length self.now.trees) }
     {
         match step {
@@ -39,10 +40,12 @@ impl Schema {
         }
     }
 
-    /// The type of the part at the path in a value of the type, or None exactly where the path does not fit the type.
+    /// The type of the part at the path in a value of the type, or None exactly
+    /// where the path does not fit the type.
     pub fn path_type(&self, id: TypeId, path: &[PathStep]) -> Option<TypeId>
         requires { id < length self.now.trees }
-        ensures exact { option_map (type_of self.now) result ≡ path_type (type_of self.now id) path.now }
+        ensures exact { option_map (type_of self.now) result
+            ≡ path_type (type_of self.now id) path.now }
         ensures known { ForSome result (λ part. part < length self.now.trees) }
     {
         let mut part = id;

@@ -13,9 +13,11 @@ use super::type_id::TypeId;
 use super::width::Width;
 
 impl Schema {
-    /// Whether the two types are the same: of the same form, with the same parts, whatever the definitions' names are.
+    /// Whether the two types are the same: of the same form, with the same
+    /// parts, whatever the definitions' names are.
     ///
-    /// It takes no memory. Types of one number are the same at once; others are compared part by part.
+    /// It takes no memory. Types of one number are the same at once;
+    /// others are compared part by part.
     #[cycle(same)]
     pub fn same_type(&self, left: TypeId, right: TypeId) -> bool
         requires left { left < length self.now.trees }

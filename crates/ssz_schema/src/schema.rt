@@ -44,8 +44,8 @@ impl Schema {
     ghost use Rattle.ssz_schema.specs.Adding.{Names, Knows, IsFresh, IsType};
     ghost use Rattle.ssz_schema.specs.Inside.{basic_types};
 
-    /// A schema of format 1 with the built-in names alone: boolean, byte, uint8, uint16, uint32, uint64, uint128 and
-    /// uint256, where byte is uint8.
+    /// A schema of format 1 with the built-in names alone: boolean, byte, uint8, uint16, uint32,
+    /// uint64, uint128 and uint256, where byte is uint8.
     pub fn empty(alloc: Global) -> Result<Schema, AllocError>
         ensures { IfOk result (IsFresh Format.One) }
     {
@@ -71,7 +71,8 @@ impl Schema {
 
     // The basic types without names.
     fn unnamed(alloc: Global, format: Format) -> Result<Schema, AllocError>
-        ensures { IfOk result (λ schema. schema ≡ record { format = format; trees = basic_types; names = [] }) }
+        ensures { IfOk result (λ schema. schema ≡ record
+            { format = format; trees = basic_types; names = [] }) }
     {
         let basics = [
             Entry::boolean(),
@@ -148,7 +149,8 @@ impl Schema {
     pub(crate) fn push(&mut self, entry: Entry) -> Result<TypeId, AllocError>
         requires { IsSound self.old.format self.old.trees entry }
         ensures number { IfOk result (λ id. id ≡ length self.old.trees) }
-        ensures added { OnOk result (self.new ≡ record self.old { trees = self.old.trees ++ tree_over self.old.trees entry.ty ∷ [] }) }
+        ensures added { OnOk result (self.new ≡ record self.old
+            { trees = self.old.trees ++ tree_over self.old.trees entry.ty ∷ [] }) }
         ensures kept { OnErr result (self.new ≡ self.old) }
     {
         let id = TypeId::new(self.entries.len());
@@ -233,7 +235,8 @@ impl Schema {
         self.entry(id).facts.fixed_size
     }
 
-    /// The size of a basic type, a number or a boolean: 1 to 32 bytes. None exactly for composite types.
+    /// The size of a basic type, a number or a boolean: 1 to 32 bytes.
+    /// None exactly for composite types.
     pub fn basic_size(&self, id: TypeId) -> Option<u64>
         requires { id < length self.now.trees }
         ensures exact { result ≡ basic_size (type_of self.now id) }
@@ -273,7 +276,8 @@ impl Schema {
         self.entry(id).facts.depth
     }
 
-    /// The length of the longest path in the type's tree, at most 63 in format 1 and 126 in format 2.
+    /// The length of the longest path in the type's tree, at most 63
+    /// in format 1 and 126 in format 2.
     pub fn levels(&self, id: TypeId) -> u32
         requires { id < length self.now.trees }
         ensures exact { result ≡ levels (type_of self.now id) }
