@@ -9,20 +9,48 @@ use Rattle.ssz_schema.proofs.DepthLemmas.{depth_of-small}
 use Rattle.ssz_schema.specs.Inside.{IsBasicEntry, AreFactsOf}
 
 abbrev facts_of_size : ℕ → Facts
-facts_of_size size = record { fixed_size = Some size; default_len = size; chunk_count = 1; depth = 0; levels = 0; nesting = 1 }
+facts_of_size size = record {
+  fixed_size = Some size;
+  default_len = size;
+  chunk_count = 1;
+  depth =
+      0;
+  levels = 0;
+  nesting = 1;
+}
 
-pub IsBasicEntry-boolean : (facts : Facts) → facts ≡ facts_of_size 1 → IsBasicEntry boolean (record { ty = Boolean; facts = facts })
+pub IsBasicEntry-boolean : (facts : Facts) → facts ≡ facts_of_size 1
+    → IsBasicEntry boolean (record { ty = Boolean; facts = facts })
 IsBasicEntry-boolean facts e = record {
   tree = λ done. refl;
   below = λ count. tt;
   legal = λ format. tt;
-  facts = subst (λ (f : Facts). AreFactsOf f boolean) (sym e) (record { fixed_size = refl; default_len = refl; chunk_count = refl; depth = sym (depth_of-small 1 (omega arith)); levels = refl; nesting = refl });
+  facts = subst (λ (f : Facts). AreFactsOf f boolean) (sym e)
+      (record {
+        fixed_size = refl;
+        default_len = refl;
+        chunk_count = refl;
+        depth =
+            sym (depth_of-small 1 (omega arith));
+        levels = refl;
+        nesting = refl;
+      });
 }
 
-pub IsBasicEntry-uint : (w : Width) (facts : Facts) (size : ℕ) → size ≡ byte_count w → facts ≡ facts_of_size size → IsBasicEntry (uint w) (record { ty = Uint w; facts = facts })
+pub IsBasicEntry-uint : (w : Width) (facts : Facts) (size : ℕ) → size ≡ byte_count w
+    → facts ≡ facts_of_size size → IsBasicEntry (uint w) (record { ty = Uint w; facts = facts })
 IsBasicEntry-uint w facts size sized e = record {
   tree = λ done. refl;
   below = λ count. tt;
   legal = λ format. tt;
-  facts = subst (λ (f : Facts). AreFactsOf f (uint w)) (sym (e ∙ ap facts_of_size sized)) (record { fixed_size = refl; default_len = refl; chunk_count = refl; depth = sym (depth_of-small 1 (omega arith)); levels = refl; nesting = refl });
+  facts = subst (λ (f : Facts). AreFactsOf f (uint w)) (sym (e ∙ ap facts_of_size sized))
+      (record {
+        fixed_size = refl;
+        default_len = refl;
+        chunk_count = refl;
+        depth =
+            sym (depth_of-small 1 (omega arith));
+        levels = refl;
+        nesting = refl;
+      });
 }

@@ -30,7 +30,8 @@ top_low : (b : Bool) (place n : ℕ) → 2 ^ place ≤ n → 2 ^ suc place ≤ b
 top_low true place n h = omega arith
 top_low false place n h = omega arith
 
-top_high : (b : Bool) (place n : ℕ) → n < 2 ^ (place + 1) → bit_value b + 2 * n < 2 ^ (suc place + 1)
+top_high : (b : Bool) (place n : ℕ) → n < 2 ^ (place + 1)
+    → bit_value b + 2 * n < 2 ^ (suc place + 1)
 top_high true place n h = omega (arith, pow-add 2 place 1, pow-add 2 (suc place) 1)
 top_high false place n h = omega (arith, pow-add 2 place 1, pow-add 2 (suc place) 1)
 
@@ -39,30 +40,40 @@ number_of_bits_lt [] = omega arith
 number_of_bits_lt (true ∷ bits) = omega (arith, number_of_bits_lt bits, pow-suc 2 (length bits))
 number_of_bits_lt (false ∷ bits) = omega (arith, number_of_bits_lt bits, pow-suc 2 (length bits))
 
-pub bits_of_number-number_of_bits : (bits : List Bool) → bits_of_number (length bits) (number_of_bits bits) ≡ bits
+pub bits_of_number-number_of_bits : (bits : List Bool)
+    → bits_of_number (length bits) (number_of_bits bits) ≡ bits
 bits_of_number-number_of_bits [] = refl
 bits_of_number-number_of_bits (b ∷ bits) =
-    let rest : (bit_value b + 2 * number_of_bits bits) / 2 ≡ number_of_bits bits = half b (number_of_bits bits) in
-    ap₂ ◌∷◌ (low_bit b (number_of_bits bits)) (ap (bits_of_number (length bits)) rest ∙ bits_of_number-number_of_bits bits)
+    let rest : (bit_value b + 2 * number_of_bits bits) / 2 ≡ number_of_bits bits =
+    half b (number_of_bits bits) in
+    ap₂ ◌∷◌ (low_bit b (number_of_bits bits)) (ap (bits_of_number (length bits)) rest
+    ∙ bits_of_number-number_of_bits bits)
 
 -- the same where a 1 bit stands above them
-pub bits_of_number-delimited : (bits : List Bool) → bits_of_number (length bits) (number_of_bits (bits ++ true ∷ [])) ≡ bits
+pub bits_of_number-delimited : (bits : List Bool)
+    → bits_of_number (length bits) (number_of_bits (bits ++ true ∷ [])) ≡ bits
 bits_of_number-delimited [] = refl
 bits_of_number-delimited (b ∷ bits) =
-    let rest : (bit_value b + 2 * number_of_bits (bits ++ true ∷ [])) / 2 ≡ number_of_bits (bits ++ true ∷ []) = half b (number_of_bits (bits ++ true ∷ [])) in
-    ap₂ ◌∷◌ (low_bit b (number_of_bits (bits ++ true ∷ []))) (ap (bits_of_number (length bits)) rest ∙ bits_of_number-delimited bits)
+    let rest : (bit_value b + 2 * number_of_bits (bits ++ true ∷ [])) / 2
+    ≡ number_of_bits (bits ++ true ∷ []) = half b (number_of_bits (bits ++ true ∷ [])) in
+    ap₂ ◌∷◌ (low_bit b (number_of_bits (bits ++ true ∷ [])))
+    (ap (bits_of_number (length bits)) rest ∙ bits_of_number-delimited bits)
 
-pub number_of_bits-bits_of_number : (count n : ℕ) → n < 2 ^ count → number_of_bits (bits_of_number count n) ≡ n
+pub number_of_bits-bits_of_number : (count n : ℕ) → n < 2 ^ count
+    → number_of_bits (bits_of_number count n) ≡ n
 number_of_bits-bits_of_number zero n h = omega arith
 number_of_bits-bits_of_number (suc count) n h =
-    let rest : number_of_bits (bits_of_number count (n / 2)) ≡ n / 2 = number_of_bits-bits_of_number count (n / 2) (omega arith) in
+    let rest : number_of_bits (bits_of_number count (n / 2)) ≡ n / 2 =
+    number_of_bits-bits_of_number count (n / 2) (omega arith) in
     omega (arith, rest, low_value n)
 
-pub number_of_bits-delimited : (count n : ℕ) → 2 ^ count ≤ n → n < 2 ^ (count + 1) → number_of_bits (bits_of_number count n ++ true ∷ []) ≡ n
+pub number_of_bits-delimited : (count n : ℕ) → 2 ^ count ≤ n → n < 2 ^ (count + 1)
+    → number_of_bits (bits_of_number count n ++ true ∷ []) ≡ n
 number_of_bits-delimited zero n low high = omega arith
 number_of_bits-delimited (suc count) n low high =
     let rest : number_of_bits (bits_of_number count (n / 2) ++ true ∷ []) ≡ n / 2 =
-    number_of_bits-delimited count (n / 2) (omega arith) (omega (arith, pow-add 2 count 1, pow-add 2 (suc count) 1)) in
+    number_of_bits-delimited count (n / 2) (omega arith)
+    (omega (arith, pow-add 2 count 1, pow-add 2 (suc count) 1)) in
     omega (arith, rest, low_value n)
 
 -- the number of delimited bits has its highest 1 bit at their length
@@ -70,7 +81,8 @@ pub record HasTop (place n : ℕ) : Type 0 where
   pub low : 2 ^ place ≤ n
   pub high : n < 2 ^ (place + 1)
 
-pub HasTop-delimited : (bits : List Bool) → HasTop (length bits) (number_of_bits (bits ++ true ∷ []))
+pub HasTop-delimited : (bits : List Bool)
+    → HasTop (length bits) (number_of_bits (bits ++ true ∷ []))
 HasTop-delimited [] = record { low = omega arith; high = omega arith }
 HasTop-delimited (b ∷ bits) =
     let rest = HasTop-delimited bits in record {
@@ -92,4 +104,5 @@ pub power_of_bytes : (count : ℕ) → 256 ^ count ≡ 2 ^ (8 * count)
 power_of_bytes zero = refl
 power_of_bytes (suc count) =
     let wide : 8 * suc count ≡ 8 * count + 8 = omega arith in
-    pow-suc 256 count ∙ ap (λ n. n * 256) (power_of_bytes count) ∙ sym (pow-add 2 (8 * count) 8) ∙ ap (λ n. 2 ^ n) (sym wide)
+    pow-suc 256 count ∙ ap (λ n. n * 256) (power_of_bytes count) ∙ sym (pow-add 2 (8 * count) 8)
+    ∙ ap (λ n. 2 ^ n) (sym wide)

@@ -66,8 +66,8 @@ HasTop-led count place last n led top =
       high = omega (arith, high_power, led.high, mul-le-mul_left unit top.high);
     }
 
--- where its last byte is not 0, the number of the bytes has its highest 1 bit at the bitlist's
--- length
+-- where its last byte is not 0, the number of the bytes has its highest
+-- 1 bit at the bitlist's length
 pub HasTop-bitlist : (byte : ℕ) (bytes : List ℕ) → byte < 256 → IsBytes bytes
     → 0 < last_after byte bytes
     → HasTop (8 * length bytes + highest_bit (last_after byte bytes)) (le_number (byte ∷ bytes))

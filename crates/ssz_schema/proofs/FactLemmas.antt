@@ -11,7 +11,8 @@ use Rattle.ssz_schema.proofs.DepthLemmas.{depth_of-small}
 use Rattle.ssz_schema.proofs.SizeLemmas.{default_length-fixed, default_fields_length-fixed}
 
 -- the size of a fixed-size whole is the length of its default
-size_of_whole : (size : Option ℕ) (len : ℕ) → ((z : ℕ) → size ≡ Some z → len ≡ z) → cond (is_some size) (Some (capped len)) None ≡ option_map capped size
+size_of_whole : (size : Option ℕ) (len : ℕ) → ((z : ℕ) → size ≡ Some z → len ≡ z)
+    → cond (is_some size) (Some (capped len)) None ≡ option_map capped size
 size_of_whole None len h = refl
 size_of_whole (Some z) len h = ap (λ n. Some (capped n)) (h z refl)
 
@@ -19,15 +20,29 @@ vector_fixed : (size : Option ℕ) (n : ℕ) → is_some size ≡ is_some (optio
 vector_fixed None n = refl
 vector_fixed (Some z) n = refl
 
-pub vector_facts : (t : SszType) (n len chunks depth : ℕ) (part : Facts) → AreFactsOf part t → len ≡ capped (n * part_length part.fixed_size part.default_len) → chunks ≡ element_chunks (basic_size t) n → depth ≡ depth_of chunks
-    → AreFactsUpTo (record { fixed_size = cond (is_some part.fixed_size) (Some len) None; default_len = len; chunk_count = chunks; depth = depth; levels = depth + part.levels; nesting = part.nesting + 1 }) (vector t n)
+pub vector_facts : (t : SszType) (n len chunks depth : ℕ) (part : Facts) → AreFactsOf part t
+    → len ≡ capped (n * part_length part.fixed_size part.default_len)
+    → chunks ≡ element_chunks (basic_size t) n → depth ≡ depth_of chunks
+    → AreFactsUpTo (record {
+      fixed_size = cond (is_some part.fixed_size) (Some len) None;
+      default_len = len;
+      chunk_count = chunks;
+      depth = depth;
+      levels =
+          depth + part.levels;
+      nesting = part.nesting + 1;
+    }) (vector t n)
 vector_facts t n len chunks depth part known long chunks_are deep =
-    let depth_is : depth ≡ depth_of (element_chunks (basic_size t) n) = deep ∙ ap depth_of chunks_are in
-    let len_is : len ≡ capped (default_length (vector t n)) = long ∙ ap₂ (λ size l. capped (n * part_length size l)) known.fixed_size known.default_len in
+    let depth_is : depth ≡ depth_of (element_chunks (basic_size t) n) =
+    deep ∙ ap depth_of chunks_are in
+    let len_is : len ≡ capped (default_length (vector t n)) =
+    long ∙ ap₂ (λ size l. capped (n * part_length size l)) known.fixed_size known.default_len in
     record {
       fixed_size =
-          ap₂ (λ b l. cond b (Some l) None) (ap is_some known.fixed_size ∙ vector_fixed (fixed_size t) n) len_is
-          ∙ size_of_whole (fixed_size (vector t n)) (default_length (vector t n)) (default_length-fixed (vector t n));
+          ap₂ (λ b l. cond b (Some l) None) (ap is_some known.fixed_size
+          ∙ vector_fixed (fixed_size t) n) len_is
+          ∙ size_of_whole (fixed_size (vector t n)) (default_length (vector t n))
+          (default_length-fixed (vector t n));
       default_len = len_is;
       chunk_count = chunks_are;
       depth = depth_is;
@@ -39,14 +54,25 @@ all_fixed : (size : Option ℕ) → not (is_none size) ≡ is_some size
 all_fixed None = refl
 all_fixed (Some z) = refl
 
-pub container_facts : (fs : Fields) (sums : Sums) (chunks depth : ℕ) → AreSums fs sums → chunks ≡ field_count fs → depth ≡ depth_of chunks
-    → AreFactsUpTo (record { fixed_size = cond sums.all_fixed (Some sums.default_len) None; default_len = sums.default_len; chunk_count = chunks; depth = depth; levels = depth + sums.levels; nesting = sums.nesting + 1 }) (container fs)
+pub container_facts : (fs : Fields) (sums : Sums) (chunks depth : ℕ) → AreSums fs sums
+    → chunks ≡ field_count fs → depth ≡ depth_of chunks
+    → AreFactsUpTo (record {
+      fixed_size = cond sums.all_fixed (Some sums.default_len) None;
+      default_len = sums.default_len;
+      chunk_count = chunks;
+      depth = depth;
+      levels =
+          depth + sums.levels;
+      nesting = sums.nesting + 1;
+    }) (container fs)
 container_facts fs sums chunks depth told chunks_are deep =
     let depth_is : depth ≡ depth_of (field_count fs) = deep ∙ ap depth_of chunks_are in
     record {
       fixed_size =
-          ap₂ (λ b l. cond b (Some l) None) (told.all_fixed ∙ all_fixed (total_size (part_sizes fs))) told.default_len
-          ∙ size_of_whole (total_size (part_sizes fs)) (default_fields_length fs) (default_fields_length-fixed fs);
+          ap₂ (λ b l. cond b (Some l) None) (told.all_fixed
+          ∙ all_fixed (total_size (part_sizes fs))) told.default_len
+          ∙ size_of_whole (total_size (part_sizes fs)) (default_fields_length fs)
+          (default_fields_length-fixed fs);
       default_len = told.default_len;
       chunk_count = chunks_are;
       depth = depth_is;
@@ -54,8 +80,17 @@ container_facts fs sums chunks depth told chunks_are deep =
       nesting = omega (arith, told.nesting);
     }
 
-pub union_facts : (os : Options) (lev nest first : ℕ) → AreOptionSums os lev nest → first ≡ default_option_length os → first ≤ 2 ^ 24
-    → AreFactsUpTo (record { fixed_size = None; default_len = 1 + first; chunk_count = 1; depth = 0; levels = lev + 1; nesting = nest + 1 }) (union os)
+pub union_facts : (os : Options) (lev nest first : ℕ) → AreOptionSums os lev nest
+    → first ≡ default_option_length os → first ≤ 2 ^ 24
+    → AreFactsUpTo (record {
+      fixed_size = None;
+      default_len = 1 + first;
+      chunk_count = 1;
+      depth =
+          0;
+      levels = lev + 1;
+      nesting = nest + 1;
+    }) (union os)
 union_facts os lev nest first told first_is short = record {
   fixed_size = refl;
   default_len = omega (arith, first_is);
@@ -66,7 +101,8 @@ union_facts os lev nest first told first_is short = record {
 }
 
 -- within the limits nothing is capped
-pub uncapped_facts : (facts : Facts) (t : SszType) → default_length t ≤ 2 ^ 24 → AreFactsUpTo facts t → AreFactsOf facts t
+pub uncapped_facts : (facts : Facts) (t : SszType) → default_length t ≤ 2 ^ 24
+    → AreFactsUpTo facts t → AreFactsOf facts t
 uncapped_facts facts t short h = record {
   fixed_size = h.fixed_size ∙ exact (fixed_size t) (default_length-fixed t);
   default_len = omega (arith, h.default_len);
@@ -76,6 +112,7 @@ uncapped_facts facts t short h = record {
   nesting = h.nesting;
 }
   where
-    exact : (size : Option ℕ) → ((z : ℕ) → size ≡ Some z → default_length t ≡ z) → option_map capped size ≡ size
+    exact : (size : Option ℕ) → ((z : ℕ) → size ≡ Some z → default_length t ≡ z)
+        → option_map capped size ≡ size
     exact None k = refl
     exact (Some z) k = ap Some (let is : default_length t ≡ z = k z refl in omega arith)

@@ -15,50 +15,83 @@ use Rattle.ssz_schema.specs.Unfolding.{Types, fields_over, options_over}
 use Rattle.ssz_schema.specs.Adding.{Resolves, IsType, AreFields, AreOptions}
 use Rattle.ssz_schema.proofs.WalkLemmas.{goes_on}
 
-each_option : (o : Option TypeExpr) → former-TypeExpr-Union-0-at-1.map TypeExpr TypeForm form_of o ≡ option_map form_of o
+each_option : (o : Option TypeExpr) → former-TypeExpr-Union-0-at-1.map TypeExpr TypeForm form_of o
+    ≡ option_map form_of o
 each_option None = refl
 each_option (Some expr) = refl
 
-all_options : (os : List (Option TypeExpr)) → map (former-TypeExpr-Union-0-at-1.map TypeExpr TypeForm form_of) os ≡ map (option_map form_of) os
+all_options : (os : List (Option TypeExpr))
+    → map (former-TypeExpr-Union-0-at-1.map TypeExpr TypeForm form_of) os
+    ≡ map (option_map form_of) os
 all_options [] = refl
 all_options (o ∷ os) = ap₂ ◌∷◌ (each_option o) (all_options os)
 
 -- the form of a union
-pub union_is : (os : Vec (Option TypeExpr) Global) → form_of (Union os) ≡ union_form (option_forms (map (option_map form_of) os.items))
-union_is os = ap form_of (sym (rolls-Union os)) ∙ fold-roll-TypeExpr TypeForm form_step _ ∙ ap (λ fs. union_form (option_forms fs)) (all_options os.items)
+pub union_is : (os : Vec (Option TypeExpr) Global)
+    → form_of (Union os) ≡ union_form (option_forms (map (option_map form_of) os.items))
+union_is os = ap form_of (sym (rolls-Union os)) ∙ fold-roll-TypeExpr TypeForm form_step _
+    ∙ ap (λ fs. union_form (option_forms fs)) (all_options os.items)
 
 -- the walk of a container that has fields
-pub container_walk : (format : Format) (known : List ℕ → Option SszType) (fields : List (List ℕ × TypeExpr)) → 0 < length fields
-    → resolved format known (container_form (field_forms (map field_form_of fields))) ≡ (resolved_fields format known [] (field_forms (map field_form_of fields)) >>= (λ fs. within_limits format (container fs)))
+pub container_walk : (format : Format) (known : List ℕ → Option SszType)
+    (fields : List (List ℕ × TypeExpr)) → 0 < length fields
+    → resolved format known (container_form (field_forms (map field_form_of fields)))
+    ≡ (resolved_fields format known [] (field_forms (map field_form_of fields)) >>=
+    (λ fs. within_limits format (container fs)))
 container_walk format known [] some = absurd (omega arith)
 container_walk format known (f ∷ fields) some = refl
 
-pub container_then : (old mid new : Types) (walk : Result Fields SchemaFault) (parts : Vec (List ℕ × ℕ) Global) (result : Result ℕ SchemaError) → Resolves AreFields walk old mid (Ok parts)
-    → Resolves IsType (within_limits mid.format (container (fields_over mid.trees parts.items))) mid new result → Resolves IsType (walk >>= (λ fs. within_limits old.format (container fs))) old new result
+pub container_then : (old mid new : Types) (walk : Result Fields SchemaFault)
+    (parts : Vec (List ℕ × ℕ) Global) (result : Result ℕ SchemaError)
+    → Resolves AreFields walk old mid (Ok parts)
+    → Resolves IsType (within_limits mid.format (container (fields_over mid.trees parts.items))) mid
+    new result → Resolves IsType (walk >>= (λ fs. within_limits old.format (container fs))) old
+    new result
 container_then old mid new walk parts result first r =
-    goes_on IsType walk (λ fs. within_limits old.format (container fs)) first.answer.0 old mid new result first.extends first.answer.1
-    (subst (λ (w : Result SszType SchemaFault). Resolves IsType w mid new result) (ap₂ (λ format fs. within_limits format (container fs)) first.extends.format first.answer.2.are) r)
+    goes_on IsType walk (λ fs. within_limits old.format (container fs)) first.answer.0 old mid new
+    result first.extends first.answer.1
+    (subst (λ (w : Result SszType SchemaFault). Resolves IsType w mid new result)
+    (ap₂ (λ format fs. within_limits format (container fs)) first.extends.format first.answer.2.are)
+    r)
 
-option_form_count-map : (os : List (Option TypeExpr)) → option_form_count (option_forms (map (option_map form_of) os)) ≡ length os
+option_form_count-map : (os : List (Option TypeExpr))
+    → option_form_count (option_forms (map (option_map form_of) os)) ≡ length os
 option_form_count-map [] = refl
 option_form_count-map (None ∷ os) = omega (arith, option_form_count-map os)
 option_form_count-map (Some expr ∷ os) = omega (arith, option_form_count-map os)
 
 -- the walk of a union of a right size
-pub union_walk : (format : Format) (known : List ℕ → Option SszType) (os : List (Option TypeExpr)) → is_wrong_size (length os) ≡ false
-    → resolved format known (union_form (option_forms (map (option_map form_of) os))) ≡ (resolved_options format known true (option_forms (map (option_map form_of) os)) >>= (λ options. within_limits format (union options)))
+pub union_walk : (format : Format) (known : List ℕ → Option SszType) (os : List (Option TypeExpr))
+    → is_wrong_size (length os) ≡ false
+    → resolved format known (union_form (option_forms (map (option_map form_of) os)))
+    ≡ (resolved_options format known true (option_forms (map (option_map form_of) os)) >>=
+    (λ options. within_limits format (union options)))
 union_walk format known os right =
-    ap (λ b. cond b (Err UnionSize) (resolved_options format known true (option_forms (map (option_map form_of) os))) >>= (λ options. within_limits format (union options)))
+    ap (λ b. cond b (Err UnionSize)
+    (resolved_options format known true (option_forms (map (option_map form_of) os))) >>=
+    (λ options. within_limits format (union options)))
     (ap is_wrong_size (option_form_count-map os) ∙ right)
 
 -- and of a wrong one
-pub union_refused : (format : Format) (known : List ℕ → Option SszType) (os : List (Option TypeExpr)) → is_wrong_size (length os) ≡ true → resolved format known (union_form (option_forms (map (option_map form_of) os))) ≡ Err UnionSize
+pub union_refused : (format : Format) (known : List ℕ → Option SszType)
+    (os : List (Option TypeExpr)) → is_wrong_size (length os) ≡ true
+    → resolved format known (union_form (option_forms (map (option_map form_of) os)))
+    ≡ Err UnionSize
 union_refused format known os wrong =
-    ap (λ b. cond b (Err UnionSize) (resolved_options format known true (option_forms (map (option_map form_of) os))) >>= (λ options. within_limits format (union options)))
+    ap (λ b. cond b (Err UnionSize)
+    (resolved_options format known true (option_forms (map (option_map form_of) os))) >>=
+    (λ options. within_limits format (union options)))
     (ap is_wrong_size (option_form_count-map os) ∙ wrong)
 
-pub union_then : (old mid new : Types) (walk : Result Options SchemaFault) (ids : Vec (Option ℕ) Global) (result : Result ℕ SchemaError) → Resolves AreOptions walk old mid (Ok ids)
-    → Resolves IsType (within_limits mid.format (union (options_over mid.trees ids.items))) mid new result → Resolves IsType (walk >>= (λ options. within_limits old.format (union options))) old new result
+pub union_then : (old mid new : Types) (walk : Result Options SchemaFault)
+    (ids : Vec (Option ℕ) Global) (result : Result ℕ SchemaError)
+    → Resolves AreOptions walk old mid (Ok ids)
+    → Resolves IsType (within_limits mid.format (union (options_over mid.trees ids.items))) mid new
+    result → Resolves IsType (walk >>= (λ options. within_limits old.format (union options)))
+    old new result
 union_then old mid new walk ids result first r =
-    goes_on IsType walk (λ options. within_limits old.format (union options)) first.answer.0 old mid new result first.extends first.answer.1
-    (subst (λ (w : Result SszType SchemaFault). Resolves IsType w mid new result) (ap₂ (λ format options. within_limits format (union options)) first.extends.format first.answer.2.are) r)
+    goes_on IsType walk (λ options. within_limits old.format (union options)) first.answer.0 old mid
+    new result first.extends first.answer.1
+    (subst (λ (w : Result SszType SchemaFault). Resolves IsType w mid new result)
+    (ap₂ (λ format options. within_limits format (union options)) first.extends.format
+    first.answer.2.are) r)

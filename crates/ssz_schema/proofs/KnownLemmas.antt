@@ -11,10 +11,14 @@ use Rattle.ssz_schema.specs.Inside.{IsWhole, AreAllLegal}
 use Rattle.ssz_schema.specs.Adding.{Extends, Defines, Knows}
 
 -- an earlier type stays
-pub type_of-more : (old new : Types) (id : ℕ) → Extends old new → id < length old.trees → type_of new id ≡ type_of old id
-type_of-more old new id h below = ap (λ ts. tree_at ts id) h.trees ∙ get_or_append_left old.trees h.more boolean id below
+pub type_of-more : (old new : Types) (id : ℕ) → Extends old new → id < length old.trees
+    → type_of new id ≡ type_of old id
+type_of-more old new id h below = ap (λ ts. tree_at ts id) h.trees
+    ∙ get_or_append_left old.trees h.more boolean id below
 
-known_at : (old new : Types) (o : Option ℕ) → Extends old new → ((id : ℕ) → o ≡ Some id → id < length old.trees) → option_map (type_of new) o ≡ option_map (type_of old) o
+known_at : (old new : Types) (o : Option ℕ) → Extends old new
+    → ((id : ℕ) → o ≡ Some id → id < length old.trees)
+    → option_map (type_of new) o ≡ option_map (type_of old) o
 known_at old new None h below = refl
 known_at old new (Some id) h below = ap Some (type_of-more old new id h (below id refl))
 
@@ -23,28 +27,37 @@ pub known_in-more : (old new : Types) → IsWhole old → Extends old new → kn
 known_in-more old new whole h = λ i name. at name i
   where
     at : (name : List ℕ) → known_in new name ≡ known_in old name
-    at name = ap (λ ns. option_map (type_of new) (lookup_name ns name)) h.names ∙ known_at old new (number_of old name) h (whole.names name)
+    at name = ap (λ ns. option_map (type_of new) (lookup_name ns name)) h.names
+        ∙ known_at old new (number_of old name) h (whole.names name)
 
 -- a definition's name is known for its type, and every other name as before
-pub knows-Defines : (name : List ℕ) (old new : Types) (id : ℕ) → IsWhole old → Defines name old new id → Knows name (type_of new id) old new
+pub knows-Defines : (name : List ℕ) (old new : Types) (id : ℕ) → IsWhole old
+    → Defines name old new id → Knows name (type_of new id) old new
 knows-Defines name old new id whole h = record {
   format = h.format;
   known = λ other. ap (option_map (type_of new)) (h.names other) ∙ go other (bytes_eq other name);
 }
   where
-    stays : (o : Option ℕ) → ((k : ℕ) → o ≡ Some k → k < length old.trees) → option_map (type_of new) o ≡ option_map (type_of old) o
+    stays : (o : Option ℕ) → ((k : ℕ) → o ≡ Some k → k < length old.trees)
+        → option_map (type_of new) o ≡ option_map (type_of old) o
     stays None below = refl
-    stays (Some k) below = ap Some (ap (λ ts. tree_at ts k) h.trees ∙ get_or_append_left old.trees h.more boolean k (below k refl))
+    stays (Some k) below =
+        ap Some (ap (λ ts. tree_at ts k) h.trees ∙ get_or_append_left old.trees h.more boolean k
+        (below k refl))
 
-    go : (other : List ℕ) (same : Bool) → option_map (type_of new) (if same then Some id else number_of old other)
+    go : (other : List ℕ) (same : Bool)
+        → option_map (type_of new) (if same then Some id else number_of old other)
         ≡ (if same then Some (type_of new id) else known_in old other)
     go other true = refl
     go other false = stays (number_of old other) (whole.names other)
 
 -- what is known is legal
-pub known_legal : (types : Types) → IsWhole types → AreAllLegal types → (name : List ℕ) (t : SszType) → known_in types name ≡ Some t → IsLegal types.format t
+pub known_legal : (types : Types) → IsWhole types → AreAllLegal types
+    → (name : List ℕ) (t : SszType) → known_in types name ≡ Some t → IsLegal types.format t
 known_legal types whole legal name t e = go (number_of types name) (whole.names name) e
   where
-    go : (o : Option ℕ) → ((id : ℕ) → o ≡ Some id → id < length types.trees) → option_map (type_of types) o ≡ Some t → IsLegal types.format t
+    go : (o : Option ℕ) → ((id : ℕ) → o ≡ Some id → id < length types.trees)
+        → option_map (type_of types) o ≡ Some t → IsLegal types.format t
     go None below e = absurd (none-some t e)
-    go (Some id) below e = subst (IsLegal types.format) (same_Some (type_of types id) t e) (legal id (below id refl))
+    go (Some id) below e = subst (IsLegal types.format) (same_Some (type_of types id) t e)
+        (legal id (below id refl))

@@ -6,6 +6,8 @@ pub mod SizeLemmas
 pub mod NameLemmas
 pub mod Entries
 pub mod PathLemmas
+pub mod WidthLemmas
+pub mod CountLemmas
 pub mod SmallLemmas
 pub mod WalkLemmas
 pub mod FactLemmas
@@ -19,3 +21,5 @@ pub mod WalkFields
 pub mod WalkOptions
 pub mod RepeatLemmas
 pub mod FormLemmas
+pub mod TypesAlike
+pub mod AlikeLemmas

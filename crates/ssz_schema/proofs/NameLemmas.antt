@@ -18,9 +18,11 @@ abbrev pub named : List (Key × ℕ) → List (List ℕ × ℕ)
 named es = map (λ e. (e.0.items, e.1)) es
 
 -- looking a name up in the map is looking it up in the list
-pub lookup-named : (es : List (Key × ℕ)) (name : List ℕ) → lookup (λ k. is_eq (slice_cmp nat_cmp name k.items)) es ≡ lookup_name (named es) name
+pub lookup-named : (es : List (Key × ℕ)) (name : List ℕ)
+    → lookup (λ k. is_eq (slice_cmp nat_cmp name k.items)) es ≡ lookup_name (named es) name
 lookup-named [] name = refl
-lookup-named (e ∷ es) name = ap₂ (λ b r. cond b (Some e.1) r) (is_eq-slice_cmp name e.0.items) (lookup-named es name)
+lookup-named (e ∷ es) name = ap₂ (λ b r. cond b (Some e.1) r) (is_eq-slice_cmp name e.0.items)
+    (lookup-named es name)
 
 same_bytes : (xs ys : List ℕ) → bytes_eq xs ys ≡ true → xs ≡ ys
 same_bytes xs ys e = (bytes_eq-Decides xs ys).0 e
@@ -29,10 +31,12 @@ equal_tests : (k e : List ℕ) → bytes_eq k e ≡ true → is_eq (slice_cmp na
 equal_tests k e same = is_eq-slice_cmp k e ∙ same
 
 -- a name that is two keys makes them equal
-both : (other k e : List ℕ) → bytes_eq other k ≡ true → bytes_eq other e ≡ true → bytes_eq k e ≡ true
+both : (other k e : List ℕ) → bytes_eq other k ≡ true → bytes_eq other e ≡ true
+    → bytes_eq k e ≡ true
 both other k e a b = (bytes_eq-Decides k e).1 (sym (same_bytes other k a) ∙ same_bytes other e b)
 
-swapped : {X : Type 0} (a b : Bool) (x y z : X) → (a ≡ true → b ≡ true → ⊥) → cond b y (cond a x z) ≡ cond a x (cond b y z)
+swapped : {X : Type 0} (a b : Bool) (x y z : X) → (a ≡ true → b ≡ true → ⊥)
+    → cond b y (cond a x z) ≡ cond a x (cond b y z)
 swapped true true x y z apart = absurd (apart refl refl)
 swapped true false x y z apart = refl
 swapped false true x y z apart = refl
@@ -40,30 +44,40 @@ swapped false false x y z apart = refl
 
 -- the name is found at its new number, and every other name where it was
 pub insert-named : (es : List (Key × ℕ)) (k : Key) (id : ℕ) (other : List ℕ)
-    → lookup_name (named (insert_entry (λ a b. slice_cmp nat_cmp a.items b.items) es k id)) other ≡ cond (bytes_eq other k.items) (Some id) (lookup_name (named es) other)
+    → lookup_name (named (insert_entry (λ a b. slice_cmp nat_cmp a.items b.items) es k id)) other
+    ≡ cond (bytes_eq other k.items) (Some id) (lookup_name (named es) other)
 insert-named [] k id other = refl
-insert-named (e ∷ es) k id other = placed (slice_cmp nat_cmp k.items e.0.items) refl (insert-named es k id other)
+insert-named (e ∷ es) k id other =
+    placed (slice_cmp nat_cmp k.items e.0.items) refl (insert-named es k id other)
   where
     step : Ordering → List (Key × ℕ)
-    step o = match_ordering o ((k, id) ∷ e ∷ es) ((e.0, id) ∷ es) (e ∷ insert_entry (λ a b. slice_cmp nat_cmp a.items b.items) es k id)
+    step o = match_ordering o ((k, id) ∷ e ∷ es) ((e.0, id) ∷ es)
+        (e ∷ insert_entry (λ a b. slice_cmp nat_cmp a.items b.items) es k id)
 
     placed : (o : Ordering) → slice_cmp nat_cmp k.items e.0.items ≡ o
-        → lookup_name (named (insert_entry (λ a b. slice_cmp nat_cmp a.items b.items) es k id)) other ≡ cond (bytes_eq other k.items) (Some id) (lookup_name (named es) other)
-        → lookup_name (named (step o)) other ≡ cond (bytes_eq other k.items) (Some id) (lookup_name (named (e ∷ es)) other)
+        → lookup_name (named (insert_entry (λ a b. slice_cmp nat_cmp a.items b.items) es k id))
+        other ≡ cond (bytes_eq other k.items) (Some id) (lookup_name (named es) other)
+        → lookup_name (named (step o)) other ≡ cond (bytes_eq other k.items) (Some id)
+        (lookup_name (named (e ∷ es)) other)
     placed Less is rest = refl
     placed Equal is rest =
-        let same : k.items ≡ e.0.items = slice_cmp-IsAntisymmetric nat_cmp-IsAntisymmetric k.items e.0.items is in
-        equal_keys (bytes_eq other e.0.items) (bytes_eq other k.items) (ap (bytes_eq other) (sym same))
+        let same : k.items ≡ e.0.items =
+        slice_cmp-IsAntisymmetric nat_cmp-IsAntisymmetric k.items e.0.items is in
+        equal_keys (bytes_eq other e.0.items) (bytes_eq other k.items)
+        (ap (bytes_eq other) (sym same))
       where
-        equal_keys : (a b : Bool) → a ≡ b → cond a (Some id) (lookup_name (named es) other) ≡ cond b (Some id) (cond a (Some e.1) (lookup_name (named es) other))
+        equal_keys : (a b : Bool) → a ≡ b → cond a (Some id) (lookup_name (named es) other)
+            ≡ cond b (Some id) (cond a (Some e.1) (lookup_name (named es) other))
         equal_keys true true is = refl
         equal_keys true false is = cc
         equal_keys false true is = cc
         equal_keys false false is = refl
     placed Greater is rest =
         ap (λ r. cond (bytes_eq other e.0.items) (Some e.1) r) rest
-        ∙ swapped (bytes_eq other k.items) (bytes_eq other e.0.items) (Some id) (Some e.1) (lookup_name (named es) other)
-        (λ a b. absurd_order (sym (equal_tests k.items e.0.items (both other k.items e.0.items a b)) ∙ ap is_eq is))
+        ∙ swapped (bytes_eq other k.items) (bytes_eq other e.0.items) (Some id) (Some e.1)
+        (lookup_name (named es) other)
+        (λ a b. absurd_order (sym (equal_tests k.items e.0.items (both other k.items e.0.items a b))
+        ∙ ap is_eq is))
       where
         absurd_order : true ≡ false → ⊥
         absurd_order wrong = cc

@@ -16,24 +16,30 @@ use Rattle.ssz_schema.specs.IndexLaws.{IndicesAreWithinLevels}
 use Rattle.ssz_schema.proofs.DepthLemmas.{depth_of-holds}
 
 -- what a chain of options that answers has gone through
-pub and_then_parts : {A B : Type 0} (f : A → Option B) (o : Option A) (y : B) → option_and_then f o ≡ Some y → (x : A) × (o ≡ Some x) × (f x ≡ Some y)
+pub and_then_parts : {A B : Type 0} (f : A → Option B) (o : Option A) (y : B)
+    → option_and_then f o ≡ Some y → (x : A) × (o ≡ Some x) × (f x ≡ Some y)
 and_then_parts f None y e = absurd (none-some y e)
 and_then_parts f (Some x) y e = (x, refl, e)
 
-pub if_within : {X : Type 0} (i n : ℕ) (x y : X) → cond (ltb i n) (Some x) None ≡ Some y → (i < n) × (x ≡ y)
+pub if_within : {X : Type 0} (i n : ℕ) (x y : X) → cond (ltb i n) (Some x) None ≡ Some y
+    → (i < n) × (x ≡ y)
 if_within i n x y e = let both = cond_some (ltb i n) x y e in (ltb-true i n both.0, both.1)
 
 -- Levels: a part has fewer than the whole.
 
-field-levels : (fs : Fields) (name : List ℕ) (u : SszType) → field_type fs name ≡ Some u → levels u ≤ field_levels fs
+field-levels : (fs : Fields) (name : List ℕ) (u : SszType) → field_type fs name ≡ Some u
+    → levels u ≤ field_levels fs
 field-levels no_fields name u e = absurd (none-some u e)
 field-levels (field other t fs) name u e = go (bytes_eq other name) (field-levels fs name u) e
   where
-    go : (b : Bool) → (field_type fs name ≡ Some u → levels u ≤ field_levels fs) → cond b (Some t) (field_type fs name) ≡ Some u → levels u ≤ max (levels t) (field_levels fs)
+    go : (b : Bool) → (field_type fs name ≡ Some u → levels u ≤ field_levels fs)
+        → cond b (Some t) (field_type fs name) ≡ Some u
+        → levels u ≤ max (levels t) (field_levels fs)
     go true rest e = omega (arith, ap (λ s. levels s) (same_Some t u e))
     go false rest e = omega (arith, rest e)
 
-option-levels : (os : Options) (k : ℕ) (u : SszType) → option_type os k ≡ Some u → levels u ≤ option_levels os
+option-levels : (os : Options) (k : ℕ) (u : SszType) → option_type os k ≡ Some u
+    → levels u ≤ option_levels os
 option-levels no_options k u e = absurd (none-some u e)
 option-levels (none_option os) zero u e = absurd (none-some u e)
 option-levels (option t os) zero u e = omega (arith, ap (λ s. levels s) (same_Some t u e))
@@ -41,13 +47,16 @@ option-levels (none_option os) (suc k) u e = option-levels os k u e
 option-levels (option t os) (suc k) u e = omega (arith, option-levels os k u e)
 
 -- a step and what lies below it
-pub step-levels : (t : SszType) (step : PathStep) (u : SszType) → step_type t step ≡ Some u → step_levels t step + levels u ≤ levels t
+pub step-levels : (t : SszType) (step : PathStep) (u : SszType) → step_type t step ≡ Some u
+    → step_levels t step + levels u ≤ levels t
 step-levels (container fs) (Field name) u e = omega (arith, field-levels fs name u e)
 step-levels (vector t n) (Index i) u e = omega (arith, ap (λ s. levels s) (if_within i n t u e).1)
 step-levels (list t n) (Index i) u e = omega (arith, ap (λ s. levels s) (if_within i n t u e).1)
 step-levels (list t n) Len u e = omega (arith, ap (λ s. levels s) (same_Some _ u e))
-step-levels (bitvector n) (Index i) u e = omega (arith, ap (λ s. levels s) (if_within i n boolean u e).1)
-step-levels (bitlist n) (Index i) u e = omega (arith, ap (λ s. levels s) (if_within i n boolean u e).1)
+step-levels (bitvector n) (Index i) u e =
+    omega (arith, ap (λ s. levels s) (if_within i n boolean u e).1)
+step-levels (bitlist n) (Index i) u e =
+    omega (arith, ap (λ s. levels s) (if_within i n boolean u e).1)
 step-levels (bitlist n) Len u e = omega (arith, ap (λ s. levels s) (same_Some _ u e))
 step-levels (union os) Selector u e = omega (arith, ap (λ s. levels s) (same_Some _ u e))
 step-levels (union os) (Chosen k) u e = omega (arith, option-levels os k u e)
@@ -71,29 +80,45 @@ basic-positive (bitlist n) z e = absurd (none-some z e)
 basic-positive (union os) z e = absurd (none-some z e)
 
 -- the chunk of an element is one of the chunks
-pub position-chunks : (t : SszType) (size : Option ℕ) → basic_size t ≡ size → (i n : ℕ) → i < n → element_position size i < element_chunks size n
+pub position-chunks : (t : SszType) (size : Option ℕ) → basic_size t ≡ size → (i n : ℕ) → i < n
+    → element_position size i < element_chunks size n
 position-chunks t None e i n h = h
 position-chunks t (Some z) e i n h =
     let next : suc i * z ≤ n * z = mul-le-mul_right z (let le : suc i ≤ n = omega arith in le) in
     omega (arith, basic-positive t z e)
 
-pub field-below : (fs : Fields) (name : List ℕ) (u : SszType) → field_type fs name ≡ Some u → field_number fs name < field_count fs
+pub field-below : (fs : Fields) (name : List ℕ) (u : SszType) → field_type fs name ≡ Some u
+    → field_number fs name < field_count fs
 field-below no_fields name u e = absurd (none-some u e)
 field-below (field other t fs) name u e = go (bytes_eq other name) (field-below fs name u) e
   where
-    go : (b : Bool) → (field_type fs name ≡ Some u → field_number fs name < field_count fs) → cond b (Some t) (field_type fs name) ≡ Some u → cond b 0 (suc (field_number fs name)) < field_count fs + 1
+    go : (b : Bool) → (field_type fs name ≡ Some u → field_number fs name < field_count fs)
+        → cond b (Some t) (field_type fs name) ≡ Some u
+        → cond b 0 (suc (field_number fs name)) < field_count fs + 1
     go true rest e = omega arith
     go false rest e = omega (arith, rest e)
 
 -- the place that a step leads to is one of those so many levels down
-pub step-below : (t : SszType) (step : PathStep) (u : SszType) → step_type t step ≡ Some u → step_position t step < 2 ^ step_levels t step
-step-below (container fs) (Field name) u e = omega (arith, field-below fs name u e, depth_of-holds (field_count fs))
+pub step-below : (t : SszType) (step : PathStep) (u : SszType) → step_type t step ≡ Some u
+    → step_position t step < 2 ^ step_levels t step
+step-below (container fs) (Field name) u e =
+    omega (arith, field-below fs name u e, depth_of-holds (field_count fs))
 step-below (vector t n) (Index i) u e =
-    omega (arith, position-chunks t (basic_size t) refl i n (if_within i n t u e).0, depth_of-holds (element_chunks (basic_size t) n))
+    omega (
+      arith,
+      position-chunks t (basic_size t) refl i n (if_within i n t u e).0,
+      depth_of-holds (element_chunks (basic_size t) n),
+    )
 step-below (list t n) (Index i) u e =
     let more = pow-add 2 (depth_of (element_chunks (basic_size t) n)) 1 in
-    omega (arith, position-chunks t (basic_size t) refl i n (if_within i n t u e).0, depth_of-holds (element_chunks (basic_size t) n), more)
-step-below (bitvector n) (Index i) u e = omega (arith, (if_within i n boolean u e).0, depth_of-holds ((n + 255) / 256))
+    omega (
+      arith,
+      position-chunks t (basic_size t) refl i n (if_within i n t u e).0,
+      depth_of-holds (element_chunks (basic_size t) n),
+      more,
+    )
+step-below (bitvector n) (Index i) u e =
+    omega (arith, (if_within i n boolean u e).0, depth_of-holds ((n + 255) / 256))
 step-below (bitlist n) (Index i) u e =
     let more = pow-add 2 (depth_of ((n + 255) / 256)) 1 in
     omega (arith, (if_within i n boolean u e).0, depth_of-holds ((n + 255) / 256), more)
@@ -104,14 +129,19 @@ step-below (union os) (Chosen k) u e = omega arith
 step-below _ _ u e = absurd (none-some u e)
 
 -- an index below those of a node's descendants, further down
-further : (k place down below all g : ℕ) → place + 1 ≤ (k + 1) * 2 ^ down → g < (place + 1) * 2 ^ below → down + below ≤ all → g < (k + 1) * 2 ^ all
+further : (k place down below all g : ℕ) → place + 1 ≤ (k + 1) * 2 ^ down
+    → g < (place + 1) * 2 ^ below → down + below ≤ all → g < (k + 1) * 2 ^ all
 further k place down below all g near far deep =
-    let whole : (k + 1) * 2 ^ (down + below) ≤ (k + 1) * 2 ^ all = mul-le-mul_left (k + 1) (pow-le-pow_right (omega arith) deep) in
-    let joined : (k + 1) * 2 ^ (down + below) ≡ (k + 1) * (2 ^ down * 2 ^ below) = ap (λ n. (k + 1) * n) (pow-add 2 down below) in
-    let wide : (place + 1) * 2 ^ below ≤ (k + 1) * 2 ^ down * 2 ^ below = mul-le-mul_right (2 ^ below) near in
+    let whole : (k + 1) * 2 ^ (down + below) ≤ (k + 1) * 2 ^ all =
+    mul-le-mul_left (k + 1) (pow-le-pow_right (omega arith) deep) in
+    let joined : (k + 1) * 2 ^ (down + below) ≡ (k + 1) * (2 ^ down * 2 ^ below) =
+    ap (λ n. (k + 1) * n) (pow-add 2 down below) in
+    let wide : (place + 1) * 2 ^ below ≤ (k + 1) * 2 ^ down * 2 ^ below =
+    mul-le-mul_right (2 ^ below) near in
     omega (arith, whole, joined, wide, far)
 
-next : (k down position : ℕ) → position < 2 ^ down → k * 2 ^ down + position + 1 ≤ (k + 1) * 2 ^ down
+next : (k down position : ℕ) → position < 2 ^ down
+    → k * 2 ^ down + position + 1 ≤ (k + 1) * 2 ^ down
 next k down position h = omega arith
 
 positive : (k down position : ℕ) → 0 < k → 0 < k * 2 ^ down + position
@@ -119,18 +149,25 @@ positive k down position pos =
     let unit : 1 ≤ 2 ^ down = pow_pos down in
     omega (arith, mul-le-mul_left k unit)
 
-within_from : (k : ℕ) (t : SszType) (path : Path) (g : ℕ) → 0 < k → generalized_index_from k t path ≡ Some g → (0 < g) × (g < (k + 1) * 2 ^ levels t)
+within_from : (k : ℕ) (t : SszType) (path : Path) (g : ℕ) → 0 < k
+    → generalized_index_from k t path ≡ Some g → (0 < g) × (g < (k + 1) * 2 ^ levels t)
 within_from k t [] g pos e =
     let unit : 1 ≤ 2 ^ levels t = pow_pos (levels t) in
     let same = same_Some k g e in
     (omega (arith, same), omega (arith, same, mul-le-mul_left (k + 1) unit))
 within_from k t (step ∷ path) g pos e =
     let place : ℕ = step_index k t step in
-    let parts = and_then_parts (λ u. generalized_index_from (step_index k t step) u path) (step_type t step) g e in
+    let parts = and_then_parts (λ u. generalized_index_from (step_index k t step) u path)
+    (step_type t step) g e in
     let u : SszType = parts.0 in
     let below = step-below t step parts.0 parts.1 in
-    let rest = within_from (step_index k t step) parts.0 path g (positive k (step_levels t step) (step_position t step) pos) parts.2 in
-    (rest.0, further k (step_index k t step) (step_levels t step) (levels parts.0) (levels t) g (next k (step_levels t step) (step_position t step) below) rest.1 (step-levels t step parts.0 parts.1))
+    let rest = within_from (step_index k t step) parts.0 path g
+    (positive k (step_levels t step) (step_position t step) pos) parts.2 in (
+      rest.0,
+      further k (step_index k t step) (step_levels t step) (levels parts.0) (levels t) g
+          (next k (step_levels t step) (step_position t step) below) rest.1
+          (step-levels t step parts.0 parts.1),
+    )
 
 -- an index has at most as many levels as its type
 pub indices_within : IndicesAreWithinLevels

@@ -20,7 +20,8 @@ key name = record { ref_ptr = (0, 0); now = name }
 
 -- the set has exactly these names
 pub record Has (set : BTreeSet Key) (names : List (List ℕ)) : Type 0 where
-  pub same : (name : List ℕ) → contains key_cmp set (key name) ≡ list_any (λ other. bytes_eq other name) names
+  pub same : (name : List ℕ) → contains key_cmp set (key name)
+      ≡ list_any (λ other. bytes_eq other name) names
 
 -- the search has come as far as number i
 pub record SearchedTo (set : BTreeSet Key) (fields : List Written) (i : ℕ) : Type 0 where
@@ -28,22 +29,32 @@ pub record SearchedTo (set : BTreeSet Key) (fields : List Written) (i : ℕ) : T
   pub has : Has set seen
   pub rest : first_repeat seen i (names_of (drop i fields)) ≡ first_repeat [] 0 (names_of fields)
 
-pub SearchedTo-start : (set : BTreeSet Key) (fields : List Written) → set.keys ≡ [] → SearchedTo set fields 0
+pub SearchedTo-start : (set : BTreeSet Key) (fields : List Written) → set.keys ≡ []
+    → SearchedTo set fields 0
 SearchedTo-start set fields none = record {
   seen = [];
-  has = record { same = λ name. ap (λ ks. list_any (λ k. is_eq (slice_cmp nat_cmp name k.now)) ks) none };
+  has = record {
+    same = λ name. ap (λ ks. list_any (λ k. is_eq (slice_cmp nat_cmp name k.now)) ks)
+        none;
+  };
   rest = refl;
 }
 
 -- what is left of the search begins with the field
-abbrev from_field : (seen : List (List ℕ)) (fields : List Written) (i : ℕ) → Written → Bool → Option ℕ
-from_field seen fields i field b = cond b (Some i) (first_repeat (field.0 ∷ seen) (i + 1) (names_of (drop (i + 1) fields)))
+abbrev from_field : (seen : List (List ℕ)) (fields : List Written) (i : ℕ) → Written → Bool
+    → Option ℕ
+from_field seen fields i field b =
+    cond b (Some i) (first_repeat (field.0 ∷ seen) (i + 1) (names_of (drop (i + 1) fields)))
 
-at_field : (set : BTreeSet Key) (fields : List Written) (i : ℕ) (field : Written) (h : SearchedTo set fields i) → i < length fields → field ≡ get_or fields i field
-    → from_field h.seen fields i field (list_any (λ other. bytes_eq other field.0) h.seen) ≡ first_repeat [] 0 (names_of fields)
-at_field set fields i field h below at = sym (ap (λ fs. first_repeat h.seen i (names_of fs)) (drop_at fields i field below at)) ∙ h.rest
+at_field : (set : BTreeSet Key) (fields : List Written) (i : ℕ) (field : Written)
+    (h : SearchedTo set fields i) → i < length fields → field ≡ get_or fields i field
+    → from_field h.seen fields i field (list_any (λ other. bytes_eq other field.0) h.seen)
+    ≡ first_repeat [] 0 (names_of fields)
+at_field set fields i field h below at =
+    sym (ap (λ fs. first_repeat h.seen i (names_of fs)) (drop_at fields i field below at)) ∙ h.rest
 
-has_key : (set : BTreeSet Key) (names : List (List ℕ)) (k : Key) (name : List ℕ) → Has set names → k.now ≡ name → contains key_cmp set k ≡ list_any (λ other. bytes_eq other name) names
+has_key : (set : BTreeSet Key) (names : List (List ℕ)) (k : Key) (name : List ℕ) → Has set names
+    → k.now ≡ name → contains key_cmp set k ≡ list_any (λ other. bytes_eq other name) names
 has_key set names k name h e = h.same k.now ∙ ap (λ n. list_any (λ other. bytes_eq other n) names) e
 
 either : (a b : Bool) → cond a true b ≡ (a || b)
@@ -51,10 +62,14 @@ either true b = refl
 either false b = refl
 
 -- the field has a name that was seen
-pub repeat_found : (set : BTreeSet Key) (fields : List Written) (i : ℕ) (field : Written) (k : Key) (added : Bool) → SearchedTo set fields i → i < length fields → field ≡ get_or fields i field → k.now ≡ field.0
-    → added ≡ not (contains key_cmp set k) → added ≡ false → Some i ≡ first_repeat [] 0 (names_of fields)
+pub repeat_found : (set : BTreeSet Key) (fields : List Written) (i : ℕ) (field : Written) (k : Key)
+    (added : Bool) → SearchedTo set fields i → i < length fields → field ≡ get_or fields i field
+    → k.now ≡ field.0
+    → added ≡ not (contains key_cmp set k) → added ≡ false
+    → Some i ≡ first_repeat [] 0 (names_of fields)
 repeat_found set fields i field k added h below at named is none =
-    let seen : list_any (λ other. bytes_eq other field.0) h.seen ≡ true = sym (has_key set h.seen k field.0 h.has named) ∙ was (contains key_cmp set k) (sym is ∙ none) in
+    let seen : list_any (λ other. bytes_eq other field.0) h.seen ≡ true =
+    sym (has_key set h.seen k field.0 h.has named) ∙ was (contains key_cmp set k) (sym is ∙ none) in
     sym (ap (from_field h.seen fields i field) seen) ∙ at_field set fields i field h below at
   where
     was : (b : Bool) → not b ≡ false → b ≡ true
@@ -62,18 +77,26 @@ repeat_found set fields i field k added h below at named is none =
     was false e = cc
 
 -- the field's name is new, and is among the seen
-pub SearchedTo-more : (set new : BTreeSet Key) (fields : List Written) (i : ℕ) (field : Written) (k : Key) (added : Bool) → SearchedTo set fields i → i < length fields → field ≡ get_or fields i field → k.now ≡ field.0
-    → added ≡ not (contains key_cmp set k) → added ≡ true → Updates key_cmp set new k true → SearchedTo new fields (i + 1)
+pub SearchedTo-more : (set new : BTreeSet Key) (fields : List Written) (i : ℕ) (field : Written)
+    (k : Key) (added : Bool) → SearchedTo set fields i → i < length fields
+    → field ≡ get_or fields i field → k.now ≡ field.0
+    → added ≡ not (contains key_cmp set k) → added ≡ true → Updates key_cmp set new k true
+    → SearchedTo new fields (i + 1)
 SearchedTo-more set new fields i field k added h below at named is fresh update =
-    let unseen : list_any (λ other. bytes_eq other field.0) h.seen ≡ false = sym (has_key set h.seen k field.0 h.has named) ∙ was (contains key_cmp set k) (sym is ∙ fresh) in
+    let unseen : list_any (λ other. bytes_eq other field.0) h.seen ≡ false =
+    sym (has_key set h.seen k field.0 h.has named)
+    ∙ was (contains key_cmp set k) (sym is ∙ fresh) in
     record {
       seen = field.0 ∷ h.seen;
       has = record {
         same = λ name.
-            update.0 (key name) ∙ either (is_eq (slice_cmp nat_cmp k.now name)) (contains key_cmp set (key name))
-            ∙ ap₂ ◌||◌ (is_eq-slice_cmp k.now name ∙ ap (λ n. bytes_eq n name) named) (h.has.same name);
+            update.0 (key name) ∙ either (is_eq (slice_cmp nat_cmp k.now name))
+            (contains key_cmp set (key name))
+            ∙ ap₂ ◌||◌ (is_eq-slice_cmp k.now name ∙ ap (λ n. bytes_eq n name) named)
+            (h.has.same name);
       };
-      rest = sym (ap (from_field h.seen fields i field) unseen) ∙ at_field set fields i field h below at;
+      rest = sym (ap (from_field h.seen fields i field) unseen)
+          ∙ at_field set fields i field h below at;
     }
   where
     was : (b : Bool) → not b ≡ true → b ≡ false

@@ -19,19 +19,22 @@ pub record IsFresh (asked : Format) (types : Types) : Type 0 where
 pub record Names (name : List ℕ) (old new : Types) (id : ℕ) : Type 0 where
   pub format : new.format ≡ old.format
   pub trees : new.trees ≡ old.trees
-  pub names : (other : List ℕ) → number_of new other ≡ (if bytes_eq other name then Some id else number_of old other)
+  pub names : (other : List ℕ) → number_of new other
+      ≡ (if bytes_eq other name then Some id else number_of old other)
 
 -- the name is known for this type, and every other as before
 pub record Knows (name : List ℕ) (t : SszType) (old new : Types) : Type 0 where
   pub format : new.format ≡ old.format
-  pub known : (other : List ℕ) → known_in new other ≡ (if bytes_eq other name then Some t else known_in old other)
+  pub known : (other : List ℕ) → known_in new other
+      ≡ (if bytes_eq other name then Some t else known_in old other)
 
 -- the schema has more types, and this name for one of them; earlier numbers and names stay
 pub record Defines (name : List ℕ) (old new : Types) (id : ℕ) : Type 0 where
   pub more : List SszType
   pub format : new.format ≡ old.format
   pub trees : new.trees ≡ old.trees ++ more
-  pub names : (other : List ℕ) → number_of new other ≡ (if bytes_eq other name then Some id else number_of old other)
+  pub names : (other : List ℕ) → number_of new other
+      ≡ (if bytes_eq other name then Some id else number_of old other)
   pub known : id < length new.trees
 
 -- the answer is the type that the walk gives, or its first fault, unless memory runs out
@@ -72,17 +75,20 @@ pub record IsOption (types : Types) (id : Option ℕ) (t : Option SszType) : Typ
   pub is : option_map (type_of types) id ≡ t
 
 -- what is answered stands in the new schema for what the walk gives
-abbrev pub AnswersBy : {A X : Type 0} → (Types → X → A → Type 0) → Result A SchemaFault → Types → Result X SchemaError → Type 0
+abbrev pub AnswersBy : {A X : Type 0} → (Types → X → A → Type 0) → Result A SchemaFault → Types
+    → Result X SchemaError → Type 0
 AnswersBy {A} Stands walk new (Ok x) = (a : A) × (walk ≡ Ok a) × Stands new x a
 AnswersBy Stands walk new (Err (Fault fault)) = walk ≡ Err fault
 AnswersBy Stands walk new (Err Memory) = Unit {0}
 
-pub record Resolves {A X : Type 0} (Stands : Types → X → A → Type 0) (walk : Result A SchemaFault) (old new : Types) (result : Result X SchemaError) : Type 0 where
+pub record Resolves {A X : Type 0} (Stands : Types → X → A → Type 0) (walk : Result A SchemaFault)
+    (old new : Types) (result : Result X SchemaError) : Type 0 where
   pub extends : Extends old new
   pub answer : AnswersBy Stands walk new result
 
 -- a walk, and then the name of its type; after an error types may have come in
-abbrev pub DefinesOrExtends : List ℕ → Result SszType SchemaFault → Types → Types → Result ℕ SchemaError → Type 0
+abbrev pub DefinesOrExtends : List ℕ → Result SszType SchemaFault → Types → Types
+    → Result ℕ SchemaError → Type 0
 DefinesOrExtends name walk old new (Ok id) = Defines name old new id × (walk ≡ Ok (type_of new id))
 DefinesOrExtends name walk old new (Err (Fault fault)) = Extends old new × (walk ≡ Err fault)
 DefinesOrExtends name walk old new (Err Memory) = Extends old new

@@ -8,7 +8,8 @@ NumberIsThatOfItsBytes = (count n : ℕ) → n < 256 ^ count → le_number (le_b
 
 -- bytes are those of their number
 abbrev pub BytesAreThoseOfTheirNumber : Type 0
-BytesAreThoseOfTheirNumber = (bytes : List ℕ) → IsBytes bytes → le_bytes (length bytes) (le_number bytes) ≡ bytes
+BytesAreThoseOfTheirNumber = (bytes : List ℕ) → IsBytes bytes
+    → le_bytes (length bytes) (le_number bytes) ≡ bytes
 
 -- so many bytes there are
 abbrev pub NumberHasSoManyBytes : Type 0
@@ -20,4 +21,5 @@ NumberIsThatOfItsBits = (count n : ℕ) → n < 2 ^ count → number_of_bits (bi
 
 -- bits are those of their number
 abbrev pub BitsAreThoseOfTheirNumber : Type 0
-BitsAreThoseOfTheirNumber = (bits : List Bool) → bits_of_number (length bits) (number_of_bits bits) ≡ bits
+BitsAreThoseOfTheirNumber = (bits : List Bool)
+    → bits_of_number (length bits) (number_of_bits bits) ≡ bits

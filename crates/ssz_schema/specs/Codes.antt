@@ -1,4 +1,5 @@
--- A code of type trees, by which a proof tells two of them apart; no statement about types is made here.
+-- A code of type trees, by which a proof tells two of them apart; no
+-- statement about types is made here.
 use Rattle.std.specs.Prelude.{ℕ, zero, suc, ◌≡◌, List, [], ◌∷◌, refl}
 use Rattle.std.proofs.Common.{sym, ap, ap₂, ◌∙◌}
 use base.Stored.{Gv, gnil, gnum, gcons, num, Coded}
@@ -78,11 +79,13 @@ form (suc (suc (suc (suc (suc (suc (suc k))))))) n t fs os = union os
 
 abbrev mutual
   pub type_of_code : Gv → SszType
-  type_of_code (gcons (gcons k n) body) = form (num k) (num n) (type_of_code body) (fields_of_code body) (options_of_code body)
+  type_of_code (gcons (gcons k n) body) =
+      form (num k) (num n) (type_of_code body) (fields_of_code body) (options_of_code body)
   type_of_code _ = boolean
 
   pub fields_of_code : Gv → Fields
-  fields_of_code (gcons (gcons name t) fs) = field (name_of name) (type_of_code t) (fields_of_code fs)
+  fields_of_code (gcons (gcons name t) fs) =
+      field (name_of name) (type_of_code t) (fields_of_code fs)
   fields_of_code _ = no_fields
 
   pub options_of_code : Gv → Options
@@ -111,7 +114,10 @@ mutual
   options_back (option t os) = ap₂ option (type_back t) (options_back os)
 
 abbrev pub coded_type : Coded SszType
-coded_type = record { code = type_code; inj = λ x y p. sym (type_back x) ∙ ap type_of_code p ∙ type_back y }
+coded_type = record {
+  code = type_code;
+  inj = λ x y p. sym (type_back x) ∙ ap type_of_code p ∙ type_back y;
+}
 
 abbrev pub is_two : Format → Bool
 is_two One = false

@@ -1,4 +1,5 @@
--- Types as they are written in a definition, where a name stands for a type (this project's schema form).
+-- Types as they are written in a definition, where a name stands for
+-- a type (this project's schema form).
 use Rattle.std.specs.Prelude.{ℕ, ◌+◌, List, [], ◌∷◌, Option, Some, None}
 use Rattle.ssz_schema.specs.declared.width.Width.{Width}
 use Rattle.ssz_schema.specs.declared.expr.TypeExpr.{TypeExpr}

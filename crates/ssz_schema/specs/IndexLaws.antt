@@ -1,4 +1,5 @@
--- That no path leads deeper than its type, so that the limit on levels bounds every generalized index.
+-- That no path leads deeper than its type, so that the limit on levels
+-- bounds every generalized index.
 use Rattle.std.specs.Prelude.{ℕ, ◌+◌, ◌^◌, ◌<◌, ◌≤◌, ◌≡◌, Some}
 use Rattle.ssz_schema.specs.Types.{SszType}
 use Rattle.ssz_schema.specs.Sizes.{depth_of, levels}
@@ -11,7 +12,8 @@ pub record IsWithin (t : SszType) (index : ℕ) : Type 0 where
   pub few : index < 2 ^ (levels t + 1)
 
 abbrev pub IndicesAreWithinLevels : Type 0
-IndicesAreWithinLevels = (t : SszType) (path : Path) (index : ℕ) → generalized_index t path ≡ Some index → IsWithin t index
+IndicesAreWithinLevels = (t : SszType) (path : Path) (index : ℕ)
+    → generalized_index t path ≡ Some index → IsWithin t index
 
 -- two to the depth of a count is not less than the count
 abbrev pub DepthHolds : Type 0

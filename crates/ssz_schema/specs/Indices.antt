@@ -13,7 +13,8 @@ abbrev pub element_position : Option ℕ → ℕ → ℕ
 element_position (Some z) i = i * z / 32
 element_position None i = i
 
--- How many levels a step goes down: the depth over the chunks, and one more where the length stands beside them.
+-- How many levels a step goes down: the depth over the chunks, and one more
+-- where the length stands beside them.
 -- So 2 ^ step_levels is the standard's base_index * get_power_of_two_ceil(chunk_count).
 abbrev pub step_levels : SszType → PathStep → ℕ
 step_levels (container fs) step = depth (container fs)
@@ -45,17 +46,20 @@ abbrev pub path_levels : SszType → Path → ℕ
 path_levels t [] = 0
 path_levels t (step ∷ path) = step_levels t step + path_levels (unwrap_or (step_type t step) t) path
 
--- the generalized index of the part at a path, where that of the whole is k, if the path fits the type
+-- the generalized index of the part at a path, where that of the
+-- whole is k, if the path fits the type
 abbrev pub generalized_index_from : ℕ → SszType → Path → Option ℕ
 generalized_index_from k t [] = Some k
 generalized_index_from k t (step ∷ path) =
-    option_and_then (λ part. generalized_index_from (step_index k t step) part path) (step_type t step)
+    option_and_then (λ part. generalized_index_from (step_index k t step) part path)
+    (step_type t step)
 
 -- the generalized index of the part at a path: get_generalized_index, where the root has 1
 abbrev pub generalized_index : SszType → Path → Option ℕ
 generalized_index t path = generalized_index_from 1 t path
 
--- Where a part lies in the node of its index: it is the whole node, or it begins at this byte or is this bit of a leaf.
+-- Where a part lies in the node of its index: it is the whole node, or it
+-- begins at this byte or is this bit of a leaf.
 pub data Spot : Type 0 where
   whole : Spot
   byte : ℕ → Spot
@@ -72,10 +76,12 @@ step_spot (bitvector n) (Index i) = bit (i % 256)
 step_spot (bitlist limit) (Index i) = bit (i % 256)
 step_spot _ _ = whole
 
--- the spot of the part at a path whose last steps are these, where that of the value before them is given
+-- the spot of the part at a path whose last steps are these, where
+-- that of the value before them is given
 abbrev pub spot_from : Spot → SszType → Path → Option Spot
 spot_from spot t [] = Some spot
-spot_from spot t (step ∷ path) = option_and_then (λ part. spot_from (step_spot t step) part path) (step_type t step)
+spot_from spot t (step ∷ path) =
+    option_and_then (λ part. spot_from (step_spot t step) part path) (step_type t step)
 
 -- the spot of the part at a path
 abbrev pub spot : SszType → Path → Option Spot

@@ -60,7 +60,8 @@ pub record IsSoundButLimits (format : Format) (done : List SszType) (e : Entry) 
 module _ (format : Format) where
   abbrev pub AreSound : List SszType → List Entry → Type 0
   AreSound done [] = Unit {0}
-  AreSound done (e ∷ entries) = IsSound format done e × AreSound (done ++ tree_over done e.ty ∷ []) entries
+  AreSound done (e ∷ entries) = IsSound format done e
+      × AreSound (done ++ tree_over done e.ty ∷ []) entries
 
 -- each name is that of one of count types
 abbrev pub NamesAreBelow : List (List ℕ × ℕ) → ℕ → Type 0
@@ -71,6 +72,8 @@ pub record AreSmall (facts : Facts) : Type 0 where
   pub nesting : facts.nesting ≤ 32
   pub levels : facts.levels ≤ 126
   pub default_len : facts.default_len ≤ 2 ^ 24
+  pub chunk_count : facts.chunk_count ≤ 2 ^ 62
+  pub depth : facts.depth ≤ 62
 
 -- the entry of this number
 pub record IsEntry (types : Types) (id : ℕ) (e : Entry) : Type 0 where

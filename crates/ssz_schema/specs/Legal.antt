@@ -1,4 +1,5 @@
--- Which types are legal (simple-serialize.md, Illegal types), with the limits of the two schema formats (this project's).
+-- Which types are legal (simple-serialize.md, Illegal types), with the limits
+-- of the two schema formats (this project's).
 use Rattle.std.specs.Prelude.{ℕ, ◌^◌, ◌<◌, ◌≤◌, List, [], ◌∷◌, bytes_eq}
 use Rattle.std.specs.List.{IsDistinct}
 use Rattle.ssz_schema.specs.declared.format.Format.{Format}
@@ -12,7 +13,8 @@ abbrev pub greatest_limit : Format → ℕ
 greatest_limit One = 2 ^ 40
 greatest_limit Two = 2 ^ 62
 
--- the most levels of a type: generalized indices are below 2 ^ 64 in format 1, below 2 ^ 127 in format 2
+-- the most levels of a type: generalized indices are below 2 ^ 64 in
+-- format 1, below 2 ^ 127 in format 2
 abbrev pub most_levels : Format → ℕ
 most_levels One = 63
 most_levels Two = 126
@@ -57,12 +59,16 @@ module _ (format : Format) where
     pub IsLegal : SszType → Type 0
     IsLegal (uint w) = Unit {0}
     IsLegal boolean = Unit {0}
-    IsLegal (container fs) = (0 < field_count fs) × AreLegalFields fs × IsDistinct bytes_eq (field_names fs) × IsWithinLimits format (container fs)
+    IsLegal (container fs) = (0 < field_count fs) × AreLegalFields fs
+        × IsDistinct bytes_eq (field_names fs) × IsWithinLimits format (container fs)
     IsLegal (vector elem n) = IsLegal elem × (0 < n) × IsWithinLimits format (vector elem n)
-    IsLegal (list elem limit) = IsLegal elem × (limit ≤ greatest_limit format) × IsWithinLimits format (list elem limit)
+    IsLegal (list elem limit) = IsLegal elem × (limit ≤ greatest_limit format)
+        × IsWithinLimits format (list elem limit)
     IsLegal (bitvector n) = (0 < n) × IsWithinLimits format (bitvector n)
-    IsLegal (bitlist limit) = (limit ≤ greatest_limit format) × IsWithinLimits format (bitlist limit)
-    IsLegal (union os) = (0 < option_count os) × (option_count os ≤ most_options) × IsNoneFirst os × AreLegalOptions os × IsWithinLimits format (union os)
+    IsLegal (bitlist limit) = (limit ≤ greatest_limit format)
+        × IsWithinLimits format (bitlist limit)
+    IsLegal (union os) = (0 < option_count os) × (option_count os ≤ most_options) × IsNoneFirst os
+        × AreLegalOptions os × IsWithinLimits format (union os)
 
     pub AreLegalFields : Fields → Type 0
     AreLegalFields no_fields = Unit {0}

@@ -14,9 +14,11 @@ pub mod Faults
 pub mod Codes
 pub mod Lookup
 pub mod NameTables
+pub mod SameType
 pub mod Unfolding
 pub mod Adding
 pub mod Inside
 pub mod Steps
+pub mod Alike
 pub mod Sums
 pub mod Repeats

@@ -4,4 +4,5 @@ use Rattle.std.specs.Prelude.{ℕ, if◌then◌else◌, List, [], ◌∷◌, Opt
 -- what is listed under a name
 abbrev pub lookup_name : {X : Type 0} → List (List ℕ × X) → List ℕ → Option X
 lookup_name [] name = None
-lookup_name (entry ∷ entries) name = if bytes_eq name entry.0 then Some entry.1 else lookup_name entries name
+lookup_name (entry ∷ entries) name =
+    if bytes_eq name entry.0 then Some entry.1 else lookup_name entries name

@@ -1,4 +1,5 @@
--- Paths: the parts of a type that they name (merkle-proofs.md, SSZ object to index; steps into bits and unions are this project's).
+-- Paths: the parts of a type that they name (merkle-proofs.md, SSZ object to index;
+-- steps into bits and unions are this project's).
 use Rattle.std.specs.Prelude.{ℕ, zero, suc, nat_lt, if◌then◌else◌, List, [], ◌∷◌, Option, Some, None, option_and_then, bytes_eq}
 use Rattle.ssz_schema.specs.declared.path.PathStep.{PathStep}
 use Rattle.ssz_schema.specs.declared.path.PathStep.TheVariants.{Field, Index, Len, Selector, Option as Chosen}

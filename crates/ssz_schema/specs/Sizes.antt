@@ -164,7 +164,8 @@ abbrev mutual
 
   pub default_fields_length : Fields → ℕ
   default_fields_length no_fields = 0
-  default_fields_length (field name t fs) = part_length (fixed_size t) (default_length t) + default_fields_length fs
+  default_fields_length (field name t fs) =
+      part_length (fixed_size t) (default_length t) + default_fields_length fs
 
   -- that of the first option's default, which is nothing for None
   pub default_option_length : Options → ℕ

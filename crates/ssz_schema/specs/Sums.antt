@@ -19,4 +19,5 @@ pub record AreOptionSums (os : Options) (lev nest : ℕ) : Type 0 where
 -- the levels and the nesting of an option
 abbrev pub IsOption : List SszType → Option ℕ → ℕ → ℕ → Type 0
 IsOption trees None lev nest = (lev ≡ 0) × (nest ≡ 0)
-IsOption trees (Some id) lev nest = (lev ≡ levels (tree_at trees id)) × (nest ≡ nesting (tree_at trees id))
+IsOption trees (Some id) lev nest = (lev ≡ levels (tree_at trees id))
+    × (nest ≡ nesting (tree_at trees id))

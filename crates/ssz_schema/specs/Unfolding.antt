@@ -86,5 +86,7 @@ AreBelow count (Union options) = AllByRecursion (IsBelow count) options.items
 abbrev pub coded_types : Coded Types
 coded_types =
     code_by (Format × (List SszType × List (List ℕ × ℕ)))
-    (coded× coded_format (coded× (coded_list coded_type) (coded_list (coded× (coded_list coded_ℕ) coded_ℕ))))
-    (λ s. (s.format, (s.trees, s.names))) (λ p. record { format = p.0; trees = p.1.0; names = p.1.1 }) (λ _. refl)
+    (coded× coded_format (coded× (coded_list coded_type)
+    (coded_list (coded× (coded_list coded_ℕ) coded_ℕ))))
+    (λ s. (s.format, (s.trees, s.names)))
+    (λ p. record { format = p.0; trees = p.1.0; names = p.1.1 }) (λ _. refl)

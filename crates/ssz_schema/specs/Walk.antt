@@ -1,4 +1,5 @@
--- The walk of a definition: the type that it gives, or its first fault (this project's order of faults).
+-- The walk of a definition: the type that it gives, or its first fault
+-- (this project's order of faults).
 use Rattle.std.specs.Prelude.{ℕ, nat_lt, nat_eq, not, ◌||◌, Bool, true, false, if◌then◌else◌, List, [], ◌∷◌, Option, Some, None, is_some, Result, Ok, Err, bytes_eq}
 use Rattle.std.specs.List.{list_any}
 use Rattle.ssz_schema.specs.declared.format.Format.{Format}
@@ -12,7 +13,8 @@ use Rattle.ssz_schema.specs.Forms.{TypeForm, FieldForms, OptionForms, named, uin
 
 infixl 10 ◌>>=◌
 -- the first fault ends the walk
-abbrev pub ◌>>=◌ : {A B : Type 0} → Result A SchemaFault → (A → Result B SchemaFault) → Result B SchemaFault
+abbrev pub ◌>>=◌ : {A B : Type 0} → Result A SchemaFault → (A → Result B SchemaFault)
+    → Result B SchemaFault
 (Ok x) >>= f = f x
 (Err e) >>= f = Err e
 
@@ -39,7 +41,8 @@ module _ (format : Format) where
 
   -- a list or bitlist has no limit above the greatest
   abbrev pub of_limit : ℕ → SszType → Result SszType SchemaFault
-  of_limit limit t = if nat_lt (greatest_limit format) limit then Err LimitTooBig else within_limits t
+  of_limit limit t =
+      if nat_lt (greatest_limit format) limit then Err LimitTooBig else within_limits t
 
   -- known gives the type of a name
   module _ (known : List ℕ → Option SszType) where
@@ -62,7 +65,8 @@ module _ (format : Format) where
       resolved (bitvector_form n) = of_length n (bitvector n)
       resolved (bitlist_form limit) = of_limit limit (bitlist limit)
       resolved (union_form os) = do
-        options ← (if is_wrong_size (option_form_count os) then Err UnionSize else resolved_options true os)
+        options ← (if is_wrong_size (option_form_count os) then Err UnionSize
+            else resolved_options true os)
         within_limits (union options)
 
       -- of the fields that stand after those of these names

@@ -1,9 +1,8 @@
 // Adding a type whose parts are there, unless it exceeds a limit.
 ghost use Rattle.std.specs.Prelude.{◌≡◌, ◌<◌, ◌≤◌, ◌^◌, Ok, Err, List, length, Option, option_map, if◌then◌else◌, bytes_eq};
 ghost use Rattle.std.specs.List.{AllByRecursion, IsDistinct};
-ghost use Rattle.std.specs.Option.{ForSome};
 ghost use Rattle.ssz_schema.specs.Types.{vector, list, bitvector, bitlist, container, union};
-ghost use Rattle.ssz_schema.specs.Sizes.{basic_size, field_count, option_count, default_option_length};
+ghost use Rattle.ssz_schema.specs.Sizes.{field_count, option_count, default_option_length};
 ghost use Rattle.ssz_schema.specs.Legal.{AreLegalFields, AreLegalOptions, IsNoneFirst, field_names, most_options};
 ghost use Rattle.ssz_schema.specs.Walk.{within_limits, of_length, of_limit};
 ghost use Rattle.ssz_schema.specs.Unfolding.{type_of, tree_over, fields_over, options_over, IsBelow};
@@ -39,7 +38,8 @@ impl Schema {
     // Adds a type if it keeps the limits.
     fn add_within_limits(&mut self, entry: Entry) -> Result<TypeId, SchemaError>
         requires { IsSoundButLimits self.old.format self.old.trees entry }
-        ensures { Resolves IsType (within_limits self.old.format (tree_over self.old.trees entry.ty)) self.old self.new result }
+        ensures { Resolves IsType (within_limits self.old.format
+            (tree_over self.old.trees entry.ty)) self.old self.new result }
     {
         if entry.facts.nesting > MOST_NESTING {
             return Err(SchemaError::Fault(SchemaFault::Nest));
@@ -54,7 +54,8 @@ impl Schema {
     }
 
     pub(crate) fn add_bitvector(&mut self, n: u64) -> Result<TypeId, SchemaError>
-        ensures { Resolves IsType (of_length self.old.format n (bitvector n)) self.old self.new result }
+        ensures { Resolves IsType (of_length self.old.format n (bitvector n)) self.old self.new
+            result }
     {
         if n == 0 {
             return Err(SchemaError::Fault(SchemaFault::ZeroLength));
@@ -77,7 +78,8 @@ impl Schema {
     }
 
     pub(crate) fn add_bitlist(&mut self, limit: u64) -> Result<TypeId, SchemaError>
-        ensures { Resolves IsType (of_limit self.old.format limit (bitlist limit)) self.old self.new result }
+        ensures { Resolves IsType (of_limit self.old.format limit (bitlist limit)) self.old self.new
+            result }
     {
         if limit > self.format().greatest_limit() {
             return Err(SchemaError::Fault(SchemaFault::LimitTooBig));
@@ -98,22 +100,10 @@ impl Schema {
         })
     }
 
-    // The size of a basic type, or None for a composite type.
-    fn basic_size(&self, id: TypeId) -> Option<u64>
-        requires { id < length self.now.trees }
-        ensures exact { result ≡ basic_size (type_of self.now id) }
-        ensures small { ForSome result (λ z. z ≤ 32) }
-    {
-        match self.ty(id) {
-            Ty::Uint(width) => Some(width.byte_count()),
-            Ty::Boolean => Some(1),
-            _ => None,
-        }
-    }
-
     pub(crate) fn add_list(&mut self, elem: TypeId, limit: u64) -> Result<TypeId, SchemaError>
         requires { elem < length self.old.trees }
-        ensures { Resolves IsType (of_limit self.old.format limit (list (type_of self.old elem) limit)) self.old self.new result }
+        ensures { Resolves IsType (of_limit self.old.format limit
+            (list (type_of self.old elem) limit)) self.old self.new result }
     {
         if limit > self.format().greatest_limit() {
             return Err(SchemaError::Fault(SchemaFault::LimitTooBig));
@@ -137,7 +127,8 @@ impl Schema {
 
     pub(crate) fn add_vector(&mut self, elem: TypeId, n: u64) -> Result<TypeId, SchemaError>
         requires { elem < length self.old.trees }
-        ensures { Resolves IsType (of_length self.old.format n (vector (type_of self.old elem) n)) self.old self.new result }
+        ensures { Resolves IsType (of_length self.old.format n (vector (type_of self.old elem) n))
+            self.old self.new result }
     {
         if n == 0 {
             return Err(SchemaError::Fault(SchemaFault::ZeroLength));
@@ -197,8 +188,10 @@ impl Schema {
         requires some { 0 < length fields.items }
         requires known { AllByRecursion (λ part. part.1 < length self.old.trees) fields.items }
         requires legal { AreLegalFields self.old.format (fields_over self.old.trees fields.items) }
-        requires distinct { IsDistinct bytes_eq (field_names (fields_over self.old.trees fields.items)) }
-        ensures { Resolves IsType (within_limits self.old.format (container (fields_over self.old.trees fields.items))) self.old self.new result }
+        requires distinct { IsDistinct bytes_eq
+            (field_names (fields_over self.old.trees fields.items)) }
+        ensures { Resolves IsType (within_limits self.old.format
+            (container (fields_over self.old.trees fields.items))) self.old self.new result }
     {
         let sums = self.sums(fields.as_slice());
         let chunk_count = fields.len() as u64;
@@ -268,9 +261,11 @@ impl Schema {
         requires some { 0 < length options.items }
         requires few { length options.items ≤ most_options }
         requires known { AllByRecursion (IsBelow (length self.old.trees)) options.items }
-        requires legal { AreLegalOptions self.old.format (options_over self.old.trees options.items) }
+        requires legal { AreLegalOptions self.old.format
+            (options_over self.old.trees options.items) }
         requires none { IsNoneFirst (options_over self.old.trees options.items) }
-        ensures { Resolves IsType (within_limits self.old.format (union (options_over self.old.trees options.items))) self.old self.new result }
+        ensures { Resolves IsType (within_limits self.old.format
+            (union (options_over self.old.trees options.items))) self.old self.new result }
     {
         let (option_levels, option_nesting) = self.options_sums(options.as_slice());
         let first = self.default_of_first(options.as_slice());

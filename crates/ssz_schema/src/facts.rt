@@ -16,7 +16,14 @@ pub struct Facts {
 impl Facts {
     /// Of a basic type of this size.
     pub fn basic(size: u64) -> Facts
-        ensures { result ≡ record { fixed_size = Some size; default_len = size; chunk_count = 1; depth = 0; levels = 0; nesting = 1 } }
+        ensures { result ≡ record {
+          fixed_size = Some size;
+          default_len = size;
+          chunk_count = 1;
+          depth = 0;
+          levels = 0;
+          nesting = 1;
+        } }
     {
         Facts {
             fixed_size: Some(size),

@@ -1,4 +1,5 @@
 ghost use Rattle.ssz_schema.specs.ByteLaws.{NumberIsThatOfItsBytes, BytesAreThoseOfTheirNumber, NumberHasSoManyBytes, NumberIsThatOfItsBits, BitsAreThoseOfTheirNumber};
+ghost use Rattle.ssz_schema.specs.SameType.{SameTypesAreEqual};
 ghost use Rattle.ssz_schema.specs.IndexLaws.{IndicesAreWithinLevels, DepthHolds, DepthIsLeast};
 
 /// Bytes and number determine each other.
@@ -23,4 +24,9 @@ pub fn depth_is_next_power()
 /// A generalized index of a type has at most as many levels as the type.
 pub fn indices_have_levels()
     ensures { IndicesAreWithinLevels }
+{}
+
+/// The test of types by which `Schema::same_type` answers is true of equal types alone.
+pub fn same_types_are_equal()
+    ensures { SameTypesAreEqual }
 {}

@@ -1,8 +1,8 @@
 //! The types of SimpleSerialize: how they are written, which are legal, and what is read off them.
 //!
-//! A `Schema` keeps named types, each proved legal when it was added, with its sizes, chunk count, depth and levels at
-//! hand. The definitions of types, of numbers and bits as bytes, and of paths with their generalized indices stand in
-//! specs/, for this crate and all above it.
+//! A `Schema` keeps named types, each proved legal when it was added, with its sizes, chunk count,
+//! depth and levels at hand. The definitions of types, of numbers and bits as bytes, and of paths
+//! with their generalized indices stand in specs/, for this crate and all above it.
 #![tactic(auto)]
 
 mod adding;
@@ -19,6 +19,7 @@ mod names;
 mod path;
 mod reading;
 mod runs;
+mod same;
 mod schema;
 mod schema_fault;
 #[cfg(test)]
@@ -31,7 +32,10 @@ mod width;
 pub use expr::TypeExpr;
 pub use fault::Fault;
 pub use format::Format;
-pub use law::{bits_tell_numbers, bytes_tell_numbers, depth_is_next_power, indices_have_levels};
+pub use law::{
+    bits_tell_numbers, bytes_tell_numbers, depth_is_next_power, indices_have_levels,
+    same_types_are_equal,
+};
 pub use name::{Name, is_name};
 pub use names::Names;
 pub use path::{PathStep, Steps};

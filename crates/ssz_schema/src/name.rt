@@ -66,8 +66,8 @@ fn all_name_bytes(bytes: &[u8]) -> bool
     bytes.iter().all(|byte| is_name_byte(*byte))
 }
 
-/// Whether types and fields may have this name: 1 to 64 bytes, the first a letter or `_`, the others letters, digits
-/// or `_`, all ASCII.
+/// Whether types and fields may have this name: 1 to 64 bytes, the first a letter or `_`, the
+/// others letters, digits or `_`, all ASCII.
 pub fn is_name(bytes: &[u8]) -> bool
     ensures { result ≡ is_name bytes.now }
 {

@@ -42,7 +42,8 @@ impl NameTable {
 
     /// Gives the name to the type.
     pub fn insert(&mut self, name: &[u8], id: TypeId) -> Result<(), AllocError>
-        ensures added { OnOk result ((other : List ℕ) → lookup_name self.new other ≡ (if bytes_eq other name.now then Some id else lookup_name self.old other)) }
+        ensures added { OnOk result ((other : List ℕ) → lookup_name self.new other
+            ≡ (if bytes_eq other name.now then Some id else lookup_name self.old other)) }
         ensures kept { OnErr result (self.new ≡ self.old) }
     {
         let key = name.to_vec(self.alloc)?;

@@ -1,10 +1,10 @@
-// The type of the part that a step leads to.
+// The types of the parts that steps and paths lead to.
 ghost use Rattle.std.specs.Prelude.{◌≡◌, ◌<◌, ℕ, length, option_map, bytes_eq, Some, None, nat_lt, if◌then◌else◌, slice_index_or};
 ghost use Rattle.std.specs.List.{position_from};
 ghost use Rattle.std.specs.Option.{ForSome};
 ghost use Rattle.ssz_schema.specs.declared.path.PathStep.TheVariants.{Field, Index, Len, Selector, Option as Chosen};
 ghost use Rattle.ssz_schema.specs.Unfolding.{type_of};
-ghost use Rattle.ssz_schema.specs.Paths.{step_type};
+ghost use Rattle.ssz_schema.specs.Paths.{step_type, path_type};
 ghost use Rattle.ssz_schema.specs.Steps.{LeadsTo};
 
 use super::name::Name;
@@ -23,11 +23,12 @@ pub fn field_at(fields: &[(Name, TypeId)], name: &Name) -> Option<usize>
 }
 
 impl Schema {
-    /// The type of the part that the step leads to from a value of the type, or None exactly where the step does not
-    /// fit the type.
+    /// The type of the part that the step leads to from a value of the type, or None exactly
+    /// where the step does not fit the type.
     pub fn step_type(&self, id: TypeId, step: &PathStep) -> Option<TypeId>
         requires { id < length self.now.trees }
-        ensures exact { option_map (type_of self.now) result ≡ step_type (type_of self.now id) step.now }
+        ensures exact { option_map (type_of self.now) result
+            ≡ step_type (type_of self.now id) step.now }
         ensures known { ForSome result (λ part. part < length self.now.trees) }
     {
         match step {
@@ -37,6 +38,24 @@ impl Schema {
             PathStep::Selector => self.selector_type(id),
             PathStep::Option(selector) => self.option_type(id, *selector),
         }
+    }
+
+    /// The type of the part at the path in a value of the type, or None exactly
+    /// where the path does not fit the type.
+    pub fn path_type(&self, id: TypeId, path: &[PathStep]) -> Option<TypeId>
+        requires { id < length self.now.trees }
+        ensures exact { option_map (type_of self.now) result
+            ≡ path_type (type_of self.now id) path.now }
+        ensures known { ForSome result (λ part. part < length self.now.trees) }
+    {
+        let mut part = id;
+        for step in path {
+            match self.step_type(part, step) {
+                Some(next) => part = next,
+                None => return None,
+            }
+        }
+        Some(part)
     }
 
     fn field_type(&self, id: TypeId, name: &Name) -> Option<TypeId>

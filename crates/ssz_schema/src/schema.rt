@@ -1,9 +1,9 @@
-ghost use Rattle.std.specs.Prelude.{◌≡◌, ◌<◌, ◌≤◌, [], ◌∷◌, ◌++◌, length, take, IfOk, OnOk, OnErr};
+ghost use Rattle.std.specs.Prelude.{◌≡◌, ◌<◌, ◌≤◌, ◌^◌, [], ◌∷◌, ◌++◌, length, take, IfOk, OnOk, OnErr};
 ghost use Rattle.std.specs.Option.{ForSome};
 ghost use Rattle.ssz_schema.specs.Unfolding.{type_of, tree_over, AreBelow, number_of};
-ghost use Rattle.ssz_schema.specs.Sizes.{is_variable, fixed_size, chunk_count, depth, levels, default_length};
+ghost use Rattle.ssz_schema.specs.Sizes.{is_variable, fixed_size, basic_size, chunk_count, depth, levels, default_length};
 ghost use Rattle.ssz_schema.specs.Types.{uint, boolean};
-ghost use Rattle.ssz_schema.specs.Legal.{IsLegal, IsSize};
+ghost use Rattle.ssz_schema.specs.Legal.{IsLegal, IsSize, most_levels};
 
 use super::entry::Entry;
 use super::format::Format;
@@ -44,8 +44,8 @@ impl Schema {
     ghost use Rattle.ssz_schema.specs.Adding.{Names, Knows, IsFresh, IsType};
     ghost use Rattle.ssz_schema.specs.Inside.{basic_types};
 
-    /// A schema of format 1 with the built-in names alone: boolean, byte, uint8, uint16, uint32, uint64, uint128 and
-    /// uint256, where byte is uint8.
+    /// A schema of format 1 with the built-in names alone: boolean, byte, uint8, uint16, uint32,
+    /// uint64, uint128 and uint256, where byte is uint8.
     pub fn empty(alloc: Global) -> Result<Schema, AllocError>
         ensures { IfOk result (IsFresh Format.One) }
     {
@@ -71,7 +71,8 @@ impl Schema {
 
     // The basic types without names.
     fn unnamed(alloc: Global, format: Format) -> Result<Schema, AllocError>
-        ensures { IfOk result (λ schema. schema ≡ record { format = format; trees = basic_types; names = [] }) }
+        ensures { IfOk result (λ schema. schema ≡ record
+            { format = format; trees = basic_types; names = [] }) }
     {
         let basics = [
             Entry::boolean(),
@@ -148,7 +149,8 @@ impl Schema {
     pub(crate) fn push(&mut self, entry: Entry) -> Result<TypeId, AllocError>
         requires { IsSound self.old.format self.old.trees entry }
         ensures number { IfOk result (λ id. id ≡ length self.old.trees) }
-        ensures added { OnOk result (self.new ≡ record self.old { trees = self.old.trees ++ tree_over self.old.trees entry.ty ∷ [] }) }
+        ensures added { OnOk result (self.new ≡ record self.old
+            { trees = self.old.trees ++ tree_over self.old.trees entry.ty ∷ [] }) }
         ensures kept { OnErr result (self.new ≡ self.old) }
     {
         let id = TypeId::new(self.entries.len());
@@ -233,34 +235,54 @@ impl Schema {
         self.entry(id).facts.fixed_size
     }
 
+    /// The size of a basic type, a number or a boolean: 1 to 32 bytes.
+    /// None exactly for composite types.
+    pub fn basic_size(&self, id: TypeId) -> Option<u64>
+        requires { id < length self.now.trees }
+        ensures exact { result ≡ basic_size (type_of self.now id) }
+        ensures at_most { ForSome result (λ z. z ≤ 32) }
+    {
+        match self.ty(id) {
+            Ty::Uint(width) => Some(width.byte_count()),
+            Ty::Boolean => Some(1),
+            _ => None,
+        }
+    }
+
     /// The length in bytes of the encoding of the type's default, at most 2^24.
     pub fn default_len(&self, id: TypeId) -> u64
         requires { id < length self.now.trees }
-        ensures { result ≡ default_length (type_of self.now id) }
+        ensures exact { result ≡ default_length (type_of self.now id) }
+        ensures at_most { result ≤ 2 ^ 24 }
     {
         self.entry(id).facts.default_len
     }
 
-    /// The standard's chunk_count of the type, and 1 for a union.
+    /// The standard's chunk_count of the type, and 1 for a union; at most 2^62.
     pub fn chunk_count(&self, id: TypeId) -> u64
         requires { id < length self.now.trees }
-        ensures { result ≡ chunk_count (type_of self.now id) }
+        ensures exact { result ≡ chunk_count (type_of self.now id) }
+        ensures at_most { result ≤ 2 ^ 62 }
     {
         self.entry(id).facts.chunk_count
     }
 
-    /// The exponent of next_pow_of_two(chunk_count).
+    /// The exponent of next_pow_of_two(chunk_count), at most 62.
     pub fn depth(&self, id: TypeId) -> u32
         requires { id < length self.now.trees }
-        ensures { result ≡ depth (type_of self.now id) }
+        ensures exact { result ≡ depth (type_of self.now id) }
+        ensures at_most { result ≤ 62 }
     {
         self.entry(id).facts.depth
     }
 
-    /// The length of the longest path in the type's tree, at most 63 in format 1 and 126 in format 2.
+    /// The length of the longest path in the type's tree, at most 63
+    /// in format 1 and 126 in format 2.
     pub fn levels(&self, id: TypeId) -> u32
         requires { id < length self.now.trees }
-        ensures { result ≡ levels (type_of self.now id) }
+        ensures exact { result ≡ levels (type_of self.now id) }
+        ensures in_format { result ≤ most_levels self.now.format }
+        ensures at_most { result ≤ 126 }
     {
         self.entry(id).facts.levels
     }

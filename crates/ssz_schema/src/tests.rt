@@ -196,7 +196,8 @@ fn limits_of_format_two(rt: HostRuntime) -> Result<(), Fail> {
     Ok(())
 }
 
-// At the greatest limit the count of bits of 2^62 numbers of 256 bits is beyond 64 bits, the chunk count is not.
+// At the greatest limit the count of bits of 2^62 numbers of 256 bits
+// is beyond 64 bits, the chunk count is not.
 #[test]
 fn facts_at_the_greatest_limit(rt: HostRuntime) -> Result<(), Fail> {
     let alloc = rt.alloc();

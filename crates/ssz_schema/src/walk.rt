@@ -22,11 +22,13 @@ const MOST_OPTIONS: usize = 128;
 impl Schema {
     /// Adds a definition: the type that the expression writes, under this name.
     ///
-    /// Answers the first fault of the definition, S3 to S14, or Memory. Then the schema is as before.
+    /// Answers the first fault of the definition, S3 to S14, or
+    /// Memory. Then the schema is as before.
     pub fn add(&mut self, name: &Name, expr: &TypeExpr) -> Result<TypeId, SchemaError>
         ensures added { IfOk result (Defines name.now self.old self.new) }
         ensures known { IfOk result (λ id. Knows name.now (type_of self.new id) self.old self.new) }
-        ensures answer { Answers (defined self.old.format (known_in self.old) name.now (form_of expr.now)) self.new result }
+        ensures answer { Answers (defined self.old.format (known_in self.old) name.now
+            (form_of expr.now)) self.new result }
         ensures kept { OnErr result (self.new ≡ self.old) }
     {
         if !is_name(name.as_bytes()) {
@@ -44,7 +46,9 @@ impl Schema {
     }
 
     fn define(&mut self, name: &Name, expr: &TypeExpr) -> Result<TypeId, SchemaError>
-        ensures { DefinesOrExtends name.now (resolved self.old.format (known_in self.old) (form_of expr.now)) self.old self.new result }
+        ensures { DefinesOrExtends name.now
+            (resolved self.old.format (known_in self.old) (form_of expr.now)) self.old self.new
+            result }
     {
         let id = self.resolve(expr)?;
         self.insert_name(name.as_bytes(), id)?;
@@ -53,7 +57,8 @@ impl Schema {
 
     #[cycle(walk)]
     fn resolve(&mut self, expr: &TypeExpr) -> Result<TypeId, SchemaError>
-        ensures { Resolves IsType (resolved self.old.format (known_in self.old) (form_of expr.now)) self.old self.new result }
+        ensures { Resolves IsType (resolved self.old.format (known_in self.old) (form_of expr.now))
+            self.old self.new result }
     {
         match expr {
             TypeExpr::Named(name) => self
@@ -78,7 +83,9 @@ impl Schema {
 
     #[cycle(walk)]
     fn resolve_container(&mut self, fields: &Vec<(Name, TypeExpr)>) -> Result<TypeId, SchemaError>
-        ensures { Resolves IsType (resolved self.old.format (known_in self.old) (container_form (field_forms (map field_form_of fields.now.items)))) self.old self.new result }
+        ensures { Resolves IsType (resolved self.old.format (known_in self.old)
+            (container_form (field_forms (map field_form_of fields.now.items)))) self.old self.new
+            result }
     {
         if fields.is_empty() {
             return Err(SchemaError::Fault(SchemaFault::EmptyContainer));
@@ -92,10 +99,14 @@ impl Schema {
         &mut self,
         fields: &Vec<(Name, TypeExpr)>,
     ) -> Result<Vec<(Name, TypeId)>, SchemaError>
-        ensures walk { Resolves AreFields (resolved_fields self.old.format (known_in self.old) [] (field_forms (map field_form_of fields.now.items))) self.old self.new result }
+        ensures walk { Resolves AreFields
+            (resolved_fields self.old.format (known_in self.old) []
+            (field_forms (map field_form_of fields.now.items))) self.old self.new result }
         ensures len { IfOk result (λ parts. length parts.items ≡ length fields.now.items) }
-        ensures legal { IfOk result (λ parts. AreLegalFields self.new.format (fields_over self.new.trees parts.items)) }
-        ensures distinct { IfOk result (λ parts. IsDistinct bytes_eq (field_names (fields_over self.new.trees parts.items))) }
+        ensures legal { IfOk result (λ parts. AreLegalFields self.new.format
+            (fields_over self.new.trees parts.items)) }
+        ensures distinct { IfOk result (λ parts. IsDistinct bytes_eq
+            (field_names (fields_over self.new.trees parts.items))) }
     {
         let alloc = self.allocator();
         let repeat = first_repeat(alloc, fields)?;
@@ -114,7 +125,8 @@ impl Schema {
         field: &(Name, TypeExpr),
         is_repeat: bool,
     ) -> Result<(Name, TypeId), SchemaError>
-        ensures { Resolves IsField (resolved_field self.old.format (known_in self.old) is_repeat (field_form_of field.now)) self.old self.new result }
+        ensures { Resolves IsField (resolved_field self.old.format (known_in self.old) is_repeat
+            (field_form_of field.now)) self.old self.new result }
     {
         let name = field.0.as_bytes();
         if !is_name(name) {
@@ -129,7 +141,9 @@ impl Schema {
 
     #[cycle(walk)]
     fn resolve_union(&mut self, options: &Vec<Option<TypeExpr>>) -> Result<TypeId, SchemaError>
-        ensures { Resolves IsType (resolved self.old.format (known_in self.old) (union_form (option_forms (map (option_map form_of) options.now.items)))) self.old self.new result }
+        ensures { Resolves IsType (resolved self.old.format (known_in self.old)
+            (union_form (option_forms (map (option_map form_of) options.now.items)))) self.old
+            self.new result }
     {
         if is_wrong_size(options.len()) {
             return Err(SchemaError::Fault(SchemaFault::UnionSize));
@@ -143,9 +157,12 @@ impl Schema {
         &mut self,
         options: &Vec<Option<TypeExpr>>,
     ) -> Result<Vec<Option<TypeId>>, SchemaError>
-        ensures walk { Resolves AreOptions (resolved_options self.old.format (known_in self.old) true (option_forms (map (option_map form_of) options.now.items))) self.old self.new result }
+        ensures walk { Resolves AreOptions
+            (resolved_options self.old.format (known_in self.old) true
+            (option_forms (map (option_map form_of) options.now.items))) self.old self.new result }
         ensures len { IfOk result (λ ids. length ids.items ≡ length options.now.items) }
-        ensures legal { IfOk result (λ ids. AreLegalOptions self.new.format (options_over self.new.trees ids.items)) }
+        ensures legal { IfOk result (λ ids. AreLegalOptions self.new.format
+            (options_over self.new.trees ids.items)) }
         ensures none { IfOk result (λ ids. IsNoneFirst (options_over self.new.trees ids.items)) }
     {
         let alloc = self.allocator();
@@ -163,7 +180,8 @@ impl Schema {
         option: &Option<TypeExpr>,
         is_first: bool,
     ) -> Result<Option<TypeId>, SchemaError>
-        ensures { Resolves IsOption (resolved_option self.old.format (known_in self.old) is_first (option_map form_of option.now)) self.old self.new result }
+        ensures { Resolves IsOption (resolved_option self.old.format (known_in self.old) is_first
+            (option_map form_of option.now)) self.old self.new result }
     {
         match option {
             Some(expr) => Ok(Some(self.resolve(expr)?)),
@@ -191,7 +209,8 @@ fn is_at(place: Option<usize>, i: usize) -> bool
 
 // The number of the first field that has the name of an earlier one.
 fn first_repeat(alloc: Global, fields: &[(Name, TypeExpr)]) -> Result<Option<usize>, AllocError>
-    ensures { IfOk result (λ repeat. repeat ≡ first_repeat [] 0 (map (λ field. field.0) fields.now)) }
+    ensures { IfOk result (λ repeat.
+        repeat ≡ first_repeat [] 0 (map (λ field. field.0) fields.now)) }
 {
     let mut seen = BTreeSet::new(alloc);
     for (i, field) in fields.iter().enumerate() {

@@ -268,7 +268,7 @@ root_of_bytes-elements_root-requires g t c =
     let h = vector_elements c.args.schema.now.format (type_of c.args.schema.now c.args.id)
     (tree_at c.args.schema.now.trees c.in-Vector.elem)
     c.in-Vector.count c.depth.result c.args.bytes.now form c.ty.ensures.legal
-    c.requires.faultless c.depth.ensures in
+    c.requires.faultless c.depth.ensures.exact in
     let below : c.in-Vector.elem < c.args.id = subst (AreBelow c.args.id)
     c.in-Vector.is c.ty.ensures.before in
     search rules
@@ -281,7 +281,7 @@ root_of_bytes-returns-in-Vector-clause-root g t c =
     c.elements_root.ensures.root
     ∙ ap (λ d. root g.H.PairHash.pair_of (full d
     (element_trees ty (element_values ty c.in-Vector.count c.args.bytes.now))))
-    (c.depth.ensures ∙ ap depth form)
+    (c.depth.ensures.exact ∙ ap depth form)
     ∙ vector_root g.H.PairHash.pair_of ty c.in-Vector.count c.args.bytes.now
     ∙ ap (λ ty. root g.H.PairHash.pair_of (tree ty (value_in ty c.args.bytes.now))) (sym form)
 
@@ -294,7 +294,7 @@ root_of_bytes-returns-in-Vector-clause-counts g t c =
     subst (λ n. CountsUp n (g.H.PairHash.pairs c.args.hasher.now)
     (g.H.PairHash.pairs c.elements_root.new.hasher))
     (ap (λ d. grow d (element_chunks (basic_size ty) c.in-Vector.count) + sum_by (pairs ty)
-    (element_values ty c.in-Vector.count c.args.bytes.now)) (c.depth.ensures ∙ ap depth form)
+    (element_values ty c.in-Vector.count c.args.bytes.now)) (c.depth.ensures.exact ∙ ap depth form)
     ∙ vector_pairs ty c.in-Vector.count c.args.bytes.now
     (length-element_values ty c.in-Vector.count c.args.bytes.now)
     ∙ ap (λ ty. pairs ty (value_in ty c.args.bytes.now)) (sym form))
@@ -321,7 +321,7 @@ root_of_bytes-elements_root-elements-requires g t c =
     { bytes = λ i. omega (arith, c.type_inv.bytes i); short = c.requires.short } in
     let h = list_elements c.args.schema.now.format (type_of c.args.schema.now c.args.id)
     ty c.in-List.limit c.element_count-count.result c.depth-in-List.result c.args.bytes.now form
-    c.ty.ensures.legal input c.requires.faultless c.depth-in-List.ensures count in
+    c.ty.ensures.legal input c.requires.faultless c.depth-in-List.ensures.exact count in
     let below : c.in-List.elem < c.args.id = subst (AreBelow c.args.id)
     c.in-List.is c.ty.ensures.before in
     search rules
@@ -337,7 +337,7 @@ root_of_bytes-returns-in-List-clause-root g t c =
     ∙ ap₂ g.H.PairHash.pair_of (c.elements_root-elements.ensures.root
     ∙ ap (λ d. root g.H.PairHash.pair_of (full d
     (element_trees ty (element_values ty c.element_count-count.result c.args.bytes.now))))
-    (c.depth-in-List.ensures ∙ ap depth form)) (c.number_chunk.ensures
+    (c.depth-in-List.ensures.exact ∙ ap depth form)) (c.number_chunk.ensures
     ∙ ap number_chunk c.from.ensures)
     ∙ list_root g.H.PairHash.pair_of ty c.in-List.limit c.element_count-count.result
     c.args.bytes.now count (length-element_values ty c.element_count-count.result c.args.bytes.now)
@@ -354,7 +354,7 @@ root_of_bytes-returns-in-List-clause-counts g t c =
     (g.H.PairHash.pairs c.pair.new.self))
     (ap (λ d. grow d (element_chunks (basic_size ty) c.element_count-count.result) + sum_by
     (pairs ty) (element_values ty c.element_count-count.result c.args.bytes.now) + 1)
-    (c.depth-in-List.ensures ∙ ap depth form)
+    (c.depth-in-List.ensures.exact ∙ ap depth form)
     ∙ list_pairs ty c.in-List.limit c.element_count-count.result c.args.bytes.now count
     (length-element_values ty c.element_count-count.result c.args.bytes.now)
     ∙ ap (λ ty. pairs ty (value_in ty c.args.bytes.now)) (sym form))
@@ -371,7 +371,7 @@ root_of_bytes-packed_root-requires-clause-depth g t c =
     (type_of c.args.schema.now c.args.id) c.in-Bitvector.field-0 c.args.bytes.now
     (sym c.ty.ensures.form ∙ ap (tree_over c.args.schema.now.trees) c.in-Bitvector.is)
     c.ty.ensures.legal input c.requires.faultless in
-    omega (arith, h.shallow, c.depth-in-Bitvector.ensures)
+    omega (arith, h.shallow, c.depth-in-Bitvector.ensures.exact)
 
 pub root_of_bytes-packed_root-requires-clause-few :
     goal.root_of_bytes-packed_root-requires-clause-few
@@ -382,7 +382,7 @@ root_of_bytes-packed_root-requires-clause-few g t c =
     (type_of c.args.schema.now c.args.id) c.in-Bitvector.field-0 c.args.bytes.now
     (sym c.ty.ensures.form ∙ ap (tree_over c.args.schema.now.trees) c.in-Bitvector.is)
     c.ty.ensures.legal input c.requires.faultless in
-    subst (λ d. (length c.args.bytes.now + 31) / 32 ≤ 2 ^ d) (sym c.depth-in-Bitvector.ensures)
+    subst (λ d. (length c.args.bytes.now + 31) / 32 ≤ 2 ^ d) (sym c.depth-in-Bitvector.ensures.exact)
     h.few
 
 pub root_of_bytes-returns-in-Bitvector-clause-root :
@@ -395,7 +395,7 @@ root_of_bytes-returns-in-Bitvector-clause-root g t c =
     (sym c.ty.ensures.form ∙ ap (tree_over c.args.schema.now.trees) c.in-Bitvector.is)
     c.ty.ensures.legal input c.requires.faultless in
     c.packed_root.ensures.root ∙ ap (λ d. root g.H.PairHash.pair_of
-    (full d (leaves (pack c.args.bytes.now)))) c.depth-in-Bitvector.ensures ∙ h.same
+    (full d (leaves (pack c.args.bytes.now)))) c.depth-in-Bitvector.ensures.exact ∙ h.same
 
 pub root_of_bytes-returns-in-Bitvector-clause-counts :
     goal.root_of_bytes-returns-in-Bitvector-clause-counts
@@ -408,7 +408,7 @@ root_of_bytes-returns-in-Bitvector-clause-counts g t c =
     c.ty.ensures.legal input c.requires.faultless in
     subst (λ n. CountsUp n (g.H.PairHash.pairs c.args.hasher.now)
     (g.H.PairHash.pairs c.packed_root.new.hasher))
-    (ap (λ d. grow d ((length c.args.bytes.now + 31) / 32)) c.depth-in-Bitvector.ensures ∙ h.costs)
+    (ap (λ d. grow d ((length c.args.bytes.now + 31) / 32)) c.depth-in-Bitvector.ensures.exact ∙ h.costs)
     c.packed_root.ensures.counts
 
 pub root_of_bytes-container_root-requires : goal.root_of_bytes-container_root-requires
@@ -420,7 +420,7 @@ root_of_bytes-container_root-requires g t c =
     ∙ ap (λ (parts : List (List ℕ × ℕ)). container (fields_over trees parts)) fields in
     let h = container_fields c.args.schema.now.format (type_of c.args.schema.now c.args.id)
     trees c.as_slice.result.now c.depth-in-Container.result c.args.bytes.now form
-    c.ty.ensures.legal c.requires.faultless c.depth-in-Container.ensures in
+    c.ty.ensures.legal c.requires.faultless c.depth-in-Container.ensures.exact in
     let P : List (List ℕ × ℕ) → Type 0 = AllByRecursion
     (λ (part : List ℕ × ℕ). part.1 < c.args.id) in
     let all : P c.in-Container.fields.items = subst (AreBelow c.args.id)
@@ -440,7 +440,7 @@ root_of_bytes-returns-in-Container-clause-root g t c =
     c.container_root.ensures.root
     ∙ ap (λ d. root g.H.PairHash.pair_of (full d
     (field_trees fs (field_values fs c.args.bytes.now))))
-    (c.depth-in-Container.ensures ∙ ap depth form)
+    (c.depth-in-Container.ensures.exact ∙ ap depth form)
     ∙ container_root g.H.PairHash.pair_of fs c.args.bytes.now
     ∙ ap (λ ty. root g.H.PairHash.pair_of (tree ty (value_in ty c.args.bytes.now))) (sym form)
 
@@ -456,7 +456,7 @@ root_of_bytes-returns-in-Container-clause-counts g t c =
     subst (λ n. CountsUp n (g.H.PairHash.pairs c.args.hasher.now)
     (g.H.PairHash.pairs c.container_root.new.hasher))
     (ap (λ d. grow d (length c.as_slice.result.now) + field_pairs fs
-    (field_values fs c.args.bytes.now)) (c.depth-in-Container.ensures ∙ ap depth form)
+    (field_values fs c.args.bytes.now)) (c.depth-in-Container.ensures.exact ∙ ap depth form)
     ∙ container_pairs trees c.as_slice.result.now c.args.bytes.now
     ∙ ap (λ ty. pairs ty (value_in ty c.args.bytes.now)) (sym form))
     c.container_root.ensures.counts
@@ -470,7 +470,7 @@ root_of_bytes-bits_root-bits-requires-clause-few g t c =
     let h = HasBits-bitlist g.H.PairHash.pair_of c.args.schema.now.format
     (type_of c.args.schema.now c.args.id) c.in-Bitlist.field-0 c.depth-in-Bitlist.result
     c.args.bytes.now form c.ty.ensures.legal input c.requires.faultless
-    c.depth-in-Bitlist.ensures in
+    c.depth-in-Bitlist.ensures.exact in
     subst (λ n. (n + 255) / 256 ≤ 2 ^ c.depth-in-Bitlist.result) (sym c.bitlist_len-len.ensures)
     h.few
 
@@ -482,7 +482,7 @@ root_of_bytes-returns-in-Bitlist-clause-root g t c =
     let h = HasBits-bitlist g.H.PairHash.pair_of c.args.schema.now.format
     (type_of c.args.schema.now c.args.id) c.in-Bitlist.field-0 c.depth-in-Bitlist.result
     c.args.bytes.now form c.ty.ensures.legal input c.requires.faultless
-    c.depth-in-Bitlist.ensures in
+    c.depth-in-Bitlist.ensures.exact in
     c.pair-in-Bitlist.ensures.value ∙ ap₂ g.H.PairHash.pair_of c.bits_root-bits.ensures.root
     (c.number_chunk-in-Bitlist.ensures ∙ ap number_chunk c.from-in-Bitlist.ensures)
     ∙ ap (λ n. g.H.PairHash.pair_of (root g.H.PairHash.pair_of
@@ -499,7 +499,7 @@ root_of_bytes-returns-in-Bitlist-clause-counts g t c =
     let h = HasBits-bitlist g.H.PairHash.pair_of c.args.schema.now.format
     (type_of c.args.schema.now c.args.id) c.in-Bitlist.field-0 c.depth-in-Bitlist.result
     c.args.bytes.now form c.ty.ensures.legal input c.requires.faultless
-    c.depth-in-Bitlist.ensures in
+    c.depth-in-Bitlist.ensures.exact in
     subst (λ n. CountsUp n (g.H.PairHash.pairs c.args.hasher.now)
     (g.H.PairHash.pairs c.pair-in-Bitlist.new.self))
     (ap (λ n. grow c.depth-in-Bitlist.result ((n + 255) / 256) + 1) c.bitlist_len-len.ensures

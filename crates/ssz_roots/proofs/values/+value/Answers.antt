@@ -304,7 +304,7 @@ root_of_value-bit_values_root-requires-clause-few g t c =
     let form = sym c.ty.ensures.form ∙ ap (tree_over c.args.schema.now.trees) c.in-Bitvector.is in
     let h = HasBitValues-bitvector g.H.PairHash.pair_of c.args.schema.now.format
     (type_of c.args.schema.now c.args.id) c.in-Bitvector.field-0 c.depth.result
-    (value_of c.args.value.now) form c.ty.ensures.legal c.requires.value.fits c.depth.ensures in
+    (value_of c.args.value.now) form c.ty.ensures.legal c.requires.value.fits c.depth.ensures.exact in
     subst (λ (bs : List Bool). (length bs + 255) / 256 ≤ 2 ^ c.depth.result) (sym c.bits_of.ensures)
     h.few
 
@@ -315,7 +315,7 @@ root_of_value-bit_values_root-requires-clause-depth g t c =
     (HasBitValues-bitvector g.H.PairHash.pair_of c.args.schema.now.format
     (type_of c.args.schema.now c.args.id) c.in-Bitvector.field-0 c.depth.result
     (value_of c.args.value.now) form c.ty.ensures.legal c.requires.value.fits
-    c.depth.ensures).shallow
+    c.depth.ensures.exact).shallow
 
 pub root_of_value-returns-in-Bitvector-clause-root :
     goal.root_of_value-returns-in-Bitvector-clause-root
@@ -323,7 +323,7 @@ root_of_value-returns-in-Bitvector-clause-root g t c =
     let form = sym c.ty.ensures.form ∙ ap (tree_over c.args.schema.now.trees) c.in-Bitvector.is in
     let h = HasBitValues-bitvector g.H.PairHash.pair_of c.args.schema.now.format
     (type_of c.args.schema.now c.args.id) c.in-Bitvector.field-0 c.depth.result
-    (value_of c.args.value.now) form c.ty.ensures.legal c.requires.value.fits c.depth.ensures in
+    (value_of c.args.value.now) form c.ty.ensures.legal c.requires.value.fits c.depth.ensures.exact in
     c.bit_values_root.ensures.root ∙ ap (λ (bs : List Bool). root g.H.PairHash.pair_of
     (full c.depth.result (leaves (pack_bits bs)))) c.bits_of.ensures ∙ h.same
 
@@ -333,7 +333,7 @@ root_of_value-returns-in-Bitvector-clause-counts g t c =
     let form = sym c.ty.ensures.form ∙ ap (tree_over c.args.schema.now.trees) c.in-Bitvector.is in
     let h = HasBitValues-bitvector g.H.PairHash.pair_of c.args.schema.now.format
     (type_of c.args.schema.now c.args.id) c.in-Bitvector.field-0 c.depth.result
-    (value_of c.args.value.now) form c.ty.ensures.legal c.requires.value.fits c.depth.ensures in
+    (value_of c.args.value.now) form c.ty.ensures.legal c.requires.value.fits c.depth.ensures.exact in
     subst (λ n. CountsUp n (g.H.PairHash.pairs c.args.hasher.now)
     (g.H.PairHash.pairs c.bit_values_root.new.hasher))
     (ap (λ (bs : List Bool). grow c.depth.result ((length bs + 255) / 256)) c.bits_of.ensures
@@ -346,7 +346,7 @@ root_of_value-bit_values_root-root-requires-clause-few g t c =
     let h = HasBitList-bitlist g.H.PairHash.pair_of c.args.schema.now.format
     (type_of c.args.schema.now c.args.id) c.in-Bitlist.field-0 c.depth-in-Bitlist.result
     (value_of c.args.value.now) form c.ty.ensures.legal c.requires.value.fits
-    c.depth-in-Bitlist.ensures in
+    c.depth-in-Bitlist.ensures.exact in
     subst (λ (bs : List Bool). (length bs + 255) / 256 ≤ 2 ^ c.depth-in-Bitlist.result)
     (sym c.bits_of-bits.ensures) h.few
 
@@ -357,7 +357,7 @@ root_of_value-bit_values_root-root-requires-clause-depth g t c =
     (HasBitList-bitlist g.H.PairHash.pair_of c.args.schema.now.format
     (type_of c.args.schema.now c.args.id) c.in-Bitlist.field-0 c.depth-in-Bitlist.result
     (value_of c.args.value.now) form c.ty.ensures.legal c.requires.value.fits
-    c.depth-in-Bitlist.ensures).shallow
+    c.depth-in-Bitlist.ensures.exact).shallow
 
 pub root_of_value-returns-in-Bitlist-clause-root : goal.root_of_value-returns-in-Bitlist-clause-root
 root_of_value-returns-in-Bitlist-clause-root g t c =
@@ -365,7 +365,7 @@ root_of_value-returns-in-Bitlist-clause-root g t c =
     let h = HasBitList-bitlist g.H.PairHash.pair_of c.args.schema.now.format
     (type_of c.args.schema.now c.args.id) c.in-Bitlist.field-0 c.depth-in-Bitlist.result
     (value_of c.args.value.now) form c.ty.ensures.legal c.requires.value.fits
-    c.depth-in-Bitlist.ensures in
+    c.depth-in-Bitlist.ensures.exact in
     c.pair.ensures.value ∙ ap₂ g.H.PairHash.pair_of c.bit_values_root-root.ensures.root
     c.number_chunk.ensures
     ∙ ap (λ (bs : List Bool). g.H.PairHash.pair_of
@@ -379,7 +379,7 @@ root_of_value-returns-in-Bitlist-clause-counts g t c =
     let h = HasBitList-bitlist g.H.PairHash.pair_of c.args.schema.now.format
     (type_of c.args.schema.now c.args.id) c.in-Bitlist.field-0 c.depth-in-Bitlist.result
     (value_of c.args.value.now) form c.ty.ensures.legal c.requires.value.fits
-    c.depth-in-Bitlist.ensures in
+    c.depth-in-Bitlist.ensures.exact in
     subst (λ n. CountsUp n (g.H.PairHash.pairs c.args.hasher.now)
     (g.H.PairHash.pairs c.pair.new.self))
     (ap (λ (bs : List Bool). grow c.depth-in-Bitlist.result ((length bs + 255) / 256) + 1)
@@ -395,7 +395,7 @@ root_of_value-sequence_root-requires g t c =
     let h = HasVector-vector g.H.PairHash.pair_of c.args.schema.now.format
     (type_of c.args.schema.now c.args.id) ty c.in-Vector.field-1 c.depth-in-Vector.result
     (value_of c.args.value.now) form c.ty.ensures.legal c.requires.value.fits
-    c.depth-in-Vector.ensures in
+    c.depth-in-Vector.ensures.exact in
     let value : IsSequence ty c.args.value.now =
     vector_sequence ty c.in-Vector.field-1 c.args.value.now
     (subst (λ f. IsValue f c.args.value.now) form c.requires.value) in
@@ -410,7 +410,7 @@ root_of_value-returns-in-Vector-clause-root g t c =
     let h = HasVector-vector g.H.PairHash.pair_of c.args.schema.now.format
     (type_of c.args.schema.now c.args.id) ty c.in-Vector.field-1 c.depth-in-Vector.result
     (value_of c.args.value.now) form c.ty.ensures.legal c.requires.value.fits
-    c.depth-in-Vector.ensures in
+    c.depth-in-Vector.ensures.exact in
     c.sequence_root.ensures.root ∙ h.same
 
 pub root_of_value-returns-in-Vector-clause-counts :
@@ -421,7 +421,7 @@ root_of_value-returns-in-Vector-clause-counts g t c =
     let h = HasVector-vector g.H.PairHash.pair_of c.args.schema.now.format
     (type_of c.args.schema.now c.args.id) ty c.in-Vector.field-1 c.depth-in-Vector.result
     (value_of c.args.value.now) form c.ty.ensures.legal c.requires.value.fits
-    c.depth-in-Vector.ensures in
+    c.depth-in-Vector.ensures.exact in
     subst (λ n. CountsUp n (g.H.PairHash.pairs c.args.hasher.now)
     (g.H.PairHash.pairs c.sequence_root.new.hasher)) h.costs c.sequence_root.ensures.counts
 
@@ -432,7 +432,7 @@ root_of_value-sequence_root-root-requires g t c =
     let h = HasList-list g.H.PairHash.pair_of c.args.schema.now.format
     (type_of c.args.schema.now c.args.id) ty c.in-List.field-1 c.depth-in-List.result
     (value_of c.args.value.now) form c.ty.ensures.legal c.requires.value.fits
-    c.depth-in-List.ensures in
+    c.depth-in-List.ensures.exact in
     let value : IsSequence ty c.args.value.now =
     list_sequence ty c.in-List.field-1 c.args.value.now
     (subst (λ f. IsValue f c.args.value.now) form c.requires.value) in
@@ -447,7 +447,7 @@ root_of_value-returns-in-List-clause-root g t c =
     let h = HasList-list g.H.PairHash.pair_of c.args.schema.now.format
     (type_of c.args.schema.now c.args.id) ty c.in-List.field-1 c.depth-in-List.result
     (value_of c.args.value.now) form c.ty.ensures.legal c.requires.value.fits
-    c.depth-in-List.ensures in
+    c.depth-in-List.ensures.exact in
     c.pair-in-List.ensures.value ∙ ap₂ g.H.PairHash.pair_of c.sequence_root-root.ensures.root
     (c.number_chunk-in-List.ensures ∙ ap number_chunk c.part_count.ensures) ∙ h.same
 
@@ -458,7 +458,7 @@ root_of_value-returns-in-List-clause-counts g t c =
     let h = HasList-list g.H.PairHash.pair_of c.args.schema.now.format
     (type_of c.args.schema.now c.args.id) ty c.in-List.field-1 c.depth-in-List.result
     (value_of c.args.value.now) form c.ty.ensures.legal c.requires.value.fits
-    c.depth-in-List.ensures in
+    c.depth-in-List.ensures.exact in
     subst (λ n. CountsUp n (g.H.PairHash.pairs c.args.hasher.now)
     (g.H.PairHash.pairs c.pair-in-List.new.self)) h.costs
     (CountsUp-add _ 1 (g.H.PairHash.pairs c.args.hasher.now)
@@ -475,7 +475,7 @@ root_of_value-container_value_root-requires g t c =
     ∙ ap (λ (parts : List (List ℕ × ℕ)). container (fields_over trees parts)) fields in
     let room = container_room c.args.schema.now.format (type_of c.args.schema.now c.args.id)
     trees c.as_slice.result.now c.depth-in-Container.result form c.ty.ensures.legal
-    c.depth-in-Container.ensures in
+    c.depth-in-Container.ensures.exact in
     let value : IsValue (container (fields_over trees c.as_slice.result.now)) c.args.value.now =
     subst (λ f. IsValue f c.args.value.now) form c.requires.value in
     let P : List (List ℕ × ℕ) → Type 0 = AllByRecursion
@@ -496,7 +496,7 @@ root_of_value-returns-in-Container-clause-root g t c =
     c.container_value_root.ensures.root
     ∙ (HasContainer-container g.H.PairHash.pair_of (type_of c.args.schema.now c.args.id)
     trees c.as_slice.result.now c.depth-in-Container.result (value_of c.args.value.now)
-    form c.requires.value.fits c.depth-in-Container.ensures).same
+    form c.requires.value.fits c.depth-in-Container.ensures.exact).same
 
 pub root_of_value-returns-in-Container-clause-counts :
     goal.root_of_value-returns-in-Container-clause-counts
@@ -510,7 +510,7 @@ root_of_value-returns-in-Container-clause-counts g t c =
     (g.H.PairHash.pairs c.container_value_root.new.hasher))
     (HasContainer-container g.H.PairHash.pair_of (type_of c.args.schema.now c.args.id)
     trees c.as_slice.result.now c.depth-in-Container.result (value_of c.args.value.now)
-    form c.requires.value.fits c.depth-in-Container.ensures).costs
+    form c.requires.value.fits c.depth-in-Container.ensures.exact).costs
     c.container_value_root.ensures.counts
 
 -- a union

@@ -9,7 +9,8 @@ returns-then-rest-le1-clause-exact c =
 
 pub loop-depth-preserved : goal.loop-depth-preserved
 loop-depth-preserved c =
-    halved c.loop-depth.depth c.loop-depth.rest (depth_of c.args.count) (omega arith) c.loop-depth.invariant
+    halved c.loop-depth.depth c.loop-depth.rest (depth_of c.args.count) (omega arith)
+    c.loop-depth.invariant
 
 pub returns-clause-exact : goal.returns-clause-exact
 returns-clause-exact c =

@@ -8,5 +8,8 @@ pub returns-clause-added : goal.returns-clause-added
 returns-clause-added c = λ other.
     ap (λ es. lookup_name (named es) other) c.in_ok-insert.ensures.entries
     ∙ insert-named c.self.inside.map.entries c.in_ok-key.key c.args.id other
-    ∙ ap (λ (name : List ℕ). cond (bytes_eq other name) (Some c.args.id) (lookup_name (names_in c.self.inside.map) other)) (c.in_ok-key.ensures.items_if_clones_equal (λ x y h. h))
-    ∙ ap (λ ns. cond (bytes_eq other c.args.name.now) (Some c.args.id) (lookup_name ns other)) c.self.view_is
+    ∙ ap (λ (name : List ℕ). cond (bytes_eq other name) (Some c.args.id)
+    (lookup_name (names_in c.self.inside.map) other))
+    (c.in_ok-key.ensures.items_if_clones_equal (λ x y h. h))
+    ∙ ap (λ ns. cond (bytes_eq other c.args.name.now) (Some c.args.id) (lookup_name ns other))
+    c.self.view_is

@@ -26,7 +26,9 @@ abbrev pub decreases-resolve_union : goal.decreases-resolve_union
 decreases-resolve_union l = 4 * goal.size-resolve_union l + 3
 
 abbrev pub invariant-resolve_fields-loop-i : goal.invariant-resolve_fields-loop-i
-invariant-resolve_fields-loop-i l = FieldsFrom l.fn.self l.fields.items l.self l.i l.repeat l.resolved.items
+invariant-resolve_fields-loop-i l =
+    FieldsFrom l.fn.self l.fields.items l.self l.i l.repeat l.resolved.items
 
 abbrev pub invariant-resolve_options-loop-i : goal.invariant-resolve_options-loop-i
-invariant-resolve_options-loop-i l = OptionsFrom l.fn.self l.options.items l.self l.i l.resolved.items
+invariant-resolve_options-loop-i l =
+    OptionsFrom l.fn.self l.options.items l.self l.i l.resolved.items

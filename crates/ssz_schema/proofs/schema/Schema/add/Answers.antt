@@ -13,7 +13,8 @@ returns-else-is_err-clause-known c =
     let old = c.args.self.now in
     let new = c.define-added.new.self in
     elim c.define-added.result
-    as (λ r. DefinesOrExtends name (resolved old.format (known_in old) (form_of c.args.expr.now)) old new r
+    as (λ r. DefinesOrExtends name (resolved old.format (known_in old) (form_of c.args.expr.now))
+    old new r
     → IfOk r (λ id. Knows name (type_of new id) old new)) [
       | Ok id ↦ λ h. knows-Defines name old new id c.count-count.ensures.whole h.0
       | Err e ↦ λ h. tt

@@ -10,13 +10,23 @@ pub add_within_limits-requires : goal.add_within_limits-requires
 add_within_limits-requires c =
     let sums = c.sums-sums.result in
     let told : AreSums (fields_over c.args.self.now.trees c.args.fields.items) c.sums-sums.result =
-    subst (λ (parts : List Part). AreSums (fields_over c.args.self.now.trees parts) c.sums-sums.result) c.as_slice.ensures.value c.sums-sums.ensures.sums in
+    subst (λ (parts : List Part). AreSums (fields_over c.args.self.now.trees parts)
+    c.sums-sums.result) c.as_slice.ensures.value c.sums-sums.ensures.sums in
     let count = field_count-over c.args.self.now.trees c.args.fields.items in
-    let chunks : c.len-chunk_count.result ≡ field_count (fields_over c.args.self.now.trees c.args.fields.items) = omega (arith, c.len-chunk_count.ensures, count) in
-    let are = container_facts (fields_over c.args.self.now.trees c.args.fields.items) c.sums-sums.result c.len-chunk_count.result c.depth_of_count-depth.result told chunks c.depth_of_count-depth.ensures.exact in
+    let chunks : c.len-chunk_count.result ≡ field_count
+    (fields_over c.args.self.now.trees c.args.fields.items) =
+    omega (arith, c.len-chunk_count.ensures, count) in
+    let are = container_facts (fields_over c.args.self.now.trees c.args.fields.items)
+    c.sums-sums.result c.len-chunk_count.result c.depth_of_count-depth.result told chunks
+    c.depth_of_count-depth.ensures.exact in
     record {
       below = c.requires.known;
-      legal = λ within. (omega (arith, count, c.requires.some), c.requires.legal, c.requires.distinct, within);
+      legal = λ within. (
+        omega (arith, count, c.requires.some),
+        c.requires.legal,
+        c.requires.distinct,
+        within,
+      );
       facts = record {
         fixed_size = c.size_if_fixed.ensures ∙ are.fixed_size;
         default_len = are.default_len;

@@ -7,8 +7,10 @@ use Rattle.ssz_schema.proofs.schema.Schema.add_within_limits.Goals as goal
 pub push-requires : goal.push-requires
 push-requires c =
     let facts = c.requires.facts in
-    let most : c.most_levels.result ≡ most_levels c.args.self.now.format = c.most_levels.ensures ∙ ap most_levels c.format.ensures in
-    let within : IsWithinLimits c.args.self.now.format (tree_over c.args.self.now.trees c.args.entry.ty) = record {
+    let most : c.most_levels.result ≡ most_levels c.args.self.now.format =
+    c.most_levels.ensures ∙ ap most_levels c.format.ensures in
+    let within : IsWithinLimits c.args.self.now.format
+    (tree_over c.args.self.now.trees c.args.entry.ty) = record {
       nesting = omega (arith, facts.nesting, c.if-entry-gt-MOST_NESTING.false);
       levels = omega (arith, facts.levels, c.if-entry-most_levels.false, most);
       default_length = omega (arith, facts.default_len, c.if-entry-gt-MOST_DEFAULT.false);

@@ -5,18 +5,25 @@ use Rattle.ssz_schema.proofs.schema.Schema.field_type.Goals as goal
 
 pub returns-in-None : goal.returns-in-None
 returns-in-None c =
-    let found = ap (λ (parts : List Part). position_from (λ part. bytes_eq part.0 c.args.name.now) 0 parts) (sym c.as_slice.ensures.value) in
-    LeadsTo-no_field c.args.self.now c.args.id c.ty.result.now c.in-Container.fields c.args.name.now c.ty.ensures.form c.in-Container.is
+    let found = ap (λ (parts : List Part). position_from (λ part. bytes_eq part.0 c.args.name.now) 0
+    parts) (sym c.as_slice.ensures.value) in
+    LeadsTo-no_field c.args.self.now c.args.id c.ty.result.now c.in-Container.fields c.args.name.now
+    c.ty.ensures.form c.in-Container.is
     (found ∙ sym c.field_at.ensures ∙ c.in-None.is)
 
 pub index-requires : goal.index-requires
 index-requires c =
-    let found = ap (λ (parts : List Part). position_from (λ part. bytes_eq part.0 c.args.name.now) 0 parts) (sym c.as_slice.ensures.value) in
-    let here = found_field c.args.self.now.trees c.in-Container.fields.items c.args.name.now c.in-Some.number (found ∙ sym c.field_at.ensures ∙ c.in-Some.is) in
+    let found = ap (λ (parts : List Part). position_from (λ part. bytes_eq part.0 c.args.name.now) 0
+    parts) (sym c.as_slice.ensures.value) in
+    let here = found_field c.args.self.now.trees c.in-Container.fields.items c.args.name.now
+    c.in-Some.number (found ∙ sym c.field_at.ensures ∙ c.in-Some.is) in
     omega (arith, here.below)
 
 pub returns-in-Some : goal.returns-in-Some
 returns-in-Some c =
-    let found = ap (λ (parts : List Part). position_from (λ part. bytes_eq part.0 c.args.name.now) 0 parts) (sym c.as_slice.ensures.value) in
-    LeadsTo-field c.args.self.now c.args.id c.in-Some.number c.ty.result.now c.in-Container.fields c.index.result.now c.args.name.now c.requires c.ty.ensures.form c.ty.ensures.before c.in-Container.is
+    let found = ap (λ (parts : List Part). position_from (λ part. bytes_eq part.0 c.args.name.now) 0
+    parts) (sym c.as_slice.ensures.value) in
+    LeadsTo-field c.args.self.now c.args.id c.in-Some.number c.ty.result.now c.in-Container.fields
+    c.index.result.now c.args.name.now c.requires c.ty.ensures.form c.ty.ensures.before
+    c.in-Container.is
     (found ∙ sym c.field_at.ensures ∙ c.in-Some.is) c.index.ensures
