@@ -12,7 +12,8 @@ use Rattle.ssz_value.specs.Reading.{value_in, fields_in}
 use Rattle.ssz_value.specs.Trees.{tree, field_trees}
 use Rattle.ssz_value.proofs.Agree.{IsInput, IsInput-range, no_faults}
 use Rattle.ssz_parts.specs.Ranges.{part_range}
-use Rattle.ssz_value.proofs.PartLemmas.{Part, sizes_of, size_at, drop_part}
+use Rattle.ssz_schema.proofs.WalkFields.{drop_at}
+use Rattle.ssz_value.proofs.PartLemmas.{Part, sizes_of, size_at}
 use Rattle.ssz_parts.proofs.FieldLemmas.{FieldsFrom, FieldsFrom-start, FieldsFrom-more, next_field}
 use Rattle.ssz_parts.proofs.Faultless.{anywhere, IsFaultless}
 use Rattle.ssz_merkle.specs.Frontier.{Frontier, Holds, leaves, whole_pairs}
@@ -160,13 +161,13 @@ FirstFields-more pair_of depth frontier after trees parts b i place start now mi
     let split_trees : trees_from trees (drop i parts) place b
     ≡ tree ty (value_in ty (slice_range b from to))
     ∷ trees_from trees (drop (i + 1) parts) (place + head_size (size_at trees part)) b =
-    ap (λ ps. trees_from trees ps place b) (drop_part parts i part below e) ∙ first.0
+    ap (λ ps. trees_from trees ps place b) (drop_at parts i part below e) ∙ first.0
     ∙ ap (λ v. tree ty v ∷ trees_from trees (drop (i + 1) parts)
     (place + head_size (size_at trees part)) b) (sym here) in
     let split_pairs : pairs_from trees (drop i parts) place b
     ≡ pairs ty (value_in ty (slice_range b from to)) + pairs_from trees (drop (i + 1) parts)
     (place + head_size (size_at trees part)) b =
-    ap (λ ps. pairs_from trees ps place b) (drop_part parts i part below e) ∙ first.1
+    ap (λ ps. pairs_from trees ps place b) (drop_at parts i part below e) ∙ first.1
     ∙ ap (λ v. pairs ty v + pairs_from trees (drop (i + 1) parts)
     (place + head_size (size_at trees part)) b) (sym here) in
     record {

@@ -9,7 +9,8 @@ use Rattle.ssz_schema.specs.Unfolding.{tree_at, fields_over}
 use Rattle.ssz_value.specs.Values.{SszValue, Fits, FitFields, sequence, values}
 use Rattle.ssz_value.specs.Trees.{tree, field_trees}
 use Rattle.ssz_value.proofs.Sequences.{items-values}
-use Rattle.ssz_value.proofs.PartLemmas.{Part, drop_part}
+use Rattle.ssz_schema.proofs.WalkFields.{drop_at}
+use Rattle.ssz_value.proofs.PartLemmas.{Part}
 use Rattle.ssz_merkle.specs.Frontier.{Frontier, Holds, leaves, whole_pairs}
 use Rattle.ssz_merkle.proofs.Gathering.{Gathered, Gathered-start, Gathered-room, Gathered-more, Gathered-root, Gathered-counts}
 use Rattle.ssz_value.specs.Pairs.{pairs, field_pairs}
@@ -78,7 +79,7 @@ FirstFieldValues-fits pair_of depth frontier trees parts f xs i start now part x
     subst (λ vs. FitFields (field part.0 (tree_at trees part.1)
     (fields_over trees (drop (i + 1) parts))) vs) (drop-map-next f xs i x within is)
     (subst (λ ps. FitFields (fields_over trees ps) (drop i (map f xs)))
-    (drop_part parts i part below e) h.fit)
+    (drop_at parts i part below e) h.fit)
 
 pub FirstFieldValues-more : {X : Type 0} (pair_of : List ℕ → List ℕ → List ℕ) (depth : ℕ)
     (frontier : Frontier) (after : Frontier) (trees : List SszType) (parts : List Part)
@@ -100,12 +101,12 @@ FirstFieldValues-more pair_of depth frontier after trees parts f xs i start now 
     let split_trees : field_trees (fields_over trees (drop i parts)) (drop i (map f xs))
     ≡ tree ty (f x) ∷ field_trees (fields_over trees (drop (i + 1) parts))
     (drop (i + 1) (map f xs)) =
-    ap₂ (λ ps vs. field_trees (fields_over trees ps) vs) (drop_part parts i part below e)
+    ap₂ (λ ps vs. field_trees (fields_over trees ps) vs) (drop_at parts i part below e)
     (drop-map-next f xs i x within is) in
     let split_pairs : field_pairs (fields_over trees (drop i parts)) (drop i (map f xs))
     ≡ pairs ty (f x) + field_pairs (fields_over trees (drop (i + 1) parts))
     (drop (i + 1) (map f xs)) =
-    ap₂ (λ ps vs. field_pairs (fields_over trees ps) vs) (drop_part parts i part below e)
+    ap₂ (λ ps vs. field_pairs (fields_over trees ps) vs) (drop_at parts i part below e)
     (drop-map-next f xs i x within is) in
     record {
       done = h.done ++ tree ty (f x) ∷ [];
