@@ -10,7 +10,8 @@ use Rattle.ssz_value.specs.declared.value.Value.{Value}
 use Rattle.ssz_value.specs.Values.{SszValue, number, Fits}
 use Rattle.ssz_value.specs.Standing.{value_of, IsValue}
 use Rattle.ssz_value.specs.Sizes.{size, fields_size, option_size}
-use Rattle.ssz_value.proofs.PartLemmas.{Part, size_at, drop_part, drop_value}
+use Rattle.ssz_schema.proofs.WalkFields.{drop_at}
+use Rattle.ssz_value.proofs.PartLemmas.{Part, size_at}
 use Rattle.ssz_value.specs.Shapes.{AreFields}
 use Rattle.ssz_codec.specs.Answers.{capped}
 use Rattle.std.specs.List.{AllByRecursion}
@@ -55,7 +56,7 @@ pub SumFrom-more : (f : SszValue → ℕ) (parts : List Value) (i total next : �
 SumFrom-more f parts i total next v h below e is =
     let here : sum_by f (map value_of (drop i parts))
     ≡ f (value_of v) + sum_by f (map value_of (drop (i + 1) parts)) =
-    ap (λ vs. sum_by f (map value_of vs)) (drop_value parts i v below e)
+    ap (λ vs. sum_by f (map value_of vs)) (drop_at parts i v below e)
     ∙ sum_by-cons f (value_of v) (map value_of (drop (i + 1) parts)) in
     record { all = omega (arith, h.all, h.small, here, is); small = omega (arith, is) }
 
@@ -89,8 +90,8 @@ pub FieldSumFrom-more : (trees : List SszType) (fields : List Part) (parts : Lis
     (part_length (size_at trees part) (size (tree_at trees part.1) (value_of v))))
     → FieldSumFrom trees fields parts (i + 1) next
 FieldSumFrom-more trees fields parts i total next part v h below within e is next_is =
-    let fields_here = drop_part fields i part below e in
-    let parts_here = drop_value parts i v within is in
+    let fields_here = drop_at fields i part below e in
+    let parts_here = drop_at parts i v within is in
     let here : fields_size (fields_over trees (drop i fields)) (map value_of (drop i parts))
     ≡ part_length (size_at trees part) (size (tree_at trees part.1) (value_of v)) + fields_size
     (fields_over trees (drop (i + 1) fields)) (map value_of (drop (i + 1) parts)) =
@@ -113,9 +114,9 @@ pub FieldSumFrom-value : (trees : List SszType) (fields : List Part) (parts : Li
 FieldSumFrom-value trees fields parts i total part v h below within e is =
     let both : AreFields (fields_over trees (part ∷ drop (i + 1) fields)) (v ∷ drop (i + 1) parts) =
     subst (λ (vs : List Value). AreFields (fields_over trees (part ∷ drop (i + 1) fields)) vs)
-    (drop_value parts i v within is)
+    (drop_at parts i v within is)
     (subst (λ (fs : List Part). AreFields (fields_over trees fs) (drop i parts))
-    (drop_part fields i part below e) h.left) in
+    (drop_at fields i part below e) h.left) in
     both.0
 
 pub FieldSumFrom-end : (trees : List SszType) (fields : List Part) (parts : List Value)

@@ -16,7 +16,9 @@ use Rattle.ssz_value.specs.Standing.{value_of, Stands, IsValue}
 use Rattle.ssz_value.specs.Faults.{why, elements_fault, element_count, count_fault, scopes, bytes_of, offset_at, next_offset, ◌otherwise◌}
 use Rattle.ssz_value.specs.Reading.{value_in, elements_in, fields_in}
 use Rattle.ssz_parts.specs.Ranges.{part_range}
-use Rattle.ssz_value.proofs.PartLemmas.{Part, sizes_of, size_at, drop_part}
+use Rattle.ssz_parts.proofs.ElementFaults.{left}
+use Rattle.ssz_schema.proofs.WalkFields.{drop_at}
+use Rattle.ssz_value.proofs.PartLemmas.{Part, sizes_of, size_at}
 use Rattle.ssz_codec.specs.declared.fault.DecodeFault.{DecodeFault}
 use Rattle.ssz_codec.specs.declared.fault.DecodeFault.TheVariants.{Bad, Memory}
 use Rattle.ssz_codec.specs.Answers.{Decodes, Faulty}
@@ -39,9 +41,6 @@ pub record ReadFrom (t : SszType) (size : Option ℕ) (count : ℕ) (b : List �
     (values : List SszValue) : Type 0 where
   pub all : values ++ map (value_in t) (bytes_of (scopes (replicate (count - i) size) place b))
       ≡ map (value_in t) (elements_in size count b)
-
-left : (count i : ℕ) → i < count → count - i ≡ suc (count - (i + 1))
-left count i h = omega arith
 
 pub ReadFrom-start : (t : SszType) (size : Option ℕ) (count place : ℕ) (b : List ℕ) → place ≡ 0
     → ReadFrom t size count b 0 place []
@@ -134,7 +133,7 @@ pub FieldsRead-more : (trees : List SszType) (parts : List Part) (b : List ℕ) 
     → FieldsRead trees parts b (i + 1) (place + head_size (size_at trees part)) (values ++ v ∷ [])
 FieldsRead-more trees parts b i place from to part values v h below e is read =
     let here = ap (λ ps. fields_in (fields_over trees ps)
-    (bytes_of (scopes (sizes_of trees ps) place b))) (drop_part parts i part below e)
+    (bytes_of (scopes (sizes_of trees ps) place b))) (drop_at parts i part below e)
     ∙ next_read trees (drop (i + 1) parts) b place part (size_at trees part) refl in
     let same : v ≡ value_in (tree_at trees part.1)
     (slice_range b (part_range (size_at trees part)

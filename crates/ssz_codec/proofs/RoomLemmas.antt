@@ -17,7 +17,9 @@ use Rattle.ssz_schema.proofs.Numbers.{length-le_bytes}
 use Rattle.ssz_value.proofs.Cut.{AreParts, length-heads}
 use Rattle.ssz_value.proofs.Sequences.{AreParts-alike}
 use Rattle.ssz_value.proofs.ExactLaw.{agrees, fields_agree}
-use Rattle.ssz_value.proofs.PartLemmas.{Part, size_at, drop_part}
+use Rattle.ssz_schema.proofs.WalkFields.{drop_at}
+use Rattle.ssz_value.proofs.PartLemmas.{Part, size_at}
+use Rattle.ssz_value.proofs.FitLemmas.{fit_fields}
 use Rattle.ssz_value.specs.Shapes.{AreFields}
 use Rattle.ssz_codec.specs.Writing.{Writes, PutsPart, Place}
 
@@ -35,7 +37,7 @@ HeadSum-more trees fields i sum part h below e =
     let here : heads_length (part_sizes (fields_over trees (drop i fields)))
     ≡ head_size (size_at trees part) + heads_length
     (part_sizes (fields_over trees (drop (i + 1) fields))) =
-    ap (λ fs. heads_length (part_sizes (fields_over trees fs))) (drop_part fields i part below e) in
+    ap (λ fs. heads_length (part_sizes (fields_over trees fs))) (drop_at fields i part below e) in
     (omega (arith, h.all, here), record { all = omega (arith, h.all, here) })
 
 pub HeadSum-end : (trees : List SszType) (fields : List Part) (i sum : ℕ)
@@ -175,12 +177,6 @@ elements_length format t vs legal h =
     ∙ ap (λ n. n + length (bodies (replicate (length vs) (fixed_size t))
     (map (enc t) (map value_of vs)))) (heads_alike (length vs) (fixed_size t))
 
-fields_fit : (fs : Fields) (vs : List Value) → AreFields fs vs → FitFields fs (map value_of vs)
-fields_fit no_fields [] h = tt
-fields_fit no_fields (v ∷ vs) h = absurd h
-fields_fit (field name t fs) [] h = absurd h
-fields_fit (field name t fs) (v ∷ vs) h = (h.0.fits, fields_fit fs vs h.1)
-
 pub fields_length : (format : Format) (fs : Fields) (vs : List Value) → AreLegalFields format fs
     → AreFields fs vs
     → length (joined (part_sizes fs) (field_encodings fs (map value_of vs)))
@@ -188,4 +184,4 @@ pub fields_length : (format : Format) (fs : Fields) (vs : List Value) → AreLeg
     (bodies (part_sizes fs) (field_encodings fs (map value_of vs)))
 fields_length format fs vs legal h =
     joined_length (part_sizes fs) (field_encodings fs (map value_of vs))
-    ((fields_agree format fs legal).sized (map value_of vs) (fields_fit fs vs h))
+    ((fields_agree format fs legal).sized (map value_of vs) (fit_fields fs vs h))

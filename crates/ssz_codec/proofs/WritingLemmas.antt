@@ -10,7 +10,8 @@ use Rattle.ssz_value.specs.Standing.{value_of, IsValue}
 use Rattle.ssz_schema.specs.Bytes.{le_bytes}
 use Rattle.ssz_value.specs.Encoding.{enc, heads, bodies, heads_length, joined, field_encodings}
 use Rattle.ssz_value.specs.Values.{values}
-use Rattle.ssz_value.proofs.PartLemmas.{Part, size_at, drop_part, drop_value, field_count_is}
+use Rattle.ssz_schema.proofs.WalkFields.{drop_at}
+use Rattle.ssz_value.proofs.PartLemmas.{Part, size_at, field_count_is}
 use Rattle.ssz_value.specs.Shapes.{AreFields}
 use Rattle.ssz_codec.specs.Writing.{Writes, PutsPart, PutsAll, Place, body_of}
 
@@ -170,7 +171,7 @@ element_next t vs i v at front back h below e =
     subst (λ (ws : List Value).
     Writing (replicate (length vs) (fixed_size t)) (map (enc t) (map value_of vs))
     (fixed_size t ∷ replicate (length vs - (i + 1)) (fixed_size t))
-    (map (enc t) (map value_of ws)) at front back) (drop_value vs i v below e)
+    (map (enc t) (map value_of ws)) at front back) (drop_at vs i v below e)
     (subst (λ (n : ℕ). Writing (replicate (length vs) (fixed_size t))
     (map (enc t) (map value_of vs)) (replicate n (fixed_size t))
     (map (enc t) (map value_of (drop i vs))) at front back) count h.written)
@@ -247,13 +248,13 @@ field_next trees fields vs i part v at front back h below within e is =
     (field_encodings (fields_over trees fields) (map value_of vs))
     (size_at trees part ∷ part_sizes (fields_over trees (drop (i + 1) fields)))
     (field_encodings (fields_over trees (part ∷ drop (i + 1) fields)) (map value_of ws)) at front
-    back) (drop_value vs i v within is)
+    back) (drop_at vs i v within is)
     (subst (λ (fs : List Part).
     Writing (part_sizes (fields_over trees fields))
     (field_encodings (fields_over trees fields) (map value_of vs))
     (part_sizes (fields_over trees fs))
     (field_encodings (fields_over trees fs) (map value_of (drop i vs))) at front back)
-    (drop_part fields i part below e) h.written)
+    (drop_at fields i part below e) h.written)
 
 both_next : (trees : List SszType) (fields : List Part) (vs : List Value) (i : ℕ) (part : Part)
     (v : Value) → AreFields (fields_over trees (drop i fields)) (drop i vs) → i < length fields
@@ -262,9 +263,9 @@ both_next : (trees : List SszType) (fields : List Part) (vs : List Value) (i : �
     (drop (i + 1) vs)
 both_next trees fields vs i part v h below within e is =
     subst (λ (ws : List Value). AreFields (fields_over trees (part ∷ drop (i + 1) fields)) ws)
-    (drop_value vs i v within is)
+    (drop_at vs i v within is)
     (subst (λ (fs : List Part). AreFields (fields_over trees fs) (drop i vs))
-    (drop_part fields i part below e) h)
+    (drop_at fields i part below e) h)
 
 pub FieldsLeft-value : (trees : List SszType) (fields : List Part) (vs : List Value) (i : ℕ)
     (part : Part) (v : Value) (at : Place) (front back : List ℕ)

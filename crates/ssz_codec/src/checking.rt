@@ -14,11 +14,8 @@ use ssz_parts::{
 };
 use ssz_schema::{Fault, Name, Schema, Ty, TypeId};
 
-/// The first fault of the bytes: None exactly where they are the encoding of a value of the type.
-///
-/// It takes no memory, whatever counts and limits the bytes or the schema claim, and its stack
-/// grows with the nesting of the type alone. It visits no element of a type in which no fault can
-/// occur.
+/// The first fault of the bytes, or None where they have none: by the law `decoding_is_exact` of
+/// ssz_value exactly where they are the encoding of a value of the type.
 pub fn check(schema: &Schema, id: TypeId, bytes: &[u8]) -> Option<Fault>
     requires known { id < length schema.now.trees }
     requires short { length bytes.now < 2 ^ 32 }
@@ -27,7 +24,8 @@ pub fn check(schema: &Schema, id: TypeId, bytes: &[u8]) -> Option<Fault>
     scope(schema, id, 0, bytes)
 }
 
-// Of bytes that begin at start.
+// Of bytes that begin at start. Nothing here allocates, whatever counts and limits the bytes or the
+// schema claim, and the calls nest as the type does.
 #[cycle(check)]
 fn scope(schema: &Schema, id: TypeId, start: u64, bytes: &[u8]) -> Option<Fault>
     requires known { id < length schema.now.trees }

@@ -24,8 +24,8 @@ use ssz_schema::{Fault, Name, Schema, Ty, TypeId};
 use ssz_value::{Value, is_byte, option_at};
 use std::alloc::Global;
 
-/// The value whose encoding the bytes are. `Bad` exactly where they have a first fault, which
-/// `check` answers too.
+/// The value whose encoding the bytes are. `Bad` holds their first fault, the one that `check`
+/// answers; bytes that have one give no value. `Memory` may come whether they have one or not.
 pub fn decode(
     alloc: Global,
     schema: &Schema,

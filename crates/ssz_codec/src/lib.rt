@@ -1,7 +1,7 @@
 //! Values to bytes and back: the encoding of SimpleSerialize.
 //!
-//! `check` finds the first fault of bytes and takes no memory. `decode` gives the value of bytes
-//! without a fault. `encode` appends the encoding of a value. Each is one pass over the bytes.
+//! `check` answers the first fault of bytes. `decode` gives the value of bytes that have none.
+//! `encoded_len` answers the length of a value's encoding, and `encode` appends the encoding.
 #![tactic(auto)]
 
 mod basics;

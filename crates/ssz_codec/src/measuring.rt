@@ -12,8 +12,7 @@ ghost use Rattle.ssz_codec.specs.Answers.{capped};
 use ssz_schema::{Name, Schema, Ty, TypeId};
 use ssz_value::{Value, bits_of, option_at};
 
-/// The length in bytes of the value's encoding, or the greatest u64 where that is greater. It takes
-/// no memory.
+/// The length in bytes of the value's encoding, or the greatest u64 where that is greater.
 pub fn encoded_len(schema: &Schema, id: TypeId, value: &Value) -> u64
     requires known { id < length schema.now.trees }
     requires value { IsValue (type_of schema.now id) value.now }

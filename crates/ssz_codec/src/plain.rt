@@ -5,7 +5,8 @@ ghost use Rattle.ssz_codec.specs.Plain.{is_plain, are_plain};
 
 use ssz_schema::{Name, Schema, Ty, TypeId};
 
-/// Whether bytes of the type's size have no fault, whatever they are.
+/// Whether the type is plain: a number, a bitvector of whole bytes, or a vector or container of
+/// such.
 #[cycle(plain)]
 pub fn is_plain(schema: &Schema, id: TypeId) -> bool
     requires { id < length schema.now.trees }

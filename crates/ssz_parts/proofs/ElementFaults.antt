@@ -10,7 +10,7 @@ use Rattle.ssz_parts.specs.Heads.{offset_fault}
 use Rattle.ssz_parts.proofs.OffsetLemmas.{first_found, found_in, none_in}
 
 -- so many elements are left
-left : (count i : ℕ) → i < count → count - i ≡ suc (count - (i + 1))
+pub left : (count i : ℕ) → i < count → count - i ≡ suc (count - (i + 1))
 left count i h = omega arith
 
 -- from element i on, elements of this size have the fault of all

@@ -7,7 +7,8 @@ use Rattle.ssz_schema.specs.Unfolding.{tree_at, fields_over}
 use Rattle.ssz_schema.specs.declared.fault.Fault.{Fault}
 use Rattle.ssz_value.specs.Encoding.{heads_length}
 use Rattle.ssz_value.specs.Faults.{next_offset, offset_at, head_fault, first_fault, later_fault, why, fields_fault, scopes, ◌otherwise◌}
-use Rattle.ssz_value.proofs.PartLemmas.{Part, sizes_of, size_at, drop_part, sizes_from}
+use Rattle.ssz_schema.proofs.WalkFields.{drop_at}
+use Rattle.ssz_value.proofs.PartLemmas.{Part, sizes_of, size_at, sizes_from}
 use Rattle.ssz_parts.specs.Ranges.{part_range}
 use Rattle.ssz_parts.proofs.ElementFaults.{later_in_order}
 use Rattle.ssz_value.proofs.Cut.{passes, chosen_none_of}
@@ -159,7 +160,7 @@ pub next_field : (trees : List SszType) (parts : List Part) (s : ℕ) (b : List 
     (scopes (sizes_of trees (drop (i + 1) parts)) (place + head_size (size_at trees part)) b))
 next_field trees parts s b i place part below e =
     ap (λ ps. fields_fault (fields_over trees ps) s (scopes (sizes_of trees ps) place b))
-    (drop_part parts i part below e)
+    (drop_at parts i part below e)
     ∙ next_scope trees (drop (i + 1) parts) s b place part (size_at trees part) refl
 
 pub FieldsFrom-more : (trees : List SszType) (parts : List Part) (s : ℕ) (b : List ℕ)

@@ -8,7 +8,8 @@ use Rattle.ssz_value.specs.declared.value.Value.{Value}
 use Rattle.ssz_value.specs.Values.{number, chosen, chosen_none}
 use Rattle.ssz_value.specs.Standing.{value_of, IsFormed, FieldsFormed, Stands}
 use Rattle.ssz_value.specs.Defaults.{default_of, default_fields}
-use Rattle.ssz_value.proofs.PartLemmas.{Part, drop_part, values_push}
+use Rattle.ssz_schema.proofs.WalkFields.{drop_at}
+use Rattle.ssz_value.proofs.PartLemmas.{Part, values_push}
 use Rattle.ssz_value.proofs.FormLemmas.{formed_push, fields_push}
 
 -- so many defaults of a type
@@ -42,7 +43,7 @@ pub FieldDefaults-more : (trees : List SszType) (fields : List Part) (i : ℕ) (
     → Stands (tree_at trees part.1) (default_of (tree_at trees part.1)) v → ws ≡ vs ++ v ∷ []
     → FieldDefaults trees fields (i + 1) ws
 FieldDefaults-more trees fields i vs ws part v h below e s is =
-    let here = ap (λ fs. default_fields (fields_over trees fs)) (drop_part fields i part below e) in
+    let here = ap (λ fs. default_fields (fields_over trees fs)) (drop_at fields i part below e) in
     record {
       value = ap (λ xs. xs ++ default_fields (fields_over trees (drop (i + 1) fields)))
           (values_push vs ws v is)

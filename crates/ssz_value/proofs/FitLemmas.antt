@@ -14,7 +14,8 @@ use Rattle.ssz_value.specs.Standing.{value_of, is_byte, AreFormed, IsFormed, Fie
 use Rattle.ssz_value.specs.Shapes.{part_count_of, AreFields, ElementsFit, IsSequence}
 use Rattle.ssz_value.proofs.ValueLemmas.{seq_is, bytes_are, chosen_is, chosen_none_is}
 use Rattle.ssz_value.proofs.Sequences.{items-values}
-use Rattle.ssz_value.proofs.PartLemmas.{Part, drop_part, drop_value}
+use Rattle.ssz_schema.proofs.WalkFields.{drop_at}
+use Rattle.ssz_value.proofs.PartLemmas.{Part}
 use Rattle.ssz_value.proofs.FormLemmas.{seq_out, bytes_elements, none_formed, seq_formed_alike, seq_formed_fields, byte_type, bytes_are_formed, chosen_formed}
 
 -- vectors and lists: so many parts, and each an element
@@ -104,7 +105,8 @@ bytes_need elem run h = ap is_byte (bytes_elements elem run h)
 
 -- containers
 
-fit_fields : (fs : Fields) (vs : List Value) → AreFields fs vs → FitFields fs (map value_of vs)
+-- fields that are values of the program fit
+pub fit_fields : (fs : Fields) (vs : List Value) → AreFields fs vs → FitFields fs (map value_of vs)
 fit_fields no_fields [] h = tt
 fit_fields no_fields (v ∷ vs) h = absurd h
 fit_fields (field name t fs) [] h = absurd h
@@ -186,7 +188,7 @@ AllFrom-start t vs = record { all = λ h. h; rest = λ h. h }
 pub AllFrom-more : (t : SszType) (vs : List Value) (i : ℕ) (v : Value) → AllFrom t vs i
     → i < length vs → v ≡ get_or vs i v → IsValue t v → AllFrom t vs (i + 1)
 AllFrom-more t vs i v h below e fit =
-    let here = drop_value vs i v below e in
+    let here = drop_at vs i v below e in
     record {
       all = λ rest. h.all (subst (AllByRecursion (IsValue t)) (sym here) (fit, rest));
       rest = λ all. (subst (AllByRecursion (IsValue t)) here (h.rest all)).1;
@@ -195,7 +197,7 @@ AllFrom-more t vs i v h below e fit =
 pub AllFrom-this : (t : SszType) (vs : List Value) (i : ℕ) (v : Value) → AllFrom t vs i
     → i < length vs → v ≡ get_or vs i v → AllByRecursion (IsValue t) vs → IsValue t v
 AllFrom-this t vs i v h below e all =
-    (subst (AllByRecursion (IsValue t)) (drop_value vs i v below e) (h.rest all)).0
+    (subst (AllByRecursion (IsValue t)) (drop_at vs i v below e) (h.rest all)).0
 
 pub AllFrom-end : (t : SszType) (vs : List Value) (i : ℕ) → AllFrom t vs i → length vs ≤ i
     → AllByRecursion (IsValue t) vs
@@ -218,19 +220,19 @@ pub FieldsFrom-more : (trees : List SszType) (fields : List Part) (vs : List Val
     → part ≡ get_or fields i part → v ≡ get_or vs i v
     → IsValue (tree_at trees part.1) v → FieldsFrom trees fields vs (i + 1)
 FieldsFrom-more trees fields vs i part v h below within e is fit =
-    let fs = drop_part fields i part below e in
-    let ws = drop_value vs i v within is in
+    let fs = drop_at fields i part below e in
+    let ws = drop_at vs i v within is in
     record {
       all = λ rest. h.all (subst (λ (ps : List Part). AreFields (fields_over trees ps) (drop i vs))
-          (sym (drop_part fields i part below e))
+          (sym (drop_at fields i part below e))
           (subst (λ (xs : List Value).
           AreFields (fields_over trees (part ∷ drop (i + 1) fields)) xs)
-          (sym (drop_value vs i v within is)) (fit, rest)));
+          (sym (drop_at vs i v within is)) (fit, rest)));
       rest = λ all. (subst (λ (xs : List Value).
           AreFields (fields_over trees (part ∷ drop (i + 1) fields)) xs)
-          (drop_value vs i v within is)
+          (drop_at vs i v within is)
           (subst (λ (ps : List Part). AreFields (fields_over trees ps) (drop i vs))
-          (drop_part fields i part below e) (h.rest all))).1;
+          (drop_at fields i part below e) (h.rest all))).1;
     }
 
 pub FieldsFrom-this : (trees : List SszType) (fields : List Part) (vs : List Value) (i : ℕ)
@@ -239,9 +241,9 @@ pub FieldsFrom-this : (trees : List SszType) (fields : List Part) (vs : List Val
     → AreFields (fields_over trees fields) vs → IsValue (tree_at trees part.1) v
 FieldsFrom-this trees fields vs i part v h below within e is all =
     (subst (λ (xs : List Value). AreFields (fields_over trees (part ∷ drop (i + 1) fields)) xs)
-    (drop_value vs i v within is)
+    (drop_at vs i v within is)
     (subst (λ (ps : List Part). AreFields (fields_over trees ps) (drop i vs))
-    (drop_part fields i part below e) (h.rest all))).0
+    (drop_at fields i part below e) (h.rest all))).0
 
 pub FieldsFrom-end : (trees : List SszType) (fields : List Part) (vs : List Value) (i : ℕ)
     → FieldsFrom trees fields vs i → length fields ≤ i → length vs ≤ i

@@ -29,7 +29,8 @@ pub record FieldsTell (fs : Fields) : Type 0 where
   pub apart : (vs ws : List SszValue) → FitFields fs vs → FitFields fs ws
       → field_trees fs vs ≡ field_trees fs ws → vs ≡ ws
 
-pub no_fields_tell : (vs ws : List SszValue) → FitFields no_fields vs → FitFields no_fields ws → vs ≡ ws
+pub no_fields_tell : (vs ws : List SszValue) → FitFields no_fields vs → FitFields no_fields ws
+    → vs ≡ ws
 no_fields_tell [] [] fit fits = refl
 no_fields_tell [] (w ∷ ws) fit fits = absurd fits
 no_fields_tell (v ∷ vs) ws fit fits = absurd fit

@@ -5,6 +5,7 @@ use Rattle.std.proofs.lemmas.List.{map-append}
 use Rattle.ssz_schema.specs.Types.{SszType}
 use Rattle.ssz_schema.specs.Sizes.{fixed_size, part_sizes}
 use Rattle.ssz_schema.specs.Unfolding.{tree_at, fields_over}
+use Rattle.ssz_schema.proofs.WalkFields.{drop_at}
 use Rattle.ssz_value.specs.declared.value.Value.{Value}
 use Rattle.ssz_value.specs.Standing.{value_of}
 use Rattle.ssz_value.specs.Shapes.{AreFields}
@@ -19,15 +20,6 @@ sizes_of trees parts = part_sizes (fields_over trees parts)
 
 abbrev pub size_at : List SszType → Part → Option ℕ
 size_at trees part = fixed_size (tree_at trees part.1)
-
--- the part at i is the first of those from i on
-pub drop_part : (parts : List Part) (i : ℕ) (part : Part) → i < length parts
-    → part ≡ get_or parts i part → drop i parts ≡ part ∷ drop (i + 1) parts
-drop_part [] i part h e = absurd (omega arith)
-drop_part (p ∷ parts) zero part h e = λ i. sym e i ∷ parts
-drop_part (p ∷ parts) (suc i) part h e =
-    let next : suc (i + 1) ≡ suc i + 1 = omega arith in
-    drop_part parts i part (omega arith) e ∙ ap (λ n. part ∷ drop n (p ∷ parts)) next
 
 pub part_known : (count : ℕ) (parts : List Part) (i : ℕ) (part : Part) → i < length parts
     → part ≡ get_or parts i part → AllByRecursion (λ (p : Part). p.1 < count) parts → part.1 < count
@@ -47,7 +39,7 @@ known_from count (p ∷ parts) (suc i) all = known_from count parts i all.1
 pub sizes_from : (trees : List SszType) (parts : List Part) (i : ℕ) (part : Part) → i < length parts
     → part ≡ get_or parts i part
     → sizes_of trees (drop i parts) ≡ size_at trees part ∷ sizes_of trees (drop (i + 1) parts)
-sizes_from trees parts i part h e = ap (sizes_of trees) (drop_part parts i part h e)
+sizes_from trees parts i part h e = ap (sizes_of trees) (drop_at parts i part h e)
 
 pub known_weaker : (id count : ℕ) (parts : List Part) → id < count
     → AllByRecursion (λ (p : Part). p.1 < id) parts
@@ -55,15 +47,6 @@ pub known_weaker : (id count : ℕ) (parts : List Part) → id < count
 known_weaker id count [] h all = all
 known_weaker id count (p ∷ parts) h all =
     (omega (arith, all.0), known_weaker id count parts h all.1)
-
--- the part at i is the first of those from i on
-pub drop_value : {X : Type 0} (xs : List X) (i : ℕ) (x : X) → i < length xs → x ≡ get_or xs i x
-    → drop i xs ≡ x ∷ drop (i + 1) xs
-drop_value [] i x h e = absurd (omega arith)
-drop_value (y ∷ xs) zero x h e = λ i. sym e i ∷ xs
-drop_value (y ∷ xs) (suc i) x h e =
-    let next : suc (i + 1) ≡ suc i + 1 = omega arith in
-    drop_value xs i x (omega arith) e ∙ ap (λ n. x ∷ drop n (y ∷ xs)) next
 
 pub field_count_is : (trees : List SszType) (fields : List Part) (parts : List Value)
     → AreFields (fields_over trees fields) parts → length fields ≡ length parts

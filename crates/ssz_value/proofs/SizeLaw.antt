@@ -15,6 +15,7 @@ use Rattle.ssz_value.specs.Encoding.{enc, heads, bodies, joined, heads_length, f
 use Rattle.ssz_value.specs.Defaults.{default_of, default_number, default_fields, default_option}
 use Rattle.ssz_value.specs.Sizes.{size, fields_size, option_size}
 use Rattle.ssz_schema.proofs.Numbers.{length-le_bytes, IsBytes-le_bytes}
+use Rattle.ssz_value.proofs.Basic.{number_sized}
 use Rattle.ssz_value.proofs.Sequences.{items-values}
 
 -- what parts add to the whole
@@ -66,15 +67,6 @@ have_lengths : (t : SszType) → IsMeasured t → (vs : List SszValue) → AllBy
 unfolding HasLengths
 have_lengths t law [] fit = tt
 have_lengths t law (v ∷ vs) fit = (law.length_is v fit.0, have_lengths t law vs fit.1)
-
-number_length : (w : Width) (v : SszValue) → FitsWidth w v → length (enc (uint w) v) ≡ byte_count w
-number_length W8 (number n) fit = refl
-number_length W16 (number n) fit = refl
-number_length W32 (number n) fit = refl
-number_length W64 (number n) fit = refl
-number_length W128 (number n) fit = refl
-number_length W256 (wide b) fit = fit.0
-number_length _ _ fit = absurd fit
 
 truth_length : (v : SszValue) → Fits boolean v → length (enc boolean v) ≡ 1
 truth_length (truth b) fit = refl
@@ -157,7 +149,7 @@ union_length os laws _ fit = absurd fit
 
 mutual
   pub measured : (t : SszType) → IsMeasured t
-  measured (uint w) = record { length_is = number_length w }
+  measured (uint w) = record { length_is = number_sized w }
   measured boolean = record { length_is = truth_length }
   measured (container fs) = record { length_is = container_length fs (fields_measured fs) }
   measured (vector elem n) = record { length_is = vector_length elem n (measured elem) }

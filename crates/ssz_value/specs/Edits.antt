@@ -36,7 +36,8 @@ abbrev pub changed : (SszType → SszValue → Edited) → SszType → SszValue 
 changed edit t v [] = edit t v
 changed edit t v (step ∷ path) =
     given (step_type t step) BadPath
-    (λ u. given (step_part t v step) Absent (λ w. replaced_in (numbered t step) v (changed edit u w path)))
+    (λ u. given (step_part t v step) Absent
+    (λ w. replaced_in (numbered t step) v (changed edit u w path)))
 
 -- the edit made at the end of a path
 abbrev pub edited : (SszType → SszValue → Edited) → SszType → SszValue → Path → Edited

@@ -1,6 +1,6 @@
 -- The first fault of bytes that are to be an encoding: what simple-serialize.md, Deserialization,
--- has refused, in the order and at the positions of this project. A scope is a part of the bytes with
--- the type of which it is to encode a value.
+-- has refused, in the order and at the positions of this project. A scope is a part of the bytes
+-- with the type of which it is to encode a value.
 use Rattle.std.specs.Prelude.{ℕ, zero, suc, ◌+◌, ◌/◌, ◌%◌, ◌==◌, nat_lt, not, ◌||◌, if◌then◌else◌, List, [], ◌∷◌, length, replicate, take, drop, slice_range, Option, Some, None}
 use Rattle.ssz_schema.specs.declared.fault.Fault.{Fault}
 use Rattle.ssz_schema.specs.Types.{SszType, Fields, Options, uint, boolean, container, vector, list, bitvector, bitlist, union, field, no_options, none_option, option}
