@@ -1,4 +1,4 @@
-ghost use Rattle.std.specs.Prelude.{◌≡◌, length, IfOk};
+ghost use Rattle.std.specs.Prelude.{◌≡◌, ◌-◌, ◌<◌, [], ◌∷◌, ◌++◌, length, take, set, IfOk, OnOk, OnErr};
 ghost use Rattle.ssz_schema.specs.Bytes.{IsBytes};
 
 use std::alloc::{AllocError, Global};
@@ -57,6 +57,30 @@ impl ByteRun {
     {
         self.bytes.len()
     }
+
+    /// Puts a byte in the place of number i.
+    pub fn set(&mut self, i: usize, byte: u8)
+        requires { i < length self.old }
+        ensures { self.new ≡ set self.old i byte }
+    {
+        self.bytes[i] = byte;
+    }
+
+    /// Puts a byte behind the others. It fails for want of memory alone, and changes nothing then.
+    pub fn push(&mut self, byte: u8) -> Result<(), AllocError>
+        ensures pushed { OnOk result (self.new ≡ self.old ++ byte ∷ []) }
+        ensures kept { OnErr result (self.new ≡ self.old) }
+    {
+        self.bytes.push(byte)?;
+        Ok(())
+    }
+
+    /// Takes the last byte away, where there is one.
+    pub fn pop(&mut self)
+        ensures { self.new ≡ take (length self.old - 1) self.old }
+    {
+        let _last = self.bytes.pop();
+    }
 }
 
 /// Bits in order, seen as a list.
@@ -102,5 +126,29 @@ impl BitRun {
         ensures { result ≡ length self.now }
     {
         self.bits.len()
+    }
+
+    /// Puts a bit in the place of number i.
+    pub fn set(&mut self, i: usize, bit: bool)
+        requires { i < length self.old }
+        ensures { self.new ≡ set self.old i bit }
+    {
+        self.bits[i] = bit;
+    }
+
+    /// Puts a bit behind the others. It fails for want of memory alone, and changes nothing then.
+    pub fn push(&mut self, bit: bool) -> Result<(), AllocError>
+        ensures pushed { OnOk result (self.new ≡ self.old ++ bit ∷ []) }
+        ensures kept { OnErr result (self.new ≡ self.old) }
+    {
+        self.bits.push(bit)?;
+        Ok(())
+    }
+
+    /// Takes the last bit away, where there is one.
+    pub fn pop(&mut self)
+        ensures { self.new ≡ take (length self.old - 1) self.old }
+    {
+        let _last = self.bits.pop();
     }
 }

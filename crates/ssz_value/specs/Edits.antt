@@ -3,6 +3,8 @@
 use Rattle.std.specs.Prelude.{ℕ, ◌-◌, ◌==◌, nat_lt, if◌then◌else◌, is_some, [], ◌∷◌, ◌++◌, length, take, set, Option, Some, None, Result, Ok, Err}
 use Rattle.ssz_schema.specs.declared.path.PathStep.{PathStep}
 use Rattle.ssz_schema.specs.declared.path.PathStep.TheVariants.{Index, Option as Chosen}
+use Rattle.ssz_value.specs.declared.path_fault.PathFault.{PathFault}
+use Rattle.ssz_value.specs.declared.path_fault.PathFault.TheVariants.{BadPath as NoPath, Absent as Missing}
 use Rattle.ssz_value.specs.declared.edit_fault.EditFault.{EditFault}
 use Rattle.ssz_value.specs.declared.edit_fault.EditFault.TheVariants.{BadPath, Absent, NotThat, Full, Empty, BadSelector}
 use Rattle.ssz_schema.specs.Types.{SszType, list, bitlist, union}
@@ -10,6 +12,11 @@ use Rattle.ssz_schema.specs.Sizes.{option_count}
 use Rattle.ssz_value.specs.Values.{SszValue, truth, sequence, bits, chosen, chosen_none, items, values}
 use Rattle.ssz_schema.specs.Paths.{Path, path_type, step_type}
 use Rattle.ssz_value.specs.Parts.{step_part, numbered}
+
+-- why a value is not edited where its path leads to no part
+abbrev pub edit_fault_of : PathFault → EditFault
+edit_fault_of NoPath = BadPath
+edit_fault_of Missing = Absent
 
 -- the edited value, or why there is none
 abbrev pub Edited : Type 0

@@ -11,3 +11,4 @@ pub mod Parts
 pub mod Edits
 pub mod Standing
 pub mod Shapes
+pub mod Suiting

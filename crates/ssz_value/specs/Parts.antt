@@ -1,10 +1,12 @@
 -- The part of a value at a path (merkle-proofs.md, SSZ object to index; steps into bits and unions
 -- are this project's).
-use Rattle.std.specs.Prelude.{◌==◌, if◌then◌else◌, [], ◌∷◌, length, slice_get, Option, Some, None, option_map, option_and_then}
+use Rattle.std.specs.Prelude.{◌==◌, if◌then◌else◌, is_some, [], ◌∷◌, length, slice_get, Option, Some, None, option_map, option_and_then, Result, Ok, Err}
 use Rattle.ssz_schema.specs.declared.path.PathStep.{PathStep}
 use Rattle.ssz_schema.specs.declared.path.PathStep.TheVariants.{Field, Index, Len, Selector, Option as Chosen}
 use Rattle.ssz_schema.specs.Types.{SszType, container}
-use Rattle.ssz_schema.specs.Paths.{Path, field_number, step_type}
+use Rattle.ssz_schema.specs.Paths.{Path, field_number, step_type, path_type}
+use Rattle.ssz_value.specs.declared.path_fault.PathFault.{PathFault}
+use Rattle.ssz_value.specs.declared.path_fault.PathFault.TheVariants.{BadPath, Absent}
 use Rattle.ssz_value.specs.Values.{SszValue, number, truth, sequence, bits, chosen, chosen_none, items}
 
 -- Below, a step fits the type.
@@ -35,3 +37,14 @@ part t v [] = Some v
 part t v (step ∷ path) =
     option_and_then (λ u. option_and_then (λ w. part u w path) (step_part t v step))
     (step_type t step)
+
+-- what there is, or that it is absent
+abbrev pub or_absent : Option SszValue → Result SszValue PathFault
+or_absent (Some v) = Ok v
+or_absent None = Err Absent
+
+-- the part at a path, or why there is none: that the path fits the type is tested before what is
+-- present
+abbrev pub part_or_fault : SszType → SszValue → Path → Result SszValue PathFault
+part_or_fault t v path =
+    if is_some (path_type t path) then or_absent (part t v path) else Err BadPath

@@ -1,3 +1,6 @@
+use super::path_fault::PathFault;
+use std::alloc::{AllocError, AllocFailed};
+
 /// Why a value is not edited: the first of these, in this order, that holds.
 #[derive(Clone, Copy, Debug, PartialEq, Eq)]
 pub enum EditFault {
@@ -16,4 +19,40 @@ pub enum EditFault {
     BadSelector,
     /// Want of memory.
     Memory,
+}
+
+impl From<PathFault> for EditFault {
+    ghost use Rattle.std.specs.Prelude.{◌≡◌};
+    ghost use Rattle.ssz_value.specs.Edits.{edit_fault_of};
+
+    ghost from_gives = { λ fault e. e ≡ edit_fault_of fault };
+
+    fn from(fault: PathFault) -> Self {
+        match fault {
+            PathFault::BadPath => EditFault::BadPath,
+            PathFault::Absent => EditFault::Absent,
+        }
+    }
+}
+
+impl From<AllocError> for EditFault {
+    ghost use Rattle.std.specs.Prelude.{◌≡◌};
+    ghost use Rattle.ssz_value.specs.declared.edit_fault.EditFault.TheVariants.{Memory};
+
+    ghost from_gives = { λ _ e. e ≡ Memory };
+
+    fn from(_error: AllocError) -> Self {
+        EditFault::Memory
+    }
+}
+
+impl<T: Drop> From<AllocFailed<T>> for EditFault {
+    ghost use Rattle.std.specs.Prelude.{◌≡◌};
+    ghost use Rattle.ssz_value.specs.declared.edit_fault.EditFault.TheVariants.{Memory};
+
+    ghost from_gives = { λ _ e. e ≡ Memory };
+
+    fn from(_error: AllocFailed<T>) -> Self {
+        EditFault::Memory
+    }
 }
