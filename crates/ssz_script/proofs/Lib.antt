@@ -1,5 +1,5 @@
 pub mod LinesLemmas
 pub mod LinesLength
 pub mod OneLineLemmas
-pub mod ShapesLemmas
+pub mod Shapes
 pub mod TextsLemmas

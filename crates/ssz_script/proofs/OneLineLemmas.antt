@@ -14,7 +14,7 @@ use Rattle.ssz_script.specs.Texts.{line, hexadecimal, refusals, refusal_name, re
 use Rattle.ssz_script.specs.OneLine.{is_empty, is_line, is_no_feed, RepliesAreLines}
 
 -- no line feed is among the bytes
-abbrev no_feed : List ℕ → Bool
+abbrev pub no_feed : List ℕ → Bool
 no_feed text = list_all is_no_feed text
 
 is_empty-feed : (text : List ℕ) → is_empty (text ++ 10 ∷ []) ≡ false
@@ -22,7 +22,7 @@ is_empty-feed [] = refl
 is_empty-feed (b ∷ text) = refl
 
 -- a text and a line feed are a line exactly where the text has no line feed
-is_line-feed : (text : List ℕ) → is_line (text ++ 10 ∷ []) ≡ no_feed text
+pub is_line-feed : (text : List ℕ) → is_line (text ++ 10 ∷ []) ≡ no_feed text
 is_line-feed [] = refl
 is_line-feed (b ∷ text) =
     elim (b == 10) as (λ t. cond t (is_empty (text ++ 10 ∷ [])) (is_line (text ++ 10 ∷ []))
@@ -31,10 +31,10 @@ is_line-feed (b ∷ text) =
       | false ↦ is_line-feed text
     ]
 
-both : (a b : Bool) → a ≡ true → b ≡ true → (a && b) ≡ true
+pub both : (a b : Bool) → a ≡ true → b ≡ true → (a && b) ≡ true
 both a b first second = rw (first, second) refl
 
-no_feed-append : (xs ys : List ℕ) → no_feed xs ≡ true → no_feed ys ≡ true
+pub no_feed-append : (xs ys : List ℕ) → no_feed xs ≡ true → no_feed ys ≡ true
     → no_feed (xs ++ ys) ≡ true
 no_feed-append xs ys first second = list_all-append is_no_feed xs ys ∙ both _ _ first second
 
@@ -76,14 +76,14 @@ no_feed-digits_onto (suc k) n text rest =
     ]
 
 -- This text has no line feed.
-record NoFeed (text : List ℕ) : Type 0 where
+pub record NoFeed (text : List ℕ) : Type 0 where
   pub plain : no_feed text ≡ true
 
 -- None of these words has a line feed.
 record EachNoFeed (words : List (List ℕ)) : Type 0 where
   pub each : list_all no_feed words ≡ true
 
-NoFeed-decimal : (n : ℕ) → NoFeed (decimal n)
+pub NoFeed-decimal : (n : ℕ) → NoFeed (decimal n)
 unfolding digits
 NoFeed-decimal n = record { plain = no_feed-digits_onto 64 n [] refl }
 
@@ -97,7 +97,7 @@ each-at p (x ∷ xs) (suc i) d each default = each-at p xs i d (second_of_both _
 plain-lower : (i : ℕ) → is_no_feed (get_or lower_digits i 0) ≡ true
 plain-lower i = each-at is_no_feed lower_digits i 0 refl refl
 
-no_feed-encode : (bytes : List ℕ) → no_feed (encode_lower bytes) ≡ true
+pub no_feed-encode : (bytes : List ℕ) → no_feed (encode_lower bytes) ≡ true
 unfolding encode_with
 no_feed-encode [] = refl
 no_feed-encode (b ∷ bytes) =

@@ -43,7 +43,7 @@ pub fn read_new(alloc: Global, mut words: Words<'_>) -> Result<Statement, LineFa
     Ok(Statement::New(v, t))
 }
 
-#[tactic(auto, using(crate::proofs::ShapesLemmas::three_more), unfolding(crate::specs::Grammar::three))]
+#[tactic(auto, using(crate::proofs::Shapes::three_more), unfolding(crate::specs::Grammar::three))]
 pub fn read_lit(alloc: Global, mut words: Words<'_>) -> Result<Statement, LineFault>
     ensures { Reads result (three Lit name name literal words.entry) }
 {
@@ -54,7 +54,7 @@ pub fn read_lit(alloc: Global, mut words: Words<'_>) -> Result<Statement, LineFa
     Ok(Statement::Lit(v, t, value))
 }
 
-#[tactic(auto, using(crate::proofs::ShapesLemmas::three_more), unfolding(crate::specs::Grammar::three))]
+#[tactic(auto, using(crate::proofs::Shapes::three_more), unfolding(crate::specs::Grammar::three))]
 pub fn read_load(alloc: Global, mut words: Words<'_>) -> Result<Statement, LineFault>
     ensures { Reads result (three Load name name file words.entry) }
 {
@@ -84,7 +84,7 @@ pub fn read_drop(alloc: Global, mut words: Words<'_>) -> Result<Statement, LineF
     Ok(Statement::Drop(v))
 }
 
-#[tactic(auto, using(crate::proofs::ShapesLemmas::three_more), unfolding(crate::specs::Grammar::three))]
+#[tactic(auto, using(crate::proofs::Shapes::three_more), unfolding(crate::specs::Grammar::three))]
 pub fn read_set(alloc: Global, mut words: Words<'_>) -> Result<Statement, LineFault>
     ensures { Reads result (three Set name path literal words.entry) }
 {
@@ -95,7 +95,7 @@ pub fn read_set(alloc: Global, mut words: Words<'_>) -> Result<Statement, LineFa
     Ok(Statement::Set(v, place, value))
 }
 
-#[tactic(auto, using(crate::proofs::ShapesLemmas::three_more), unfolding(crate::specs::Grammar::three))]
+#[tactic(auto, using(crate::proofs::Shapes::three_more), unfolding(crate::specs::Grammar::three))]
 pub fn read_append(alloc: Global, mut words: Words<'_>) -> Result<Statement, LineFault>
     ensures { Reads result (three Append name path literal words.entry) }
 {
@@ -165,7 +165,7 @@ pub fn read_gindex(alloc: Global, mut words: Words<'_>) -> Result<Statement, Lin
     Ok(Statement::Gindex(t, place))
 }
 
-#[tactic(auto, using(crate::proofs::ShapesLemmas::three_more), unfolding(crate::specs::Grammar::three))]
+#[tactic(auto, using(crate::proofs::Shapes::three_more), unfolding(crate::specs::Grammar::three))]
 pub fn read_upgrade(alloc: Global, mut words: Words<'_>) -> Result<Statement, LineFault>
     ensures { Reads result (three Upgrade name name name words.entry) }
 {
@@ -186,7 +186,7 @@ pub fn read_json(alloc: Global, mut words: Words<'_>) -> Result<Statement, LineF
     Ok(Statement::Json(v, place))
 }
 
-#[tactic(auto, using(crate::proofs::ShapesLemmas::three_more), unfolding(crate::specs::Grammar::three))]
+#[tactic(auto, using(crate::proofs::Shapes::three_more), unfolding(crate::specs::Grammar::three))]
 pub fn read_loadjson(alloc: Global, mut words: Words<'_>) -> Result<Statement, LineFault>
     ensures { Reads result (three LoadJson name name file words.entry) }
 {
