@@ -9,10 +9,8 @@ mod basic;
 mod bit_values;
 mod bits;
 mod mixing;
-mod sizes;
 
 pub use basic::{basic_chunk, values_chunk};
 pub use bit_values::bits_chunk;
 pub use bits::{bit_chunk_at, bitlist_len};
 pub use mixing::number_chunk;
-pub use sizes::basic_size;

@@ -216,7 +216,7 @@ pub sequence_root-packed_values_root-requires-clause-size :
     goal.sequence_root-packed_values_root-requires-clause-size
 sequence_root-packed_values_root-requires-clause-size g t c =
     basic_divides (type_of c.args.schema.now c.args.elem) c.in-Some.size
-    (sym c.basic_size.ensures ∙ c.in-Some.is)
+    (sym c.basic_size.ensures.exact ∙ c.in-Some.is)
 
 pub sequence_root-packed_values_root-requires-clause-few :
     goal.sequence_root-packed_values_root-requires-clause-few
@@ -224,7 +224,7 @@ sequence_root-packed_values_root-requires-clause-few g t c =
     let h = packed_has g.H.PairHash.pair_of (type_of c.args.schema.now c.args.elem)
     c.args.depth c.in-Some.size c.in-Seq.parts c.as_slice-in-Some.result.now c.args.value.now
     c.in-Seq.is c.as_slice-in-Some.ensures.value c.requires.value
-    (sym c.basic_size.ensures ∙ c.in-Some.is) in
+    (sym c.basic_size.ensures.exact ∙ c.in-Some.is) in
     subst (λ n. n ≤ 2 ^ c.args.depth) (sym h.chunks) c.requires.few
 
 pub sequence_root-returns-in-Some-clause-root : goal.sequence_root-returns-in-Some-clause-root
@@ -232,16 +232,16 @@ sequence_root-returns-in-Some-clause-root g t c =
     let h = packed_has g.H.PairHash.pair_of (type_of c.args.schema.now c.args.elem)
     c.args.depth c.in-Some.size c.in-Seq.parts c.as_slice-in-Some.result.now c.args.value.now
     c.in-Seq.is c.as_slice-in-Some.ensures.value c.requires.value
-    (sym c.basic_size.ensures ∙ c.in-Some.is) in
+    (sym c.basic_size.ensures.exact ∙ c.in-Some.is) in
     c.packed_values_root.ensures.root (type_of c.args.schema.now c.args.elem)
-    (sym c.basic_size.ensures ∙ c.in-Some.is) h.fits ∙ h.same
+    (sym c.basic_size.ensures.exact ∙ c.in-Some.is) h.fits ∙ h.same
 
 pub sequence_root-returns-in-Some-clause-counts : goal.sequence_root-returns-in-Some-clause-counts
 sequence_root-returns-in-Some-clause-counts g t c =
     let h = packed_has g.H.PairHash.pair_of (type_of c.args.schema.now c.args.elem)
     c.args.depth c.in-Some.size c.in-Seq.parts c.as_slice-in-Some.result.now c.args.value.now
     c.in-Seq.is c.as_slice-in-Some.ensures.value c.requires.value
-    (sym c.basic_size.ensures ∙ c.in-Some.is) in
+    (sym c.basic_size.ensures.exact ∙ c.in-Some.is) in
     subst (λ n. CountsUp n (g.H.PairHash.pairs c.args.hasher.now)
     (g.H.PairHash.pairs c.packed_values_root.new.hasher))
     (paid c.args.depth _ _ _ h.chunks h.no_pairs) c.packed_values_root.ensures.counts
@@ -251,7 +251,7 @@ sequence_root-values_root-requires g t c =
     let h = values_has g.H.PairHash.pair_of (type_of c.args.schema.now c.args.elem)
     c.args.depth c.in-Seq.parts c.as_slice-in-None.result.now c.args.value.now c.in-Seq.is
     c.as_slice-in-None.ensures.value c.requires.value
-    (sym c.basic_size.ensures ∙ c.in-None.is) in
+    (sym c.basic_size.ensures.exact ∙ c.in-None.is) in
     let are : AllByRecursion (IsValue (type_of c.args.schema.now c.args.elem))
     c.as_slice-in-None.result.now = h.are in
     let few : length c.as_slice-in-None.result.now
@@ -263,7 +263,7 @@ sequence_root-returns-in-None-clause-root g t c =
     let h = values_has g.H.PairHash.pair_of (type_of c.args.schema.now c.args.elem)
     c.args.depth c.in-Seq.parts c.as_slice-in-None.result.now c.args.value.now c.in-Seq.is
     c.as_slice-in-None.ensures.value c.requires.value
-    (sym c.basic_size.ensures ∙ c.in-None.is) in
+    (sym c.basic_size.ensures.exact ∙ c.in-None.is) in
     c.values_root.ensures.root ∙ h.same
 
 pub sequence_root-returns-in-None-clause-counts : goal.sequence_root-returns-in-None-clause-counts
@@ -271,7 +271,7 @@ sequence_root-returns-in-None-clause-counts g t c =
     let h = values_has g.H.PairHash.pair_of (type_of c.args.schema.now c.args.elem)
     c.args.depth c.in-Seq.parts c.as_slice-in-None.result.now c.args.value.now c.in-Seq.is
     c.as_slice-in-None.ensures.value c.requires.value
-    (sym c.basic_size.ensures ∙ c.in-None.is) in
+    (sym c.basic_size.ensures.exact ∙ c.in-None.is) in
     subst (λ n. CountsUp n (g.H.PairHash.pairs c.args.hasher.now)
     (g.H.PairHash.pairs c.values_root.new.hasher))
     (ap₂ (λ count costs. grow c.args.depth count + costs) h.count h.costs)
