@@ -20,12 +20,14 @@ some_from None e = absurd (false≢true e)
 some_from (Some x) e = (x, refl)
 
 -- a tree that has a node below its root is a pair
-pub is_pair : (node x : Tree) (step : Bool) (steps : List Bool) → at_way node (step ∷ steps) ≡ Some x
+pub is_pair : (node x : Tree) (step : Bool) (steps : List Bool)
+    → at_way node (step ∷ steps) ≡ Some x
     → (left : Tree) × (right : Tree) × (node ≡ pair left right)
 is_pair (leaf chunk) x step steps e = absurd (none-some x e)
 is_pair (pair left right) x step steps e = (left, right, refl)
 
-pub first_digit : (n k : ℕ) → (step : Bool) × (steps : List Bool) × (digits (suc n) k ≡ step ∷ steps)
+pub first_digit : (n k : ℕ)
+    → (step : Bool) × (steps : List Bool) × (digits (suc n) k ≡ step ∷ steps)
 unfolding digits
 first_digit n k = (eqb (k / 2 ^ n % 2) 1, digits n k, refl)
 

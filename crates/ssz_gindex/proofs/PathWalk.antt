@@ -3,7 +3,7 @@ use Rattle.std.proofs.Common.{◌≡◌, ℕ, suc, length, drop, get_or, option_
 use Rattle.std.specs.Prelude.{IsSome, option_and_then, bytes_eq}
 use Rattle.std.specs.List.{position_from}
 use Rattle.std.proofs.Math.Seq.{drop-cons}
-use Rattle.std.proofs.Math.Nat.{mul-le-mul_left, mul-le-mul_right, pow-le-pow_right}
+use Rattle.std.proofs.Math.Nat.{mul-le-mul_left, pow-le-pow_right}
 use Rattle.std.proofs.lemmas.Nat.{pow_pos}
 use Rattle.std.proofs.lemmas.Bool.{false≢true}
 use Rattle.std.specs.Option.{is_some}
@@ -19,7 +19,6 @@ use Rattle.ssz_schema.specs.Legal.{IsLegal, IsWithinLimits}
 use Rattle.ssz_schema.specs.Unfolding.{Types, type_of, tree_over, fields_over}
 use Rattle.ssz_schema.specs.Paths.{Path, step_type}
 use Rattle.ssz_schema.specs.Indices.{step_levels, step_position, step_index, generalized_index, generalized_index_from}
-use Rattle.ssz_schema.proofs.PathLemmas.{step-levels, step-below}
 use Rattle.ssz_schema.proofs.StepLemmas.{Part, found_field, missing_field}
 use Rattle.ssz_gindex.proofs.StepRoom.{step_room}
 

@@ -7,7 +7,7 @@ use Rattle.std.specs.BTreeSet.{BTreeSet, contains as has}
 use Rattle.std.proofs.Math.Seq.{drop-cons, take-suc}
 use Rattle.std.proofs.lemmas.Bool.{or_right, ne_eqb, false≢true}
 use Rattle.std.proofs.lemmas.List.{length-append, append_assoc, take-append-drop}
-use Rattle.ssz_gindex.specs.Helpers.{is_helper, greatest, helpers}
+use Rattle.ssz_gindex.specs.Helpers.{helpers}
 use Rattle.ssz_gindex.specs.Laws.{IsDescending, contains}
 use Rattle.ssz_gindex.specs.Faults.{AreHelpers}
 use Rattle.ssz_gindex.specs.Walk.{IsUpper, Walks, Met}

@@ -1,4 +1,4 @@
-use Rattle.std.proofs.Common.{◌+◌, ◌*◌, ◌^◌, refl, ap, ap₂, ◌∙◌, arith}
+use Rattle.std.proofs.Common.{refl}
 use Rattle.ssz_schema.specs.Unfolding.{type_of}
 use Rattle.ssz_gindex.proofs.PathWalk.{legal_levels, along-start, next-along}
 use Rattle.ssz_gindex.proofs.gindex.Gindex.of_path.Goals as goal

@@ -1,4 +1,4 @@
-use Rattle.std.proofs.Common.{◌≡◌, ◌+◌, ◌*◌, ◌^◌, ap, ◌∙◌, arith}
+use Rattle.std.proofs.Common.{◌*◌, ◌^◌, ap, ◌∙◌, arith}
 use Rattle.ssz_schema.specs.Paths.{step_type}
 use Rattle.ssz_schema.specs.Indices.{step_levels}
 use Rattle.ssz_schema.specs.Unfolding.{type_of}
