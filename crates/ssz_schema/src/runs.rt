@@ -104,3 +104,6 @@ impl BitRun {
         self.bits.len()
     }
 }
+
+#[cfg(test)]
+mod tests;
