@@ -1,11 +1,11 @@
 -- Each legal type, written in full, is accepted, and what is accepted is legal.
-use Rattle.std.proofs.Common.{ℕ, ◌+◌, ◌^◌, ◌<◌, ◌≤◌, ◌≡◌, Bool, true, false, not, ◌||◌, cond, ltb, eqb, List, [], ◌∷◌, Option, Some, Result, Ok, Err, bytes_eq, IsTrue, refl, ap, ap₂, ◌∙◌, arith}
+use Rattle.std.proofs.Common.{ℕ, ◌+◌, ◌^◌, ◌<◌, ◌≤◌, ◌≡◌, Bool, true, false, not, ◌||◌, cond, ltb, eqb, List, [], ◌∷◌, Option, Result, Ok, Err, bytes_eq, IsTrue, refl, ap, ap₂, ◌∙◌, arith}
 use Rattle.std.specs.List.{AllByRecursion, list_any, IsDistinct}
 use Rattle.std.proofs.lemmas.Bool.{cond-false, le-ltb, ne_eqb}
 use Rattle.ssz_schema.specs.declared.format.Format.{Format}
 use Rattle.ssz_schema.specs.declared.schema_fault.SchemaFault.{SchemaFault}
 use Rattle.ssz_schema.specs.Types.{SszType, Fields, Options, uint, boolean, container, vector, list, bitvector, bitlist, union, no_fields, field, no_options, none_option, option}
-use Rattle.ssz_schema.specs.Sizes.{field_count, option_count, nesting, levels, default_length}
+use Rattle.ssz_schema.specs.Sizes.{option_count, nesting, levels, default_length}
 use Rattle.ssz_schema.specs.Names.{is_name}
 use Rattle.ssz_schema.specs.Legal.{IsLegal, AreLegalFields, AreLegalOptions, IsWithinLimits, IsNoneFirst, HasNoNone, field_names, greatest_limit, most_levels}
 use Rattle.ssz_schema.specs.Forms.{option_form_count}
