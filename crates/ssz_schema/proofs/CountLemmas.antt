@@ -1,5 +1,5 @@
 -- How many chunks the tree of a legal type has.
-use Rattle.std.proofs.Common.{ℕ, ◌+◌, ◌*◌, ◌/◌, ◌^◌, ◌≤◌, ◌≡◌, Option, Some, None, refl, arith, mul-le-mul_left}
+use Rattle.std.proofs.Common.{ℕ, ◌^◌, ◌≤◌, ◌≡◌, Option, Some, None, refl, arith, mul-le-mul_left}
 use Rattle.ssz_schema.specs.declared.format.Format.{Format}
 use Rattle.ssz_schema.specs.declared.format.Format.TheVariants.{One, Two}
 use Rattle.ssz_schema.specs.Types.{SszType, uint, boolean, container, vector, list, bitvector, bitlist, union}

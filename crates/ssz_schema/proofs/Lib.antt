@@ -17,6 +17,7 @@ pub mod SumLemmas
 pub mod OptionLemmas
 pub mod KnownLemmas
 pub mod ResolvedLaw
+pub mod AcceptedLaw
 pub mod WalkFields
 pub mod WalkOptions
 pub mod RepeatLemmas

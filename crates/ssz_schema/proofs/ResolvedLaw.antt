@@ -43,7 +43,7 @@ module _ (format : Format) where
       )
 
   -- no name of these is one of the fields'
-  abbrev AreApart : List (List ℕ) → Fields → Type 0
+  abbrev pub AreApart : List (List ℕ) → Fields → Type 0
   AreApart [] fs = Unit {0}
   AreApart (n ∷ names) fs = AllByRecursion (λ y. bytes_eq n y ≡ false) (field_names fs)
       × AreApart names fs
@@ -335,6 +335,13 @@ module _ (format : Format) where
       legal_options (option_form f os) =
           legal_option (resolved format known f) (λ first. resolved_options format known first os)
           (legal_resolved f) (legal_options os)
+
+  -- the type that a walk gives is legal
+  pub type_is_legal : (known : List ℕ → Option SszType)
+      → ((name : List ℕ) (t : SszType) → known name ≡ Some t → IsLegal format t)
+      → (form : TypeForm) (t : SszType) → resolved format known form ≡ Ok t → IsLegal format t
+  unfolding Legal
+  type_is_legal known legal form t e = legal_resolved known legal form t e
 
   -- the fields that a walk gives are legal, and their names differ
   pub fields_are_legal : (known : List ℕ → Option SszType)

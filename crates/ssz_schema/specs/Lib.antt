@@ -9,6 +9,7 @@ pub mod Indices
 pub mod IndexLaws
 pub mod Forms
 pub mod Walk
+pub mod Accepting
 pub mod FaultCodes
 pub mod Faults
 pub mod Codes

@@ -1,5 +1,6 @@
 ghost use Rattle.ssz_schema.specs.ByteLaws.{NumberIsThatOfItsBytes, BytesAreThoseOfTheirNumber, NumberHasSoManyBytes, NumberIsThatOfItsBits, BitsAreThoseOfTheirNumber};
 ghost use Rattle.ssz_schema.specs.SameType.{SameTypesAreEqual};
+ghost use Rattle.ssz_schema.specs.Accepting.{AcceptedAreLegal, LegalAreAccepted};
 ghost use Rattle.ssz_schema.specs.IndexLaws.{IndicesAreWithinLevels, DepthHolds, DepthIsLeast};
 
 /// Bytes and number determine each other.
@@ -13,6 +14,12 @@ pub fn bytes_tell_numbers()
 pub fn bits_tell_numbers()
     ensures numbers { NumberIsThatOfItsBits }
     ensures bits { BitsAreThoseOfTheirNumber }
+{}
+
+/// The walk of definitions accepts exactly the legal types.
+pub fn legal_types_are_accepted()
+    ensures legal { AcceptedAreLegal }
+    ensures accepted { LegalAreAccepted }
 {}
 
 /// The depth of a count is the exponent of the least power of two that is not below it.

@@ -34,7 +34,7 @@ pub use fault::Fault;
 pub use format::Format;
 pub use law::{
     bits_tell_numbers, bytes_tell_numbers, depth_is_next_power, indices_have_levels,
-    same_types_are_equal,
+    legal_types_are_accepted, same_types_are_equal,
 };
 pub use name::{Name, is_name};
 pub use names::Names;

@@ -152,3 +152,6 @@ impl BitRun {
         let _last = self.bits.pop();
     }
 }
+
+#[cfg(test)]
+mod tests;

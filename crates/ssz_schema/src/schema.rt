@@ -222,7 +222,7 @@ impl Schema {
         requires { id < length self.now.trees }
         ensures { result ≡ is_variable (type_of self.now id) }
     {
-        self.entry(id).facts.fixed_size.is_none()
+        self.fixed_size(id).is_none()
     }
 
     #[tactic(auto, using(crate::proofs::SizeLemmas::sizes))]

@@ -1,6 +1,6 @@
-use Rattle.std.proofs.Common.{rules, ℕ, ◌≡◌, ◌<◌, ◌+◌, ◌∙◌, List, Option, length, true, false, bytes_eq, ap, sym, subst, arith}
+use Rattle.std.proofs.Common.{rules, ℕ, ◌≡◌, ◌<◌, ◌∙◌, List, ap, sym, subst}
 use Rattle.std.specs.List.{AllByRecursion}
-use Rattle.ssz_schema.specs.Unfolding.{type_of, tree_over, AreBelow, IsBelow}
+use Rattle.ssz_schema.specs.Unfolding.{type_of, AreBelow}
 use Rattle.ssz_schema.specs.SameType.{same_type}
 use Rattle.ssz_schema.proofs.TypesAlike.{type_itself}
 use Rattle.ssz_schema.proofs.AlikeLemmas.{alike-counts, options-counts}

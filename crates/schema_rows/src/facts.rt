@@ -1,0 +1,65 @@
+// What the reading calls of a schema answer.
+use anyhow::{Context, Result, bail};
+use ssz_line::read_path;
+use ssz_schema::{Schema, TypeId};
+
+// The names that every schema has; byte is uint8.
+const BASIC_TYPES: [&str; 7] = [
+    "boolean", "uint8", "uint16", "uint32", "uint64", "uint128", "uint256",
+];
+
+/// Prints the size, the default's length, the chunk count, the depth and the levels of a type.
+pub fn print_facts(rt: &HostRuntime, schema: &Schema, name: &str) -> Result<()> {
+    let Some(id) = schema.find(name) else {
+        println!(rt; "no type")?;
+        return Ok(());
+    };
+    match schema.fixed_size(id) {
+        Some(size) => print!(rt; "size {size}")?,
+        None => print!(rt; "variable")?,
+    }
+    let default = schema.default_len(id);
+    let chunks = schema.chunk_count(id);
+    let depth = schema.depth(id);
+    let levels = schema.levels(id);
+    println!(rt; " default {default} chunks {chunks} depth {depth} levels {levels}")?;
+    Ok(())
+}
+
+// The name of a basic type.
+fn basic_name(schema: &Schema, id: TypeId) -> &'static str {
+    for name in BASIC_TYPES {
+        if schema.find(name) == Some(id) {
+            return name;
+        }
+    }
+    "composite"
+}
+
+/// Prints the type of the part at a path.
+pub fn print_part(rt: &HostRuntime, schema: &Schema, name: &str, path: &str) -> Result<()> {
+    let id = schema.find(name).context("no such type")?;
+    let Ok(steps) = read_path(rt.alloc(), path.as_bytes()) else {
+        bail!("no path");
+    };
+    match schema.path_type(id, steps.as_slice()) {
+        Some(part) => {
+            let part = basic_name(schema, part);
+            println!(rt; "{part}")?;
+        }
+        None => println!(rt; "does not fit")?,
+    }
+    Ok(())
+}
+
+/// Prints whether two types are the same.
+pub fn print_same(rt: &HostRuntime, schema: &Schema, left: &str, right: &str) -> Result<()> {
+    let left = schema.find(left).context("no such type")?;
+    let right = schema.find(right).context("no such type")?;
+    if schema.same_type(left, right) {
+        println!(rt; "the same")?;
+    } else {
+        println!(rt; "another")?;
+    }
+    Ok(())
+}
