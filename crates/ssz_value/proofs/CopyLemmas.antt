@@ -76,7 +76,7 @@ seq_copy vs ws h = record {
   formed = λ t all. seq_copy_formed t vs ws h all;
 }
 
-option_copy : (os : Options) (k : ℕ) (v w : Value) → IsCopy v w → OptionFormed os k v
+pub option_copy : (os : Options) (k : ℕ) (v w : Value) → IsCopy v w → OptionFormed os k v
     → OptionFormed os k w
 option_copy (option t os) zero v w h all = h.formed t all
 option_copy (option t os) (suc k) v w h all = option_copy os k v w h all

@@ -1,0 +1,5 @@
+pub mod Elements
+pub mod ListForms
+pub mod MoreLess
+pub mod PathWalk
+pub mod Choices

@@ -1,0 +1,4 @@
+pub mod Answers
+pub mod Changes
+pub mod Places
+pub mod Growth
