@@ -7,7 +7,8 @@ use ssz_schema_json::read_schema;
 use std::alloc::Global;
 use std::fs;
 
-// Types, and paths to a part of them whose index the light client's and the deneb specification state.
+// Types, and paths to a part of them whose index the light client's and the deneb specification
+// state.
 const PATHS: [(&str, &str); 4] = [
     ("BeaconState", "/finalized_checkpoint/root"),
     ("BeaconState", "/current_sync_committee"),

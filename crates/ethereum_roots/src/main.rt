@@ -1,5 +1,5 @@
-//! Roots of small values of the consensus layer's types, and indices of parts of them, by the schemas of
-//! examples/ethereum.
+//! Roots of small values of the consensus layer's types, and indices of parts of them, by the
+//! schemas of examples/ethereum.
 #![tactic(auto)]
 
 mod indices;
@@ -41,7 +41,8 @@ fn words_of(
     Ok(words)
 }
 
-// Prints the root of each value by one schema, or ends with the status of the first that is refused.
+// Prints the root of each value by one schema, or ends with the status of the first that is
+// refused.
 fn print_roots(rt: &HostRuntime, schema: &str) -> Status {
     let alloc = rt.alloc();
     for (type_name, file) in VALUES {

@@ -1,4 +1,5 @@
-// The program `ssz`: its words, the files of the system and standard output, handed to the top call.
+// The program `ssz`: its words, the files of the system and standard output, handed to the top
+// call.
 #![tactic(auto)]
 
 use ssz_chunk::ShaPair;

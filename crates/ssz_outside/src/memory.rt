@@ -111,6 +111,8 @@ impl Files for MemFiles {
         ensures read { Gets (map.get self.old.named name.now) max result into.new.items }
         ensures bound { result ≡ Ok Got.Whole → vec_len into.new ≤ max }
         ensures get_faults { CountsGet result self.old.get_faults self.new.get_faults }
+        ensures once { IsErrOf result GetFault.Failed
+            → self.new.get_faults ≡ next_count self.old.get_faults }
         ensures rest { self.new ≡ record self.old {
           calls = next_count self.old.calls;
           get_faults = self.new.get_faults;
@@ -137,6 +139,8 @@ impl Files for MemFiles {
             → IsReadable self.old other → IsReadable self.new other }
         ensures named { PutsHalf result name.now bytes.now self.old.named self.new.named }
         ensures put_faults { CountsPut result self.old.put_faults self.new.put_faults }
+        ensures once { IsErrOf result PutFault.Failed
+            → self.new.put_faults ≡ next_count self.old.put_faults }
         ensures rest { self.new ≡ record self.old {
           named = self.new.named;
           calls = next_count self.old.calls;
@@ -237,6 +241,8 @@ impl Sink for MemSink {
         ensures ok { OnOk result (¬ IsListedPut self.old) }
         ensures pieces { TakesHalf result piece.now self.old.pieces self.new.pieces }
         ensures faults { CountsPut result self.old.faults self.new.faults }
+        ensures once { IsErrOf result PutFault.Failed
+            → self.new.faults ≡ next_count self.old.faults }
         ensures rest { self.new ≡ record self.old {
           pieces = self.new.pieces;
           calls = next_count self.old.calls;

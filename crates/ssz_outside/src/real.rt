@@ -1,6 +1,6 @@
 // The files of the system and a writer of std, each call counted where it fails.
-ghost use Rattle.std.specs.Prelude.{◌≡◌, ◌≤◌, [], vec_len, Ok};
-ghost use Rattle.ssz_outside.specs.Outcome.{CountsPut};
+ghost use Rattle.std.specs.Prelude.{◌≡◌, ◌≤◌, [], vec_len, Ok, IsErrOf};
+ghost use Rattle.ssz_outside.specs.Outcome.{next_count, CountsGet, CountsPut};
 ghost use Rattle.ssz_outside.specs.Real.{Writes};
 
 use crate::outside::{Files, GetFault, Got, PutFault, Sink};
@@ -71,7 +71,14 @@ impl<R: rt::Files + Drop> Files for DirFiles<R> {
 
     ghost put_faults = { λ f. f.put_faults };
 
-    fn get(&mut self, name: &str, into: &mut Vec<u8>, max: u64) -> Result<Got, GetFault> {
+    fn get(&mut self, name: &str, into: &mut Vec<u8>, max: u64) -> Result<Got, GetFault>
+        requires { into.old.items ≡ [] }
+        ensures bound { result ≡ Ok Got.Whole → vec_len into.new ≤ max }
+        ensures get_faults { CountsGet result self.old.get_faults self.new.get_faults }
+        ensures once { IsErrOf result GetFault.Failed
+            → self.new.get_faults ≡ next_count self.old.get_faults }
+        ensures put_faults { self.new.put_faults ≡ self.old.put_faults }
+    {
         match read_path(&self.system, name, into, max) {
             Err(GetFault::Failed) => {
                 self.get_faults = self.get_faults.saturating_add(1);
@@ -82,7 +89,12 @@ impl<R: rt::Files + Drop> Files for DirFiles<R> {
         }
     }
 
-    fn put(&mut self, name: &str, bytes: &[u8]) -> Result<(), PutFault> {
+    fn put(&mut self, name: &str, bytes: &[u8]) -> Result<(), PutFault>
+        ensures get_faults { self.new.get_faults ≡ self.old.get_faults }
+        ensures put_faults { CountsPut result self.old.put_faults self.new.put_faults }
+        ensures once { IsErrOf result PutFault.Failed
+            → self.new.put_faults ≡ next_count self.old.put_faults }
+    {
         match write_path(&self.system, name, bytes) {
             Err(_) => {
                 self.put_faults = self.put_faults.saturating_add(1);
@@ -135,6 +147,8 @@ impl<W: Write + Drop> Sink for OutSink<W> {
     fn put(&mut self, piece: &[u8]) -> Result<(), PutFault>
         ensures writes { Writes result piece.now self.old.written self.new.written }
         ensures faults { CountsPut result self.old.faults self.new.faults }
+        ensures once { IsErrOf result PutFault.Failed
+            → self.new.faults ≡ next_count self.old.faults }
     {
         match write_all(&mut self.writer, piece) {
             Err(_) => {

@@ -1,6 +1,7 @@
 -- What a schema file and a value file give, by their length, and the types of a schema by their
 -- names.
-use Rattle.std.proofs.Common.{◌≡◌, ℕ, ◌<◌, ◌≤◌, ◌^◌, List, length, refl}
+use Rattle.std.proofs.Common.{◌≡◌, ℕ, ◌<◌, ◌≤◌, ◌^◌, List, [], ◌∷◌, length, refl}
+use Rattle.std.specs.List.{AllByRecursion}
 use Rattle.std.proofs.lemmas.Bool.{lt-ltb, le-ltb}
 use Rattle.ssz_outside.specs.Content.{Content}
 use Rattle.ssz_schema.specs.Types.{SszType}
@@ -9,6 +10,7 @@ use Rattle.ssz_schema_json.specs.Schema.{HasTypes, NamedTypes, schema_of_bytes}
 use Rattle.ssz_value.specs.Faults.{why}
 use Rattle.ssz_words.specs.declared.commands.RootArgs.{RootArgs}
 use Rattle.ssz_tool.specs.Jobs.{Reading, accepted, refused, reading_of, reading_of_schema, Task, says, task_of_bytes, task_of_fault, task_of_type, task_of_reading}
+use Rattle.ssz_tool.specs.Reached.{reached_of_reading, reached_of_type}
 use Rattle.ssz_tool.specs.declared.line.Line.TheVariants as line
 
 -- a schema file that is not too long gives what its bytes read as
@@ -40,3 +42,17 @@ pub task_of_reading-accepted : (held : Content) (args : RootArgs) (meant : Readi
     → task_of_reading held args meant ≡ task_of_type held args (known_in schema args.type_name)
 task_of_reading-accepted held args meant schema names is has =
     rw (is, has.types args.type_name) refl
+
+-- so the value file is reached where that schema has the type
+pub reached_of_reading-accepted : (args : RootArgs) (meant : Reading) (schema : Types)
+    (names : NamedTypes) → meant ≡ accepted names → HasTypes schema names
+    → reached_of_reading args meant ≡ reached_of_type args (known_in schema args.type_name)
+reached_of_reading-accepted args meant schema names is has =
+    rw (is, has.types args.type_name) refl
+
+-- what is so of each of the names is so in a weaker sense
+pub AllByRecursion-weaker : (P Q : List ℕ → Type 0) → ((name : List ℕ) → P name → Q name)
+    → (names : List (List ℕ)) → AllByRecursion P names → AllByRecursion Q names
+AllByRecursion-weaker P Q weaker [] all = all
+AllByRecursion-weaker P Q weaker (name ∷ names) all =
+    (weaker name all.0, AllByRecursion-weaker P Q weaker names all.1)

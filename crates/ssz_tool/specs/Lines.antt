@@ -20,7 +20,8 @@ definition_text number fault =
 
 -- the line of the first fault of bytes, and where it is
 abbrev pub fault_text : Fault → List ℕ
-fault_text fault = codes "invalid F" ++ (decimal fault.code ++ (codes " " ++ ended (decimal fault.position)))
+fault_text fault =
+    codes "invalid F" ++ (decimal fault.code ++ (codes " " ++ ended (decimal fault.position)))
 
 -- the line of a root
 abbrev pub root_text : List ℕ → List ℕ
@@ -32,7 +33,9 @@ unlike_text chunk = ended (codes "unlike 0x" ++ encode_lower chunk)
 
 -- the line that says how the program is used
 abbrev pub usage_text : List ℕ
-usage_text = ended (codes "usage: ssz root SCHEMA TYPE FILE | run SCHEMA SCRIPT | weave SCHEMA BASE ORDER SCRIPT.. | verify ROOT FILE | work SCHEMA TYPE SEED EDITS")
+usage_text =
+    codes "usage: ssz root SCHEMA TYPE FILE | run SCHEMA SCRIPT | weave SCHEMA BASE ORDER SCRIPT.."
+    ++ ended (codes " | verify ROOT FILE | work SCHEMA TYPE SEED EDITS")
 
 abbrev pub line_text : Line → List ℕ
 line_text line.Usage = usage_text

@@ -7,6 +7,7 @@ ghost use Rattle.ssz_schema.specs.Unfolding.{type_of, known_in};
 ghost use Rattle.ssz_schema_json.specs.Schema.{schema_of_bytes};
 ghost use Rattle.ssz_value.specs.Faults.{why};
 ghost use Rattle.ssz_tool.specs.Jobs.{reading_of_schema, reading_of, task_of_fault, task_of_bytes, task_of_type, task_of_root, task_of, task_of_asked, is_usage_task};
+ghost use Rattle.ssz_tool.specs.Reached.{reached, reached_of_asked, reached_of_root, reached_of_type};
 ghost use Rattle.ssz_tool.specs.Tasks.{Loads, IsWithin, CountsStop, StandsFor, IsNoUsage, IsReady, DoesSame, task_view};
 ghost use Rattle.ssz_tool.specs.Words.{files_of, taken, texts};
 
@@ -160,6 +161,8 @@ fn task_of_schema<F: Files>(
     ensures ready { IfOk result IsReady }
     ensures usage { IfOk result (λ task. is_usage_task (task_view task) ≡ false) }
     ensures fails { F.readable files.old args.now.file → result ≢ Err Stop.Read }
+    ensures reached { AllByRecursion (F.readable files.old)
+        (reached_of_type args.now (known_in schema args.now.type_name)) → result ≢ Err Stop.Read }
     ensures readable { (other : List ℕ) → F.readable files.old other → F.readable files.new other }
     ensures content { F.content files.new ≡ F.content files.old }
     ensures get_faults { CountsStop result (F.get_faults files.old) (F.get_faults files.new) }
@@ -178,6 +181,9 @@ fn task_of_root<F: Files>(alloc: Global, files: &mut F, args: &RootArgs) -> Resu
     ensures usage { IfOk result (λ task. is_usage_task (task_view task) ≡ false) }
     ensures fails { F.readable files.old args.now.schema → F.readable files.old args.now.file
         → result ≢ Err Stop.Read }
+    ensures reached { ForSome (F.content files.old) (λ held.
+        AllByRecursion (F.readable files.old) (reached_of_root held args.now)
+        → result ≢ Err Stop.Read) }
     ensures readable { (other : List ℕ) → F.readable files.old other → F.readable files.new other }
     ensures content { F.content files.new ≡ F.content files.old }
     ensures get_faults { CountsStop result (F.get_faults files.old) (F.get_faults files.new) }
@@ -197,6 +203,9 @@ fn task_of_asked<F: Files>(alloc: Global, files: &mut F, asked: &Asked) -> Resul
     ensures usage { IfOk result (λ task. is_usage_task (task_view task) ≡ false) }
     ensures fails { AllByRecursion (F.readable files.old) (files_of asked.now)
         → result ≢ Err Stop.Read }
+    ensures reached { ForSome (F.content files.old) (λ held.
+        AllByRecursion (F.readable files.old) (reached_of_asked held (Some asked.now))
+        → result ≢ Err Stop.Read) }
     ensures readable { (other : List ℕ) → F.readable files.old other → F.readable files.new other }
     ensures content { F.content files.new ≡ F.content files.old }
     ensures get_faults { CountsStop result (F.get_faults files.old) (F.get_faults files.new) }
@@ -218,6 +227,9 @@ pub fn task_of<F: Files>(alloc: Global, files: &mut F, words: &[String]) -> Resu
     ensures taken { result ≡ Err Stop.Read → IsSome (taken (texts words.now)) }
     ensures fails { ForSome (taken (texts words.now)) (λ asked.
         AllByRecursion (F.readable files.old) (files_of asked) → result ≢ Err Stop.Read) }
+    ensures reached { ForSome (F.content files.old) (λ held.
+        AllByRecursion (F.readable files.old) (reached held (texts words.now))
+        → result ≢ Err Stop.Read) }
     ensures readable { (other : List ℕ) → F.readable files.old other → F.readable files.new other }
     ensures content { F.content files.new ≡ F.content files.old }
     ensures get_faults { CountsStop result (F.get_faults files.old) (F.get_faults files.new) }

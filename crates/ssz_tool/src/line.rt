@@ -57,8 +57,8 @@ pub fn line_text(alloc: Global, line: &Line) -> Result<String, AllocError>
     }
 }
 
-const USAGE: &str =
-    "usage: ssz root SCHEMA TYPE FILE | run SCHEMA SCRIPT | weave SCHEMA BASE ORDER SCRIPT.. | verify ROOT FILE | work SCHEMA TYPE SEED EDITS\n";
+const USAGE: &str = "usage: ssz root SCHEMA TYPE FILE | run SCHEMA SCRIPT \
+    | weave SCHEMA BASE ORDER SCRIPT.. | verify ROOT FILE | work SCHEMA TYPE SEED EDITS\n";
 
 fn definition_text(alloc: Global, number: usize, fault: SchemaFault) -> Result<String, AllocError>
     ensures { IfOk result (λ text. string_bytes text ≡ definition_text number fault) }

@@ -10,6 +10,7 @@ ghost use Rattle.ssz_proof.specs.Calculation.{calculated, indices_of};
 ghost use Rattle.ssz_proof.specs.Multiproof.{known_of};
 ghost use Rattle.ssz_tool.specs.Jobs.{line_of, line_of_root, pairs_of_task};
 ghost use Rattle.ssz_tool.specs.Lines.{line_text, status_of};
+ghost use Rattle.ssz_tool.specs.Reached.{reached};
 ghost use Rattle.ssz_tool.specs.Runs.{job_of, pairs_allowed};
 ghost use Rattle.ssz_tool.specs.Tasks.{IsReady, task_view};
 ghost use Rattle.ssz_tool.specs.Words.{files_of, taken, texts};
@@ -82,6 +83,9 @@ fn run_words<F: Files, S: Sink, H: PairHash>(
     ensures taken { result ≡ Status.ReadFault → IsSome (taken (texts words.now)) }
     ensures readable { ForSome (taken (texts words.now)) (λ asked.
         AllByRecursion (F.readable files.old) (files_of asked) → result ≢ Status.ReadFault) }
+    ensures reached { ForSome (F.content files.old) (λ held.
+        AllByRecursion (F.readable files.old) (reached held (texts words.now))
+        → result ≢ Status.ReadFault) }
     ensures pairs { ForSome (F.content files.old) (λ held. H.pairs hasher.new
         ≤ H.pairs hasher.old + pairs_allowed (texts words.now) held) }
 {
@@ -128,7 +132,11 @@ pub fn run<F: Files, S: Sink, H: PairHash>(
     ensures not_taken { IsNone (taken (texts words.now)) → IsThatOrStopped Status.Usage result }
     ensures taken { result ≡ Status.ReadFault → IsSome (taken (texts words.now)) }
 
-    // A read fails only of the files that the words name.
+    // A read fails only of the files that the job reaches: no other is read. Where it is not told
+    // what the files hold, only of those that the words name.
+    ensures reached { ForSome (F.content files.old) (λ held.
+        AllByRecursion (F.readable files.old) (reached held (texts words.now))
+        → result ≢ Status.ReadFault) }
     ensures readable { ForSome (taken (texts words.now)) (λ asked.
         AllByRecursion (F.readable files.old) (files_of asked) → result ≢ Status.ReadFault) }
 

@@ -64,7 +64,8 @@ module _ (s : Shape) where
     pub not_trailing : rule.trailing_var_arg ≡ false
     pub settles : settle_fault s.rules s.args_override_self h ≡ []
 
-  abbrev pub takes_next : (h : Held) (position : ℕ) (word : Text) (rule : Rule) → is_plain word ≡ true
+  abbrev pub takes_next : (h : Held) (position : ℕ) (word : Text) (rule : Rule)
+      → is_plain word ≡ true
       → arg_by_index s.rules position ≡ Some rule → is_multiple rule ≡ false
       → rule.trailing_var_arg ≡ false → settle_fault s.rules s.args_override_self h ≡ []
       → TakesNext h position word
