@@ -12,19 +12,17 @@ use Rattle.ssz_schema.specs.Lookup.{lookup_name}
 use Rattle.ssz_schema.specs.Walk.{defined}
 use Rattle.ssz_schema.specs.Unfolding.{Types, built_ins, known_in, type_of}
 use Rattle.ssz_schema.specs.Adding.{IsFresh, Knows}
-use Rattle.ssz_schema_json.specs.declared.fault.SchemaRead.{SchemaRead}
-use Rattle.ssz_schema_json.specs.declared.fault.SchemaRead.TheVariants.{Def}
 use Rattle.ssz_schema_json.specs.declared.document.Definitions.{Definitions}
-use Rattle.ssz_schema_json.specs.Schema.{Named, NamedTypes, HasTypes, ◌>>=◌, in_definition, add_all, schema_of_document}
+use Rattle.ssz_schema_json.specs.Schema.{FileFault, at_definition, Named, NamedTypes, HasTypes, ◌>>=◌, in_definition, add_all, schema_of_document}
 use Rattle.ssz_schema_json.specs.Views.{document_view, fields_view}
 
 -- what all definitions give
-abbrev all_types : Definitions → Result Named SchemaRead
+abbrev all_types : Definitions → Result Named FileFault
 all_types definitions =
     add_all definitions.format 0 built_ins (fields_view definitions.items.items)
 
 -- the schema of these types
-abbrev finished : Definitions → Named → Result NamedTypes SchemaRead
+abbrev finished : Definitions → Named → Result NamedTypes FileFault
 finished definitions types = Ok (record { format = definitions.format; types = types })
 
 -- The schema has the types of the definitions so far: all definitions give what those that are
@@ -58,13 +56,13 @@ module _ (definitions : Definitions) (number : ℕ)
     (schema : Types) (adds : Adds definitions number left schema)
     (step : into_iter_steps left (Some (name, expr)) rest) where
   -- what follows the definition's type
-  abbrev others : SszType → Result Named SchemaRead
+  abbrev others : SszType → Result Named FileFault
   others t =
       add_all definitions.format (number + 1) ((name, t) ∷ adds.known)
       (fields_view (into_iter_items rest))
 
   -- what the definitions that are left give
-  abbrev after : Result SszType SchemaFault → Result Named SchemaRead
+  abbrev after : Result SszType SchemaFault → Result Named FileFault
   after walk = in_definition number walk >>= others
 
   -- the walk over the schema is the walk over what is known
@@ -84,7 +82,7 @@ module _ (definitions : Definitions) (number : ℕ)
   -- a definition with a fault is the first one, since all before it were added
   pub adds_fault : (fault : SchemaFault)
       → defined schema.format (known_in schema) name (form_of expr) ≡ Err fault
-      → schema_of_document (document_view definitions) ≡ Err (Def number fault)
+      → schema_of_document (document_view definitions) ≡ Err (at_definition number fault)
   adds_fault fault is =
       ap (λ r. r >>= finished definitions) (walked (Err fault) is)
 

@@ -15,6 +15,12 @@ use Rattle.ssz_schema_json.specs.declared.fault.SchemaRead.{SchemaRead}
 use Rattle.ssz_schema_json.specs.declared.fault.SchemaRead.TheVariants.{NotJson, Shape, Def, Memory}
 use Rattle.ssz_schema_json.specs.Document.{Document, written_document}
 
+-- what is wrong with a file: S1, S2, or S3 to S14 in the definition of this number
+pub data FileFault : Type 0 where
+  not_json : FileFault
+  no_document : FileFault
+  at_definition : ℕ → SchemaFault → FileFault
+
 -- a type for each name
 abbrev pub Named : Type 0
 Named = List (List ℕ × SszType)
@@ -27,32 +33,32 @@ pub record NamedTypes : Type 0 where
 infixl 10 ◌>>=◌
 -- what is wrong first ends the reading
 abbrev pub ◌>>=◌ : {A B : Type 0}
-    → Result A SchemaRead → (A → Result B SchemaRead) → Result B SchemaRead
+    → Result A FileFault → (A → Result B FileFault) → Result B FileFault
 (Ok x) >>= next = next x
 (Err e) >>= next = Err e
 
 -- the answer of the walk of the definition of this number
-abbrev pub in_definition : ℕ → Result SszType SchemaFault → Result SszType SchemaRead
+abbrev pub in_definition : ℕ → Result SszType SchemaFault → Result SszType FileFault
 in_definition number (Ok t) = Ok t
-in_definition number (Err fault) = Err (Def number fault)
+in_definition number (Err fault) = Err (at_definition number fault)
 
 -- definitions in order, the first of this number: each knows the names before it
-abbrev pub add_all : Format → ℕ → Named → FieldForms → Result Named SchemaRead
+abbrev pub add_all : Format → ℕ → Named → FieldForms → Result Named FileFault
 add_all format number known no_field_forms = Ok known
 add_all format number known (field_form name form rest) = do
   t ← in_definition number (defined format (lookup_name known) name form)
   add_all format (number + 1) ((name, t) ∷ known) rest
 
 -- the schema of a document: its definitions after the built-in names
-abbrev pub schema_of_document : Document → Result NamedTypes SchemaRead
+abbrev pub schema_of_document : Document → Result NamedTypes FileFault
 schema_of_document document = do
   types ← add_all document.format 0 built_ins document.definitions
   Ok (record { format = document.format; types = types })
 
 -- the schema of a JSON value: S2 over the whole value, then S3 to S14 in its definitions
-abbrev pub schema_of : Data → Result NamedTypes SchemaRead
+abbrev pub schema_of : Data → Result NamedTypes FileFault
 schema_of value = do
-  document ← ok_or (written_document value) Shape
+  document ← ok_or (written_document value) no_document
   schema_of_document document
 
 -- the value that `serde_json` reads from the bytes
@@ -60,9 +66,9 @@ abbrev pub json_of : List ℕ → Option Data
 json_of bytes = if is_utf8 bytes then read bytes else None
 
 -- the schema that the bytes of a file define: S1 where no value is read, then as the value says
-abbrev pub schema_of_bytes : List ℕ → Result NamedTypes SchemaRead
+abbrev pub schema_of_bytes : List ℕ → Result NamedTypes FileFault
 schema_of_bytes bytes = do
-  value ← ok_or (json_of bytes) NotJson
+  value ← ok_or (json_of bytes) not_json
   schema_of value
 
 -- the schema has the format, and for each name its type
@@ -71,9 +77,9 @@ pub record HasTypes (schema : Types) (names : NamedTypes) : Type 0 where
   pub types : (name : List ℕ) → known_in schema name ≡ lookup_name names.types name
 
 -- the answer is the schema that is meant, or what is wrong with it, unless memory runs out
-abbrev pub Reads : Result Types SchemaRead → Result NamedTypes SchemaRead → Type 0
+abbrev pub Reads : Result Types SchemaRead → Result NamedTypes FileFault → Type 0
 Reads (Ok schema) meant = (names : NamedTypes) × (meant ≡ Ok names) × HasTypes schema names
-Reads (Err NotJson) meant = meant ≡ Err NotJson
-Reads (Err Shape) meant = meant ≡ Err Shape
-Reads (Err (Def number fault)) meant = meant ≡ Err (Def number fault)
+Reads (Err NotJson) meant = meant ≡ Err not_json
+Reads (Err Shape) meant = meant ≡ Err no_document
+Reads (Err (Def number fault)) meant = meant ≡ Err (at_definition number fault)
 Reads (Err Memory) meant = Unit {0}

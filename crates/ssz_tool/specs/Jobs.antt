@@ -8,9 +8,7 @@ use Rattle.ssz_proof.specs.Judgement.{multiproof_of}
 use Rattle.ssz_schema.specs.Types.{SszType}
 use Rattle.ssz_schema.specs.Lookup.{lookup_name}
 use Rattle.ssz_schema.specs.declared.fault.Fault.{Fault}
-use Rattle.ssz_schema_json.specs.Schema.{NamedTypes, schema_of_bytes}
-use Rattle.ssz_schema_json.specs.declared.fault.SchemaRead.{SchemaRead}
-use Rattle.ssz_schema_json.specs.declared.fault.SchemaRead.TheVariants as schema_read
+use Rattle.ssz_schema_json.specs.Schema.{NamedTypes, FileFault, not_json, no_document, at_definition, schema_of_bytes}
 use Rattle.ssz_value.specs.Faults.{why}
 use Rattle.ssz_value.specs.Reading.{value_in}
 use Rattle.ssz_value.specs.Trees.{hash_tree_root}
@@ -36,13 +34,11 @@ pub data Reading : Type 0 where
   accepted : NamedTypes → Reading
   refused : Line → Reading
 
-abbrev pub reading_of_schema : Result NamedTypes SchemaRead → Reading
+abbrev pub reading_of_schema : Result NamedTypes FileFault → Reading
 reading_of_schema (Ok names) = accepted names
-reading_of_schema (Err schema_read.NotJson) = refused line.NotJson
-reading_of_schema (Err schema_read.Shape) = refused line.Shape
-reading_of_schema (Err (schema_read.Def number fault)) = refused (line.Definition number fault)
--- no schema of bytes wants memory
-reading_of_schema (Err schema_read.Memory) = refused line.NotJson
+reading_of_schema (Err not_json) = refused line.NotJson
+reading_of_schema (Err no_document) = refused line.Shape
+reading_of_schema (Err (at_definition number fault)) = refused (line.Definition number fault)
 
 -- a schema file has at most 2 ^ 26 bytes
 unfoldable pub reading_of : List ℕ → Reading
