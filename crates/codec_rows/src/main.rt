@@ -8,8 +8,9 @@
 ghost use Rattle.std.specs.Prelude.{◌<◌, ◌^◌, length};
 
 use anyhow::{Context, Result, bail};
+use ssz_bytes::Fault;
 use ssz_codec::{DecodeFault, check, decode, encode, encoded_len};
-use ssz_schema::{Fault, Schema, TypeId};
+use ssz_schema::{Schema, TypeId};
 use ssz_schema_json::read_schema;
 use std::alloc::{AllocError, Global};
 use std::fs;

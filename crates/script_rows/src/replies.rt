@@ -1,6 +1,7 @@
 // The lines of replies.
+use ssz_bytes::{ByteRun, Fault};
 use ssz_chunk::Chunk;
-use ssz_schema::{ByteRun, Fault, Name, Names};
+use ssz_schema::{Name, Names};
 use ssz_script::{Reply, reply_text};
 use std::alloc::{AllocError, Global};
 

@@ -1,5 +1,6 @@
 // The words of statements as text.
-use ssz_schema::{ByteRun, PathStep, Steps};
+use ssz_bytes::ByteRun;
+use ssz_schema::{PathStep, Steps};
 use ssz_script::{FileName, Identifier, Index};
 use std::alloc::AllocError;
 

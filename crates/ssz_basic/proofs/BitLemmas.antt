@@ -2,7 +2,7 @@
 use Rattle.std.proofs.Common.{ℕ, zero, suc, ◌+◌, ◌-◌, ◌*◌, ◌/◌, ◌%◌, ◌^◌, ◌<◌, ◌≡◌, List, [], ◌∷◌, get_or, inl, inr, sym, ap, ap₂, ◌∙◌, arith, pow-add}
 use Rattle.std.proofs.lemmas.Bool.{cases_lt}
 use Rattle.std.proofs.Math.Nat.{div-div-eq-div-mul}
-use Rattle.ssz_schema.specs.Bytes.{IsBytes, le_number}
+use Rattle.ssz_bytes.specs.Bytes.{IsBytes, le_number}
 
 -- a bit of the first byte
 first_byte : (x m i : ℕ) → i < 8 → (x + 256 * m) / 2 ^ i % 2 ≡ x / 2 ^ i % 2

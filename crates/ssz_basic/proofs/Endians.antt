@@ -4,7 +4,7 @@ use Rattle.std.proofs.lemmas.List.{drop_more, drop_all, append-nil}
 use Rattle.std.specs.Int.{bytes_low_first, byte_at}
 use Rattle.std.proofs.Math.Nat.{div-div-eq-div-mul}
 use Rattle.byteorder.specs.Endian.{little_from, little_number, little_bytes}
-use Rattle.ssz_schema.specs.Bytes.{le_bytes, le_number}
+use Rattle.ssz_bytes.specs.Bytes.{le_bytes, le_number}
 
 little_from_is : (i n : ℕ) (xs : List ℕ) → i + n ≡ length xs
     → little_from i n xs ≡ le_number (drop i xs)

@@ -2,10 +2,10 @@
 use Rattle.std.proofs.Common.{ℕ, zero, suc, ◌+◌, ◌-◌, ◌*◌, ◌/◌, ◌%◌, ◌^◌, ◌<◌, ◌≤◌, ◌≡◌, Some, None, List, [], ◌∷◌, length, get_or, refl, sym, ap, ◌∙◌, arith, pow-add, mul-le-mul_left}
 use Rattle.std.proofs.lemmas.Bool.{cond-true, cond-false, le-leb, lt-leb}
 use Rattle.std.proofs.lemmas.Nat.{one_shl}
-use Rattle.ssz_schema.specs.Bytes.{IsBytes, le_number}
-use Rattle.ssz_schema.proofs.Bits.{power_of_bytes}
-use Rattle.ssz_schema.proofs.Delimiters.{IsLedBy, last-leads}
-use Rattle.ssz_schema.specs.Faults.{last_after, last_byte, bitvector_fault}
+use Rattle.ssz_bytes.specs.Bytes.{IsBytes, le_number}
+use Rattle.ssz_bytes.proofs.Bits.{power_of_bytes}
+use Rattle.ssz_bytes.proofs.Delimiters.{IsLedBy, last-leads}
+use Rattle.ssz_bytes.specs.Faults.{last_after, last_byte, bitvector_fault}
 
 last_after_is : (byte : ℕ) (b : List ℕ) → get_or (byte ∷ b) (length b) 0 ≡ last_after byte b
 last_after_is byte [] = refl

@@ -3,8 +3,8 @@ use Rattle.std.proofs.Common.{ℕ, zero, suc, ◌≡◌, ◌<◌, ◌≤◌, ◌
 use Rattle.std.proofs.Math.Nat.{pow-le-pow_right, pow-succ'}
 use Rattle.std.proofs.lemmas.List.{append-nil, take_more_set, take_all, drop-drop, length-set}
 use mir.Val.{bool_byte}
-use Rattle.ssz_schema.specs.Bytes.{le_bytes, number_of_bits, bit_value}
-use Rattle.ssz_schema.proofs.Bits.{number_of_bits_lt, power_up}
+use Rattle.ssz_bytes.specs.Bytes.{le_bytes, number_of_bits, bit_value}
+use Rattle.ssz_bytes.proofs.Bits.{number_of_bits_lt, power_up}
 
 no_bits : (n p : ℕ) → number_of_bits (take n (drop p [])) ≡ 0
 no_bits zero p = refl

@@ -1,9 +1,9 @@
 ghost use Rattle.std.specs.Prelude.{◌≡◌, ◌<◌, ◌≤◌, ◌+◌, ◌-◌, ◌*◌, ◌/◌, ◌%◌, ◌^◌, ◌==◌, false, length, take, drop, IfOk, slice_index_or};
 ghost use Rattle.std.specs.Result.{result_err};
-ghost use Rattle.ssz_schema.specs.Bytes.{le_bytes, le_number, number_of_bits, delimited, bits_size};
-ghost use Rattle.ssz_schema.specs.Faults.{bitvector_fault, bitlist_fault, bitlist_length, highest_bit};
+ghost use Rattle.ssz_bytes.specs.Bytes.{le_bytes, le_number, number_of_bits, delimited, bits_size};
+ghost use Rattle.ssz_bytes.specs.Faults.{bitvector_fault, bitlist_fault, bitlist_length, highest_bit};
 
-use ssz_schema::{BitRun, Fault};
+use ssz_bytes::{BitRun, Fault};
 
 /// Bit i of the bytes.
 pub fn bit(bytes: &[u8], i: u64) -> bool

@@ -13,7 +13,8 @@ pub use numbers::{put_uint, read_bool, read_uint};
 #[cfg(test)]
 mod tests {
     use super::*;
-    use ssz_schema::{BitRun, Width};
+    use ssz_bytes::BitRun;
+    use ssz_schema::Width;
     use std::test::Fail;
 
     #[test]

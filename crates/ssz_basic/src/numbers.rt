@@ -2,11 +2,12 @@ ghost use Rattle.std.specs.Prelude.{◌≡◌, ◌≢◌, ◌<◌, ◌^◌, ◌=
 ghost use Rattle.std.specs.Result.{result_err};
 ghost use Rattle.ssz_schema.specs.declared.width.Width.TheVariants.{W256};
 ghost use Rattle.ssz_schema.specs.Sizes.{byte_count};
-ghost use Rattle.ssz_schema.specs.Bytes.{le_bytes, le_number};
-ghost use Rattle.ssz_schema.specs.Faults.{bool_fault};
+ghost use Rattle.ssz_bytes.specs.Bytes.{le_bytes, le_number};
+ghost use Rattle.ssz_bytes.specs.Faults.{bool_fault};
 
 use byteorder::{ByteOrder, LittleEndian};
-use ssz_schema::{Fault, Width};
+use ssz_bytes::Fault;
+use ssz_schema::Width;
 
 /// Fills the bytes with the encoding of a number of a width up to 128 bits.
 pub fn put_uint(width: Width, number: u128, bytes: &mut [u8])

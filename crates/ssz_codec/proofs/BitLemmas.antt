@@ -1,7 +1,7 @@
 -- Bits of a number, one more.
 use Rattle.std.proofs.Common.{ℕ, zero, suc, ◌+◌, ◌/◌, ◌%◌, ◌^◌, ◌≡◌, ◌==◌, [], ◌∷◌, ◌++◌, sym, ap, ◌∙◌, arith}
 use Rattle.std.proofs.Math.Nat.{div-div-eq-div-mul, pow-succ'}
-use Rattle.ssz_schema.specs.Bytes.{bits_of_number}
+use Rattle.ssz_bytes.specs.Bytes.{bits_of_number}
 
 pub bits_of_number-more : (i x : ℕ)
     → bits_of_number (i + 1) x ≡ bits_of_number i x ++ (x / 2 ^ i % 2 == 1) ∷ []

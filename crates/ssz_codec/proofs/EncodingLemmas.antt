@@ -11,7 +11,7 @@ use Rattle.ssz_value.specs.declared.value.Value.{Value}
 use Rattle.ssz_value.specs.declared.value.Value.TheVariants.{Bits}
 use Rattle.ssz_value.proofs.ValueLemmas.{bits_are}
 use Rattle.ssz_value.specs.Standing.{value_of, IsValue}
-use Rattle.ssz_schema.specs.Bytes.{le_bytes, bit_value, number_of_bits, delimited, bits_size}
+use Rattle.ssz_bytes.specs.Bytes.{le_bytes, bit_value, number_of_bits, delimited, bits_size}
 use Rattle.ssz_value.specs.Encoding.{enc, heads, bodies, heads_length, joined_alike, option_encoding}
 use Rattle.ssz_value.specs.Values.{SszValue, number, wide, truth, chosen, chosen_none, bits, sequence, values, items, Fits}
 use Rattle.ssz_value.proofs.Sequences.{items-values}

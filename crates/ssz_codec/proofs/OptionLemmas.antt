@@ -6,7 +6,7 @@ use Rattle.ssz_value.specs.declared.value.Value.{Value}
 use Rattle.ssz_value.specs.Values.{chosen, chosen_none}
 use Rattle.ssz_value.specs.Standing.{Stands}
 use Rattle.ssz_value.specs.Faults.{why}
-use Rattle.ssz_schema.specs.Faults.{extra}
+use Rattle.ssz_bytes.specs.Faults.{extra}
 use Rattle.ssz_value.specs.Reading.{value_in, option_in}
 use Rattle.ssz_parts.proofs.UnionLemmas.{union_none}
 use Rattle.ssz_codec.specs.declared.fault.DecodeFault.{DecodeFault}

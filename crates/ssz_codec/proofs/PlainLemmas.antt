@@ -3,9 +3,9 @@ use Rattle.std.proofs.Common.{ℕ, zero, suc, ◌+◌, ◌-◌, ◌*◌, ◌/◌
 use Rattle.std.proofs.lemmas.Bool.{cond-false, lt-leb, and_parts}
 use Rattle.ssz_schema.specs.Types.{SszType, Fields, uint, boolean, container, vector, list, bitvector, bitlist, union, no_fields, field}
 use Rattle.ssz_schema.specs.Sizes.{byte_count, fixed_size, part_sizes, total_size}
-use Rattle.ssz_schema.specs.Bytes.{IsBytes, le_number}
-use Rattle.ssz_schema.proofs.Numbers.{le_number_lt, IsBytes-drop, IsBytes-take}
-use Rattle.ssz_schema.proofs.Bits.{power_of_bytes}
+use Rattle.ssz_bytes.specs.Bytes.{IsBytes, le_number}
+use Rattle.ssz_bytes.proofs.Numbers.{le_number_lt, IsBytes-drop, IsBytes-take}
+use Rattle.ssz_bytes.proofs.Bits.{power_of_bytes}
 use Rattle.ssz_value.specs.Encoding.{heads_length}
 use Rattle.ssz_value.specs.Faults.{why, first_fault, fields_fault, alike_fault, elements_fault, scopes}
 use Rattle.ssz_value.proofs.Agree.{right_length, no_fault, same_some}

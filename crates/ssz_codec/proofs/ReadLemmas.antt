@@ -6,7 +6,7 @@ use Rattle.ssz_schema.specs.Sizes.{head_size, fixed_size}
 use Rattle.ssz_schema.specs.declared.format.Format.{Format}
 use Rattle.ssz_schema.specs.Legal.{IsLegal}
 use Rattle.ssz_schema.specs.Unfolding.{tree_at, fields_over}
-use Rattle.ssz_schema.specs.declared.fault.Fault.{Fault}
+use Rattle.ssz_bytes.specs.declared.fault.Fault.{Fault}
 use Rattle.ssz_value.specs.declared.value.Value.{Value}
 use Rattle.ssz_value.specs.Values.{SszValue, sequence, values, Fits}
 use Rattle.ssz_value.specs.Laws.{Encodes}

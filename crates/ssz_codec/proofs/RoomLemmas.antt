@@ -10,10 +10,10 @@ use Rattle.ssz_schema.specs.Legal.{IsLegal, AreLegalFields}
 use Rattle.ssz_schema.specs.Unfolding.{fields_over}
 use Rattle.ssz_value.specs.declared.value.Value.{Value}
 use Rattle.ssz_value.specs.Standing.{value_of, IsValue}
-use Rattle.ssz_schema.specs.Bytes.{le_bytes}
+use Rattle.ssz_bytes.specs.Bytes.{le_bytes}
 use Rattle.ssz_value.specs.Encoding.{enc, heads, bodies, heads_length, joined, joined_alike, field_encodings}
 use Rattle.ssz_value.specs.Values.{Fits, FitFields}
-use Rattle.ssz_schema.proofs.Numbers.{length-le_bytes}
+use Rattle.ssz_bytes.proofs.Numbers.{length-le_bytes}
 use Rattle.ssz_value.proofs.Cut.{AreParts, length-heads}
 use Rattle.ssz_value.proofs.Sequences.{AreParts-alike}
 use Rattle.ssz_value.proofs.ExactLaw.{agrees, fields_agree}

@@ -7,7 +7,7 @@ use Rattle.ssz_schema.specs.Sizes.{fixed_size, head_size, part_sizes}
 use Rattle.ssz_schema.specs.Unfolding.{tree_at, fields_over}
 use Rattle.ssz_value.specs.declared.value.Value.{Value}
 use Rattle.ssz_value.specs.Standing.{value_of, IsValue}
-use Rattle.ssz_schema.specs.Bytes.{le_bytes}
+use Rattle.ssz_bytes.specs.Bytes.{le_bytes}
 use Rattle.ssz_value.specs.Encoding.{enc, heads, bodies, heads_length, joined, field_encodings}
 use Rattle.ssz_value.specs.Values.{values}
 use Rattle.ssz_schema.proofs.WalkFields.{drop_at}

@@ -1,7 +1,7 @@
 -- Bytes that are written into room for them.
 use Rattle.std.specs.Prelude.{ℕ, ◌+◌, ◌≡◌, List, [], ◌++◌, length, take, Option, Some, None}
 use Rattle.ssz_schema.specs.Sizes.{head_size}
-use Rattle.ssz_schema.specs.Bytes.{offset_bytes}
+use Rattle.ssz_bytes.specs.Bytes.{offset_bytes}
 use Rattle.ssz_value.specs.Encoding.{heads, bodies}
 
 -- the room begins with the bytes, which are so many

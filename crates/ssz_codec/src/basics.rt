@@ -3,7 +3,7 @@ ghost use Rattle.std.specs.Prelude.{◌≡◌, ◌≢◌, ◌+◌, ◌*◌, ◌<
 ghost use Rattle.ssz_schema.specs.declared.width.Width.TheVariants.{W8, W256};
 ghost use Rattle.ssz_schema.specs.Types.{uint, boolean, vector, bitvector, bitlist};
 ghost use Rattle.ssz_schema.specs.Sizes.{byte_count};
-ghost use Rattle.ssz_schema.specs.Bytes.{le_number, bits_of_number};
+ghost use Rattle.ssz_bytes.specs.Bytes.{le_number, bits_of_number};
 ghost use Rattle.ssz_value.specs.Values.{sequence, values};
 ghost use Rattle.ssz_value.specs.Faults.{why, elements_fault};
 ghost use Rattle.ssz_value.specs.Reading.{value_in, elements_in};
@@ -12,9 +12,10 @@ ghost use Rattle.ssz_codec.specs.Answers.{AreNumbers, Decodes, DecodesTo};
 
 use super::fault::DecodeFault;
 use ssz_basic::{bit, read_bitlist, read_bitvector, read_bool, read_uint};
+use ssz_bytes::{BitRun, ByteRun};
 use ssz_chunk::Chunk;
 use ssz_parts::length_fault;
-use ssz_schema::{BitRun, ByteRun, Width};
+use ssz_schema::Width;
 use ssz_value::Value;
 use std::alloc::{AllocError, Global};
 

@@ -8,11 +8,12 @@ ghost use Rattle.ssz_value.specs.Faults.{why, elements_fault};
 
 use super::plain::is_plain;
 use ssz_basic::{read_bitlist, read_bitvector, read_bool};
+use ssz_bytes::Fault;
 use ssz_parts::{
     count_of, end_of_part, fields_head_fault, head_len, length_fault, offset_at, offsets_fault,
     part_range, union_head,
 };
-use ssz_schema::{Fault, Name, Schema, Ty, TypeId};
+use ssz_schema::{Name, Schema, Ty, TypeId};
 
 /// The first fault of the bytes, or None where they have none: by the law `decoding_is_exact` of
 /// ssz_value exactly where they are the encoding of a value of the type.

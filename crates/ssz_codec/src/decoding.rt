@@ -3,7 +3,7 @@ ghost use Rattle.std.specs.List.{AllByRecursion};
 ghost use Rattle.ssz_schema.specs.Types.{Options, boolean, container, vector, bitvector, bitlist, union};
 ghost use Rattle.ssz_schema.specs.Sizes.{fixed_size};
 ghost use Rattle.ssz_schema.specs.Legal.{IsSize};
-ghost use Rattle.ssz_schema.specs.Faults.{extra};
+ghost use Rattle.ssz_bytes.specs.Faults.{extra};
 ghost use Rattle.ssz_schema.specs.Unfolding.{type_of, fields_over, options_over, IsBelow};
 ghost use Rattle.ssz_value.specs.Values.{chosen_none, sequence, values};
 ghost use Rattle.ssz_value.specs.Faults.{why, elements_fault};
@@ -16,11 +16,12 @@ ghost use Rattle.ssz_codec.specs.Answers.{Decodes, DecodesTo};
 
 use super::basics::{bitlist, bitvector, boolean, byte_elements, number, numbers};
 use super::fault::DecodeFault;
+use ssz_bytes::Fault;
 use ssz_parts::{
     count_of, end_of_part, fields_head_fault, head_len, length_fault, none_fault, offset_at,
     offsets_fault, part_range,
 };
-use ssz_schema::{Fault, Name, Schema, Ty, TypeId};
+use ssz_schema::{Name, Schema, Ty, TypeId};
 use ssz_value::{Value, is_byte, option_at};
 use std::alloc::Global;
 

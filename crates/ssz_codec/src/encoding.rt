@@ -3,7 +3,7 @@ ghost use Rattle.std.specs.List.{AllByRecursion};
 ghost use Rattle.ssz_schema.specs.Types.{container, union, uint, boolean, bitvector, bitlist};
 ghost use Rattle.ssz_schema.specs.Sizes.{byte_count, fixed_size, head_size, part_sizes};
 ghost use Rattle.ssz_schema.specs.Legal.{IsLegal};
-ghost use Rattle.ssz_schema.specs.Bytes.{le_bytes, number_of_bits, delimited, bits_size};
+ghost use Rattle.ssz_bytes.specs.Bytes.{le_bytes, number_of_bits, delimited, bits_size};
 ghost use Rattle.ssz_schema.specs.Unfolding.{type_of, fields_over, options_over, IsBelow};
 ghost use Rattle.ssz_value.specs.Encoding.{enc, heads_length, bodies, joined, joined_alike, field_encodings};
 ghost use Rattle.ssz_value.specs.Standing.{value_of, IsValue};
@@ -14,8 +14,9 @@ ghost use Rattle.ssz_codec.specs.Writing.{Writes, PutsPart, PutsAll, body_of};
 use super::fault::EncodeFault;
 use super::measuring::encoded_len;
 use ssz_basic::{put_bits, put_uint};
+use ssz_bytes::BitRun;
 use ssz_parts::head_len;
-use ssz_schema::{BitRun, Name, Schema, Ty, TypeId, Width};
+use ssz_schema::{Name, Schema, Ty, TypeId, Width};
 use ssz_value::{Value, option_at, wide_bytes};
 
 /// Appends the value's encoding. `TooLong` exactly where its length exceeds max. After a refusal

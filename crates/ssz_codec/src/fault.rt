@@ -1,4 +1,4 @@
-use ssz_schema::Fault;
+use ssz_bytes::Fault;
 use std::alloc::{AllocError, AllocFailed};
 
 /// Why bytes give no value.

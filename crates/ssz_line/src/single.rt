@@ -8,8 +8,9 @@ use super::fault::LineFault;
 use super::file_name::FileName;
 use super::identifier::Identifier;
 use hex::FromHexError;
+use ssz_bytes::ByteRun;
 use ssz_decimal::number_of_8_bits;
-use ssz_schema::{ByteRun, Name, is_name};
+use ssz_schema::{Name, is_name};
 use std::alloc::Global;
 
 // The longest name of a file, in bytes.

@@ -2,7 +2,7 @@
 use Rattle.std.proofs.Common.{ℕ, ◌≡◌, ◌/◌, ◌%◌, ◌^◌, List, [], ◌∷◌, ◌++◌, length, drop, refl, ap, ap₂, ◌∙◌, arith}
 use Rattle.std.proofs.lemmas.List.{drop_all, append-nil}
 use Rattle.byteorder.specs.Endian.{little_number, little_bytes}
-use Rattle.ssz_schema.specs.Bytes.{le_bytes, le_number}
+use Rattle.ssz_bytes.specs.Bytes.{le_bytes, le_number}
 
 -- read
 pub four_read : (bytes : List ℕ) → length bytes ≡ 4 → little_number 4 bytes ≡ le_number bytes

@@ -1,10 +1,11 @@
 ghost use Rattle.std.specs.Prelude.{◌≡◌, ◌==◌, length, nat_lt, if◌then◌else◌, None};
 ghost use Rattle.std.specs.Result.{result_err};
-ghost use Rattle.ssz_schema.specs.Bytes.{le_number, offset_size};
-ghost use Rattle.ssz_schema.specs.Faults.{first_offset, offset_range, offset_order};
+ghost use Rattle.ssz_bytes.specs.Bytes.{le_number};
+ghost use Rattle.ssz_schema.specs.Sizes.{offset_size};
+ghost use Rattle.ssz_bytes.specs.Faults.{first_offset, offset_range, offset_order};
 
 use byteorder::{ByteOrder, LittleEndian};
-use ssz_schema::Fault;
+use ssz_bytes::Fault;
 
 /// The offset that these four bytes are.
 pub fn read_offset(bytes: &[u8]) -> u32

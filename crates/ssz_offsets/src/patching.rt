@@ -1,5 +1,6 @@
 ghost use Rattle.std.specs.Prelude.{◌≡◌, ◌≤◌, ◌+◌, ◌++◌, length, take, drop, IfOk, OnErr, List, ℕ};
-ghost use Rattle.ssz_schema.specs.Bytes.{offset_bytes, offset_size};
+ghost use Rattle.ssz_bytes.specs.Bytes.{offset_bytes};
+ghost use Rattle.ssz_schema.specs.Sizes.{offset_size};
 
 use byteorder::{ByteOrder, LittleEndian};
 use std::alloc::AllocError;

@@ -5,11 +5,11 @@ use Rattle.std.proofs.lemmas.List.{length-map, length-replicate}
 use Rattle.ssz_chunk.specs.Tree.{leaf, root, full, grow}
 use Rattle.ssz_schema.specs.Types.{SszType, Fields, no_fields, field, container, vector, list, bitvector}
 use Rattle.ssz_schema.specs.Sizes.{fixed_size, basic_size, element_chunks, field_count, part_length, default_length, default_fields_length, depth_of, depth}
-use Rattle.ssz_schema.specs.Bytes.{le_bytes, le_number, number_of_bits, bits_of_number}
-use Rattle.ssz_schema.specs.Faults.{bitvector_fault}
+use Rattle.ssz_bytes.specs.Bytes.{le_bytes, le_number, number_of_bits, bits_of_number}
+use Rattle.ssz_bytes.specs.Faults.{bitvector_fault}
 use Rattle.ssz_schema.specs.Legal.{IsLegal, AreLegalFields}
 use Rattle.ssz_schema.specs.Unfolding.{fields_over}
-use Rattle.ssz_schema.proofs.Bits.{length-bits_of_number}
+use Rattle.ssz_bytes.proofs.Bits.{length-bits_of_number}
 use Rattle.ssz_schema.proofs.DepthLemmas.{depth_of-holds}
 use Rattle.ssz_schema.proofs.SizeLemmas.{default_length-fixed, fixed_size-positive}
 use Rattle.ssz_schema.proofs.SumLemmas.{field_count-over}

@@ -6,8 +6,8 @@ use Rattle.ssz_chunk.specs.Chunk.{zero_chunk}
 use Rattle.ssz_schema.specs.declared.width.Width.TheVariants.{W8, W16, W32, W64, W128, W256}
 use Rattle.ssz_schema.specs.Types.{SszType, uint, boolean, container, vector, list, bitvector, bitlist, union}
 use Rattle.ssz_schema.specs.Sizes.{basic_size}
-use Rattle.ssz_schema.specs.Bytes.{le_bytes, bit_value}
-use Rattle.ssz_schema.proofs.Numbers.{length-le_bytes}
+use Rattle.ssz_bytes.specs.Bytes.{le_bytes, bit_value}
+use Rattle.ssz_bytes.proofs.Numbers.{length-le_bytes}
 use Rattle.ssz_value.specs.declared.value.Value.{Value}
 use Rattle.ssz_value.specs.Values.{SszValue, number, wide, truth, sequence, bits, chosen, chosen_none, Fits}
 use Rattle.ssz_value.specs.Encoding.{enc}

@@ -9,13 +9,13 @@ use Rattle.ssz_chunk.specs.Chunk.{zero_chunk}
 use Rattle.ssz_chunk.specs.Tree.{root, full, grow}
 use Rattle.ssz_schema.specs.Types.{SszType, bitlist}
 use Rattle.ssz_schema.specs.Sizes.{depth}
-use Rattle.ssz_schema.specs.Bytes.{IsBytes, le_bytes, le_number, number_of_bits, bits_of_number}
+use Rattle.ssz_bytes.specs.Bytes.{IsBytes, le_bytes, le_number, number_of_bits, bits_of_number}
 use Rattle.ssz_value.specs.Faults.{why}
 use Rattle.ssz_value.specs.Reading.{value_in}
 use Rattle.ssz_value.specs.Trees.{tree, padded, chunks, pack, pack_bits, number_chunk}
 use Rattle.ssz_value.proofs.Agree.{IsInput}
 use Rattle.ssz_value.proofs.Cut.{passes}
-use Rattle.ssz_schema.proofs.Numbers.{length-le_bytes, le_bytes_of}
+use Rattle.ssz_bytes.proofs.Numbers.{length-le_bytes, le_bytes_of}
 use Rattle.ssz_basic.proofs.LastByte.{last_byte_is}
 use Rattle.ssz_merkle.specs.Frontier.{leaves}
 use Rattle.ssz_merkle.specs.Packing.{chunk_of}
@@ -23,10 +23,10 @@ use Rattle.ssz_packing.specs.Bits.{undelimited}
 use Rattle.ssz_schema.proofs.DepthLemmas.{depth_of-holds}
 use Rattle.ssz_packing.proofs.Bounds.{levels_few, limit_few}
 use Rattle.ssz_schema.specs.Legal.{IsLegal}
-use Rattle.ssz_schema.specs.Faults.{bitlist_length, last_after, last_byte, highest_bit}
+use Rattle.ssz_bytes.specs.Faults.{bitlist_length, last_after, last_byte, highest_bit}
 use Rattle.ssz_value.specs.Pairs.{pairs}
-use Rattle.ssz_schema.proofs.Bits.{length-bits_of_number, number_of_bits_lt, number_of_bits-delimited, HasTop, power_of_bytes}
-use Rattle.ssz_schema.proofs.Delimiters.{HasTop-bitlist, highest_bit-is_highest, last_after_lt}
+use Rattle.ssz_bytes.proofs.Bits.{length-bits_of_number, number_of_bits_lt, number_of_bits-delimited, HasTop, power_of_bytes}
+use Rattle.ssz_bytes.proofs.Delimiters.{HasTop-bitlist, highest_bit-is_highest, last_after_lt}
 
 set-append : {X : Type 0} (xs ys : List X) (j : ℕ) (x : X) → j < length xs
     → slice_set (xs ++ ys) j x ≡ slice_set xs j x ++ ys

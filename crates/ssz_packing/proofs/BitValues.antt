@@ -2,9 +2,9 @@
 use Rattle.std.proofs.Common.{◌≡◌, ℕ, zero, suc, ◌+◌, ◌*◌, ◌/◌, ◌^◌, ◌<◌, ◌≤◌, Bool, List, [], ◌∷◌, length, drop, sym, ap, ◌∙◌, arith}
 use Rattle.std.proofs.Math.Nat.{div-div-eq-div-mul, zero-div}
 use Rattle.ssz_basic.proofs.PutLemmas.{bit_small}
-use Rattle.ssz_schema.specs.Bytes.{le_bytes, number_of_bits, bit_value}
-use Rattle.ssz_schema.proofs.Bits.{number_of_bits_lt, power_of_bytes, power_up}
-use Rattle.ssz_schema.proofs.Numbers.{length-le_bytes}
+use Rattle.ssz_bytes.specs.Bytes.{le_bytes, number_of_bits, bit_value}
+use Rattle.ssz_bytes.proofs.Bits.{number_of_bits_lt, power_of_bytes, power_up}
+use Rattle.ssz_bytes.proofs.Numbers.{length-le_bytes}
 use Rattle.ssz_value.specs.Trees.{chunks, pack_bits}
 use Rattle.ssz_merkle.specs.Packing.{chunk_of}
 use Rattle.ssz_packing.proofs.ChunkLaws.{chunk_of-le_bytes}

@@ -5,8 +5,8 @@ use Rattle.std.proofs.lemmas.Bool.{cases_lt}
 use Rattle.std.proofs.lemmas.Nat.{pow-add}
 use Rattle.std.proofs.lemmas.List.{take-append-le}
 use Rattle.ssz_chunk.specs.Chunk.{zero_chunk}
-use Rattle.ssz_schema.specs.Bytes.{le_bytes}
-use Rattle.ssz_schema.proofs.Numbers.{length-le_bytes}
+use Rattle.ssz_bytes.specs.Bytes.{le_bytes}
+use Rattle.ssz_bytes.proofs.Numbers.{length-le_bytes}
 use Rattle.ssz_value.specs.Trees.{padded}
 use Rattle.ssz_merkle.specs.Packing.{chunk_of}
 use Rattle.ssz_merkle.proofs.Padding.{take-padded}

@@ -1,6 +1,6 @@
 -- A number as a chunk.
 use Rattle.std.proofs.Common.{◌≡◌, ℕ, zero, suc, ◌+◌, ◌/◌, ◌%◌, ◌^◌, ◌<◌, ◌∷◌, ◌++◌, replicate, refl, ap, ap₂, ◌∙◌, arith}
-use Rattle.ssz_schema.specs.Bytes.{le_bytes}
+use Rattle.ssz_bytes.specs.Bytes.{le_bytes}
 
 -- the bytes of a small number are zeros at the end
 pub le_bytes-zeros : (count more n : ℕ) → n < 256 ^ count → le_bytes (count + more) n

@@ -1,5 +1,5 @@
 ghost use Rattle.std.specs.Prelude.{◌≡◌, ◌*◌, ◌<◌, length, drop};
-ghost use Rattle.ssz_schema.specs.Bytes.{le_bytes, number_of_bits};
+ghost use Rattle.ssz_bytes.specs.Bytes.{le_bytes, number_of_bits};
 
 use ssz_basic::byte_from;
 use ssz_chunk::Chunk;

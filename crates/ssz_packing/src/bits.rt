@@ -1,7 +1,7 @@
 ghost use Rattle.std.specs.Prelude.{◌≡◌, ◌<◌, ◌^◌, length};
 ghost use Rattle.ssz_merkle.specs.Packing.{chunk_of};
 ghost use Rattle.ssz_packing.specs.Bits.{undelimited};
-ghost use Rattle.ssz_schema.specs.Faults.{bitlist_length, last_byte};
+ghost use Rattle.ssz_bytes.specs.Faults.{bitlist_length, last_byte};
 
 use ssz_basic::highest_bit;
 use ssz_chunk::Chunk;

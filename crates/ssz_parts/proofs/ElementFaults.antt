@@ -1,7 +1,7 @@
 -- Elements of one type, one after another.
 use Rattle.std.proofs.Common.{ℕ, zero, suc, ◌+◌, ◌-◌, ◌*◌, ◌<◌, ◌≤◌, ◌≡◌, inl, inr, cond, List, [], ◌∷◌, length, replicate, slice_range, Option, Some, None, refl, sym, ap, ap₂, ◌∙◌, arith, ltb, ltb-false, eqb, eqb-true, le-ltb, lt-ltb, eq-eqb, zero-mul}
 use Rattle.std.proofs.lemmas.Bool.{cases_lt, cond-true, cond-false}
-use Rattle.ssz_schema.specs.declared.fault.Fault.{Fault}
+use Rattle.ssz_bytes.specs.declared.fault.Fault.{Fault}
 use Rattle.ssz_value.specs.Encoding.{heads_length}
 use Rattle.ssz_value.proofs.Agree.{right_length}
 use Rattle.ssz_value.proofs.Cut.{passes, chosen_none_of}

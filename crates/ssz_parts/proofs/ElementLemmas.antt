@@ -4,7 +4,7 @@ use Rattle.std.proofs.lemmas.List.{length-replicate}
 use Rattle.std.proofs.Math.Nat.{mul-le-mul_left}
 use Rattle.ssz_schema.specs.Types.{SszType}
 use Rattle.ssz_schema.specs.declared.format.Format.{Format}
-use Rattle.ssz_schema.specs.declared.fault.Fault.{Fault}
+use Rattle.ssz_bytes.specs.declared.fault.Fault.{Fault}
 use Rattle.ssz_schema.specs.Legal.{IsLegal}
 use Rattle.ssz_value.specs.Encoding.{heads_length}
 use Rattle.ssz_value.specs.Faults.{Scope, scopes, bytes_of, head_fault, alike_fault, elements_fault, offset_at, next_offset, why}

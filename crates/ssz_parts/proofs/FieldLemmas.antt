@@ -4,7 +4,7 @@ use Rattle.std.proofs.lemmas.List.{drop_all}
 use Rattle.ssz_schema.specs.Types.{SszType, container}
 use Rattle.ssz_schema.specs.Sizes.{head_size}
 use Rattle.ssz_schema.specs.Unfolding.{tree_at, fields_over}
-use Rattle.ssz_schema.specs.declared.fault.Fault.{Fault}
+use Rattle.ssz_bytes.specs.declared.fault.Fault.{Fault}
 use Rattle.ssz_value.specs.Encoding.{heads_length}
 use Rattle.ssz_value.specs.Faults.{next_offset, offset_at, head_fault, first_fault, later_fault, why, fields_fault, scopes, ◌otherwise◌}
 use Rattle.ssz_schema.proofs.WalkFields.{drop_at}

@@ -4,7 +4,7 @@ use Rattle.std.proofs.lemmas.Bool.{cond-true, cond-false}
 use Rattle.std.proofs.lemmas.List.{drop_all}
 use Rattle.ssz_schema.specs.Types.{SszType}
 use Rattle.ssz_schema.specs.Sizes.{head_size, total_size}
-use Rattle.ssz_schema.specs.declared.fault.Fault.{Fault}
+use Rattle.ssz_bytes.specs.declared.fault.Fault.{Fault}
 use Rattle.ssz_value.specs.Encoding.{heads_length}
 use Rattle.ssz_value.specs.Faults.{offset_at, head_fault, first_fault, later_fault}
 use Rattle.ssz_value.proofs.PartLemmas.{Part, sizes_of, size_at, sizes_from}

@@ -1,6 +1,6 @@
 -- The faults of one offset, and of the offsets behind it.
 use Rattle.std.proofs.Common.{◌≡◌, Bool, true, false, cond, Option, Some, None, refl}
-use Rattle.ssz_schema.specs.declared.fault.Fault.{Fault}
+use Rattle.ssz_bytes.specs.declared.fault.Fault.{Fault}
 
 -- a fault of the offset is that of all, whatever follows
 pub first_found : (is_end : Bool) (rest bad : Option Fault) (f : Fault)

@@ -7,7 +7,7 @@ use Rattle.ssz_schema.specs.Sizes.{option_count}
 use Rattle.ssz_schema.proofs.OptionLemmas.{option_count-over}
 use Rattle.ssz_schema.specs.Unfolding.{tree_at, options_over, IsBelow}
 use Rattle.ssz_value.specs.Faults.{why, option_fault}
-use Rattle.ssz_schema.specs.Faults.{extra, bad_selector}
+use Rattle.ssz_bytes.specs.Faults.{extra, bad_selector}
 
 none_past : (ids : List (Option ℕ)) (k : ℕ) → None ≡ slice_get ids k → length ids ≤ k
 none_past [] k e = omega arith

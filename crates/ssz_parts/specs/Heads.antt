@@ -1,7 +1,7 @@
 -- An offset among the fixed parts of fields.
 use Rattle.std.specs.Prelude.{ℕ, ◌==◌, nat_lt, if◌then◌else◌, Option, Some, None}
-use Rattle.ssz_schema.specs.declared.fault.Fault.{Fault}
-use Rattle.ssz_schema.specs.Faults.{first_offset, offset_range, offset_order}
+use Rattle.ssz_bytes.specs.declared.fault.Fault.{Fault}
+use Rattle.ssz_bytes.specs.Faults.{first_offset, offset_range, offset_order}
 
 -- the fault of the offset found at a position, where the fixed parts end at end and the scope at
 -- len: of the first offset, or of one with another before it

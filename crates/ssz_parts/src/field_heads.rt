@@ -8,7 +8,8 @@ ghost use Rattle.ssz_value.specs.Faults.{head_fault};
 
 use super::heads::{length_fault, offset_fault};
 use super::offsets::{head_len, offset_at};
-use ssz_schema::{Fault, Name, Schema, TypeId};
+use ssz_bytes::Fault;
+use ssz_schema::{Name, Schema, TypeId};
 
 // The length of all fixed parts of these fields, or None where it is above the limit.
 fn heads_within(schema: &Schema, fields: &[(Name, TypeId)], limit: u64) -> Option<u64>

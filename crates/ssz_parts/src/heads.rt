@@ -1,13 +1,13 @@
 ghost use Rattle.std.specs.Prelude.{◌≡◌, ◌+◌, ◌-◌, ◌*◌, ◌<◌, ◌≤◌, ◌^◌, length, replicate, IfOk, Option, None, nat_lt, if◌then◌else◌};
 ghost use Rattle.std.specs.Option.{ForSome};
 ghost use Rattle.std.specs.Result.{result_err};
-ghost use Rattle.ssz_schema.specs.Faults.{extra};
+ghost use Rattle.ssz_bytes.specs.Faults.{extra};
 ghost use Rattle.ssz_value.specs.Faults.{length_fault, offset_at, count_fault, element_count, head_fault};
 ghost use Rattle.ssz_parts.specs.Heads.{offset_fault};
 
 use super::offsets::offset_at;
+use ssz_bytes::Fault;
 use ssz_offsets::{check_first, check_next};
-use ssz_schema::Fault;
 
 /// The fault of bytes that are not exactly so many.
 pub fn length_fault(size: u64, start: u64, bytes: &[u8]) -> Option<Fault>

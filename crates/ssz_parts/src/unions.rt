@@ -5,7 +5,8 @@ ghost use Rattle.ssz_schema.specs.Unfolding.{options_over, tree_at, IsBelow};
 ghost use Rattle.ssz_value.specs.Faults.{why};
 
 use super::heads::none_fault;
-use ssz_schema::{Fault, TypeId};
+use ssz_bytes::Fault;
+use ssz_schema::TypeId;
 use ssz_value::option_at;
 
 /// The option that the bytes of a union choose, where it has a type; else the first fault of the

@@ -15,7 +15,8 @@ use super::basics::{bit_of, byte_of, length_of, selector_of};
 use super::change::Change;
 use super::changing::change_part;
 use super::paths::field_number;
-use ssz_schema::{BitRun, ByteRun, PathStep, Schema, TypeId};
+use ssz_bytes::{BitRun, ByteRun};
+use ssz_schema::{PathStep, Schema, TypeId};
 use ssz_value::{EditFault, Value};
 use std::alloc::Global;
 

@@ -10,7 +10,8 @@ ghost use Rattle.ssz_plain.specs.Answers.{Gives};
 ghost use Rattle.ssz_plain.specs.Growth.{Pushes, Pops};
 
 use super::basics::{bit_of, byte_of};
-use ssz_schema::{BitRun, ByteRun, Schema, Ty, TypeId};
+use ssz_bytes::{BitRun, ByteRun};
+use ssz_schema::{Schema, Ty, TypeId};
 use ssz_value::{EditFault, Value, copy};
 use std::alloc::Global;
 

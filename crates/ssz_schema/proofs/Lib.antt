@@ -1,6 +1,3 @@
-pub mod Numbers
-pub mod Bits
-pub mod Delimiters
 pub mod DepthLemmas
 pub mod SizeLemmas
 pub mod NameLemmas
@@ -22,5 +19,3 @@ pub mod WalkFields
 pub mod WalkOptions
 pub mod RepeatLemmas
 pub mod FormLemmas
-pub mod TypesAlike
-pub mod AlikeLemmas

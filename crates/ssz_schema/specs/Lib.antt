@@ -1,6 +1,4 @@
 pub mod Types
-pub mod Bytes
-pub mod ByteLaws
 pub mod Sizes
 pub mod Names
 pub mod Legal
@@ -11,15 +9,12 @@ pub mod Forms
 pub mod Walk
 pub mod Accepting
 pub mod FaultCodes
-pub mod Faults
 pub mod Codes
 pub mod Lookup
 pub mod NameTables
-pub mod SameType
 pub mod Unfolding
 pub mod Adding
 pub mod Inside
 pub mod Steps
-pub mod Alike
 pub mod Sums
 pub mod Repeats

@@ -3,7 +3,6 @@ use Rattle.std.specs.Prelude.{ℕ, zero, suc, ◌+◌, ◌*◌, ◌/◌, max, Bo
 use Rattle.ssz_schema.specs.declared.width.Width.{Width}
 use Rattle.ssz_schema.specs.declared.width.Width.TheVariants.{W8, W16, W32, W64, W128, W256}
 use Rattle.ssz_schema.specs.Types.{SszType, Fields, Options, uint, boolean, container, vector, list, bitvector, bitlist, union, no_fields, field, no_options, none_option, option}
-use Rattle.ssz_schema.specs.Bytes.{offset_size}
 
 -- the bytes of a number of this width
 abbrev pub byte_count : Width → ℕ
@@ -139,6 +138,10 @@ abbrev mutual
   option_nesting (option t os) = max (nesting t) (option_nesting os)
 
 -- The default's encoding (simple-serialize.md, Default values, Serialization).
+
+-- BYTES_PER_LENGTH_OFFSET
+abbrev pub offset_size : ℕ
+offset_size = 4
 
 -- what a part takes among the fixed parts: itself, or an offset
 abbrev pub head_size : Option ℕ → ℕ

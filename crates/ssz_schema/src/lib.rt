@@ -1,8 +1,8 @@
 //! The types of SimpleSerialize: how they are written, which are legal, and what is read off them.
 //!
 //! A `Schema` keeps named types, each proved legal when it was added, with its sizes, chunk count,
-//! depth and levels at hand. The definitions of types, of numbers and bits as bytes, and of paths
-//! with their generalized indices stand in specs/, for this crate and all above it.
+//! depth and levels at hand. The definitions of types and of paths with their
+//! generalized indices stand in specs/, for this crate and all above it.
 #![tactic(auto)]
 
 mod adding;
@@ -10,7 +10,6 @@ mod depth;
 mod entry;
 mod expr;
 mod facts;
-mod fault;
 mod format;
 mod law;
 mod name;
@@ -18,8 +17,6 @@ mod name_table;
 mod names;
 mod path;
 mod reading;
-mod runs;
-mod same;
 mod schema;
 mod schema_fault;
 #[cfg(test)]
@@ -30,17 +27,12 @@ mod walk;
 mod width;
 
 pub use expr::TypeExpr;
-pub use fault::Fault;
 pub use format::Format;
-pub use law::{
-    bits_tell_numbers, bytes_tell_numbers, depth_is_next_power, indices_have_levels,
-    legal_types_are_accepted, same_types_are_equal,
-};
+pub use law::{depth_is_next_power, indices_have_levels, legal_types_are_accepted};
 pub use name::{Name, is_name};
 pub use names::Names;
 pub use path::{PathStep, Steps};
 pub use reading::field_at;
-pub use runs::{BitRun, ByteRun, as_bytes};
 pub use schema::Schema;
 pub use schema_fault::{SchemaError, SchemaFault};
 pub use ty::Ty;

@@ -1,9 +1,7 @@
 ghost use Rattle.std.specs.Prelude.{◌≡◌, ℕ, List, length, IfOk};
 ghost use Rattle.ssz_schema.specs.Names.{is_letter, is_name_byte, is_name};
-ghost use Rattle.ssz_schema.specs.Bytes.{IsBytes};
 ghost use Rattle.std.specs.List.{list_all};
 
-use super::runs::as_bytes;
 use std::alloc::{AllocError, Global};
 use std::marker::Model;
 
@@ -38,10 +36,9 @@ impl Name {
 
     /// The bytes of the text.
     pub fn as_bytes(&self) -> &[u8]
-        ensures value { result.now ≡ self.now }
-        ensures bytes { IsBytes self.now }
+        ensures { result.now ≡ self.now }
     {
-        as_bytes(self.bytes.as_slice())
+        self.bytes.as_slice()
     }
 }
 

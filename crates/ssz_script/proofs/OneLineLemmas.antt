@@ -7,7 +7,7 @@ use Rattle.std.proofs.lemmas.Bool.Decides.{nat_tests}
 use Rattle.std.proofs.lemmas.List.Folds.{list_all-append}
 use Rattle.hex.specs.Hex.{encode_with, encode_lower, lower_digits}
 use Rattle.ssz_schema.specs.Names.{is_letter, is_name_byte, is_name}
-use Rattle.ssz_schema.specs.declared.fault.Fault.{Fault}
+use Rattle.ssz_bytes.specs.declared.fault.Fault.{Fault}
 use Rattle.ssz_line.proofs.FileLemmas.{first_of_both, second_of_both}
 use Rattle.ssz_script.specs.declared.reply.Reply.TheVariants.{Done, List as Listed, Root, Bytes, Len, Gindex, Proof, Hashes, Refused, Blind, Json, BadJson}
 use Rattle.ssz_script.specs.Texts.{line, hexadecimal, refusals, refusal_name, refused, lettered, fault_words}

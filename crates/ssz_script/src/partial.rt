@@ -6,8 +6,9 @@ ghost use Rattle.ssz_script.specs.Grammar.{alone, one, two, partial_statements, 
 ghost use Rattle.ssz_script.specs.declared.partial.PartialStatement.TheVariants.{Get, Set, Root};
 
 use super::forms::{end, word};
+use ssz_bytes::ByteRun;
 use ssz_line::{LineFault, Words, read_literal, read_path};
-use ssz_schema::{ByteRun, Steps};
+use ssz_schema::Steps;
 use std::alloc::Global;
 
 /// A statement of a script for a partial tree.

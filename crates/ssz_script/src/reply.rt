@@ -1,5 +1,6 @@
+use ssz_bytes::{ByteRun, Fault};
 use ssz_chunk::Chunk;
-use ssz_schema::{ByteRun, Fault, Names};
+use ssz_schema::Names;
 
 /// The reply to a statement.
 #[derive(Debug, Drop)]

@@ -1,6 +1,7 @@
 use super::indices::Indices;
+use ssz_bytes::ByteRun;
 use ssz_line::{FileName, Identifier};
-use ssz_schema::{ByteRun, Steps};
+use ssz_schema::Steps;
 
 /// A statement of a script. Its fields stand in the order of the line's words.
 #[derive(Debug, Drop)]

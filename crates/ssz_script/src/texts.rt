@@ -4,7 +4,8 @@ ghost use Rattle.hex.specs.Hex.{encode_lower};
 ghost use Rattle.ssz_script.specs.Texts.{line, hexadecimal, refusal_name, refused, lettered, fault_words, reply_line};
 
 use super::reply::Reply;
-use ssz_schema::{Fault, Name};
+use ssz_bytes::Fault;
+use ssz_schema::Name;
 use std::alloc::{AllocError, Global};
 
 // Appends the text with what stands in front of it and a line feed, or nothing.

@@ -7,7 +7,7 @@ use Rattle.ssz_proof.specs.Multiproof.{Multiproof, known_of}
 use Rattle.ssz_proof.specs.Judgement.{multiproof_of}
 use Rattle.ssz_schema.specs.Types.{SszType}
 use Rattle.ssz_schema.specs.Lookup.{lookup_name}
-use Rattle.ssz_schema.specs.declared.fault.Fault.{Fault}
+use Rattle.ssz_bytes.specs.declared.fault.Fault.{Fault}
 use Rattle.ssz_schema_json.specs.Schema.{NamedTypes, FileFault, not_json, no_document, at_definition, schema_of_bytes}
 use Rattle.ssz_value.specs.Faults.{why}
 use Rattle.ssz_value.specs.Reading.{value_in}

@@ -3,7 +3,7 @@ use Rattle.std.specs.Prelude.{◌≡◌, ℕ, ◌<◌, ◌≤◌, ◌^◌, List,
 use Rattle.ssz_outside.specs.Outcome.{Rose}
 use Rattle.ssz_schema.specs.Unfolding.{type_of}
 use Rattle.ssz_schema_json.specs.Schema.{HasTypes, NamedTypes}
-use Rattle.ssz_schema.specs.declared.fault.Fault.{Fault}
+use Rattle.ssz_bytes.specs.declared.fault.Fault.{Fault}
 use Rattle.ssz_value.specs.Faults.{why}
 use Rattle.ssz_tool.specs.Jobs as job
 use Rattle.ssz_tool.specs.declared.job.Loaded.{Loaded}

@@ -3,9 +3,10 @@ ghost use Rattle.std.specs.Prelude.{◌≡◌, ◌↔◌, IsTrue, IfOk, string_b
 ghost use Rattle.ssz_outside.specs.Job.{IsFinished};
 ghost use Rattle.ssz_tool.specs.Lines.{definition_text, fault_text, root_text, unlike_text, line_text, status_of, is_usage};
 
+use ssz_bytes::Fault;
 use ssz_chunk::Chunk;
 use ssz_outside::Status;
-use ssz_schema::{Fault, SchemaFault};
+use ssz_schema::SchemaFault;
 use std::alloc::{AllocError, Global};
 
 /// A line that the program prints.

@@ -2,14 +2,14 @@
 use Rattle.std.proofs.Common.{ℕ, suc, ◌+◌, ◌-◌, ◌^◌, ◌<◌, ◌≤◌, ◌≡◌, ◌⊎◌, List, [], ◌∷◌, length, drop, slice_range, Option, Some, None, refl, ap, arith, length-drop, length-take, ltb-false, le-ltb}
 use Rattle.ssz_schema.specs.Types.{SszType, Fields, Options}
 use Rattle.ssz_schema.specs.Sizes.{fixed_size, part_sizes, option_count, total_size}
-use Rattle.ssz_schema.specs.declared.fault.Fault.{Fault}
-use Rattle.ssz_schema.specs.Bytes.{IsBytes}
+use Rattle.ssz_bytes.specs.declared.fault.Fault.{Fault}
+use Rattle.ssz_bytes.specs.Bytes.{IsBytes}
 use Rattle.ssz_value.specs.Values.{SszValue, Fits, FitFields, FitsOption, IsNoneOption, chosen, chosen_none}
 use Rattle.ssz_value.specs.Encoding.{enc, field_encodings, option_encoding}
 use Rattle.ssz_value.specs.Faults.{why, fields_fault, option_fault, Scope, scopes, bytes_of, length_fault, ◌otherwise◌, next_offset, offset_at}
 use Rattle.ssz_value.specs.Reading.{value_in, fields_in, option_in}
 use Rattle.ssz_value.proofs.Cut.{AreParts, passed, passes}
-use Rattle.ssz_schema.proofs.Numbers.{IsBytes-drop, IsBytes-take}
+use Rattle.ssz_bytes.proofs.Numbers.{IsBytes-drop, IsBytes-take}
 
 -- the bytes of the value have no fault, and are read as this value
 pub record IsReadBack (t : SszType) (s : ℕ) (v : SszValue) : Type 0 where

@@ -5,13 +5,13 @@ use Rattle.ssz_schema.specs.declared.width.Width.{Width}
 use Rattle.ssz_schema.specs.declared.width.Width.TheVariants.{W8, W16, W32, W64, W128, W256}
 use Rattle.ssz_schema.specs.Types.{uint, boolean, bitvector, bitlist}
 use Rattle.ssz_schema.specs.Sizes.{byte_count}
-use Rattle.ssz_schema.specs.Bytes.{IsBytes, le_bytes, le_number, number_of_bits, bits_of_number}
+use Rattle.ssz_bytes.specs.Bytes.{IsBytes, le_bytes, le_number, number_of_bits, bits_of_number}
 use Rattle.ssz_value.specs.Values.{SszValue, number, wide, truth, bits, FitsWidth, Fits}
 use Rattle.ssz_value.specs.Encoding.{enc}
-use Rattle.ssz_schema.specs.Faults.{bool_fault, bitvector_fault, bitlist_fault, bitlist_length, last_after, highest_bit}
-use Rattle.ssz_schema.proofs.Numbers.{length-le_bytes, le_number-le_bytes, le_bytes_of, le_number_lt, IsBytes-le_bytes}
-use Rattle.ssz_schema.proofs.Bits.{length-bits_of_number, bits_of_number-number_of_bits, bits_of_number-delimited, number_of_bits-bits_of_number, number_of_bits-delimited, number_of_bits_lt, HasTop, HasTop-delimited, same_top, power_up, power_of_bytes}
-use Rattle.ssz_schema.proofs.Delimiters.{HasTop-bitlist, IsLedBy, last-leads, last_after_lt, highest_bit-is_highest}
+use Rattle.ssz_bytes.specs.Faults.{bool_fault, bitvector_fault, bitlist_fault, bitlist_length, last_after, highest_bit}
+use Rattle.ssz_bytes.proofs.Numbers.{length-le_bytes, le_number-le_bytes, le_bytes_of, le_number_lt, IsBytes-le_bytes}
+use Rattle.ssz_bytes.proofs.Bits.{length-bits_of_number, bits_of_number-number_of_bits, bits_of_number-delimited, number_of_bits-bits_of_number, number_of_bits-delimited, number_of_bits_lt, HasTop, HasTop-delimited, same_top, power_up, power_of_bytes}
+use Rattle.ssz_bytes.proofs.Delimiters.{HasTop-bitlist, IsLedBy, last-leads, last_after_lt, highest_bit-is_highest}
 use Rattle.ssz_value.proofs.Cut.{passed, passes}
 use Rattle.ssz_value.proofs.Agree.{IsReadBack, IsWrittenBack, IsInput, Agrees, no_fault, no_faults, right_length, length_from_fault, same_some, no_some}
 

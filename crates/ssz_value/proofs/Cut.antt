@@ -2,11 +2,11 @@
 use Rattle.std.proofs.Common.{ℕ, ◌+◌, ◌-◌, ◌^◌, ◌<◌, ◌≤◌, ◌≡◌, Bool, true, false, cond, eqb, ltb, List, [], ◌∷◌, ◌++◌, length, take, drop, slice_range, Option, Some, None, refl, sym, ap, ap₂, ◌∙◌, subst, arith, length-append, append_assoc, length-drop, take-append-drop, drop-drop, take-add, length-take-le, take_at, drop_at, ltb-false, le-ltb, eqb-true, eq-eqb}
 use Rattle.std.proofs.lemmas.List.{drop_all}
 use Rattle.std.proofs.lemmas.Bool.{cond-true}
-use Rattle.ssz_schema.specs.declared.fault.Fault.{Fault}
-use Rattle.ssz_schema.specs.Bytes.{IsBytes, le_bytes, le_number}
+use Rattle.ssz_bytes.specs.declared.fault.Fault.{Fault}
+use Rattle.ssz_bytes.specs.Bytes.{IsBytes, le_bytes, le_number}
 use Rattle.ssz_value.specs.Encoding.{heads_length, heads, bodies, joined}
 use Rattle.ssz_value.specs.Faults.{offset_at, next_offset, later_fault, first_fault, head_fault, scopes, bytes_of}
-use Rattle.ssz_schema.proofs.Numbers.{le_number-le_bytes, le_bytes_of, IsBytes-drop, IsBytes-take}
+use Rattle.ssz_bytes.proofs.Numbers.{le_number-le_bytes, le_bytes_of, IsBytes-drop, IsBytes-take}
 
 -- a part for each size, as long as a fixed size says
 abbrev pub AreParts : List (Option ℕ) → List (List ℕ) → Type 0

@@ -1,11 +1,11 @@
 -- Worked examples of the definitions, each by computing. The expected values were worked out by
 -- hand from the standard.
 use Rattle.std.specs.Prelude.{ℕ, ◌≡◌, List, [], ◌∷◌, ◌++◌, take, drop, map, bit_xor, replicate, true, false, Option, None, refl}
-use Rattle.ssz_schema.specs.declared.fault.Fault.{Fault}
+use Rattle.ssz_bytes.specs.declared.fault.Fault.{Fault}
 use Rattle.ssz_schema.specs.declared.width.Width.TheVariants.{W8, W16, W64, W256}
 use Rattle.ssz_schema.specs.Types.{SszType, uint, boolean, container, vector, list, bitvector, bitlist, union, no_fields, field, no_options, none_option, option}
 use Rattle.ssz_schema.specs.Sizes.{depth_of, exponent}
-use Rattle.ssz_schema.specs.Faults.{short, extra, bad_bool, first_offset, offset_range, offset_order, ragged, too_many, padding_bits, no_delimiter, bad_selector}
+use Rattle.ssz_bytes.specs.Faults.{short, extra, bad_bool, first_offset, offset_range, offset_order, ragged, too_many, padding_bits, no_delimiter, bad_selector}
 use Rattle.ssz_chunk.specs.Chunk.{zero_chunk}
 use Rattle.ssz_chunk.specs.Tree.{full, grow}
 use Rattle.ssz_value.specs.Values.{SszValue, number, truth, sequence, bits, chosen, values}

@@ -8,7 +8,7 @@ use Rattle.ssz_schema.specs.Types.{SszType, Fields, uint, container, vector, lis
 use Rattle.ssz_schema.specs.Unfolding.{tree_at, fields_over, options_over}
 use Rattle.ssz_value.specs.declared.value.Value.{Value, out-Value}
 use Rattle.ssz_value.specs.declared.value.Value.TheVariants.{Bytes, Seq, Union}
-use Rattle.ssz_schema.specs.Bytes.{IsBytes}
+use Rattle.ssz_bytes.specs.Bytes.{IsBytes}
 use Rattle.ssz_value.specs.Values.{SszValue, number, sequence, Fits, FitFields, FitsOption, IsNoneOption}
 use Rattle.ssz_value.specs.Standing.{value_of, is_byte, AreFormed, IsFormed, FieldsFormed, IsValue}
 use Rattle.ssz_value.specs.Shapes.{part_count_of, AreFields, ElementsFit, IsSequence}

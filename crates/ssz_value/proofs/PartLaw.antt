@@ -3,11 +3,11 @@ use Rattle.std.proofs.Common.{ℕ, zero, suc, ◌^◌, ◌<◌, ◌≤◌, ◌�
 use Rattle.ssz_schema.specs.Types.{SszType, Fields, Options, container, union, no_fields, field, no_options, none_option, option}
 use Rattle.ssz_schema.specs.Sizes.{depth, field_count, option_count}
 use Rattle.ssz_schema.proofs.DepthLemmas.{depth_of-holds}
-use Rattle.ssz_schema.specs.Bytes.{le_number}
+use Rattle.ssz_bytes.specs.Bytes.{le_number}
 use Rattle.ssz_value.specs.Values.{SszValue, sequence, chosen, chosen_none, Values, items, values, Fits, FitFields, FitsOption, IsNoneOption}
 use Rattle.ssz_chunk.specs.Tree.{Tree, leaf, pair}
 use Rattle.ssz_value.specs.Trees.{number_chunk, tree, field_trees, option_tree}
-use Rattle.ssz_schema.proofs.Numbers.{le_number-le_bytes}
+use Rattle.ssz_bytes.proofs.Numbers.{le_number-le_bytes}
 use Rattle.ssz_value.proofs.Sequences.{values-items}
 use Rattle.ssz_value.proofs.ChunkLaw.{same_leaf, same_left, same_right, same_full}
 

@@ -6,7 +6,7 @@ use Rattle.std.proofs.lemmas.Bool.{cond-false, ne_eqb, eq-eqb, or_from, not_from
 use Rattle.std.specs.List.{AllByRecursion}
 use Rattle.ssz_schema.specs.Types.{SszType, vector, list}
 use Rattle.ssz_schema.specs.Sizes.{fixed_size, total_size}
-use Rattle.ssz_schema.specs.declared.fault.Fault.{Fault}
+use Rattle.ssz_bytes.specs.declared.fault.Fault.{Fault}
 use Rattle.ssz_value.specs.Values.{SszValue, Fits, Values, no_values, value_before, sequence, items, values}
 use Rattle.ssz_value.specs.Encoding.{enc, heads_length, heads, bodies, joined, joined_alike}
 use Rattle.ssz_value.specs.Faults.{why, Scope, scopes, bytes_of, alike_fault, elements_fault, count_fault, element_count, offset_at}

@@ -14,7 +14,7 @@ use Rattle.ssz_value.specs.Values.{SszValue, number, wide, truth, sequence, bits
 use Rattle.ssz_value.specs.Encoding.{enc, heads, bodies, joined, heads_length, field_encodings, option_encoding}
 use Rattle.ssz_value.specs.Defaults.{default_of, default_number, default_fields, default_option}
 use Rattle.ssz_value.specs.Sizes.{size, fields_size, option_size}
-use Rattle.ssz_schema.proofs.Numbers.{length-le_bytes, IsBytes-le_bytes}
+use Rattle.ssz_bytes.proofs.Numbers.{length-le_bytes, IsBytes-le_bytes}
 use Rattle.ssz_value.proofs.Basic.{number_sized}
 use Rattle.ssz_value.proofs.Sequences.{items-values}
 

@@ -11,13 +11,13 @@ use Rattle.ssz_schema.specs.Types.{SszType, Fields, Options, uint, boolean, cont
 use Rattle.ssz_schema.specs.Legal.{greatest_limit, IsLegal, AreLegalFields, AreLegalOptions}
 use Rattle.ssz_schema.specs.Sizes.{byte_count, basic_size, fixed_size, element_chunks, depth}
 use Rattle.ssz_schema.proofs.DepthLemmas.{depth_of-holds}
-use Rattle.ssz_schema.specs.Bytes.{le_bytes, number_of_bits, le_number, bits_of_number}
+use Rattle.ssz_bytes.specs.Bytes.{le_bytes, number_of_bits, le_number, bits_of_number}
 use Rattle.ssz_value.specs.Values.{SszValue, sequence, bits, items, Fits}
 use Rattle.ssz_value.specs.Encoding.{enc}
 use Rattle.ssz_chunk.specs.Tree.{Tree, leaf, full}
 use Rattle.ssz_value.specs.Trees.{padded, pack, pack_bits, element_leaves, tree}
-use Rattle.ssz_schema.proofs.Numbers.{length-le_bytes, le_number-le_bytes}
-use Rattle.ssz_schema.proofs.Bits.{number_of_bits_lt, bits_of_number-number_of_bits, power_up, power_of_bytes}
+use Rattle.ssz_bytes.proofs.Numbers.{length-le_bytes, le_number-le_bytes}
+use Rattle.ssz_bytes.proofs.Bits.{number_of_bits_lt, bits_of_number-number_of_bits, power_up, power_of_bytes}
 use Rattle.ssz_value.proofs.Agree.{Agrees, same_some}
 use Rattle.ssz_value.proofs.ExactLaw.{agrees}
 use Rattle.ssz_value.proofs.ChunkLaw.{same_leaf, same_left, same_right, same_full, same_padded, same_pack, same_leaves, length-chunks}

@@ -2,7 +2,7 @@
 use Rattle.std.specs.Prelude.{ℕ, zero, suc, ◌+◌, ◌/◌, true, List, [], ◌∷◌, ◌++◌, length, map, replicate, Option, Some, None}
 use Rattle.ssz_schema.specs.Types.{SszType, Fields, Options, uint, boolean, container, vector, list, bitvector, bitlist, union, field, none_option, option}
 use Rattle.ssz_schema.specs.Sizes.{byte_count, fixed_size, part_sizes, head_size}
-use Rattle.ssz_schema.specs.Bytes.{le_bytes, number_of_bits, bit_value, offset_bytes}
+use Rattle.ssz_bytes.specs.Bytes.{le_bytes, number_of_bits, bit_value, offset_bytes}
 use Rattle.ssz_value.specs.Values.{SszValue, number, wide, truth, sequence, bits, chosen, chosen_none, items}
 
 -- Below, sizes are the fixed sizes of the parts, None for a variable-size part, and parts are their

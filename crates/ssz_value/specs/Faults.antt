@@ -2,11 +2,11 @@
 -- has refused, in the order and at the positions of this project. A scope is a part of the bytes
 -- with the type of which it is to encode a value.
 use Rattle.std.specs.Prelude.{ℕ, zero, suc, ◌+◌, ◌/◌, ◌%◌, ◌==◌, nat_lt, not, ◌||◌, if◌then◌else◌, List, [], ◌∷◌, length, replicate, take, drop, slice_range, Option, Some, None}
-use Rattle.ssz_schema.specs.declared.fault.Fault.{Fault}
+use Rattle.ssz_bytes.specs.declared.fault.Fault.{Fault}
 use Rattle.ssz_schema.specs.Types.{SszType, Fields, Options, uint, boolean, container, vector, list, bitvector, bitlist, union, field, no_options, none_option, option}
-use Rattle.ssz_schema.specs.Sizes.{byte_count, fixed_size, part_sizes, option_count}
-use Rattle.ssz_schema.specs.Bytes.{le_number, offset_size}
-use Rattle.ssz_schema.specs.Faults.{short, extra, first_offset, offset_range, offset_order, ragged, too_many, bad_selector, bool_fault, bitvector_fault, bitlist_fault}
+use Rattle.ssz_schema.specs.Sizes.{offset_size, byte_count, fixed_size, part_sizes, option_count}
+use Rattle.ssz_bytes.specs.Bytes.{le_number}
+use Rattle.ssz_bytes.specs.Faults.{short, extra, first_offset, offset_range, offset_order, ragged, too_many, bad_selector, bool_fault, bitvector_fault, bitlist_fault}
 use Rattle.ssz_value.specs.Encoding.{heads_length}
 
 infixr 20 ◌otherwise◌

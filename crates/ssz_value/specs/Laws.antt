@@ -4,7 +4,7 @@ use Rattle.ssz_schema.specs.declared.format.Format.{Format}
 use Rattle.ssz_schema.specs.Types.{SszType}
 use Rattle.ssz_schema.specs.Sizes.{default_length}
 use Rattle.ssz_schema.specs.Legal.{IsLegal}
-use Rattle.ssz_schema.specs.Bytes.{IsBytes}
+use Rattle.ssz_bytes.specs.Bytes.{IsBytes}
 use Rattle.ssz_value.specs.Values.{SszValue, Fits}
 use Rattle.ssz_value.specs.Defaults.{default_of}
 use Rattle.ssz_value.specs.Encoding.{enc}

@@ -4,8 +4,8 @@ use Rattle.ssz_schema.specs.declared.width.Width.{Width}
 use Rattle.ssz_schema.specs.declared.width.Width.TheVariants.{W256}
 use Rattle.ssz_schema.specs.Types.{SszType, Fields, Options, uint, boolean, container, vector, list, bitvector, bitlist, union, field, none_option, option}
 use Rattle.ssz_schema.specs.Sizes.{fixed_size, part_sizes}
-use Rattle.ssz_schema.specs.Bytes.{le_number, bits_of_number}
-use Rattle.ssz_schema.specs.Faults.{bitlist_length}
+use Rattle.ssz_bytes.specs.Bytes.{le_number, bits_of_number}
+use Rattle.ssz_bytes.specs.Faults.{bitlist_length}
 use Rattle.ssz_value.specs.Values.{SszValue, number, wide, truth, sequence, bits, chosen, chosen_none, values}
 use Rattle.ssz_value.specs.Faults.{scopes, bytes_of, element_count}
 

@@ -5,7 +5,7 @@ use Rattle.ssz_chunk.specs.Chunk.{zero_chunk}
 use Rattle.ssz_chunk.specs.Tree.{Tree, leaf, pair, full, root}
 use Rattle.ssz_schema.specs.Types.{SszType, Fields, Options, uint, boolean, container, vector, list, bitvector, bitlist, union, field, none_option, option}
 use Rattle.ssz_schema.specs.Sizes.{depth, basic_size}
-use Rattle.ssz_schema.specs.Bytes.{le_bytes, number_of_bits}
+use Rattle.ssz_bytes.specs.Bytes.{le_bytes, number_of_bits}
 use Rattle.ssz_value.specs.Values.{SszValue, sequence, bits, chosen, chosen_none, items}
 use Rattle.ssz_value.specs.Encoding.{enc}
 

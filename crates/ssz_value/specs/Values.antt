@@ -5,7 +5,7 @@ use Rattle.ssz_schema.specs.declared.width.Width.{Width}
 use Rattle.ssz_schema.specs.declared.width.Width.TheVariants.{W256}
 use Rattle.ssz_schema.specs.Types.{SszType, Fields, Options, uint, boolean, container, vector, list, bitvector, bitlist, union, no_fields, field, no_options, none_option, option}
 use Rattle.ssz_schema.specs.Sizes.{byte_count}
-use Rattle.ssz_schema.specs.Bytes.{IsBytes}
+use Rattle.ssz_bytes.specs.Bytes.{IsBytes}
 
 mutual
   -- a value, without its type

@@ -2,7 +2,7 @@ ghost use Rattle.std.specs.Prelude.{IfOk};
 ghost use Rattle.ssz_value.specs.Standing.{IsCopy};
 
 use super::value::Value;
-use ssz_schema::{BitRun, ByteRun};
+use ssz_bytes::{BitRun, ByteRun};
 use std::alloc::{AllocError, Global};
 
 /// A value of its own that stands for the same, in the same form. It fails for want of memory

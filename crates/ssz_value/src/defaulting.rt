@@ -7,8 +7,9 @@ ghost use Rattle.ssz_value.specs.Standing.{Stands};
 
 use super::parts::{is_byte, option_at};
 use super::value::Value;
+use ssz_bytes::{BitRun, ByteRun};
 use ssz_chunk::Chunk;
-use ssz_schema::{BitRun, ByteRun, Name, Schema, Ty, TypeId, Width};
+use ssz_schema::{Name, Schema, Ty, TypeId, Width};
 use std::alloc::{AllocError, Global};
 
 /// The default of the type, in the form that the type wants. It fails for want of memory alone.

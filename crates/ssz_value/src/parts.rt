@@ -1,12 +1,13 @@
 ghost use Rattle.std.specs.Prelude.{◌≡◌, ◌<◌, length, slice_get};
-ghost use Rattle.ssz_schema.specs.Bytes.{IsBytes};
+ghost use Rattle.ssz_bytes.specs.Bytes.{IsBytes};
 ghost use Rattle.ssz_schema.specs.Unfolding.{type_of};
 ghost use Rattle.ssz_value.specs.Standing.{is_byte, value_of};
 ghost use Rattle.ssz_value.specs.Shapes.{part_count_of, bits_of};
 
 use super::value::Value;
+use ssz_bytes::as_bytes;
 use ssz_chunk::Chunk;
-use ssz_schema::{Schema, Ty, TypeId, Width, as_bytes};
+use ssz_schema::{Schema, Ty, TypeId, Width};
 
 /// Whether it is the type uint8, whose vectors and lists stand as `Bytes`.
 pub fn is_byte(schema: &Schema, id: TypeId) -> bool

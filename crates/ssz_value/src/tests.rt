@@ -1,6 +1,7 @@
 use super::{Value, copy, default_of, fits};
+use ssz_bytes::{BitRun, ByteRun};
 use ssz_chunk::Chunk;
-use ssz_schema::{BitRun, ByteRun, Name, Schema, TypeExpr, Width};
+use ssz_schema::{Name, Schema, TypeExpr, Width};
 use std::alloc::{AllocError, Global};
 use std::test::Fail;
 

@@ -1,5 +1,5 @@
+use ssz_bytes::{BitRun, ByteRun};
 use ssz_chunk::Chunk;
-use ssz_schema::{BitRun, ByteRun};
 
 /// Values in order.
 pub type Items = Vec<Value>;

@@ -1,5 +1,5 @@
 use Rattle.std.proofs.Common.{arith, ◌<◌, ◌≤◌, ◌∙◌, ap}
-use Rattle.ssz_schema.specs.Bytes.{bit_value}
+use Rattle.ssz_bytes.specs.Bytes.{bit_value}
 use Rattle.ssz_basic.proofs.PutLemmas.{ByteOf-small, ByteOf-more, bit_number, bit_small}
 use Rattle.ssz_basic.proofs.bits.byte_from.Goals as goal
 

@@ -1,4 +1,4 @@
-use Rattle.ssz_schema.specs.Bytes.{delimited}
+use Rattle.ssz_bytes.specs.Bytes.{delimited}
 use Rattle.ssz_basic.proofs.PutLemmas.{BitsPut}
 use Rattle.ssz_basic.proofs.bits.put_bits.Given as goal
 

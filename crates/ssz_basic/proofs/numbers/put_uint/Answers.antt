@@ -1,6 +1,6 @@
 use Rattle.std.proofs.Common.{◌≡◌, ◌∙◌, ◌<◌, ◌^◌, ap, sym, arith}
 use Rattle.ssz_schema.specs.Sizes.{byte_count}
-use Rattle.ssz_schema.specs.Bytes.{le_bytes}
+use Rattle.ssz_bytes.specs.Bytes.{le_bytes}
 use Rattle.ssz_basic.proofs.Endians.{fills, one_byte}
 use Rattle.ssz_basic.proofs.numbers.put_uint.Goals as goal
 

@@ -1,5 +1,5 @@
 use Rattle.std.proofs.Common.{◌∙◌, ◌++◌, ◌∷◌, [], ap₂, sym}
-use Rattle.ssz_schema.specs.Bytes.{le_number}
+use Rattle.ssz_bytes.specs.Bytes.{le_number}
 use Rattle.ssz_codec.proofs.BitLemmas.{bits_of_number-more}
 use Rattle.ssz_codec.proofs.basics.read_bits.Goals as goal
 

@@ -9,7 +9,7 @@ use Rattle.ssz_value.specs.declared.value.Value.{Value}
 use Rattle.ssz_value.specs.declared.value.Value.TheVariants.{Union}
 use Rattle.ssz_value.specs.Values.{SszValue, number}
 use Rattle.ssz_value.specs.Standing.{value_of, IsValue}
-use Rattle.ssz_schema.specs.Bytes.{le_bytes}
+use Rattle.ssz_bytes.specs.Bytes.{le_bytes}
 use Rattle.ssz_value.specs.Encoding.{enc, joined, joined_alike, bodies, heads_length, field_encodings}
 use Rattle.ssz_value.proofs.ExactLaw.{agrees}
 use Rattle.ssz_value.proofs.ValueLemmas.{seq_is, bytes_are, chosen_none_is}

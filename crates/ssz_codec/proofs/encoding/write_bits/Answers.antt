@@ -1,6 +1,6 @@
 use Rattle.std.proofs.Common.{◌∙◌, ap, sym, refl, arith}
-use Rattle.ssz_schema.specs.Bytes.{bits_size}
-use Rattle.ssz_schema.proofs.Numbers.{length-le_bytes}
+use Rattle.ssz_bytes.specs.Bytes.{bits_size}
+use Rattle.ssz_bytes.proofs.Numbers.{length-le_bytes}
 use Rattle.ssz_codec.proofs.EncodingLemmas.{run_writes}
 use Rattle.ssz_codec.proofs.encoding.write_bits.Goals as goal
 

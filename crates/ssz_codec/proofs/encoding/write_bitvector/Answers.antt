@@ -1,5 +1,5 @@
 use Rattle.std.proofs.Common.{◌∙◌, List, ℕ, length, ap, sym, subst, arith}
-use Rattle.ssz_schema.proofs.Numbers.{length-le_bytes}
+use Rattle.ssz_bytes.proofs.Numbers.{length-le_bytes}
 use Rattle.ssz_codec.specs.Writing.{Writes}
 use Rattle.ssz_codec.proofs.EncodingLemmas.{bitvector_run}
 use Rattle.ssz_codec.proofs.encoding.write_bitvector.Goals as goal

@@ -1,6 +1,6 @@
 use Rattle.std.proofs.Common.{Bool, List, ◌≡◌, ◌<◌, ◌*◌, ◌+◌, ◌∙◌, take, drop, replicate, length, slice_set, ap, subst, refl, arith, length-set}
 use Rattle.std.proofs.lemmas.List.{take_rest}
-use Rattle.ssz_schema.specs.Bytes.{le_bytes, number_of_bits}
+use Rattle.ssz_bytes.specs.Bytes.{le_bytes, number_of_bits}
 use Rattle.ssz_basic.proofs.PutLemmas.{BitsPut, BitsPut-start, BitsPut-more, BitsPut-end}
 use Rattle.ssz_packing.proofs.bit_values.bits_chunk.Goals as goal
 

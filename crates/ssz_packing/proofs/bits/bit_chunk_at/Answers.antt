@@ -1,7 +1,7 @@
 use Rattle.std.proofs.Common.{◌∙◌, ◌%◌, ◌^◌, ◌-◌, ℕ, List, length, slice_set, ap₂, arith}
 use Rattle.ssz_packing.proofs.BitChunks.{same_chunk, other_chunk, shifted}
 use Rattle.ssz_packing.proofs.bits.bit_chunk_at.Goals as goal
-use Rattle.ssz_schema.specs.Faults.{highest_bit, last_byte}
+use Rattle.ssz_bytes.specs.Faults.{highest_bit, last_byte}
 
 pub overflow_sub-chunk : goal.overflow_sub-chunk
 overflow_sub-chunk c =

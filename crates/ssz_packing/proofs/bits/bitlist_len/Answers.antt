@@ -1,7 +1,7 @@
 use Rattle.std.proofs.Common.{◌∙◌, ◌+◌, ◌-◌, ◌*◌, length, ap}
 use Rattle.ssz_basic.proofs.LastByte.{last_byte_is}
 use Rattle.ssz_packing.proofs.bits.bitlist_len.Goals as goal
-use Rattle.ssz_schema.specs.Faults.{highest_bit}
+use Rattle.ssz_bytes.specs.Faults.{highest_bit}
 
 pub returns : goal.returns
 returns c =

@@ -1,5 +1,5 @@
 use Rattle.std.proofs.Common.{◌≡◌, ◌+◌, ◌-◌, ◌∙◌, take, drop, ap, arith}
-use Rattle.ssz_schema.specs.Bytes.{le_number}
+use Rattle.ssz_bytes.specs.Bytes.{le_number}
 use Rattle.ssz_offsets.proofs.Patches.{room_of_four}
 use Rattle.ssz_parts.proofs.offsets.offset_at.Goals as goal
 

@@ -12,4 +12,4 @@ ok_unless (Err e) P Q cases none = absurd (none e cases)
 pub unwrap-requires : goal.unwrap-requires
 unwrap-requires c =
     ok_unless c.from_utf8.result _ _ c.from_utf8.ensures.cases
-    (λ e fault. fault.0 (rw c.as_bytes.ensures.value (IsUtf8-file _ c.self.invariant)))
+    (λ e fault. fault.0 (rw c.as_bytes.ensures (IsUtf8-file _ c.self.invariant)))

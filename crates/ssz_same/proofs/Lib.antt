@@ -1,0 +1,2 @@
+pub mod TypesAlike
+mod AlikeLemmas
