@@ -1,5 +1,5 @@
 -- What an edit inside of a part does to the whole, by the part's place.
-use Rattle.std.proofs.Common.{ℕ, zero, suc, ◌≡◌, ◌<◌, ◌≤◌, ◌≢◌, Bool, true, false, cond, eqb, List, [], ◌∷◌, length, map, set, slice_get, Vec, Global, Option, Some, None, option_map, Ok, Err, Result, refl, sym, ap, ◌∙◌, subst, arith}
+use Rattle.std.proofs.Common.{ℕ, ◌≡◌, Bool, cond, List, map, set, slice_get, Vec, Global, Option, Some, None, option_map, Ok, Err, Result, refl, sym, ap, ◌∙◌, subst}
 use Rattle.std.proofs.lemmas.Bool.{eq-eqb}
 use Rattle.std.proofs.lemmas.List.{map-set}
 use Rattle.std.proofs.lemmas.Option.{slice_get-map}
@@ -12,14 +12,14 @@ use Rattle.ssz_schema.specs.Paths.{Path}
 use Rattle.ssz_value.specs.declared.value.Value.{Value}
 use Rattle.ssz_value.specs.declared.value.Value.TheVariants.{Bytes, Seq, Bits, Union}
 use Rattle.ssz_value.specs.declared.edit_fault.EditFault.{EditFault}
-use Rattle.ssz_value.specs.declared.edit_fault.EditFault.TheVariants.{Absent, NotThat}
-use Rattle.ssz_value.specs.Values.{SszValue, number, truth, sequence, bits, chosen, values, items}
+use Rattle.ssz_value.specs.declared.edit_fault.EditFault.TheVariants.{Absent}
+use Rattle.ssz_value.specs.Values.{SszValue, number, truth, sequence, bits, chosen, values}
 use Rattle.ssz_value.specs.Standing.{value_of}
 use Rattle.ssz_value.specs.Parts.{part_at}
 use Rattle.ssz_value.specs.Edits.{Edited, given, replaced_at, replaced_in, changed}
 use Rattle.ssz_value.proofs.ValueLemmas.{seq_is, bytes_are, bits_are, chosen_is}
 use Rattle.ssz_value.proofs.Sequences.{items-values}
-use Rattle.ssz_plain.specs.Answers.{Gives, Refuses}
+use Rattle.ssz_plain.specs.Answers.{Gives}
 use Rattle.ssz_plain.specs.Places.{Edit, changed_at, IsMissing, EditsElement, EditsByte, EditsBit}
 use Rattle.ssz_plain.proofs.Elements.{set_own}
 

@@ -1,5 +1,5 @@
 -- A value of a type is one of the type after a change inside of a part.
-use Rattle.std.proofs.Common.{ℕ, zero, suc, ◌≡◌, ◌<◌, ◌≤◌, Bool, true, false, cond, ltb, List, [], ◌∷◌, length, map, set, slice_get, Vec, Global, Option, Some, None, Result, refl, sym, ap, ◌∙◌, subst, arith}
+use Rattle.std.proofs.Common.{ℕ, zero, suc, ◌≡◌, ◌<◌, Bool, true, false, cond, List, [], ◌∷◌, length, map, set, slice_get, Vec, Global, Option, Some, None, Result, refl, sym, ap, ◌∙◌, subst, arith}
 use Rattle.std.specs.Prelude.{IfSome, bytes_eq}
 use Rattle.std.specs.List.{AllByRecursion}
 use Rattle.std.specs.declared.boxed.Box.{Box}
@@ -12,7 +12,7 @@ use Rattle.ssz_schema.specs.declared.width.Width.TheVariants.{W8}
 use Rattle.ssz_schema.specs.Types.{SszType, Fields, Options, uint, boolean, container, vector, list, bitvector, bitlist, union, no_fields, field, no_options, none_option, option}
 use Rattle.ssz_schema.specs.Paths.{step_type, field_type, field_number, option_type}
 use Rattle.ssz_schema.proofs.PathLemmas.{if_within}
-use Rattle.ssz_value.specs.declared.value.Value.{Value, out-Value}
+use Rattle.ssz_value.specs.declared.value.Value.{Value}
 use Rattle.ssz_value.specs.declared.value.Value.TheVariants.{Bytes, Seq, Bits, Union}
 use Rattle.ssz_value.specs.Values.{SszValue, number, sequence, bits, chosen, values, Fits, FitsOption}
 use Rattle.ssz_value.specs.Standing.{value_of, OfChosen, IsFormed, OptionFormed, IsValue}
@@ -21,7 +21,7 @@ use Rattle.ssz_value.specs.Parts.{numbered}
 use Rattle.ssz_value.proofs.ValueLemmas.{seq_is, bytes_are, bits_are, chosen_is}
 use Rattle.ssz_value.proofs.FormLemmas.{seq_elements, seq_fields, bytes_elements, bytes_no_container, chosen_out, list_sequence, vector_sequence}
 use Rattle.ssz_value.proofs.FitLemmas.{list_value, list_parts, vector_value, vector_parts, seq_container}
-use Rattle.ssz_plain.specs.Places.{Leads, HasPart, Keeps, Edit, EditsElement, EditsByte, EditsBit}
+use Rattle.ssz_plain.specs.Places.{HasPart, Keeps, Edit, EditsElement, EditsByte, EditsBit}
 use Rattle.ssz_value.specs.declared.edit_fault.EditFault.{EditFault}
 use Rattle.ssz_schema.specs.Paths.{Path}
 use Rattle.ssz_plain.proofs.Elements.{all_set, all_at}
@@ -124,8 +124,14 @@ item_kept (vector elem n) (Index j) u i old new w e place h is fits =
 item_kept (list elem n) (Index j) u i old new w e place h is fits =
     let whole = list_sequence elem n (Seq old) h in
     list_value elem n (Seq new)
-    (omega (arith, seq_count new, ap length is, length-set old.items i w, seq_count old,
-    list_parts elem n (Seq old) h))
+    (omega (
+      arith,
+      seq_count new,
+      ap length is,
+      length-set old.items i w,
+      seq_count old,
+      list_parts elem n (Seq old) h,
+    ))
     (other_parts elem old new whole (subst (AllByRecursion (IsValue elem)) (sym is)
     (all_set (IsValue elem) old.items i w (seq_elements elem old whole)
     (subst (λ (x : SszType). IsValue x w) (sym (if_within j n elem u e).1) fits))))
@@ -160,9 +166,11 @@ other_items (bitvector n) old new h is = seq_is_no (bitvector n) old (λ never. 
 other_items (bitlist n) old new h is = seq_is_no (bitlist n) old (λ never. absurd never) h
 other_items (union os) old new h is = seq_is_no (union os) old (λ never. absurd never) h
 other_items (uint w) old new h is =
-    record { fits = subst (Fits (uint w)) (seq_is old
-      ∙ ap (λ vs. sequence (values (map value_of vs))) (sym is) ∙ sym (seq_is new)) h.fits;
-      formed = tt }
+    record {
+      fits = subst (Fits (uint w)) (seq_is old
+          ∙ ap (λ vs. sequence (values (map value_of vs))) (sym is) ∙ sym (seq_is new)) h.fits;
+      formed = tt;
+    }
 other_items boolean old new h is = seq_is_no boolean old (λ never. absurd never) h
 
 pub part_item : (u : SszType) (i : ℕ) (parts : Vec Value Global) → HasPart u (Index i) (Seq parts)
@@ -241,8 +249,14 @@ byte_kept (vector elem n) (Index j) u i old new c e place h is below =
 byte_kept (list elem n) (Index j) u i old new c e place h is below =
     let whole = list_sequence elem n (Bytes old) h in
     list_value elem n (Bytes new)
-    (omega (arith, bytes_count new, ap length is, length-set old i c, bytes_count old,
-    list_parts elem n (Bytes old) h))
+    (omega (
+      arith,
+      bytes_count new,
+      ap length is,
+      length-set old i c,
+      bytes_count old,
+      list_parts elem n (Bytes old) h,
+    ))
     (other_bytes elem old new whole (set_numbers elem old new i c whole is below))
 byte_kept (list elem n) Len u i old new c e place h is below =
     absurd (false≢true (ap is_index place))

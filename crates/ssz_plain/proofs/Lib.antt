@@ -6,3 +6,4 @@ pub mod Choices
 pub mod Inside
 pub mod Keeping
 pub mod Walking
+pub mod Finding

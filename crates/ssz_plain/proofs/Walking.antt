@@ -1,25 +1,25 @@
 -- One step of the walk along a path, and the ends of it.
-use Rattle.std.proofs.Common.{ℕ, zero, suc, ◌≡◌, ◌<◌, ◌≤◌, ◌^◌, ◌+◌, Bool, true, false, cond, ltb, List, [], ◌∷◌, length, set, get_or, slice_get, Vec, Global, Option, Some, None, option_map, Ok, Err, Result, refl, sym, ap, ◌∙◌, subst, arith}
+use Rattle.std.proofs.Common.{ℕ, zero, suc, ◌≡◌, ◌<◌, ◌^◌, Bool, List, [], ◌∷◌, length, set, get_or, slice_get, Global, Option, Some, None, option_map, Ok, Err, Result, refl, sym, ap, ◌∙◌, subst, arith}
 use Rattle.std.specs.Prelude.{IfSome}
 use Rattle.std.specs.declared.boxed.Box.{Box}
 use Rattle.std.specs.Box.{with_value}
 use Rattle.std.proofs.lemmas.Option.{none-some, same_Some}
 use Rattle.ssz_schema.specs.declared.path.PathStep.{PathStep}
-use Rattle.ssz_schema.specs.declared.path.PathStep.TheVariants.{Field, Index, Len, Selector, Option as Chosen}
+use Rattle.ssz_schema.specs.declared.path.PathStep.TheVariants.{Index, Len, Selector, Option as Chosen}
 use Rattle.ssz_schema.specs.declared.width.Width.TheVariants.{W8, W64}
-use Rattle.ssz_schema.specs.Types.{SszType, uint, boolean, container, vector, list, bitvector, bitlist, union}
+use Rattle.ssz_schema.specs.Types.{SszType, uint, boolean, container, list, bitlist, union}
 use Rattle.ssz_schema.specs.Paths.{Path, step_type}
 use Rattle.ssz_value.specs.declared.value.Value.{Value}
 use Rattle.ssz_value.specs.declared.value.Value.TheVariants.{Uint, Bool as Flag, Union}
 use Rattle.ssz_value.specs.declared.edit_fault.EditFault.{EditFault}
-use Rattle.ssz_value.specs.declared.edit_fault.EditFault.TheVariants.{BadPath, Absent, NotThat}
+use Rattle.ssz_value.specs.declared.edit_fault.EditFault.TheVariants.{BadPath, Absent}
 use Rattle.ssz_value.specs.Values.{SszValue, number, truth, Fits}
 use Rattle.ssz_value.specs.Standing.{value_of, IsValue}
 use Rattle.ssz_value.specs.Parts.{numbered, part_at}
 use Rattle.ssz_value.specs.Edits.{Edited, given, replaced_in, changed}
 use Rattle.ssz_value.proofs.ValueLemmas.{uint_is, flag_is}
-use Rattle.ssz_plain.specs.Answers.{Gives, Refuses}
-use Rattle.ssz_plain.specs.Places.{Edit, changed_at, HasPart, Keeps, EditsByte, EditsBit, EditsNumber, fixed}
+use Rattle.ssz_plain.specs.Answers.{Gives}
+use Rattle.ssz_plain.specs.Places.{Edit, changed_at, Keeps, EditsByte, EditsBit, EditsNumber, fixed}
 use Rattle.ssz_plain.proofs.Inside.{outside, option_answer}
 use Rattle.ssz_plain.proofs.Keeping.{option_keeps}
 
@@ -43,7 +43,6 @@ no_step edit t step v path rest is misfits =
     ∙ ap (λ o. given o BadPath (λ x. changed_at edit x (numbered t step) v rest)) misfits
 
 -- lengths and selectors
-
 
 never_ok : (e : Edited) (v : SszValue) → fixed e ≡ Ok v → ⊥
 never_ok (Ok w) v h = cc
@@ -146,7 +145,7 @@ selector_value t u (Some n) e h =
 
 -- bytes and bits
 
-at_index : {X : Type 0} (xs : List X) (i : ℕ) (d : X) → i < length xs
+pub at_index : {X : Type 0} (xs : List X) (i : ℕ) (d : X) → i < length xs
     → slice_get xs i ≡ Some (get_or xs i d)
 at_index [] i d h = absurd (omega arith)
 at_index (x ∷ xs) zero d h = refl
@@ -158,12 +157,15 @@ pub byte_edited : (edit : Edit) (u : SszType) (i : ℕ) (rest : Path) (old new :
     → Gives (changed edit u (value_of (Uint b)) rest) (value_of (Uint b)) (value_of w) result
     → EditsByte edit i rest old new result (slice_get old i)
 byte_edited edit u i rest old new b c w result type below at is small same h =
-    subst (EditsByte edit i rest old new result) (sym (at_index old i 0 below ∙ ap Some (sym at)))
-    (c, is, small,
-    subst (λ (x : SszType). Gives (changed edit x (number b) rest) (number b) (number c) result)
-    type (subst (λ (y : SszValue). Gives (changed edit u (number b) rest) (number b) y result)
-    (sym same) (subst (λ (x : SszValue). Gives (changed edit u x rest) x (value_of w) result)
-    (uint_is b) h)))
+    subst (EditsByte edit i rest old new result) (sym (at_index old i 0 below ∙ ap Some (sym at))) (
+      c,
+      is,
+      small,
+      subst (λ (x : SszType). Gives (changed edit x (number b) rest) (number b) (number c) result)
+          type (subst (λ (y : SszValue). Gives (changed edit u (number b) rest) (number b) y result)
+          (sym same) (subst (λ (x : SszValue). Gives (changed edit u x rest) x (value_of w) result)
+          (uint_is b) h)),
+    )
 
 pub bit_edited : (edit : Edit) (u : SszType) (i : ℕ) (rest : Path) (old new : List Bool)
     (b c d : Bool) (w : Value) (result : Answer) → u ≡ boolean → i < length old
@@ -171,12 +173,14 @@ pub bit_edited : (edit : Edit) (u : SszType) (i : ℕ) (rest : Path) (old new : 
     → Gives (changed edit u (value_of (Flag b)) rest) (value_of (Flag b)) (value_of w) result
     → EditsBit edit i rest old new result (slice_get old i)
 bit_edited edit u i rest old new b c d w result type below at is same h =
-    subst (EditsBit edit i rest old new result) (sym (at_index old i d below ∙ ap Some (sym at)))
-    (c, is,
-    subst (λ (x : SszType). Gives (changed edit x (truth b) rest) (truth b) (truth c) result)
-    type (subst (λ (y : SszValue). Gives (changed edit u (truth b) rest) (truth b) y result)
-    (sym same) (subst (λ (x : SszValue). Gives (changed edit u x rest) x (value_of w) result)
-    (flag_is b) h)))
+    subst (EditsBit edit i rest old new result) (sym (at_index old i d below ∙ ap Some (sym at))) (
+      c,
+      is,
+      subst (λ (x : SszType). Gives (changed edit x (truth b) rest) (truth b) (truth c) result)
+          type (subst (λ (y : SszValue). Gives (changed edit u (truth b) rest) (truth b) y result)
+          (sym same) (subst (λ (x : SszValue). Gives (changed edit u x rest) x (value_of w) result)
+          (flag_is b) h)),
+    )
 
 -- the value of a union
 

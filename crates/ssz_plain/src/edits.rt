@@ -108,7 +108,14 @@ pub fn plain_choose(
         (value_of value.old) (value_of value.new) result }
     ensures fits { IsValue (type_of schema.now id) value.new }
 {
-    edit(alloc, schema, id, value, path, &Change::Choose(selector, inner))
+    edit(
+        alloc,
+        schema,
+        id,
+        value,
+        path,
+        &Change::Choose(selector, inner),
+    )
 }
 
 // The change, where the path fits the type.

@@ -1,4 +1,4 @@
-use Rattle.std.proofs.Common.{arith, ◌≡◌, ◌∙◌, sym, ap, Some, length, option_map, map}
+use Rattle.std.proofs.Common.{arith, ◌≡◌, ◌∙◌, sym, ap, Some, length, map}
 use Rattle.std.proofs.lemmas.List.{length-map}
 use Rattle.ssz_schema.specs.declared.path.PathStep.TheVariants.{Len}
 use Rattle.ssz_value.specs.Values.{number}

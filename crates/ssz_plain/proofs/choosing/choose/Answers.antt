@@ -9,8 +9,12 @@ returns-then-from-len-clause-answer c = record {
   why = λ told.
       past_options c.args.schema.now c.args.id c.ty.result.now c.in-Union.options c.args.selector
       (option_map value_of (inner_of c.args.inner)) (value_of c.args.value.now)
-      c.ty.ensures.form c.in-Union.is (omega (arith, c.if-from-len.true, c.from.ensures,
-      c.len.ensures));
+      c.ty.ensures.form c.in-Union.is (omega (
+        arith,
+        c.if-from-len.true,
+        c.from.ensures,
+        c.len.ensures,
+      ));
   same = search rules;
 }
 

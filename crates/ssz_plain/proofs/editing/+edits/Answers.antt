@@ -2,14 +2,14 @@ use Rattle.std.proofs.Common.{◌≡◌, ◌∙◌, sym, ap, subst, List, Bool, 
 use Rattle.ssz_schema.specs.declared.path.PathStep.TheVariants.{Index, Option as Chosen}
 use Rattle.ssz_schema.specs.Unfolding.{type_of}
 use Rattle.ssz_value.specs.declared.value.Value.{Value}
-use Rattle.ssz_value.specs.declared.value.Value.TheVariants.{Seq, Bytes, Bits, Union}
-use Rattle.ssz_value.specs.Standing.{value_of, IsValue}
+use Rattle.ssz_value.specs.declared.value.Value.TheVariants.{Union}
+use Rattle.ssz_value.specs.Standing.{IsValue}
 use Rattle.ssz_value.proofs.FormLemmas.{seq_out, bytes_out}
 use Rattle.ssz_plain.specs.Changes.{edit_of}
 use Rattle.ssz_plain.specs.Places.{HasPart, EditsElement, EditsByte, EditsBit}
 use Rattle.ssz_plain.proofs.ListForms.{bits_out}
-use Rattle.ssz_plain.proofs.Inside.{parts_answer, bytes_answer, bits_answer, option_answer}
-use Rattle.ssz_plain.proofs.Keeping.{part_item, parts_keep, part_byte, bytes_keep, part_bit, bits_keep, part_option, option_keeps}
+use Rattle.ssz_plain.proofs.Inside.{parts_answer, bytes_answer, bits_answer}
+use Rattle.ssz_plain.proofs.Keeping.{part_item, parts_keep, part_byte, bytes_keep, part_bit, bits_keep, part_option}
 use Rattle.ssz_plain.proofs.Walking.{byte_edited, bit_edited, option_edited, option_stays}
 use Rattle.std.specs.Prelude.{IfSome}
 use Rattle.std.proofs.Common.{arith, rules, false, get_or}
