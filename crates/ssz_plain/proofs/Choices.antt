@@ -1,17 +1,17 @@
 -- A union with another option.
-use Rattle.std.proofs.Common.{ℕ, zero, suc, ◌≡◌, ◌<◌, ◌≤◌, cond, ltb, List, length, Vec, Global, Option, Some, None, option_map, Ok, Err, refl, sym, ap, ◌∙◌, subst, arith}
+use Rattle.std.proofs.Common.{ℕ, ◌≡◌, ◌<◌, ◌≤◌, length, Vec, Global, Option, Some, None, option_map, Ok, Err, sym, ap, ◌∙◌, subst, arith}
 use Rattle.std.specs.declared.boxed.Box.{Box}
 use Rattle.ssz_schema.specs.declared.ty.Ty.{Ty}
 use Rattle.ssz_schema.specs.declared.ty.Ty.TheVariants.{Union as UnionOf}
-use Rattle.ssz_schema.specs.Types.{SszType, Options, union, none_option, option}
+use Rattle.ssz_schema.specs.Types.{SszType, Options, union}
 use Rattle.ssz_schema.specs.Sizes.{option_count}
 use Rattle.ssz_schema.specs.Unfolding.{Types, type_of, tree_over, options_over}
 use Rattle.ssz_schema.proofs.OptionLemmas.{option_count-over}
 use Rattle.ssz_value.specs.declared.value.Value.{Value}
 use Rattle.ssz_value.specs.declared.value.Value.TheVariants.{Union}
 use Rattle.ssz_value.specs.declared.edit_fault.EditFault.TheVariants.{BadSelector}
-use Rattle.ssz_value.specs.Values.{SszValue, chosen, chosen_none, Fits, FitsOption, IsNoneOption}
-use Rattle.ssz_value.specs.Standing.{value_of, OfChosen, OptionFormed, IsValue, IsCopy}
+use Rattle.ssz_value.specs.Values.{SszValue, chosen, Fits, FitsOption}
+use Rattle.ssz_value.specs.Standing.{value_of, OfChosen, OptionFormed, IsValue}
 use Rattle.ssz_value.specs.Suiting.{IsInner}
 use Rattle.ssz_value.specs.Edits.{with_choice, choice_of}
 use Rattle.ssz_value.proofs.ValueLemmas.{chosen_is, chosen_none_is}

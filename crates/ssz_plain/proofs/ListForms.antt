@@ -1,20 +1,19 @@
 -- Lists and bitlists in the program's forms.
-use Rattle.std.proofs.Common.{ℕ, suc, ◌≡◌, ◌<◌, ◌≤◌, ◌+◌, ◌^◌, Bool, true, false, List, [], ◌∷◌, length, map, Vec, Global, refl, sym, ap, ◌∙◌, subst, arith}
+use Rattle.std.proofs.Common.{ℕ, ◌≡◌, ◌≤◌, Bool, List, length, map, Vec, Global, sym, ap, ◌∙◌, subst}
 use Rattle.std.specs.List.{AllByRecursion}
 use Rattle.std.proofs.lemmas.List.{length-map}
-use Rattle.ssz_schema.specs.declared.width.Width.TheVariants.{W8}
-use Rattle.ssz_schema.specs.Types.{SszType, uint, boolean, container, vector, list, bitvector, bitlist, union}
+use Rattle.ssz_schema.specs.Types.{SszType, vector, bitvector, bitlist}
 use Rattle.ssz_value.specs.declared.value.Value.{Value, out-Value}
 use Rattle.ssz_value.specs.declared.value.Value.TheVariants.{Bytes, Seq, Bits, rolls-Bits}
 use Rattle.ssz_value.specs.declared.value.Value.TheViews.{out-roll-Value}
 use Rattle.ssz_value.specs.declared.value.Value.TheOpen.{Bits as BitsF}
-use Rattle.ssz_value.specs.Values.{SszValue, number, truth, sequence, bits, values, items, Fits}
+use Rattle.ssz_value.specs.Values.{number, Fits}
 use Rattle.ssz_value.specs.Standing.{value_of, is_byte, IsFormed, IsValue, IsCopy}
 use Rattle.ssz_value.specs.Shapes.{part_count_of, ElementsFit, IsSequence}
 use Rattle.ssz_value.proofs.ValueLemmas.{seq_is, bytes_are, bits_are}
 use Rattle.ssz_value.proofs.Sequences.{items-values}
-use Rattle.ssz_value.proofs.FormLemmas.{seq_elements, bytes_elements, bytes_are_formed, list_sequence, vector_sequence}
-use Rattle.ssz_value.proofs.FitLemmas.{list_value, list_parts, vector_value, vector_parts, seq_sequence, seq_no_byte}
+use Rattle.ssz_value.proofs.FormLemmas.{bytes_elements, bytes_are_formed}
+use Rattle.ssz_value.proofs.FitLemmas.{seq_sequence, seq_no_byte}
 use Rattle.ssz_plain.proofs.Elements.{not_true}
 
 pub seq_count : (parts : Vec Value Global)

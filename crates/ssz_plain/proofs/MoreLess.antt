@@ -1,26 +1,24 @@
 -- Lists and bitlists with one element more or less.
-use Rattle.std.proofs.Common.{ℕ, zero, suc, ◌≡◌, ◌<◌, ◌≤◌, ◌≢◌, ◌+◌, ◌-◌, Bool, true, false, cond, ltb, eqb, List, [], ◌∷◌, ◌++◌, length, map, take, Vec, Global, Ok, Err, Result, refl, sym, ap, ◌∙◌, subst, arith}
+use Rattle.std.proofs.Common.{ℕ, ◌≡◌, ◌<◌, ◌≤◌, ◌-◌, Bool, false, cond, eqb, List, [], ◌∷◌, ◌++◌, length, map, take, Vec, Global, Ok, Err, Result, sym, ap, ◌∙◌, subst, arith}
 use Rattle.std.specs.List.{AllByRecursion}
 use Rattle.std.proofs.lemmas.List.{map-append, length-map, take-map}
 use Rattle.std.proofs.lemmas.Bool.{ne_eqb}
 use Rattle.std.proofs.Common.{length-append, length-take}
-use Rattle.ssz_schema.specs.declared.width.Width.TheVariants.{W8}
-use Rattle.ssz_schema.specs.Types.{SszType, uint, boolean, list, bitlist}
+use Rattle.ssz_schema.specs.Types.{SszType, list, bitlist}
 use Rattle.ssz_value.specs.declared.value.Value.{Value}
 use Rattle.ssz_value.specs.declared.value.Value.TheVariants.{Bytes, Seq, Bits}
 use Rattle.ssz_value.specs.declared.edit_fault.EditFault.{EditFault}
-use Rattle.ssz_value.specs.declared.edit_fault.EditFault.TheVariants.{Full, Empty, Memory}
-use Rattle.ssz_value.specs.Values.{SszValue, number, truth, sequence, bits, values, items, Fits}
+use Rattle.ssz_value.specs.declared.edit_fault.EditFault.TheVariants.{Empty}
+use Rattle.ssz_value.specs.Values.{SszValue, number, truth, sequence, values, items, Fits}
 use Rattle.ssz_value.specs.Standing.{value_of, IsValue, IsCopy}
-use Rattle.ssz_value.specs.Shapes.{part_count_of}
 use Rattle.ssz_value.specs.Suiting.{IsElement}
 use Rattle.ssz_value.specs.Edits.{Edited, with_more, with_less}
-use Rattle.ssz_value.proofs.ValueLemmas.{seq_is, bytes_are, bits_are}
+use Rattle.ssz_value.proofs.ValueLemmas.{seq_is, bytes_are}
 use Rattle.ssz_value.proofs.Sequences.{items-values}
 use Rattle.ssz_value.proofs.FormLemmas.{seq_elements, list_sequence}
 use Rattle.ssz_value.proofs.FitLemmas.{list_value, list_parts}
-use Rattle.ssz_plain.specs.Answers.{Gives, Refuses}
-use Rattle.ssz_plain.specs.Growth.{Pushes, HasMore, HasNoRoom, Pops, HasLess, IsNone}
+use Rattle.ssz_plain.specs.Answers.{Gives}
+use Rattle.ssz_plain.specs.Growth.{Pushes, Pops}
 use Rattle.ssz_plain.proofs.Elements.{all_push, all_take, if_below, if_not_below}
 use Rattle.ssz_plain.proofs.ListForms.{seq_count, bytes_count, other_parts, byte_numbers, other_bytes, bitlist_value, bitlist_length, copy_value}
 

@@ -1,5 +1,5 @@
 -- A path, one step after another.
-use Rattle.std.proofs.Common.{◌≡◌, ℕ, suc, length, drop, get_or, option_map, ap₂, ◌+◌, ◌<◌, ◌≤◌, Bool, true, false, List, [], ◌∷◌, Option, Some, None, Vec, Global, refl, sym, ap, ◌∙◌, subst, arith}
+use Rattle.std.proofs.Common.{◌≡◌, ℕ, suc, length, drop, get_or, option_map, ap₂, ◌+◌, ◌<◌, ◌≤◌, Bool, true, false, List, ◌∷◌, Option, Some, None, Vec, Global, refl, sym, ap, ◌∙◌, arith}
 use Rattle.std.specs.Prelude.{IsSome, option_and_then, bytes_eq}
 use Rattle.std.specs.List.{position_from}
 use Rattle.std.specs.Option.{is_some}
@@ -12,7 +12,7 @@ use Rattle.ssz_schema.specs.declared.ty.Ty.{Ty}
 use Rattle.ssz_schema.specs.declared.ty.Ty.TheVariants.{Container}
 use Rattle.ssz_schema.specs.Types.{SszType, container}
 use Rattle.ssz_schema.specs.Unfolding.{Types, type_of, tree_over, fields_over}
-use Rattle.ssz_schema.specs.Paths.{Path, step_type, path_type, field_number}
+use Rattle.ssz_schema.specs.Paths.{Path, step_type, path_type}
 use Rattle.ssz_value.specs.Parts.{numbered}
 use Rattle.ssz_schema.proofs.StepLemmas.{Part, found_field, missing_field}
 

@@ -1,5 +1,5 @@
 -- The edit that a change stands for, and the values with which it may be made.
-use Rattle.std.specs.Prelude.{ℕ, Ok, option_map}
+use Rattle.std.specs.Prelude.{Ok, option_map}
 use Rattle.ssz_schema.specs.Types.{SszType}
 use Rattle.ssz_value.specs.Values.{SszValue}
 use Rattle.ssz_value.specs.Standing.{value_of, IsValue}

@@ -59,7 +59,7 @@ abbrev pub EditsByte : Edit → ℕ → Path → List ℕ → List ℕ
     → Result (Unit {0}) EditFault → Option ℕ → Type 0
 EditsByte edit i rest old new result None = IsMissing old new result
 EditsByte edit i rest old new result (Some b) =
-    (c : ℕ) × (new ≡ set old i c)
+    (c : ℕ) × (new ≡ set old i c) × (c < 256)
     × Gives (changed edit (uint W8) (number b) rest) (number b) (number c) result
 
 abbrev pub EditsBit : Edit → ℕ → Path → List Bool → List Bool

@@ -127,9 +127,10 @@ fn edit_byte(
         return Err(EditFault::Absent);
     }
     let mut value = Value::Uint(u128::from(run.as_slice()[i]));
-    edit_at(alloc, schema, part, &mut value, rest, change)?;
+    let result = edit_at(alloc, schema, part, &mut value, rest, change);
+    // After a refusal it is the byte that stands there.
     run.set(i, byte_of(&value));
-    Ok(())
+    result
 }
 
 #[cycle(edits)]
@@ -152,9 +153,10 @@ fn edit_bit(
         return Err(EditFault::Absent);
     }
     let mut value = Value::Bool(run.as_slice()[i]);
-    edit_at(alloc, schema, part, &mut value, rest, change)?;
+    let result = edit_at(alloc, schema, part, &mut value, rest, change);
+    // After a refusal it is the bit that stands there.
     run.set(i, bit_of(&value));
-    Ok(())
+    result
 }
 
 // A length or a selector, which is not changed alone.

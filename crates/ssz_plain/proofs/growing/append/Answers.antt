@@ -1,5 +1,4 @@
 use Rattle.std.proofs.Common.{◌≡◌, ◌∙◌, sym, ap, subst, List, Bool, ℕ, Vec, Global}
-use Rattle.ssz_schema.specs.Types.{SszType, list, bitlist}
 use Rattle.ssz_schema.specs.Unfolding.{type_of, tree_at, tree_over}
 use Rattle.ssz_value.proofs.FormLemmas.{seq_out, bytes_out}
 use Rattle.ssz_value.specs.declared.value.Value.{Value}

@@ -1,10 +1,8 @@
-use Rattle.std.proofs.Common.{◌≡◌, ◌∙◌, sym, ap, subst, List, Bool, ℕ, Vec, Global}
-use Rattle.ssz_schema.specs.Types.{SszType, list, bitlist}
+use Rattle.std.proofs.Common.{◌∙◌, sym, ap, subst, List, Bool, ℕ, Vec, Global}
 use Rattle.ssz_schema.specs.Unfolding.{type_of, tree_at, tree_over}
 use Rattle.ssz_value.proofs.FormLemmas.{seq_out, bytes_out}
 use Rattle.ssz_value.specs.declared.value.Value.{Value}
-use Rattle.ssz_value.specs.Standing.{value_of, IsValue, IsCopy}
-use Rattle.ssz_value.specs.Values.{number}
+use Rattle.ssz_value.specs.Standing.{IsValue}
 use Rattle.ssz_plain.proofs.ListForms.{bits_out}
 use Rattle.ssz_plain.specs.Growth.{Pops}
 use Rattle.ssz_plain.proofs.MoreLess.{less_of_parts, less_of_bytes, less_bits}

@@ -1,6 +1,6 @@
 use Rattle.std.proofs.Common.{refl}
 use Rattle.ssz_schema.specs.Unfolding.{type_of}
-use Rattle.ssz_plain.proofs.PathWalk.{along_start, along_step, along_none, along_end}
+use Rattle.ssz_plain.proofs.PathWalk.{along_start, along_step}
 use Rattle.ssz_plain.proofs.paths.fits_type.Goals as goal
 
 pub loop-step-init : goal.loop-step-init
@@ -17,15 +17,3 @@ loop-step-preserved c = record {
       c.in-Some.next c.loop-step.invariant.along c.loop-step-test.true c.step-item.is
       c.step_type.ensures.exact c.in-Some.is;
 }
-
-pub returns-in-None : goal.returns-in-None
-returns-in-None c =
-    along_none c.args.schema.now (type_of c.args.schema.now c.args.id) c.args.path.now
-    c.loop-step.part c.loop-step.step-index c.step-item.result c.step_type.result
-    c.loop-step.invariant.along c.loop-step-test.true c.step-item.is c.step_type.ensures.exact
-    c.in-None.is
-
-pub returns-after-loop-step : goal.returns-after-loop-step
-returns-after-loop-step c =
-    along_end (type_of c.args.schema.now c.args.id) (type_of c.args.schema.now c.loop-step.part)
-    c.args.path.now c.loop-step.step-index c.loop-step.invariant.along c.loop-step-test.false

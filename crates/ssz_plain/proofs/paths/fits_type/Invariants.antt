@@ -1,4 +1,4 @@
-use Rattle.std.proofs.Common.{◌≡◌, ◌<◌, length, drop}
+use Rattle.std.proofs.Common.{◌<◌, length, drop}
 use Rattle.ssz_schema.specs.Unfolding.{type_of}
 use Rattle.ssz_plain.proofs.PathWalk.{IsAlong}
 use Rattle.ssz_plain.proofs.paths.fits_type.Given as goal
