@@ -1,5 +1,6 @@
 use super::{part, plain_append, plain_choose, plain_pop, plain_set};
-use ssz_schema::{ByteRun, Name, PathStep, Schema, TypeExpr, TypeId, Width};
+use ssz_bytes::ByteRun;
+use ssz_schema::{Name, PathStep, Schema, TypeExpr, TypeId, Width};
 use ssz_value::{EditFault, Value, default_of};
 use std::alloc::{AllocError, Global};
 use std::test::Fail;
