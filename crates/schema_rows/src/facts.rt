@@ -1,7 +1,6 @@
 // What the reading calls of a schema answer.
 use anyhow::{Context, Result, bail};
 use ssz_line::read_path;
-use ssz_same::same_type;
 use ssz_schema::{Schema, TypeId};
 
 // The names that every schema has; byte is uint8.
@@ -49,18 +48,6 @@ pub fn print_part(rt: &HostRuntime, schema: &Schema, name: &str, path: &str) -> 
             println!(rt; "{part}")?;
         }
         None => println!(rt; "does not fit")?,
-    }
-    Ok(())
-}
-
-/// Prints whether two types are the same.
-pub fn print_same(rt: &HostRuntime, schema: &Schema, left: &str, right: &str) -> Result<()> {
-    let left = schema.find(left).context("no such type")?;
-    let right = schema.find(right).context("no such type")?;
-    if same_type(schema, left, right) {
-        println!(rt; "the same")?;
-    } else {
-        println!(rt; "another")?;
     }
     Ok(())
 }

@@ -1,13 +1,13 @@
 //! What is read off types, and what is wrong with schema documents, by the rows of data/rows.txt.
 //!
-//! A row is `schema DOCUMENT`, of which the others then speak, `type NAME`, `path NAME PATH` or
-//! `same NAME NAME`. Each prints a line.
+//! A row is `schema DOCUMENT`, of which the others then speak, `type NAME` or `path NAME PATH`. Each
+//! prints a line.
 #![tactic(auto)]
 
 mod facts;
 
 use anyhow::{Context, Result, bail};
-use facts::{print_facts, print_part, print_same};
+use facts::{print_facts, print_part};
 use ssz_schema::Schema;
 use ssz_schema_json::{SchemaRead, read_schema};
 use std::fs;
@@ -45,12 +45,9 @@ fn print_answer(rt: &HostRuntime, schema: &Schema, kind: &str, names: &str) -> R
     if kind == "type" {
         return print_facts(rt, schema, names);
     }
-    let (first, second) = names.split_once(' ').context("two words")?;
     if kind == "path" {
-        return print_part(rt, schema, first, second);
-    }
-    if kind == "same" {
-        return print_same(rt, schema, first, second);
+        let (name, path) = names.split_once(' ').context("two words")?;
+        return print_part(rt, schema, name, path);
     }
     bail!("no such row")
 }

@@ -1,2 +1,0 @@
-pub mod TypesAlike
-mod AlikeLemmas

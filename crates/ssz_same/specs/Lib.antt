@@ -1,2 +1,0 @@
-pub mod SameType
-pub mod Alike
