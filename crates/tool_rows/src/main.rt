@@ -1,4 +1,5 @@
-//! Prints the status and the text of `ssz_tool::run` for the rows of rows.txt, over files in memory.
+//! Prints the status and the text of `ssz_tool::run` for the rows of rows.txt, over files in
+//! memory.
 //!
 //! A row is `HASHER;WORDS;TEXT`. The words name files that lie beside the rows; or `p`, which holds
 //! the text as a line; `v`, which holds the bytes of its digits; or `long`, which holds a byte more
