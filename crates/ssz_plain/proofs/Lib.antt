@@ -1,9 +1,0 @@
-pub mod Elements
-pub mod ListForms
-pub mod MoreLess
-pub mod PathWalk
-pub mod Choices
-pub mod Inside
-pub mod Keeping
-pub mod Walking
-pub mod Finding
