@@ -1,0 +1,5 @@
+pub mod Presence
+pub mod Mixing
+pub mod Stepping
+pub mod Walking
+pub mod NamedFields
