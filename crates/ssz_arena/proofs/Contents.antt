@@ -10,7 +10,7 @@ use Rattle.ssz_arena.specs.declared.node.Node.TheVariants.{Leaf, Pair}
 use Rattle.ssz_arena.specs.Content.{Content, tree_of, todo, unhashed, is_unhashed, node_at, node_count, IsNodeOf, KeepsNodes, KeepsTodo}
 use Rattle.ssz_arena.specs.Copied.{AreOrdered}
 use Rattle.ssz_arena.proofs.Following.{node_at-push}
-use Rattle.ssz_arena.proofs.Places.{slice_get-push}
+use Rattle.core.proofs.iter.runs.Lists.{nth_seam}
 use Rattle.ssz_arena.proofs.Nodes.{tree, due, tree-append, due-append, tree-leaf, tree-pair, due-leaf, due-pair}
 
 -- one more node
@@ -44,7 +44,7 @@ module _ (old new : Content) (node : Node) (pushed : new.nodes ≡ old.nodes ++ 
   count_push = ap (λ (ns : List Node). length ns) pushed ∙ length-append old.nodes (node ∷ [])
 
   pub found_push : slice_get new.nodes (node_count old) ≡ Some node
-  found_push = ap (λ ns. slice_get ns (length old.nodes)) pushed ∙ slice_get-push old.nodes node
+  found_push = ap (λ ns. slice_get ns (length old.nodes)) pushed ∙ nth_seam old.nodes node
 
   pub unhashed_push : unhashed new ≡ unhashed old + cond (is_unhashed node) 1 0
   unhashed_push = ap (count_by is_unhashed) pushed

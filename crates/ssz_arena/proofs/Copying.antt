@@ -14,7 +14,7 @@ use Rattle.ssz_arena.specs.declared.node.Node.TheVariants.{Leaf, Pair}
 use Rattle.ssz_arena.specs.Content.{is_unhashed}
 use Rattle.ssz_arena.specs.Invariant.{IsSoundAt, IsArena, CanJoin}
 use Rattle.ssz_arena.specs.Copied.{IsMarked, MarksChildren, IsCopyOf, CopiesUpTo, HasPlaces, moved_node}
-use Rattle.ssz_arena.proofs.Places.{slice_get-append_left, slice_get-push}
+use Rattle.core.proofs.iter.runs.Lists.{nth_left, nth_seam}
 use Rattle.ssz_arena.proofs.Nodes.{tree, due, tree-leaf, tree-pair, due-leaf, due-cached, due-pair, tree-append, due-append}
 use Rattle.ssz_arena.proofs.Sound.{arena-push}
 
@@ -37,7 +37,7 @@ module _ (nodes : List Node) (n : ℕ) where
 
   slice_get-take : (i : ℕ) → i < length (take n nodes)
       → slice_get (take n nodes) i ≡ slice_get nodes i
-  slice_get-take i within = sym (slice_get-append_left (take n nodes) (drop n nodes) i within)
+  slice_get-take i within = sym (nth_left (take n nodes) (drop n nodes) i within)
       ∙ ap (λ ns. slice_get ns i) parts
 
   sound_at-take : (p : List ℕ → List ℕ → List ℕ) (i : ℕ) (node : Node) → i < length (take n nodes)
@@ -198,7 +198,7 @@ module _ (p : List ℕ → List ℕ → List ℕ) (nodes : List Node) (marks : L
         let here : slice_get nodes i ≡ Some (Leaf chunk) = found ∙ ap Some is in
         let more : List Node = copy ++ Leaf chunk ∷ [] in
         let there : slice_get more (length copy) ≡ Some (Leaf chunk) =
-        slice_get-push copy (Leaf chunk) in
+        nth_seam copy (Leaf chunk) in
         record {
           inside = omega (arith, length-append copy (let m : Node = Leaf chunk in m ∷ []));
           tree = ap (tree more) at_end ∙ tree-leaf more (length copy) chunk there
@@ -215,7 +215,7 @@ module _ (p : List ℕ → List ℕ → List ℕ) (nodes : List Node) (marks : L
         right_copy left right cached is in
         let new : Node = moved_node places (Pair left right cached) in
         let more : List Node = copy ++ new ∷ [] in
-        let there : slice_get more (length copy) ≡ Some new = slice_get-push copy new in
+        let there : slice_get more (length copy) ≡ Some new = nth_seam copy new in
         record {
           inside = omega (arith, length-append copy (new ∷ []));
           tree = ap (tree more) at_end ∙ tree-pair more
@@ -241,7 +241,7 @@ module _ (p : List ℕ → List ℕ → List ℕ) (nodes : List Node) (marks : L
             omega (
               arith,
               due-pair (copy ++ new ∷ []) (length copy) _ _
-                  (slice_get-push copy new) l.inside r.inside,
+                  (nth_seam copy new) l.inside r.inside,
               due-append copy (new ∷ []) _ l.inside,
               due-append copy (new ∷ []) _ r.inside,
               l.todo,
@@ -250,7 +250,7 @@ module _ (p : List ℕ → List ℕ → List ℕ) (nodes : List Node) (marks : L
             )
         due_at left right (Some chunk) is =
             let new : Node = moved_node places (Pair left right (Some chunk)) in
-            due-cached (copy ++ new ∷ []) (length copy) _ _ chunk (slice_get-push copy new)
+            due-cached (copy ++ new ∷ []) (length copy) _ _ chunk (nth_seam copy new)
             ∙ sym (due-cached nodes i left right chunk (found ∙ ap Some is))
 
     unhashed_moved : (n : Node) → is_unhashed (moved_node places n) ≡ is_unhashed n

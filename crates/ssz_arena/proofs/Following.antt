@@ -9,7 +9,7 @@ use Rattle.ssz_arena.specs.declared.node.Node.{Node}
 use Rattle.ssz_arena.specs.declared.node.Node.TheVariants.{Leaf, Pair}
 use Rattle.ssz_arena.specs.Content.{child, node_at}
 use Rattle.ssz_arena.specs.Copied.{AreOrdered}
-use Rattle.ssz_arena.proofs.Places.{slice_get-append_left}
+use Rattle.core.proofs.iter.runs.Lists.{nth_left}
 
 -- one step, and then the others
 pub node_at-step : (nodes : List Node) (id next : NodeId) (step : Bool) (steps : List Bool)
@@ -138,7 +138,7 @@ pub node_at-push : (nodes more : List Node) → AreOrdered nodes → (id : NodeI
 node_at-push nodes more ordered id within [] = refl
 node_at-push nodes more ordered id within (step ∷ steps) =
     ap (λ o. option_and_then (λ next. node_at (nodes ++ more) next steps)
-    (option_and_then (child step) o)) (slice_get-append_left nodes more id.0 within)
+    (option_and_then (child step) o)) (nth_left nodes more id.0 within)
     ∙ each (option_and_then (child step) (slice_get nodes id.0)) (λ next e.
     node_at-push nodes more ordered next
     (let before = child-before nodes ordered id.0 step next e in omega (arith, before)) steps)

@@ -8,7 +8,8 @@ use Rattle.ssz_arena.specs.declared.node.NodeId.{NodeId}
 use Rattle.ssz_arena.specs.declared.node.Node.{Node}
 use Rattle.ssz_arena.specs.declared.node.Node.TheVariants.{Leaf, Pair}
 use Rattle.ssz_arena.specs.Invariant.{IsCached, IsSoundAt, AreSound, zero_node, IsArena, CanJoin}
-use Rattle.ssz_arena.proofs.Places.{slice_get-set_same, slice_get-set_other, slice_get-append_left, slice_get-push}
+use Rattle.core.proofs.iter.runs.Lists.{nth_left, nth_seam}
+use Rattle.ssz_arena.proofs.Places.{slice_get-set_same, slice_get-set_other}
 use Rattle.ssz_arena.proofs.Nodes.{tree, due, tree-pair, tree-append, due-append, due-set, trees-set}
 
 module _ (p : List ℕ → List ℕ → List ℕ) where
@@ -43,7 +44,7 @@ module _ (p : List ℕ → List ℕ → List ℕ) where
               ∙ ap (λ t. p (root p (tree (nodes ++ more) left.0)) t)
               (ap (root p) (sym (tree-append nodes more right.0 h.1)))
               ∙ ap (root p) (sym (tree-pair (nodes ++ more) (length nodes) left right (Some chunk)
-              (slice_get-push nodes node) h.0 h.1));
+              (nth_seam nodes node) h.0 h.1));
           left_hashed = due-append nodes more left.0 h.0 ∙ h.2.left_hashed;
           right_hashed = due-append nodes more right.0 h.1 ∙ h.2.right_hashed;
         },
@@ -59,7 +60,7 @@ module _ (p : List ℕ → List ℕ → List ℕ) where
         ⊎_elim
         (λ (here : i ≡ length nodes).
         let same : node ≡ found_node = same_Some _ _
-        (sym (slice_get-push nodes node) ∙ ap (slice_get (nodes ++ node ∷ [])) (sym here)
+        (sym (nth_seam nodes node) ∙ ap (slice_get (nodes ++ node ∷ [])) (sym here)
         ∙ found) in
         subst (λ n. IsSoundAt p (nodes ++ node ∷ []) i n) same
         (subst (λ j. IsSoundAt p (nodes ++ node ∷ []) j node) (sym here)
@@ -67,7 +68,7 @@ module _ (p : List ℕ → List ℕ → List ℕ) where
         (λ (ne : i ≢ length nodes).
         let before : i < length nodes = omega arith in
         sound_at-append nodes (node ∷ []) i found_node before
-        (sound.each i found_node (sym (slice_get-append_left nodes (node ∷ []) i before)
+        (sound.each i found_node (sym (nth_left nodes (node ∷ []) i before)
         ∙ found)))
         (cases_eq i (length nodes));
   }
@@ -78,7 +79,7 @@ module _ (p : List ℕ → List ℕ → List ℕ) where
     sound = sound-push nodes node arena.sound joins;
     zeros = λ d h.
         let within : d < length nodes = slice_get_within nodes d _ (arena.zeros d h) in
-        slice_get-append_left nodes (node ∷ []) d within ∙ arena.zeros d h;
+        nth_left nodes (node ∷ []) d within ∙ arena.zeros d h;
   }
 
   -- a pair whose children have nothing to be hashed may keep the root of its tree

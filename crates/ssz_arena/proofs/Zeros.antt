@@ -11,7 +11,7 @@ use Rattle.ssz_arena.specs.declared.node.Node.{Node}
 use Rattle.ssz_arena.specs.declared.node.Node.TheVariants.{Pair}
 use Rattle.ssz_arena.specs.Content.{is_unhashed}
 use Rattle.ssz_arena.specs.Invariant.{zero_node, CanJoin, JoinsCached, AreSound}
-use Rattle.ssz_arena.proofs.Places.{slice_get-append_left, slice_get-push}
+use Rattle.core.proofs.iter.runs.Lists.{nth_left, nth_seam}
 use Rattle.ssz_arena.proofs.Nodes.{tree, due, tree-leaf, tree-pair, due-leaf, due-cached}
 use Rattle.ssz_arena.proofs.Sound.{sound-push}
 
@@ -70,11 +70,11 @@ zeros_push p d old new id chunk were below is_root pushed =
       zeros = λ k h. ⊎_elim
           (λ (here : k ≡ length old). let last : length old ≡ suc d = omega (arith, were.count) in
           let at_end : suc d ≡ k = omega arith in ap (λ ns. slice_get ns k) is
-          ∙ ap (slice_get (old ++ node ∷ [])) here ∙ slice_get-push old node
+          ∙ ap (slice_get (old ++ node ∷ [])) here ∙ nth_seam old node
           ∙ ap (λ n. Some (zero_node p n)) at_end)
           (λ (ne : k ≢ length old).
           let before : k < length old = omega (arith, were.count) in
-          ap (λ ns. slice_get ns k) is ∙ slice_get-append_left old (node ∷ []) k before
+          ap (λ ns. slice_get ns k) is ∙ nth_left old (node ∷ []) k before
           ∙ were.zeros k (omega (arith, were.count)))
           (cases_eq k (length old));
       sound = subst (AreSound p) (sym is)

@@ -1,17 +1,17 @@
 -- What bytes without a fault tell, for each form of a type.
 use Rattle.ssz_schema.specs.declared.format.Format.{Format}
-use Rattle.std.proofs.Common.{◌≡◌, ℕ, ◌+◌, ◌/◌, ◌^◌, ◌<◌, ◌≤◌, List, length, map, replicate, Option, Some, None, refl, sym, ap, subst, ◌∙◌, arith}
+use Rattle.std.proofs.Common.{◌≡◌, ℕ, ◌+◌, ◌/◌, ◌^◌, ◌≤◌, List, length, map, replicate, Option, None, sym, ap, subst, ◌∙◌, arith}
 use Rattle.std.proofs.lemmas.List.{length-map, length-replicate}
 use Rattle.ssz_chunk.specs.Tree.{leaf, root, full, grow}
-use Rattle.ssz_schema.specs.Types.{SszType, Fields, no_fields, field, container, vector, list, bitvector}
-use Rattle.ssz_schema.specs.Sizes.{fixed_size, basic_size, element_chunks, field_count, part_length, default_length, default_fields_length, depth_of, depth}
+use Rattle.ssz_schema.specs.Types.{SszType, container, vector, list, bitvector}
+use Rattle.ssz_schema.specs.Sizes.{fixed_size, basic_size, element_chunks, field_count, depth_of, depth}
 use Rattle.ssz_bytes.specs.Bytes.{le_bytes, le_number, number_of_bits, bits_of_number}
 use Rattle.ssz_bytes.specs.Faults.{bitvector_fault}
 use Rattle.ssz_schema.specs.Legal.{IsLegal, AreLegalFields}
 use Rattle.ssz_schema.specs.Unfolding.{fields_over}
 use Rattle.ssz_bytes.proofs.Bits.{length-bits_of_number}
 use Rattle.ssz_schema.proofs.DepthLemmas.{depth_of-holds}
-use Rattle.ssz_schema.proofs.SizeLemmas.{default_length-fixed, fixed_size-positive}
+use Rattle.ssz_schema.proofs.SizeLemmas.{fields_few}
 use Rattle.ssz_schema.proofs.SumLemmas.{field_count-over}
 use Rattle.ssz_value.specs.Faults.{why, elements_fault, element_count, count_fault, length_fault, scopes}
 use Rattle.ssz_value.specs.Reading.{value_in, elements_in}
@@ -121,21 +121,6 @@ IsPackedBits-bitvector pair_of format form n b e legal input h =
     (subst (λ ty. why ty 0 b ≡ None) e h))
 
 -- a container has no more fields than its default has bytes
-
-part_some : (format : Format) (t : SszType) → IsLegal format t → (size : Option ℕ) → fixed_size t
-    ≡ size → 0 < part_length size (default_length t)
-part_some format t legal None e = omega arith
-part_some format t legal (Some z) e = omega (
-  arith,
-  default_length-fixed t z e,
-  fixed_size-positive format t legal z e,
-)
-
-fields_few : (format : Format) (fs : Fields) → AreLegalFields format fs → field_count fs
-    ≤ default_fields_length fs
-fields_few format no_fields legal = omega arith
-fields_few format (field name t fs) legal = omega
-    (arith, fields_few format fs legal.2, part_some format t legal.1 (fixed_size t) refl)
 
 -- the fields' roots, in a full tree of this depth
 pub record HasFieldRoom (format : Format) (trees : List SszType) (parts : List Part)

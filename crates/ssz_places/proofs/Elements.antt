@@ -8,11 +8,12 @@ use Rattle.ssz_schema.specs.declared.width.Width.{Width}
 use Rattle.ssz_schema.specs.declared.width.Width.TheVariants.{W8, W16, W32, W64, W128, W256}
 use Rattle.ssz_schema.specs.Types.{SszType, uint, boolean, container, vector, list, bitvector, bitlist, union}
 use Rattle.ssz_schema.specs.Sizes.{basic_size, byte_count}
-use Rattle.ssz_value.specs.Values.{SszValue, number, wide, truth, FitsWidth, Fits}
+use Rattle.ssz_value.specs.Values.{SszValue, number, truth, Fits}
 use Rattle.ssz_value.specs.Encoding.{enc}
 use Rattle.ssz_chunk.specs.Tree.{Tree, leaf, place}
 use Rattle.ssz_chunk.specs.Chunk.{zero_chunk}
 use Rattle.ssz_value.specs.Trees.{tree, padded, element_leaves}
+use Rattle.ssz_value.proofs.Basic.{number_sized}
 use Rattle.ssz_schema.specs.Indices.{element_position, element_spot, byte}
 use Rattle.ssz_places.specs.Spots.{HasPart, with_part, without_part, written}
 use Rattle.ssz_chunk.proofs.FullTrees.{AgreeBut}
@@ -23,15 +24,6 @@ pub record IsBasic (t : SszType) (z : ℕ) : Type 0 where
   pub pos : 0 < z
   pub inside : (i : ℕ) → i * z % 32 + z ≤ 32
   pub sized : (v : SszValue) → Fits t v → length (enc t v) ≡ z
-
-number_sized : (w : Width) (v : SszValue) → FitsWidth w v → length (enc (uint w) v) ≡ byte_count w
-number_sized W8 (number n) h = refl
-number_sized W16 (number n) h = refl
-number_sized W32 (number n) h = refl
-number_sized W64 (number n) h = refl
-number_sized W128 (number n) h = refl
-number_sized W256 (wide bytes) h = h.0
-number_sized _ _ h = absurd h
 
 truth_sized : (v : SszValue) → Fits boolean v → length (enc boolean v) ≡ 1
 truth_sized (truth b) h = refl

@@ -1,5 +1,6 @@
 -- What an append and a pop make of a list's content.
-use Rattle.std.proofs.Common.{ltb, ◌≡◌, ℕ, zero, suc, ◌+◌, ◌-◌, ◌*◌, ◌/◌, ◌%◌, ◌^◌, ◌<◌, ◌≤◌, Bool, true, false, cond, eqb, List, [], ◌∷◌, ◌++◌, length, get_or, take, drop, map, Option, refl, sym, ap, ◌∙◌, subst, Some, None, Ok, Err, arith, slice_get, length-append, cond}
+use Rattle.std.proofs.Common.{ltb, ◌≡◌, ℕ, zero, suc, ◌+◌, ◌-◌, ◌*◌, ◌/◌, ◌%◌, ◌^◌, ◌<◌, ◌≤◌, Bool, true, false, cond, eqb, List, [], ◌∷◌, ◌++◌, length, get_or, take, drop, map, Option, refl, sym, ap, ◌∙◌, subst, Some, None, Ok, Err, arith, length-append, cond}
+use Rattle.core.proofs.iter.runs.Lists.{nth_seam}
 use Rattle.std.specs.List.{AllByRecursion, concat}
 use Rattle.ssz_value.specs.Encoding.{enc}
 use Rattle.std.proofs.lemmas.Bool.{ltb-true, lt-ltb, eqb-false}
@@ -24,10 +25,6 @@ use Rattle.ssz_places.proofs.Rooms.{list-below, bitlist-below}
 use Rattle.ssz_value.proofs.Sequences.{items-values}
 
 -- one more element, and one less
-
-slice_get-push : {X : Type 0} (xs : List X) (x : X) → slice_get (xs ++ x ∷ []) (length xs) ≡ Some x
-slice_get-push [] x = refl
-slice_get-push (y ∷ xs) x = slice_get-push xs x
 
 SameItems-push : {X : Type 0} (xs : List X) (x : X) → SameItems (length xs) xs (xs ++ x ∷ [])
 SameItems-push [] x zero other = absurd (other refl)
@@ -103,7 +100,8 @@ module _ (t : SszType) (n i : ℕ) (vs ws : List SszValue) (fit : AllByRecursion
             ∙ ap (λ ys. Some (full d (leaves_of (basic_size t) t ys))) (sym same_items);
         whole = refl;
         fits =
-            subst (λ ys. (length ys ≤ n) × AllByRecursion (Fits t) ys) (sym same_items) (few, fits_too);
+            subst (λ ys. (length ys ≤ n) × AllByRecursion (Fits t) ys) (sym same_items)
+            (few, fits_too);
       }
 
 -- bits of which that of number i changes
@@ -173,7 +171,7 @@ law_of_append format (list t n) (sequence vs) new result value fit made =
       list-content t n i (items vs) ws value.fits.1 fits_too same within (omega (arith, longer))
           (with_part (element_spot (basic_size t) i) t new)
           (place-changed t i (items vs) ws value.fits.1 fits_too same (basic_size t) refl new fit
-          (slice_get-push (items vs) new)) (sequence vs) refl,
+          (nth_seam (items vs) new)) (sequence vs) refl,
       ap (λ ys. length ys) (items-values ws) ∙ longer,
     )
 law_of_append format (bitlist n) (bits bs) (truth b) result value fit made =
@@ -183,7 +181,7 @@ law_of_append format (bitlist n) (bits bs) (truth b) result value fit made =
     let cs : List Bool = bs ++ b ∷ [] in
     let longer : length cs ≡ i + 1 = length-append bs (b ∷ []) in
     let new : get_or cs i false ≡ b =
-    sym (unwrap_or-slice_get cs i false) ∙ ap (λ o. unwrap_or o false) (slice_get-push bs b) in
+    sym (unwrap_or-slice_get cs i false) ∙ ap (λ o. unwrap_or o false) (nth_seam bs b) in
     subst (λ r. HasContent (bitlist n) (bits bs) i (with_part (bit (i % 256)) boolean (truth b)) r
     × (count_of r ≡ i + 1)) both.1 (
       bit-content n i bs cs (SameItems-push bs b) within (omega (arith, longer))

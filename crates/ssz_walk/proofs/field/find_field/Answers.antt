@@ -75,9 +75,10 @@ returns-in-Some-down-clause-found g c =
       arith,
       c.requires.known,
       part_known c.args.id c.as_slice.result.now c.in-Some.number c.index-field.result.now
-          (field_below c.args.schema.now c.args.arena.now c.args.id c.args.node c.as_slice.result.now
-          c.args.name.now c.in-Some.number form found) part_is
-          (subst (AllByRecursion (λ (part : Part). part.1 < c.args.id)) (sym c.as_slice.ensures.value)
+          (field_below c.args.schema.now c.args.arena.now c.args.id c.args.node
+          c.as_slice.result.now c.args.name.now c.in-Some.number form found) part_is
+          (subst (AllByRecursion (λ (part : Part). part.1 < c.args.id))
+          (sym c.as_slice.ensures.value)
           (subst (AreBelow c.args.id) c.in-Container.is c.ty.ensures.before)),
     ))
     c.in-Some-down.ensures.node c.in-Some-down.ensures.tree c.in-Some-down.ensures.found
