@@ -2,7 +2,7 @@
 ghost use Rattle.std.specs.Prelude.{◌≡◌, ◌+◌, ◌*◌, ◌<◌, ◌≤◌, ◌^◌, length, IsSome};
 ghost use Rattle.std.specs.Option.{ForSome};
 ghost use Rattle.ssz_schema.specs.Unfolding.{type_of};
-ghost use Rattle.ssz_schema.specs.Sizes.{basic_size, levels};
+ghost use Rattle.ssz_schema.specs.Sizes.{levels};
 ghost use Rattle.ssz_schema.specs.declared.path.PathStep.TheVariants.{Field, Index};
 ghost use Rattle.ssz_schema.specs.Paths.{step_type};
 ghost use Rattle.ssz_schema.specs.Indices.{element_position, step_levels, step_position, step_index, generalized_index};
@@ -95,22 +95,9 @@ fn index_position(schema: &Schema, id: TypeId, i: u64) -> u64
     ensures { result ≡ step_position (type_of schema.now id) (Index i) }
 {
     match schema.ty(id) {
-        Ty::Vector(elem, _) | Ty::List(elem, _) => element_position(basic_size(schema, *elem), i),
+        Ty::Vector(elem, _) | Ty::List(elem, _) => element_position(schema.basic_size(*elem), i),
         Ty::Bitvector(_) | Ty::Bitlist(_) => i / 256,
         Ty::Uint(_) | Ty::Boolean | Ty::Container(_) | Ty::Union(_) => 0,
-    }
-}
-
-// The size of a basic type, and None of a composite one.
-fn basic_size(schema: &Schema, id: TypeId) -> Option<u64>
-    requires { id < length schema.now.trees }
-    ensures exact { result ≡ basic_size (type_of schema.now id) }
-    ensures at_most { ForSome result (λ z. z ≤ 32) }
-{
-    match schema.ty(id) {
-        Ty::Uint(width) => Some(width.byte_count()),
-        Ty::Boolean => Some(1),
-        _ => None,
     }
 }
 
