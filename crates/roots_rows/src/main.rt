@@ -1,8 +1,9 @@
 //! Prints the roots of values of every form of a type, by the schema and the rows of data/.
 //!
-//! A row is the name of a type and the bytes of a value of it. Its line has the root, which must come
-//! out alike from the bytes and from the value, and the pairs that were hashed for it. The wanted lines
-//! come from hashlib of Python, over the definition of hash_tree_root in simple-serialize.md.
+//! A row is the name of a type and the bytes of a value of it. Its line has the root, which must
+//! come out alike from the bytes and from the value, and the pairs that were hashed for it. The
+//! wanted lines come from hashlib of Python, over the definition of hash_tree_root in
+//! simple-serialize.md.
 #![tactic(auto)]
 
 ghost use Rattle.std.specs.Prelude.{◌<◌, ◌^◌, length};

@@ -1,13 +1,15 @@
 //! What is read off types, and what is wrong with schema documents, by the rows of data/rows.txt.
 //!
-//! A row is `schema DOCUMENT`, of which the others then speak, `type NAME` or `path NAME PATH`. Each
-//! prints a line.
+//! A row is `schema DOCUMENT`, of which the others then speak, `type NAME`, `path NAME PATH`,
+//! `index NAME PATH` or `helpers INDEX..`. Each prints a line.
 #![tactic(auto)]
 
 mod facts;
+mod indices;
 
 use anyhow::{Context, Result, bail};
 use facts::{print_facts, print_part};
+use indices::{print_helpers, print_index};
 use ssz_schema::Schema;
 use ssz_schema_json::{SchemaRead, read_schema};
 use std::fs;
@@ -45,11 +47,15 @@ fn print_answer(rt: &HostRuntime, schema: &Schema, kind: &str, names: &str) -> R
     if kind == "type" {
         return print_facts(rt, schema, names);
     }
-    if kind == "path" {
-        let (name, path) = names.split_once(' ').context("two words")?;
-        return print_part(rt, schema, name, path);
+    if kind == "helpers" {
+        return print_helpers(rt, names);
     }
-    bail!("no such row")
+    let (name, path) = names.split_once(' ').context("two words")?;
+    match kind {
+        "path" => print_part(rt, schema, name, path),
+        "index" => print_index(rt, schema, name, path),
+        _ => bail!("no such row"),
+    }
 }
 
 fn main(rt: HostRuntime) -> Result<()> {

@@ -88,7 +88,7 @@ impl<H: PairHash> Arena<H> {
         self.nodes.capacity().min(MOST_NODES) - self.nodes.len()
     }
 
-    /// Where its memory is from.
+    /// Where its memory is from. A program has one such allocator, so no clause tells which.
     pub fn allocator(&self) -> Global {
         *self.nodes.allocator()
     }
@@ -242,7 +242,8 @@ impl<H: PairHash> Arena<H> {
             at (tree_of self.now id) index ≡ Some (tree_of self.now found)) }
         // Below a node whose root is cached, each root is.
         ensures todo { IfSome result (λ found. todo self.now found ≤ todo self.now id) }
-        ensures found { IfSome result (λ found. node_at self.now.nodes id (way index) ≡ Some found) }
+        ensures found { IfSome result (λ found.
+            node_at self.now.nodes id (way index) ≡ Some found) }
     {
         let number = index.get();
         // No index is 0, but its type does not tell that here.

@@ -81,7 +81,8 @@ number_only W128 b h e =
     record { fits = number_below 16 b h.bytes e; bytes = le_bytes_of 16 b h.bytes e }
 number_only W256 b h e = record { fits = (e, h.bytes); bytes = refl }
 
-pub number_sized : (w : Width) (v : SszValue) → FitsWidth w v → length (enc (uint w) v) ≡ byte_count w
+pub number_sized : (w : Width) (v : SszValue) → FitsWidth w v
+    → length (enc (uint w) v) ≡ byte_count w
 number_sized W8 (number n) h = refl
 number_sized W16 (number n) h = refl
 number_sized W32 (number n) h = refl

@@ -15,8 +15,8 @@ returns-in-Leaf-clause-some g c = (
 
 pub returns-in-Leaf-clause-root : goal.returns-in-Leaf-clause-root
 returns-in-Leaf-clause-root g c = ap (root g.H.PairHash.pair_of)
-    (sym (seen_leaf g.H.PairHash.pair_of c.self.inside.nodes.items c.self.invariant.0 c.args.self.now
-    (ap (λ (a : Content). a.nodes) c.self.view_is) c.args.id c.requires c.index.result.now
+    (sym (seen_leaf g.H.PairHash.pair_of c.self.inside.nodes.items c.self.invariant.0
+    c.args.self.now (ap (λ (a : Content). a.nodes) c.self.view_is) c.args.id c.requires c.index.result.now
     c.in-Leaf.chunk c.index.ensures c.in-Leaf.is))
 
 pub returns-in-Pair-clause-some : goal.returns-in-Pair-clause-some
