@@ -1,0 +1,59 @@
+// A command as one line.
+use anyhow::Result;
+use ssz_words::{Command, RootArgs, RunArgs, VerifyArgs, WeaveArgs, WorkArgs};
+
+/// Prints the line of a command.
+pub fn print_command(rt: &HostRuntime, command: &Command) -> Result<()> {
+    match command {
+        Command::Root(args) => print_root(rt, args),
+        Command::Run(args) => print_run(rt, args),
+        Command::Weave(args) => print_weave(rt, args),
+        Command::Verify(args) => print_verify(rt, args),
+        Command::Work(args) => print_work(rt, args),
+    }
+}
+
+fn print_root(rt: &HostRuntime, args: &RootArgs) -> Result<()> {
+    let (schema, type_name) = (args.schema.as_str(), args.type_name.as_str());
+    let file = args.file.as_str();
+    println!(rt; "root {schema} {type_name} {file} {}", args.max_bytes)?;
+    Ok(())
+}
+
+fn print_run(rt: &HostRuntime, args: &RunArgs) -> Result<()> {
+    let (schema, script) = (args.schema.as_str(), args.script.as_str());
+    println!(rt; "run {schema} {script} {}", args.max_bytes)?;
+    Ok(())
+}
+
+fn print_weave(rt: &HostRuntime, args: &WeaveArgs) -> Result<()> {
+    print!(rt; "weave {} {} ", args.schema.as_str(), args.base.as_str())?;
+    for writer in args.order.writers() {
+        print!(rt; "{writer}")?;
+    }
+    print_scripts(rt, args)?;
+    println!(rt; " {}", args.max_bytes)?;
+    Ok(())
+}
+
+// Prints the scripts' names, parted by commas.
+fn print_scripts(rt: &HostRuntime, args: &WeaveArgs) -> Result<()> {
+    let mut mark = ' ';
+    for name in args.scripts.as_slice() {
+        print!(rt; "{mark}{}", name.as_str())?;
+        mark = ',';
+    }
+    Ok(())
+}
+
+fn print_verify(rt: &HostRuntime, args: &VerifyArgs) -> Result<()> {
+    let root = hex::encode(rt.alloc(), args.root.as_slice())?;
+    println!(rt; "verify {root} {}", args.file.as_str())?;
+    Ok(())
+}
+
+fn print_work(rt: &HostRuntime, args: &WorkArgs) -> Result<()> {
+    let (schema, type_name) = (args.schema.as_str(), args.type_name.as_str());
+    println!(rt; "work {schema} {type_name} {} {}", args.seed, args.edits)?;
+    Ok(())
+}
