@@ -83,7 +83,8 @@ impl<H: PairHash> Arena<H> {
 
     /// For how many more nodes there is room.
     pub fn spare(&self) -> usize
-        ensures { result ≡ self.now.spare }
+        ensures count { result ≡ self.now.spare }
+        ensures few { result ≤ 2 ^ 32 }
     {
         self.nodes.capacity().min(MOST_NODES) - self.nodes.len()
     }
