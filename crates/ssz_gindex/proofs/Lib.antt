@@ -9,3 +9,4 @@ pub mod NodeSets
 pub mod Starting
 pub mod Lowest
 pub mod Prefixes
+pub mod Seams

@@ -1,6 +1,6 @@
 -- What an append and a pop make of a list's content.
 use Rattle.std.proofs.Common.{ltb, ◌≡◌, ℕ, zero, suc, ◌+◌, ◌-◌, ◌*◌, ◌/◌, ◌%◌, ◌^◌, ◌<◌, ◌≤◌, Bool, true, false, cond, eqb, List, [], ◌∷◌, ◌++◌, length, get_or, take, drop, map, Option, refl, sym, ap, ◌∙◌, subst, Some, None, Ok, Err, arith, length-append, cond}
-use Rattle.core.proofs.iter.runs.Lists.{nth_seam}
+use Rattle.ssz_gindex.proofs.Seams.{slice_get-push}
 use Rattle.std.specs.List.{AllByRecursion, concat}
 use Rattle.ssz_value.specs.Encoding.{enc}
 use Rattle.std.proofs.lemmas.Bool.{ltb-true, lt-ltb, eqb-false}
@@ -171,7 +171,7 @@ law_of_append format (list t n) (sequence vs) new result value fit made =
       list-content t n i (items vs) ws value.fits.1 fits_too same within (omega (arith, longer))
           (with_part (element_spot (basic_size t) i) t new)
           (place-changed t i (items vs) ws value.fits.1 fits_too same (basic_size t) refl new fit
-          (nth_seam (items vs) new)) (sequence vs) refl,
+          (slice_get-push (items vs) new)) (sequence vs) refl,
       ap (λ ys. length ys) (items-values ws) ∙ longer,
     )
 law_of_append format (bitlist n) (bits bs) (truth b) result value fit made =
@@ -181,7 +181,7 @@ law_of_append format (bitlist n) (bits bs) (truth b) result value fit made =
     let cs : List Bool = bs ++ b ∷ [] in
     let longer : length cs ≡ i + 1 = length-append bs (b ∷ []) in
     let new : get_or cs i false ≡ b =
-    sym (unwrap_or-slice_get cs i false) ∙ ap (λ o. unwrap_or o false) (nth_seam bs b) in
+    sym (unwrap_or-slice_get cs i false) ∙ ap (λ o. unwrap_or o false) (slice_get-push bs b) in
     subst (λ r. HasContent (bitlist n) (bits bs) i (with_part (bit (i % 256)) boolean (truth b)) r
     × (count_of r ≡ i + 1)) both.1 (
       bit-content n i bs cs (SameItems-push bs b) within (omega (arith, longer))
