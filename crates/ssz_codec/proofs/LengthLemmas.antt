@@ -13,25 +13,13 @@ use Rattle.ssz_value.specs.Sizes.{size, fields_size, option_size}
 use Rattle.ssz_schema.proofs.WalkFields.{drop_at}
 use Rattle.ssz_value.proofs.PartLemmas.{Part, size_at}
 use Rattle.ssz_value.specs.Shapes.{AreFields}
-use Rattle.ssz_codec.specs.Answers.{capped}
+use Rattle.ssz_parts.specs.Encoded.{capped}
 use Rattle.std.specs.List.{AllByRecursion}
 use Rattle.ssz_schema.specs.declared.format.Format.{Format}
 use Rattle.ssz_schema.specs.Legal.{IsLegal}
-use Rattle.ssz_value.proofs.ExactLaw.{agrees}
-use Rattle.ssz_value.proofs.SizeLaw.{measured}
+use Rattle.ssz_parts.proofs.PartSizes.{fixed_part}
 
--- the values of a fixed-size type have one size
-pub fixed_length : (format : Format) (t : SszType) (z : ℕ) (v : SszValue) → IsLegal format t
-    → fixed_size t ≡ Some z → Fits t v → size t v ≡ z
-fixed_length format t z v legal fixed fit =
-    sym ((measured t).length_is v fit) ∙ (agrees format t legal).sized z v fixed fit
-
-pub fixed_part : (format : Format) (t : SszType) (z : ℕ) (v : SszValue) → IsLegal format t
-    → fixed_size t ≡ Some z → Fits t v → part_length (fixed_size t) (size t v) ≡ z
-fixed_part format t z v legal fixed fit =
-    ap (λ s. part_length s (size t v)) fixed ∙ fixed_length format t z v legal fixed fit
-
--- so many of them
+-- so many of one fixed size
 pub fixed_sum : (format : Format) (t : SszType) (z : ℕ) (vs : List Value) → IsLegal format t
     → fixed_size t ≡ Some z → AllByRecursion (IsValue t) vs
     → sum_by (λ v. part_length (fixed_size t) (size t v)) (map value_of vs) ≡ length vs * z

@@ -14,6 +14,7 @@ use Rattle.ssz_bytes.specs.Bytes.{le_bytes}
 use Rattle.ssz_value.specs.Encoding.{enc, heads, bodies, heads_length, joined, joined_alike, field_encodings}
 use Rattle.ssz_value.specs.Values.{Fits, FitFields}
 use Rattle.ssz_bytes.proofs.Numbers.{length-le_bytes}
+use Rattle.ssz_parts.proofs.PartSizes.{heads_alike}
 use Rattle.ssz_value.proofs.Cut.{AreParts, length-heads}
 use Rattle.ssz_value.proofs.Sequences.{AreParts-alike}
 use Rattle.ssz_value.proofs.ExactLaw.{agrees, fields_agree}
@@ -144,10 +145,6 @@ joined_length sizes parts h =
           (bodies sizes parts),
       length-heads sizes parts (heads_length sizes) h,
     )
-
-pub heads_alike : (n : ℕ) (size : Option ℕ) → heads_length (replicate n size) ≡ n * head_size size
-heads_alike zero size = omega arith
-heads_alike (suc n) size = omega (arith, heads_alike n size)
 
 pub joined_elements : (t : SszType) (vs : List Value)
     → joined_alike (fixed_size t) (map (enc t) (map value_of vs))

@@ -13,7 +13,8 @@ use Rattle.ssz_value.specs.Values.{values}
 use Rattle.ssz_schema.proofs.WalkFields.{drop_at}
 use Rattle.ssz_value.proofs.PartLemmas.{Part, size_at, field_count_is}
 use Rattle.ssz_value.specs.Shapes.{AreFields}
-use Rattle.ssz_codec.specs.Writing.{Writes, PutsPart, PutsAll, Place, body_of}
+use Rattle.ssz_codec.specs.Writing.{Writes, PutsPart, PutsAll, Place}
+use Rattle.ssz_parts.specs.Encoded.{body_of}
 
 -- up to here the parts are written, but for these
 pub record Writing (sizes : List (Option ℕ)) (parts : List (List ℕ)) (rest_sizes : List (Option ℕ))

@@ -11,8 +11,6 @@ use Rattle.ssz_value.specs.Standing.{Stands}
 use Rattle.ssz_value.specs.Shapes.{StandAlike}
 use Rattle.ssz_codec.specs.declared.fault.DecodeFault.{DecodeFault}
 use Rattle.ssz_codec.specs.declared.fault.DecodeFault.TheVariants.{Bad, Memory}
-use Rattle.ssz_codec.specs.declared.fault.EncodeFault.{EncodeFault}
-use Rattle.ssz_codec.specs.declared.fault.EncodeFault.TheVariants.{TooLong, Memory as NoMemory}
 
 -- this is the first fault, or memory ran out
 abbrev pub Faulty : Option Fault → DecodeFault → Type 0
@@ -32,13 +30,3 @@ DecodesTo t start b = Decodes (why t start b) (Stands t (value_in t b))
 abbrev pub AreNumbers : Width → ℕ → List ℕ → List Value → Type 0
 AreNumbers w count b =
     StandAlike (uint w) (map (value_in (uint w)) (elements_in (Some (byte_count w)) count b))
-
--- the bytes are appended, unless they are more than max or memory runs out
-abbrev pub Appends : List ℕ → ℕ → List ℕ → List ℕ → Result Unit EncodeFault → Type 0
-Appends bytes max old new (Ok _) = (length bytes ≤ max) × (new ≡ old ++ bytes)
-Appends bytes max old new (Err TooLong) = (max < length bytes) × (new ≡ old)
-Appends bytes max old new (Err NoMemory) = (length bytes ≤ max) × (new ≡ old)
-
--- the number, or the greatest u64 where it is greater
-abbrev pub capped : ℕ → ℕ
-capped n = min n (2 ^ 64 - 1)

@@ -1,23 +1,13 @@
 -- Bytes that are written into room for them.
 use Rattle.std.specs.Prelude.{ℕ, ◌+◌, ◌≡◌, List, [], ◌++◌, length, take, Option, Some, None}
 use Rattle.ssz_schema.specs.Sizes.{head_size}
-use Rattle.ssz_bytes.specs.Bytes.{offset_bytes}
 use Rattle.ssz_value.specs.Encoding.{heads, bodies}
+use Rattle.ssz_parts.specs.Encoded.{head_of, body_of}
 
 -- the room begins with the bytes, which are so many
 pub record Writes (encoding : List ℕ) (n : ℕ) (room : List ℕ) : Type 0 where
   pub count : n ≡ length encoding
   pub bytes : take n room ≡ encoding
-
--- what a part puts among the fixed parts: itself, or its offset
-abbrev pub head_of : Option ℕ → List ℕ → ℕ → List ℕ
-head_of (Some z) bytes offset = bytes
-head_of None bytes offset = offset_bytes offset
-
--- and among the variable parts
-abbrev pub body_of : Option ℕ → List ℕ → List ℕ
-body_of (Some z) bytes = []
-body_of None bytes = bytes
 
 -- how far the fixed parts and the variable parts are written
 abbrev pub Place : Type 0

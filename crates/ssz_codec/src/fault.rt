@@ -31,23 +31,3 @@ impl<T: Drop> From<AllocFailed<T>> for DecodeFault {
         DecodeFault::Memory
     }
 }
-
-/// Why a value is not encoded.
-#[derive(Clone, Copy, Debug, PartialEq, Eq)]
-pub enum EncodeFault {
-    /// Its encoding is longer than the caller takes.
-    TooLong,
-    /// Want of memory.
-    Memory,
-}
-
-impl From<AllocError> for EncodeFault {
-    ghost use Rattle.std.specs.Prelude.{◌≡◌};
-    ghost use Rattle.ssz_codec.specs.declared.fault.EncodeFault.TheVariants.{Memory as NoMemory};
-
-    ghost from_gives = { λ _ e. e ≡ NoMemory };
-
-    fn from(_error: AllocError) -> Self {
-        EncodeFault::Memory
-    }
-}

@@ -17,5 +17,6 @@ mod tests;
 pub use checking::check;
 pub use decoding::decode;
 pub use encoding::encode;
-pub use fault::{DecodeFault, EncodeFault};
+pub use fault::DecodeFault;
 pub use measuring::encoded_len;
+pub use ssz_parts::EncodeFault;

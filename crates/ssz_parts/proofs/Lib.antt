@@ -7,3 +7,4 @@ pub mod ElementLemmas
 pub mod UnionLemmas
 pub mod ElementValues
 pub mod UnionValues
+pub mod PartSizes

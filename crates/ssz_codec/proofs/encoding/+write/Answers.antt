@@ -20,7 +20,8 @@ use Rattle.ssz_value.specs.Shapes.{IsSequence, AreFields, parts_of}
 use Rattle.ssz_codec.specs.Writing.{Writes}
 use Rattle.ssz_value.proofs.FormLemmas.{seq_elements, bytes_elements, seq_fields, chosen_fits, union_inner, chosen_option, value_of_chosen, element_at, vector_sequence, list_sequence}
 use Rattle.ssz_codec.proofs.WritingLemmas.{ElementsLeft-room, ElementsLeft-more, FieldsLeft-room, FieldsLeft-more, FieldsLeft-value, FieldsLeft-within, joined_writes}
-use Rattle.ssz_codec.proofs.RoomLemmas.{puts_fixed, puts_variable, room_behind, joined_elements, elements_length, fields_length, heads_alike}
+use Rattle.ssz_parts.proofs.PartSizes.{heads_alike}
+use Rattle.ssz_codec.proofs.RoomLemmas.{puts_fixed, puts_variable, room_behind, joined_elements, elements_length, fields_length}
 use Rattle.ssz_codec.proofs.EncodingLemmas.{chosen_bytes, chosen_writes, none_writes, run_bytes, vector_enc, list_enc}
 use Rattle.ssz_codec.proofs.encoding.+write.Goals as goal
 

@@ -10,9 +10,10 @@ use Rattle.ssz_value.proofs.ValueLemmas.{seq_is, bytes_are}
 use Rattle.ssz_value.proofs.Sequences.{items-values}
 use Rattle.ssz_parts.proofs.UnionLemmas.{option_below}
 use Rattle.ssz_value.specs.Shapes.{IsSequence, AreFields, parts_of}
-use Rattle.ssz_codec.specs.Answers.{capped}
+use Rattle.ssz_parts.specs.Encoded.{capped}
 use Rattle.ssz_value.proofs.FormLemmas.{seq_elements, bytes_elements, seq_fields, chosen_fits, union_inner, chosen_option, value_of_chosen}
-use Rattle.ssz_codec.proofs.LengthLemmas.{sum_of_bytes, option_size_at, fixed_part, fixed_sum}
+use Rattle.ssz_parts.proofs.PartSizes.{fixed_part}
+use Rattle.ssz_codec.proofs.LengthLemmas.{sum_of_bytes, option_size_at, fixed_sum}
 use Rattle.ssz_codec.proofs.measuring.+length.Goals as goal
 
 pub sequence_len-elements_len-requires : goal.sequence_len-elements_len-requires
