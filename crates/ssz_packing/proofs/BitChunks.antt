@@ -115,7 +115,7 @@ le_number-set byte (c ∷ bytes) x = scale (le_number (slice_set (c ∷ bytes) (
     scale a b m n l x byte e h = ap (λ k. byte + 256 * a + k * l) e ∙ omega arith
         ∙ ap (λ k. byte + 256 * b + k * x) (sym e)
 
-number_of_bits-end : (bs : List Bool) → number_of_bits (bs ++ true ∷ [])
+pub number_of_bits-end : (bs : List Bool) → number_of_bits (bs ++ true ∷ [])
     ≡ number_of_bits bs + 2 ^ length bs
 number_of_bits-end [] = refl
 number_of_bits-end (b ∷ bs) = let twice : 2 ^ suc (length bs) ≡ 2 * 2 ^ length bs = omega arith in

@@ -59,7 +59,7 @@ is_basic (bitvector n) z e = absurd (none-some z e)
 is_basic (bitlist n) z e = absurd (none-some z e)
 is_basic (union os) z e = absurd (none-some z e)
 
-AreSized-enc : (t : SszType) (z : ℕ) → IsBasic t z → (vs : List SszValue)
+pub AreSized-enc : (t : SszType) (z : ℕ) → IsBasic t z → (vs : List SszValue)
     → AllByRecursion (Fits t) vs → AreSized z (map (enc t) vs)
 AreSized-enc t z basic [] fit = tt
 AreSized-enc t z basic (v ∷ vs) fit = (basic.sized v fit.0, AreSized-enc t z basic vs fit.1)

@@ -51,7 +51,7 @@ step_legal format (union os) (Chosen k) u legal e = (is_option os k u e).legal f
 step_legal format _ _ u legal e = absurd (none-some u e)
 
 -- a type that has parts is not basic
-composite : (t : SszType) (step : PathStep) (u : SszType) → step_type t step ≡ Some u
+pub composite : (t : SszType) (step : PathStep) (u : SszType) → step_type t step ≡ Some u
     → basic_size t ≡ None
 composite (uint w) step u e = absurd (none-some u e)
 composite boolean step u e = absurd (none-some u e)
