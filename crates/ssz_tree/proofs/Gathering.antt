@@ -1,0 +1,277 @@
+-- What a caller's loop keeps that makes the nodes of parts one after another and pushes them, and
+-- what it has at the end.
+use Rattle.std.proofs.Common.{◌≡◌, ℕ, zero, suc, ◌+◌, ◌-◌, ◌*◌, ◌^◌, ◌<◌, ◌≤◌, min, List, [], ◌∷◌, ◌++◌, length, map, take, drop, sym, ap, subst, ◌∙◌, arith, zero-add}
+use Rattle.std.proofs.lemmas.List.{map-append, take-map, take_all, take-append-drop, length-take-le, length-map}
+use Rattle.std.proofs.lemmas.List.Sums.{sum_by-append}
+use Rattle.ssz_chunk.specs.Tree.{grow}
+use Rattle.ssz_chunk.proofs.Growing.{grow-suc}
+use Rattle.ssz_arena.specs.declared.node.NodeId.{NodeId}
+use Rattle.ssz_arena.specs.Content.{Content}
+use Rattle.ssz_merkle.specs.Frontier.{whole_pairs}
+use Rattle.ssz_merkle.proofs.WholePairs.{whole_pairs-rises, whole_pairs-le-grow}
+use Rattle.ssz_tree.specs.Added.{Adds, Part, IsPart, Makes, costs, whole}
+use Rattle.ssz_tree.specs.Stack.{Stack, AreNodes, Holds}
+use Rattle.ssz_tree.proofs.Adding.{Adds-none, Adds-then, Adds-within, AreNodes-kept}
+use Rattle.ssz_tree.proofs.Holding.{Holds-kept}
+
+-- n places have at least n - 1 pairs above them
+pub few_places : (d n : ℕ) → n ≤ 2 ^ d → n ≤ grow d n + 1
+few_places zero n few = omega arith
+few_places (suc d) zero few = omega arith
+few_places (suc d) (suc n) few =
+    let power : 2 ^ suc d ≡ 2 * 2 ^ d = omega arith in
+    let left : min (2 ^ d) (suc n) ≤ grow d (min (2 ^ d) (suc n)) + 1 =
+    few_places d (min (2 ^ d) (suc n)) (omega arith) in
+    let right : suc n - 2 ^ d ≤ grow d (suc n - 2 ^ d) + 1 =
+    few_places d (suc n - 2 ^ d) (omega arith) in
+    omega (arith, grow-suc d (suc n) (omega arith) few, left, right)
+
+-- whole pairs above more places
+pub whole_pairs-mono : (d n k : ℕ) → whole_pairs d n ≤ whole_pairs d (n + k)
+whole_pairs-mono d n zero = let same : n ≡ n + 0 = omega arith in
+    subst (λ m. whole_pairs d n ≤ whole_pairs d m) same (omega arith)
+whole_pairs-mono d n (suc k) = let more : n + k + 1 ≡ n + suc k = omega arith in
+    omega (
+      arith,
+      whole_pairs-mono d n k,
+      whole_pairs-rises d (n + k),
+      ap (whole_pairs d) more,
+    )
+
+-- the part stands at place i
+pub record IsAt (all : List Part) (i : ℕ) (part : Part) : Type 0 where
+  pub below : i < length all
+  pub more : take (i + 1) all ≡ take i all ++ part ∷ []
+
+pub IsAt-map : {X : Type 0} (f : X → Part) (xs : List X) (i : ℕ) (x : X) → i < length xs
+    → take (i + 1) xs ≡ take i xs ++ x ∷ [] → IsAt (map f xs) i (f x)
+IsAt-map f xs i x below more = record {
+  below = omega (arith, length-map xs f);
+  more = take-map f (i + 1) xs ∙ ap (map f) more ∙ map-append f (take i xs) (x ∷ [])
+      ∙ ap (λ ps. ps ++ f x ∷ []) (sym (take-map f i xs));
+}
+
+-- and from there on stand the others
+pub IsAt-drop : (all : List Part) (i : ℕ) (part : Part) (rest : List Part)
+    → drop i all ≡ part ∷ rest → IsAt all i part × (drop (i + 1) all ≡ rest)
+IsAt-drop [] zero part rest e = cc
+IsAt-drop [] (suc i) part rest e = cc
+IsAt-drop (p ∷ all) zero part rest e =
+    let first : p ≡ part = cc in
+    let others : all ≡ rest = cc in
+    (record { below = omega arith; more = ap (λ q. q ∷ []) first }, others)
+IsAt-drop (p ∷ all) (suc i) part rest e =
+    let next = IsAt-drop all i part rest e in
+    let up : suc (i + 1) ≡ suc i + 1 = omega arith in (
+      record {
+        below = omega (arith, next.0.below);
+        more = ap (λ n. take n (p ∷ all)) (sym up) ∙ ap (λ ps. p ∷ ps) next.0.more;
+      },
+      ap (λ n. drop n (p ∷ all)) (sym up) ∙ next.1,
+    )
+
+-- the costs of the first parts, with one more, and at most all
+pub costs-more : (all : List Part) (i : ℕ) (part : Part) → IsAt all i part
+    → costs (take (i + 1) all) ≡ costs (take i all) + part.cost
+costs-more all i part at = ap costs at.more
+    ∙ sum_by-append (λ (p : Part). p.cost) (take i all) (part ∷ [])
+    ∙ ap (λ n. costs (take i all) + n) (zero-add part.cost)
+
+costs-first : (all : List Part) (i : ℕ) → costs (take i all) ≤ costs all
+costs-first all i =
+    let sum : costs all ≡ costs (take i all) + costs (drop i all) =
+    ap costs (sym (take-append-drop i all))
+    ∙ sum_by-append (λ (p : Part). p.cost) (take i all) (drop i all) in
+    omega (arith, sum)
+
+-- the nodes of the first i of these parts were made and pushed
+pub record First (start now : Content) (depth : ℕ) (stack : Stack) (all : List Part)
+    (i : ℕ) : Type 0 where
+  pub deep : stack.depth ≡ depth
+  pub within : i ≤ length all
+  pub holds : Holds now (take i all) stack
+  pub adds : Adds (whole_pairs depth i + (2 * costs (take i all) + i))
+      (whole_pairs depth i + costs (take i all)) start now
+
+-- there is room for all of them
+pub record HasRoom (start : Content) (depth : ℕ) (all : List Part) : Type 0 where
+  pub few : length all ≤ 2 ^ depth
+  pub room : 2 * (grow depth (length all) + costs all) + 1 ≤ start.spare
+
+pub has_room : (start : Content) (d count : ℕ) (all : List Part) → length all ≡ count
+    → count ≤ 2 ^ d → 2 * (whole d all).cost + 1 ≤ start.spare → HasRoom start d all
+has_room start d count all many few room = record {
+  few = omega (arith, many);
+  room = room;
+}
+
+pub First-start : (start : Content) (depth : ℕ) (stack : Stack) (all : List Part)
+    → stack.depth ≡ depth → Holds start [] stack → First start start depth stack all 0
+First-start start depth stack all deep held = record {
+  deep = deep;
+  within = omega arith;
+  holds = held;
+  adds = Adds-within 0 0 _ _ start start (Adds-none start) (omega arith) (omega arith);
+}
+
+-- so many were pushed
+First-pushed : (start now : Content) (depth : ℕ) (stack : Stack) (all : List Part) (i : ℕ)
+    → First start now depth stack all i → stack.pushed ≡ i
+First-pushed start now depth stack all i h = h.holds.number ∙ length-take-le i all h.within
+
+-- for the next one's node, and then for its place
+pub First-room : (start now : Content) (depth : ℕ) (stack : Stack) (all : List Part) (i : ℕ)
+    (part : Part) → First start now depth stack all i → IsAt all i part → HasRoom start depth all
+    → 2 * part.cost + 1 ≤ now.spare
+First-room start now depth stack all i part h at room =
+    let above : whole_pairs depth i ≤ grow depth (length all) = omega (
+      arith,
+      ap (whole_pairs depth) (let all_of : i + (length all - i) ≡ length all = omega
+          (arith, h.within) in all_of),
+      whole_pairs-mono depth i (length all - i),
+      whole_pairs-le-grow depth (length all),
+    ) in
+    omega (
+      arith,
+      h.adds.spare,
+      room.room,
+      above,
+      few_places depth (length all) room.few,
+      costs-more all i part at,
+      costs-first all (i + 1),
+      at.below,
+    )
+
+-- what a push asks for
+pub record CanPush (now : Content) (stack : Stack) : Type 0 where
+  pub below : stack.pushed < 2 ^ stack.depth
+  pub nodes : AreNodes now stack.nodes
+  pub room : whole_pairs stack.depth (stack.pushed + 1)
+      - whole_pairs stack.depth stack.pushed ≤ now.spare
+
+pub First-push : (start now middle : Content) (depth : ℕ) (stack : Stack) (all : List Part)
+    (i : ℕ) (part : Part) (node : NodeId) → First start now depth stack all i → IsAt all i part
+    → HasRoom start depth all → Makes now middle part node → CanPush middle stack
+First-push start now middle depth stack all i part node h at room made =
+    let count : stack.pushed ≡ i = First-pushed start now depth stack all i h in
+    let above : whole_pairs depth (i + 1) ≤ grow depth (length all) = omega (
+      arith,
+      ap (whole_pairs depth) (let all_of : i + 1 + (length all - (i + 1)) ≡ length all = omega
+          (arith, at.below) in all_of),
+      whole_pairs-mono depth (i + 1) (length all - (i + 1)),
+      whole_pairs-le-grow depth (length all),
+    ) in
+    let spare : whole_pairs depth (i + 1) - whole_pairs depth i ≤ middle.spare = omega (
+      arith,
+      h.adds.spare,
+      made.adds.spare,
+      room.room,
+      above,
+      few_places depth (length all) room.few,
+      costs-more all i part at,
+      costs-first all (i + 1),
+      at.below,
+    ) in
+    let here : stack.pushed < 2 ^ depth = omega (arith, count, at.below, room.few) in
+    record {
+      below = subst (λ d. stack.pushed < 2 ^ d) (sym h.deep) here;
+      nodes = AreNodes-kept now middle stack.nodes made.adds.keeps h.holds.nodes;
+      room = subst (λ d. whole_pairs d (stack.pushed + 1) - whole_pairs d stack.pushed
+          ≤ middle.spare) (sym h.deep)
+          (subst (λ n. whole_pairs depth (n + 1) - whole_pairs depth n ≤ middle.spare) (sym count)
+          spare);
+    }
+
+pub First-more : (start now middle end : Content) (depth : ℕ) (stack after : Stack)
+    (all : List Part) (i : ℕ) (part : Part) (node : NodeId)
+    → First start now depth stack all i → IsAt all i part → Makes now middle part node
+    → after.depth ≡ stack.depth
+    → ((parts : List Part) (one : Part) → Holds middle parts stack → IsPart middle one node
+    → Holds end (parts ++ one ∷ []) after)
+    → (let made = whole_pairs stack.depth (stack.pushed + 1)
+    - whole_pairs stack.depth stack.pushed in Adds made made middle end)
+    → First start end depth after all (i + 1)
+First-more start now middle end depth stack after all i part node h at made stays held adds =
+    let count : stack.pushed ≡ i = First-pushed start now depth stack all i h in
+    let pushes : Adds (whole_pairs depth (i + 1) - whole_pairs depth i)
+    (whole_pairs depth (i + 1) - whole_pairs depth i) middle end =
+    subst (λ n. Adds (whole_pairs depth (n + 1) - whole_pairs depth n)
+    (whole_pairs depth (n + 1) - whole_pairs depth n) middle end) count
+    (subst (λ d. Adds (whole_pairs d (stack.pushed + 1) - whole_pairs d stack.pushed)
+    (whole_pairs d (stack.pushed + 1) - whole_pairs d stack.pushed) middle end) h.deep adds) in
+    record {
+      deep = stays ∙ h.deep;
+      within = omega (arith, at.below);
+      holds = subst (λ ps. Holds end ps after) (sym at.more)
+          (held (take i all) part (Holds-kept now middle (take i all) stack made.adds.keeps h.holds)
+          made.is);
+      adds = Adds-within _ _ _ _ start end
+          (Adds-then _ _ _ _ start middle end
+          (Adds-then _ _ _ _ start now middle h.adds made.adds) pushes)
+          (omega (arith, costs-more all i part at, whole_pairs-rises depth i))
+          (omega (arith, costs-more all i part at, whole_pairs-rises depth i));
+    }
+
+-- at the end
+pub record CanFinish (now : Content) (stack : Stack) : Type 0 where
+  pub nodes : AreNodes now stack.nodes
+  pub room : grow stack.depth stack.pushed - whole_pairs stack.depth stack.pushed ≤ now.spare
+
+pub First-finish : (start now : Content) (depth : ℕ) (stack : Stack) (all : List Part) (i : ℕ)
+    → First start now depth stack all i → i ≡ length all → HasRoom start depth all
+    → CanFinish now stack
+First-finish start now depth stack all i h last room =
+    let count : stack.pushed ≡ length all = First-pushed start now depth stack all i h ∙ last in
+    let same : whole_pairs depth i ≡ whole_pairs depth (length all) =
+    ap (whole_pairs depth) last in
+    let spare : grow depth (length all) - whole_pairs depth (length all) ≤ now.spare = omega (
+      arith,
+      h.adds.spare,
+      room.room,
+      same,
+      few_places depth (length all) room.few,
+      costs-first all i,
+      last,
+    ) in
+    record {
+      nodes = h.holds.nodes;
+      room = subst (λ d. grow d stack.pushed - whole_pairs d stack.pushed ≤ now.spare)
+          (sym h.deep)
+          (subst (λ n. grow depth n - whole_pairs depth n ≤ now.spare) (sym count) spare);
+    }
+
+pub First-done : (start now end : Content) (depth : ℕ) (stack : Stack) (all : List Part) (i : ℕ)
+    (node : NodeId) → First start now depth stack all i → i ≡ length all
+    → length all ≤ 2 ^ depth
+    → ((parts : List Part) → Holds now parts stack → IsPart end (whole stack.depth parts) node)
+    → (let made = grow stack.depth stack.pushed - whole_pairs stack.depth stack.pushed in
+    Adds made made now end)
+    → Makes start end (whole depth all) node
+First-done start now end depth stack all i node h last few held adds =
+    let count : stack.pushed ≡ length all = First-pushed start now depth stack all i h ∙ last in
+    let same : whole_pairs depth i ≡ whole_pairs depth (length all) =
+    ap (whole_pairs depth) last in
+    let taken : take i all ≡ all = take_all i all (omega (arith, last)) in
+    let sum : costs (take i all) ≡ costs all = ap costs taken in
+    let finishes : Adds (grow depth (length all) - whole_pairs depth (length all))
+    (grow depth (length all) - whole_pairs depth (length all)) now end =
+    subst (λ n. Adds (grow depth n - whole_pairs depth n)
+    (grow depth n - whole_pairs depth n) now end) count
+    (subst (λ d. Adds (grow d stack.pushed - whole_pairs d stack.pushed)
+    (grow d stack.pushed - whole_pairs d stack.pushed) now end) h.deep adds) in
+    record {
+      is = subst (λ d. IsPart end (whole d all) node) h.deep
+          (subst (λ ps. IsPart end (whole stack.depth ps) node) taken
+          (held (take i all) h.holds));
+      adds = Adds-within _ _ _ _ start end
+          (Adds-then _ _ _ _ start now end h.adds finishes)
+          (omega (
+            arith,
+            sum,
+            same,
+            last,
+            whole_pairs-le-grow depth (length all),
+            few_places depth (length all) few,
+          ))
+          (omega (arith, sum, same, whole_pairs-le-grow depth (length all)));
+    }

@@ -1,0 +1,17 @@
+pub mod Adding
+pub mod Blocks
+pub mod Holding
+pub mod Carrying
+pub mod Gathering
+pub mod Alike
+pub mod Forms
+pub mod BytesForms
+pub mod ValueForms
+pub mod Chunks
+pub mod Counting
+pub mod Sums
+pub mod FieldGathering
+pub mod Copies
+pub mod Zeros
+pub mod DefaultForms
+pub mod DefaultGathering

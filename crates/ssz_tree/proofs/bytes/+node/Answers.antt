@@ -1,0 +1,610 @@
+use Rattle.std.proofs.Common.{rules, ◌≡◌, ◌∙◌, ◌+◌, ◌-◌, ◌*◌, ◌/◌, ◌<◌, ◌≤◌, ◌^◌, length, map, take, drop, get_or, slice_range, List, [], Option, None, ℕ, refl, sym, ap, subst, arith, length-drop}
+use Rattle.std.specs.Prelude.{IfSome}
+use Rattle.std.specs.List.{AllByRecursion}
+use Rattle.std.proofs.lemmas.List.{take_rest, length-map}
+use Rattle.ssz_schema.specs.Types.{container}
+use Rattle.ssz_schema.specs.Sizes.{fixed_size, head_size, basic_size}
+use Rattle.ssz_schema.specs.Unfolding.{type_of, tree_at, tree_over, fields_over, IsBelow, AreBelow}
+use Rattle.ssz_value.specs.Faults.{why, element_count}
+use Rattle.ssz_value.specs.Reading.{value_in, elements_in}
+use Rattle.ssz_value.specs.Trees.{number_chunk}
+use Rattle.ssz_value.specs.Pairs.{pairs}
+use Rattle.ssz_value.proofs.Agree.{IsInput}
+use Rattle.ssz_value.proofs.PartLemmas.{known_weaker, part_known, size_at}
+use Rattle.ssz_parts.proofs.ElementLemmas.{element_faultless}
+use Rattle.ssz_packing.specs.Bits.{undelimited}
+use Rattle.ssz_parts.specs.PartValues.{element_values}
+use Rattle.ssz_packing.proofs.Options.{chosen_at}
+use Rattle.ssz_packing.proofs.Arms.{vector_elements, list_elements, IsPackedBits-bitvector, container_fields}
+use Rattle.ssz_packing.proofs.BitChunks.{HasBits-bitlist}
+use Rattle.ssz_parts.proofs.ElementValues.{length-element_values}
+use Rattle.ssz_parts.proofs.UnionValues.{union_chosen, union_rest}
+use Rattle.ssz_packing.proofs.Options.{below_at}
+use Rattle.ssz_tree.specs.Added.{Makes, whole, joined}
+use Rattle.ssz_tree.specs.Built.{part_of, chosen_part, elements_part}
+use Rattle.ssz_tree.proofs.Adding.{makes_leaf, makes_pair, Makes-chunk, Makes-joined, Makes-zero, Makes-same, joined_room}
+use Rattle.ssz_tree.proofs.BytesForms.{element-at, packed_elements, vector_made, list_made, bitvector_made, bitlist_made, bitlist_pairs, basic_made, union-part, same_cost}
+use Rattle.ssz_tree.proofs.Chunks.{cost-chunks}
+use Rattle.ssz_tree.proofs.FieldGathering.{FirstFields, FieldsAt-start, FieldsAt-faultless, FieldsAt-next, fields-room, container_made, length-parts_from, parts_from}
+use Rattle.ssz_tree.proofs.Forms.{elements-composite}
+use Rattle.ssz_tree.proofs.Gathering.{First-start, First-room, First-push, First-more, First-finish, First-done, has_room}
+use Rattle.ssz_tree.proofs.bytes.+node.Goals as goal
+
+-- elements of a composite type, in their full tree
+
+pub parts_node-loop-i-init : goal.parts_node-loop-i-init
+parts_node-loop-i-init g t c =
+    First-start _ _ _ _ c.new-nodes.ensures.depth c.new-nodes.ensures.holds
+
+pub parts_node-bytes_node-node-requires : goal.parts_node-bytes_node-node-requires
+parts_node-bytes_node-node-requires g t c κs within =
+    let ty = type_of c.args.schema.now c.args.elem in
+    let input : IsInput c.args.bytes.now = record
+    { bytes = λ i. omega (arith, c.type_inv.bytes i); short = c.requires.short } in
+    let good = element_faultless _ ty c.requires.legal (fixed_size ty)
+    c.args.count c.args.bytes.now c.loop-i.i input c.requires.faultless c.loop-i-test.true in
+    let is = c.element_at-part.ensures ∙ ap (λ (size : Option ℕ). get_or
+    (elements_in size c.args.count c.args.bytes.now) c.loop-i.i
+    (let none : List ℕ = [] in none)) c.fixed_size-size.ensures.exact in
+    let none : why ty 0 c.element_at-part.result.now ≡ None =
+    subst (λ (b : List ℕ). why ty 0 b ≡ None) (sym is) good.none in
+    let short : length c.element_at-part.result.now < 2 ^ 32 =
+    subst (λ (b : List ℕ). length b < 2 ^ 32) (sym is) good.input.short in
+    let at = element-at ty c.args.count c.args.bytes.now c.loop-i.i
+    c.element_at-part.result.now c.loop-i-test.true is in
+    let vs = element_values ty c.args.count c.args.bytes.now in
+    let room = has_room c.args.arena.now c.args.depth c.args.count (map (part_of ty) vs)
+    (length-map vs (part_of ty) ∙ length-element_values ty c.args.count c.args.bytes.now)
+    c.requires.few c.requires.room in
+    let spare : 2 * pairs ty (value_in ty c.element_at-part.result.now) + 1
+    ≤ c.loop-i.arena.spare = First-room _ _ _ _ _ _ _ c.loop-i.invariant at room in
+    search rules
+
+pub parts_node-push-requires-clause-room : goal.parts_node-push-requires-clause-room
+parts_node-push-requires-clause-room g t c =
+    let ty = type_of c.args.schema.now c.args.elem in
+    let is = c.element_at-part.ensures ∙ ap (λ (size : Option ℕ). get_or
+    (elements_in size c.args.count c.args.bytes.now) c.loop-i.i
+    (let none : List ℕ = [] in none)) c.fixed_size-size.ensures.exact in
+    let at = element-at ty c.args.count c.args.bytes.now c.loop-i.i
+    c.element_at-part.result.now c.loop-i-test.true is in
+    let vs = element_values ty c.args.count c.args.bytes.now in
+    let room = has_room c.args.arena.now c.args.depth c.args.count (map (part_of ty) vs)
+    (length-map vs (part_of ty) ∙ length-element_values ty c.args.count c.args.bytes.now)
+    c.requires.few c.requires.room in
+    (First-push _ _ _ _ _ _ _ _ _ c.loop-i.invariant at room c.bytes_node-node.ensures).room
+
+pub parts_node-loop-i-preserved : goal.parts_node-loop-i-preserved
+parts_node-loop-i-preserved g t c =
+    let ty = type_of c.args.schema.now c.args.elem in
+    let is = c.element_at-part.ensures ∙ ap (λ (size : Option ℕ). get_or
+    (elements_in size c.args.count c.args.bytes.now) c.loop-i.i
+    (let none : List ℕ = [] in none)) c.fixed_size-size.ensures.exact in
+    let at = element-at ty c.args.count c.args.bytes.now c.loop-i.i
+    c.element_at-part.result.now c.loop-i-test.true is in
+    First-more _ _ _ _ _ _ _ _ _ _ _ c.loop-i.invariant at c.bytes_node-node.ensures
+    c.push.ensures.depth c.push.ensures.holds c.push.ensures.adds
+
+pub parts_node-finish-requires-clause-room : goal.parts_node-finish-requires-clause-room
+parts_node-finish-requires-clause-room g t c =
+    let ty = type_of c.args.schema.now c.args.elem in
+    let vs = element_values ty c.args.count c.args.bytes.now in
+    let many = length-map vs (part_of ty)
+    ∙ length-element_values ty c.args.count c.args.bytes.now in
+    let room = has_room c.args.arena.now c.args.depth c.args.count (map (part_of ty) vs)
+    many c.requires.few c.requires.room in
+    let last : c.loop-i.i ≡ length (map (part_of ty) vs) = omega (arith, many) in
+    (First-finish c.args.arena.now c.loop-i.arena _ _ _ _ c.loop-i.invariant last room).room
+
+pub parts_node-returns : goal.parts_node-returns
+parts_node-returns g t c =
+    let ty = type_of c.args.schema.now c.args.elem in
+    let vs = element_values ty c.args.count c.args.bytes.now in
+    let many = length-map vs (part_of ty)
+    ∙ length-element_values ty c.args.count c.args.bytes.now in
+    let last : c.loop-i.i ≡ length (map (part_of ty) vs) = omega (arith, many) in
+    let few : length (map (part_of ty) vs) ≤ 2 ^ c.args.depth =
+    omega (arith, many, c.requires.few) in
+    First-done c.args.arena.now c.loop-i.arena _ _ _ _ _ _ c.loop-i.invariant last few
+    c.finish.ensures.part c.finish.ensures.adds
+
+-- elements, packed or not
+
+pub elements_node-packed_node-requires-clause-few :
+    goal.elements_node-packed_node-requires-clause-few
+elements_node-packed_node-requires-clause-few g t c =
+    let input : IsInput c.args.bytes.now = record
+    { bytes = λ i. omega (arith, c.type_inv.bytes i); short = c.requires.short } in
+    let packed = packed_elements c.args.schema.now.format
+    (type_of c.args.schema.now c.args.elem) c.in-Some.field-0 c.args.depth c.args.count
+    c.args.bytes.now (sym c.in-Some.is ∙ c.basic_size.ensures.exact) c.requires.legal input
+    c.requires.faultless in
+    subst (λ n. n ≤ 2 ^ c.args.depth) (sym packed.chunks) c.requires.few
+
+pub elements_node-packed_node-requires-clause-room :
+    goal.elements_node-packed_node-requires-clause-room
+elements_node-packed_node-requires-clause-room g t c =
+    let input : IsInput c.args.bytes.now = record
+    { bytes = λ i. omega (arith, c.type_inv.bytes i); short = c.requires.short } in
+    let packed = packed_elements c.args.schema.now.format
+    (type_of c.args.schema.now c.args.elem) c.in-Some.field-0 c.args.depth c.args.count
+    c.args.bytes.now (sym c.in-Some.is ∙ c.basic_size.ensures.exact) c.requires.legal input
+    c.requires.faultless in
+    omega (
+      arith,
+      c.requires.room,
+      cost-chunks c.args.depth ((length c.args.bytes.now + 31) / 32) c.args.bytes.now,
+      same_cost _ _ packed.same,
+    )
+
+pub elements_node-returns-in-Some : goal.elements_node-returns-in-Some
+elements_node-returns-in-Some g t c =
+    let input : IsInput c.args.bytes.now = record
+    { bytes = λ i. omega (arith, c.type_inv.bytes i); short = c.requires.short } in
+    let packed = packed_elements c.args.schema.now.format
+    (type_of c.args.schema.now c.args.elem) c.in-Some.field-0 c.args.depth c.args.count
+    c.args.bytes.now (sym c.in-Some.is ∙ c.basic_size.ensures.exact) c.requires.legal input
+    c.requires.faultless in
+    Makes-same _ _ _ _ _ packed.same c.packed_node.ensures
+
+pub elements_node-returns-in-None : goal.elements_node-returns-in-None
+elements_node-returns-in-None g t c =
+    let ty = type_of c.args.schema.now c.args.elem in
+    Makes-same _ _ _ _ _ (elements-composite ty c.args.depth
+    (element_values ty c.args.count c.args.bytes.now)
+    (sym (sym c.in-None.is ∙ c.basic_size.ensures.exact))) c.parts_node.ensures
+
+-- fields
+
+pub fields_node-loop-i-init : goal.fields_node-loop-i-init
+fields_node-loop-i-init g t c = record {
+  fields = FieldsAt-start _ _ _ c.requires.faultless;
+  first = First-start _ _ _ (parts_from c.args.schema.now.trees c.args.fields.now 0
+      c.args.bytes.now) c.new-nodes.ensures.depth c.new-nodes.ensures.holds;
+}
+
+pub fields_node-part_range-from-requires-clause-known :
+    goal.fields_node-part_range-from-requires-clause-known
+fields_node-part_range-from-requires-clause-known g t c =
+    known_weaker c.args.id (length c.args.schema.now.trees)
+    c.args.fields.now c.requires.known c.requires.before
+
+pub fields_node-bytes_node-node-requires : goal.fields_node-bytes_node-node-requires
+fields_node-bytes_node-node-requires g t c κs within =
+    let input : IsInput c.args.bytes.now = record
+    { bytes = λ i. omega (arith, c.type_inv.bytes i); short = c.requires.short } in
+    let good = FieldsAt-faultless _ _ _ _ _ _ c.index-fields-i.result
+    c.loop-i.invariant.fields c.loop-i-test.true c.index-fields-i.is c.requires.legal input
+    c.requires.faultless in
+    let ty = tree_at c.args.schema.now.trees c.index-fields-i.result.1 in
+    let before : c.index-fields-i.result.1 < c.args.id =
+    part_known c.args.id c.args.fields.now c.loop-i.i c.index-fields-i.result c.loop-i-test.true
+    c.index-fields-i.is c.requires.before in
+    let none : why ty 0 (slice_range c.args.bytes.now c.part_range-from.result.0
+    c.part_range-from.result.1) ≡ None =
+    subst (λ (r : ℕ × ℕ). why ty 0 (slice_range c.args.bytes.now r.0 r.1) ≡ None)
+    (sym c.part_range-from.ensures) good.none in
+    let short : length (slice_range c.args.bytes.now c.part_range-from.result.0
+    c.part_range-from.result.1) < 2 ^ 32 =
+    subst (λ (r : ℕ × ℕ). length (slice_range c.args.bytes.now r.0 r.1) < 2 ^ 32)
+    (sym c.part_range-from.ensures) good.input.short in
+    let next = FieldsAt-next _ _ _ _ _ c.index-fields-i.result _ c.loop-i.invariant.fields
+    c.loop-i-test.true c.index-fields-i.is c.part_range-from.ensures c.requires.faultless in
+    let room = fields-room c.args.arena.now c.args.depth c.args.schema.now.trees
+    c.args.fields.now c.args.bytes.now c.requires.few c.requires.room in
+    let spare : 2 * pairs ty (value_in ty (slice_range c.args.bytes.now
+    c.part_range-from.result.0 c.part_range-from.result.1)) + 1 ≤ c.loop-i.arena.spare =
+    First-room _ _ _ _ _ _ _ c.loop-i.invariant.first next.at room in
+    search rules
+
+pub fields_node-push-requires-clause-room : goal.fields_node-push-requires-clause-room
+fields_node-push-requires-clause-room g t c =
+    let next = FieldsAt-next _ _ _ _ _ c.index-fields-i.result _ c.loop-i.invariant.fields
+    c.loop-i-test.true c.index-fields-i.is c.part_range-from.ensures c.requires.faultless in
+    let room = fields-room c.args.arena.now c.args.depth c.args.schema.now.trees
+    c.args.fields.now c.args.bytes.now c.requires.few c.requires.room in
+    (First-push _ _ _ _ _ _ _ _ _ c.loop-i.invariant.first next.at room
+    c.bytes_node-node.ensures).room
+
+pub fields_node-loop-i-preserved : goal.fields_node-loop-i-preserved
+fields_node-loop-i-preserved g t c =
+    let head : head_size (size_at c.args.schema.now.trees c.index-fields-i.result)
+    ≡ c.head_len.result = sym (c.head_len.ensures ∙ ap head_size c.fixed_size.ensures.exact) in
+    let next = FieldsAt-next _ _ _ _ _ c.index-fields-i.result _ c.loop-i.invariant.fields
+    c.loop-i-test.true c.index-fields-i.is c.part_range-from.ensures c.requires.faultless in
+    subst (λ n. FirstFields c.args.arena.now c.push.new.arena c.args.depth c.push.new.self
+    c.args.schema.now.trees c.args.fields.now c.args.bytes.now (c.loop-i.i + 1)
+    (c.loop-i.place + n)) head
+    (record {
+      fields = next.after;
+      first = First-more _ _ _ _ _ _ _ _ _ _ _ c.loop-i.invariant.first next.at
+          c.bytes_node-node.ensures c.push.ensures.depth c.push.ensures.holds
+          c.push.ensures.adds;
+    })
+
+pub fields_node-finish-requires-clause-room : goal.fields_node-finish-requires-clause-room
+fields_node-finish-requires-clause-room g t c =
+    let all = parts_from c.args.schema.now.trees c.args.fields.now 0 c.args.bytes.now in
+    let many : length all ≡ length c.args.fields.now =
+    length-parts_from c.args.schema.now.trees c.args.fields.now 0 c.args.bytes.now in
+    let room = fields-room c.args.arena.now c.args.depth c.args.schema.now.trees
+    c.args.fields.now c.args.bytes.now c.requires.few c.requires.room in
+    let last : c.loop-i.i ≡ length all = omega (arith, many) in
+    (First-finish c.args.arena.now c.loop-i.arena _ _ _ _ c.loop-i.invariant.first last room).room
+
+pub fields_node-returns : goal.fields_node-returns
+fields_node-returns g t c =
+    let all = parts_from c.args.schema.now.trees c.args.fields.now 0 c.args.bytes.now in
+    let many : length all ≡ length c.args.fields.now =
+    length-parts_from c.args.schema.now.trees c.args.fields.now 0 c.args.bytes.now in
+    let last : c.loop-i.i ≡ length all = omega (arith, many) in
+    let few : length all ≤ 2 ^ c.args.depth = omega (arith, many, c.requires.few) in
+    First-done c.args.arena.now c.loop-i.arena _ _ _ _ _ _ c.loop-i.invariant.first last few
+    c.finish.ensures.part c.finish.ensures.adds
+
+-- unions
+
+pub union_node-bounds-options-from : goal.union_node-bounds-options-from
+union_node-bounds-options-from g t c = let h =
+    union_chosen c.args.schema.now.trees c.args.options.now c.args.bytes.now c.requires.faultless in
+    omega (arith, h.within, c.from.ensures)
+
+pub union_node-option_node-value-requires : goal.union_node-option_node-value-requires
+union_node-option_node-value-requires g t c κs within =
+    let input : IsInput c.args.bytes.now = record
+    { bytes = λ i. omega (arith, c.type_inv.bytes i); short = c.requires.short } in
+    let h = union_chosen c.args.schema.now.trees c.args.options.now c.args.bytes.now
+    c.requires.faultless in
+    let chosen = chosen_at c.args.options.now c.from.result (get_or c.args.bytes.now 0 0)
+    c.index-options-from.result (omega (arith, h.within, c.from.ensures))
+    c.index-options-from.is c.from.ensures in
+    let below : IsBelow c.args.id c.index-options-from.result =
+    below_at c.args.id c.args.options.now _ _ chosen c.requires.before in
+    let rest = take_rest c.args.bytes.now 1 in
+    let short : length (take (length c.args.bytes.now - 1) (drop 1 c.args.bytes.now)) < 2 ^ 32 =
+    omega (arith, ap length rest, length-drop 1 c.args.bytes.now, c.requires.short) in
+    let faultless : IfSome c.index-options-from.result
+    (λ id. why (tree_at c.args.schema.now.trees id) 0
+    (take (length c.args.bytes.now - 1) (drop 1 c.args.bytes.now)) ≡ None) =
+    subst (λ (b : List ℕ). IfSome c.index-options-from.result
+    (λ id. why (tree_at c.args.schema.now.trees id) 0 b ≡ None)) (sym rest)
+    (union_rest c.args.schema.now.format c.args.schema.now.trees c.args.options.now
+    c.index-options-from.result c.args.bytes.now h.some chosen c.requires.legal input
+    c.requires.faultless) in
+    let made = union-part c.args.schema.now.trees c.args.options.now c.index-options-from.result
+    c.args.bytes.now h.some chosen in
+    let room : 2 * (chosen_part c.args.schema.now.trees c.index-options-from.result
+    (take (length c.args.bytes.now - 1) (drop 1 c.args.bytes.now))).cost + 1
+    ≤ c.args.arena.now.spare =
+    subst (λ (b : List ℕ). 2 * (chosen_part c.args.schema.now.trees
+    c.index-options-from.result b).cost + 1 ≤ c.args.arena.now.spare) (sym rest)
+    (omega (arith, c.requires.room, same_cost _ _ made)) in
+    search rules
+
+pub union_node-leaf-leaf-requires : goal.union_node-leaf-leaf-requires
+union_node-leaf-leaf-requires g t c =
+    let h = union_chosen c.args.schema.now.trees c.args.options.now c.args.bytes.now
+    c.requires.faultless in
+    let chosen = chosen_at c.args.options.now c.from.result (get_or c.args.bytes.now 0 0)
+    c.index-options-from.result (omega (arith, h.within, c.from.ensures))
+    c.index-options-from.is c.from.ensures in
+    let made = union-part c.args.schema.now.trees c.args.options.now c.index-options-from.result
+    c.args.bytes.now h.some chosen in
+    let value = subst (λ (b : List ℕ). Makes c.args.arena.now c.option_node-value.new.arena
+    (chosen_part c.args.schema.now.trees c.index-options-from.result b)
+    c.option_node-value.result) (take_rest c.args.bytes.now 1) c.option_node-value.ensures in
+    let spare = joined_room c.args.arena.now c.option_node-value.new.arena _ _ (same_cost _ _ made)
+    c.requires.room value.adds.spare in
+    omega (arith, spare)
+
+pub union_node-pair-requires-clause-room : goal.union_node-pair-requires-clause-room
+union_node-pair-requires-clause-room g t c =
+    let h = union_chosen c.args.schema.now.trees c.args.options.now c.args.bytes.now
+    c.requires.faultless in
+    let chosen = chosen_at c.args.options.now c.from.result (get_or c.args.bytes.now 0 0)
+    c.index-options-from.result (omega (arith, h.within, c.from.ensures))
+    c.index-options-from.is c.from.ensures in
+    let made = union-part c.args.schema.now.trees c.args.options.now c.index-options-from.result
+    c.args.bytes.now h.some chosen in
+    let value = subst (λ (b : List ℕ). Makes c.args.arena.now c.option_node-value.new.arena
+    (chosen_part c.args.schema.now.trees c.index-options-from.result b)
+    c.option_node-value.result) (take_rest c.args.bytes.now 1) c.option_node-value.ensures in
+    let spare = joined_room c.args.arena.now c.option_node-value.new.arena _ _ (same_cost _ _ made)
+    c.requires.room value.adds.spare in
+    omega (arith, spare, c.leaf-leaf.ensures.spare)
+
+pub union_node-returns : goal.union_node-returns
+union_node-returns g t c =
+    let h = union_chosen c.args.schema.now.trees c.args.options.now c.args.bytes.now
+    c.requires.faultless in
+    let chosen = chosen_at c.args.options.now c.from.result (get_or c.args.bytes.now 0 0)
+    c.index-options-from.result (omega (arith, h.within, c.from.ensures))
+    c.index-options-from.is c.from.ensures in
+    let made = union-part c.args.schema.now.trees c.args.options.now c.index-options-from.result
+    c.args.bytes.now h.some chosen in
+    let value = subst (λ (b : List ℕ). Makes c.args.arena.now c.option_node-value.new.arena
+    (chosen_part c.args.schema.now.trees c.index-options-from.result b)
+    c.option_node-value.result) (take_rest c.args.bytes.now 1) c.option_node-value.ensures in
+    let e = c.leaf-leaf.ensures in
+    let p = c.pair.ensures in
+    let number = c.number_chunk.ensures ∙ ap number_chunk (c.from-2.ensures) in
+    Makes-same _ _ _ _ _ (ap (joined (chosen_part c.args.schema.now.trees
+    c.index-options-from.result (drop 1 c.args.bytes.now))) number ∙ made)
+    (Makes-joined _ _ _ _ _ c.number_chunk.result.0 _ _ _ value
+    (makes_leaf _ _ _ _ e.node e.tree e.todo e.keeps e.same e.unhashed e.count e.spare)
+    (makes_pair _ _ _ _ _ p.node p.tree p.todo p.keeps p.same p.unhashed p.count p.spare))
+
+pub option_node-returns-in-None : goal.option_node-returns-in-None
+option_node-returns-in-None g t c =
+    let z = c.zero.ensures in
+    subst (λ (o : Option ℕ). Makes c.args.arena.now c.args.arena.now
+    (chosen_part c.args.schema.now.trees o c.args.bytes.now) c.zero.result) (sym c.in-None.is)
+    (Makes-zero c.args.arena.now c.zero.result z.node z.tree z.todo)
+
+-- a value of any type
+
+pub bytes_node-elements_node-requires : goal.bytes_node-elements_node-requires
+bytes_node-elements_node-requires g t c κs within =
+    let trees = c.args.schema.now.trees in
+    let form = sym c.ty.ensures.form ∙ ap (tree_over trees) c.in-Vector.is in
+    let ty = tree_at trees c.in-Vector.elem in
+    let h = vector_elements c.args.schema.now.format (type_of c.args.schema.now c.args.id) ty
+    c.in-Vector.count c.depth.result c.args.bytes.now form c.ty.ensures.legal
+    c.requires.faultless c.depth.ensures.exact in
+    let below : c.in-Vector.elem < c.args.id = subst (AreBelow c.args.id)
+    c.in-Vector.is c.ty.ensures.before in
+    let made = vector_made (type_of c.args.schema.now c.args.id) ty c.in-Vector.count
+    c.depth.result c.args.bytes.now form c.depth.ensures.exact in
+    let room : 2 * (elements_part ty c.depth.result
+    (element_values ty c.in-Vector.count c.args.bytes.now)).cost + 1 ≤ c.args.arena.now.spare =
+    omega (arith, c.requires.room, same_cost _ _ made) in
+    search rules
+
+pub bytes_node-returns-in-Vector : goal.bytes_node-returns-in-Vector
+bytes_node-returns-in-Vector g t c =
+    let trees = c.args.schema.now.trees in
+    let form = sym c.ty.ensures.form ∙ ap (tree_over trees) c.in-Vector.is in
+    Makes-same _ _ _ _ _ (vector_made (type_of c.args.schema.now c.args.id)
+    (tree_at trees c.in-Vector.elem) c.in-Vector.count c.depth.result c.args.bytes.now form
+    c.depth.ensures.exact) c.elements_node.ensures
+
+pub bytes_node-elements_node-elements-requires : goal.bytes_node-elements_node-elements-requires
+bytes_node-elements_node-elements-requires g t c κs within =
+    let trees = c.args.schema.now.trees in
+    let form = sym c.ty.ensures.form ∙ ap (tree_over trees) c.in-List.is in
+    let ty = tree_at trees c.in-List.elem in
+    let count = c.element_count-count.ensures ∙ ap
+    (λ (size : Option ℕ). element_count size c.args.bytes.now) c.fixed_size.ensures.exact in
+    let input : IsInput c.args.bytes.now = record
+    { bytes = λ i. omega (arith, c.type_inv.bytes i); short = c.requires.short } in
+    let h = list_elements c.args.schema.now.format (type_of c.args.schema.now c.args.id)
+    ty c.in-List.limit c.element_count-count.result c.depth-in-List.result c.args.bytes.now form
+    c.ty.ensures.legal input c.requires.faultless c.depth-in-List.ensures.exact count in
+    let below : c.in-List.elem < c.args.id = subst (AreBelow c.args.id)
+    c.in-List.is c.ty.ensures.before in
+    let made = list_made (type_of c.args.schema.now c.args.id) ty c.in-List.limit
+    c.element_count-count.result c.depth-in-List.result c.args.bytes.now _ form
+    c.depth-in-List.ensures.exact count refl in
+    let room : 2 * (elements_part ty c.depth-in-List.result
+    (element_values ty c.element_count-count.result c.args.bytes.now)).cost + 1
+    ≤ c.args.arena.now.spare = omega (arith, c.requires.room, same_cost _ _ made) in
+    search rules
+
+pub bytes_node-leaf-len-requires : goal.bytes_node-leaf-len-requires
+bytes_node-leaf-len-requires g t c =
+    let trees = c.args.schema.now.trees in
+    let form = sym c.ty.ensures.form ∙ ap (tree_over trees) c.in-List.is in
+    let count = c.element_count-count.ensures ∙ ap
+    (λ (size : Option ℕ). element_count size c.args.bytes.now) c.fixed_size.ensures.exact in
+    let made = list_made (type_of c.args.schema.now c.args.id) (tree_at trees c.in-List.elem)
+    c.in-List.limit c.element_count-count.result c.depth-in-List.result c.args.bytes.now _ form
+    c.depth-in-List.ensures.exact count refl in
+    omega (
+      arith,
+      joined_room c.args.arena.now c.elements_node-elements.new.arena _ _
+          (same_cost _ _ made) c.requires.room c.elements_node-elements.ensures.adds.spare,
+    )
+
+pub bytes_node-pair-requires-clause-room : goal.bytes_node-pair-requires-clause-room
+bytes_node-pair-requires-clause-room g t c =
+    let trees = c.args.schema.now.trees in
+    let form = sym c.ty.ensures.form ∙ ap (tree_over trees) c.in-List.is in
+    let count = c.element_count-count.ensures ∙ ap
+    (λ (size : Option ℕ). element_count size c.args.bytes.now) c.fixed_size.ensures.exact in
+    let made = list_made (type_of c.args.schema.now c.args.id) (tree_at trees c.in-List.elem)
+    c.in-List.limit c.element_count-count.result c.depth-in-List.result c.args.bytes.now _ form
+    c.depth-in-List.ensures.exact count refl in
+    omega (
+      arith,
+      joined_room c.args.arena.now c.elements_node-elements.new.arena _ _
+          (same_cost _ _ made) c.requires.room c.elements_node-elements.ensures.adds.spare,
+      c.leaf-len.ensures.spare,
+    )
+
+pub bytes_node-returns-in-List : goal.bytes_node-returns-in-List
+bytes_node-returns-in-List g t c =
+    let trees = c.args.schema.now.trees in
+    let form = sym c.ty.ensures.form ∙ ap (tree_over trees) c.in-List.is in
+    let count = c.element_count-count.ensures ∙ ap
+    (λ (size : Option ℕ). element_count size c.args.bytes.now) c.fixed_size.ensures.exact in
+    let number = c.number_chunk.ensures ∙ ap number_chunk c.from.ensures in
+    let made = list_made (type_of c.args.schema.now c.args.id) (tree_at trees c.in-List.elem)
+    c.in-List.limit c.element_count-count.result c.depth-in-List.result c.args.bytes.now
+    c.number_chunk.result.0 form c.depth-in-List.ensures.exact count number in
+    let e = c.leaf-len.ensures in
+    let p = c.pair.ensures in
+    Makes-same _ _ _ _ _ made
+    (Makes-joined _ _ _ _ _ c.number_chunk.result.0 _ _ _ c.elements_node-elements.ensures
+    (makes_leaf _ _ _ _ e.node e.tree e.todo e.keeps e.same e.unhashed e.count e.spare)
+    (makes_pair _ _ _ _ _ p.node p.tree p.todo p.keeps p.same p.unhashed p.count p.spare))
+
+pub bytes_node-returns-in-Uint : goal.bytes_node-returns-in-Uint
+bytes_node-returns-in-Uint g t c =
+    let input : IsInput c.args.bytes.now = record
+    { bytes = λ i. omega (arith, c.type_inv.bytes i); short = c.requires.short } in
+    let form = sym c.ty.ensures.form ∙ ap (tree_over c.args.schema.now.trees) c.in-Uint.is in
+    let e = c.leaf.ensures in
+    Makes-same _ _ _ _ _ (basic_made c.args.schema.now.format
+    (type_of c.args.schema.now c.args.id) _ c.args.bytes.now c.chunk_at.result.0
+    (ap basic_size form) c.ty.ensures.legal input c.requires.faultless c.chunk_at.ensures)
+    (Makes-chunk _ _ _ _
+    (makes_leaf _ _ _ _ e.node e.tree e.todo e.keeps e.same e.unhashed e.count e.spare))
+
+pub bytes_node-packed_node-requires-clause-depth :
+    goal.bytes_node-packed_node-requires-clause-depth
+bytes_node-packed_node-requires-clause-depth g t c =
+    let input : IsInput c.args.bytes.now = record
+    { bytes = λ i. omega (arith, c.type_inv.bytes i); short = c.requires.short } in
+    let h = IsPackedBits-bitvector (λ l r. l) c.args.schema.now.format
+    (type_of c.args.schema.now c.args.id) c.in-Bitvector.field-0 c.args.bytes.now
+    (sym c.ty.ensures.form ∙ ap (tree_over c.args.schema.now.trees) c.in-Bitvector.is)
+    c.ty.ensures.legal input c.requires.faultless in
+    omega (arith, h.shallow, c.depth-in-Bitvector.ensures.exact)
+
+pub bytes_node-packed_node-requires-clause-few : goal.bytes_node-packed_node-requires-clause-few
+bytes_node-packed_node-requires-clause-few g t c =
+    let input : IsInput c.args.bytes.now = record
+    { bytes = λ i. omega (arith, c.type_inv.bytes i); short = c.requires.short } in
+    let h = IsPackedBits-bitvector (λ l r. l) c.args.schema.now.format
+    (type_of c.args.schema.now c.args.id) c.in-Bitvector.field-0 c.args.bytes.now
+    (sym c.ty.ensures.form ∙ ap (tree_over c.args.schema.now.trees) c.in-Bitvector.is)
+    c.ty.ensures.legal input c.requires.faultless in
+    subst (λ d. (length c.args.bytes.now + 31) / 32 ≤ 2 ^ d)
+    (sym c.depth-in-Bitvector.ensures.exact)
+    h.few
+
+pub bytes_node-packed_node-requires-clause-room : goal.bytes_node-packed_node-requires-clause-room
+bytes_node-packed_node-requires-clause-room g t c =
+    let input : IsInput c.args.bytes.now = record
+    { bytes = λ i. omega (arith, c.type_inv.bytes i); short = c.requires.short } in
+    let made = bitvector_made c.args.schema.now.format (type_of c.args.schema.now c.args.id)
+    c.in-Bitvector.field-0 c.depth-in-Bitvector.result c.args.bytes.now
+    (sym c.ty.ensures.form ∙ ap (tree_over c.args.schema.now.trees) c.in-Bitvector.is)
+    c.ty.ensures.legal input c.requires.faultless c.depth-in-Bitvector.ensures.exact in
+    omega (
+      arith,
+      c.requires.room,
+      same_cost _ _ made,
+      cost-chunks c.depth-in-Bitvector.result ((length c.args.bytes.now + 31) / 32)
+          c.args.bytes.now,
+    )
+
+pub bytes_node-returns-in-Bitvector : goal.bytes_node-returns-in-Bitvector
+bytes_node-returns-in-Bitvector g t c =
+    let input : IsInput c.args.bytes.now = record
+    { bytes = λ i. omega (arith, c.type_inv.bytes i); short = c.requires.short } in
+    Makes-same _ _ _ _ _ (bitvector_made c.args.schema.now.format
+    (type_of c.args.schema.now c.args.id) c.in-Bitvector.field-0 c.depth-in-Bitvector.result
+    c.args.bytes.now
+    (sym c.ty.ensures.form ∙ ap (tree_over c.args.schema.now.trees) c.in-Bitvector.is)
+    c.ty.ensures.legal input c.requires.faultless c.depth-in-Bitvector.ensures.exact)
+    c.packed_node.ensures
+
+pub bytes_node-fields_node-requires : goal.bytes_node-fields_node-requires
+bytes_node-fields_node-requires g t c κs within =
+    let trees = c.args.schema.now.trees in
+    let fields : c.in-Container.fields.items ≡ c.as_slice.result.now =
+    sym c.as_slice.ensures.value in
+    let form = sym c.ty.ensures.form ∙ ap (tree_over trees) c.in-Container.is
+    ∙ ap (λ (parts : List (List ℕ × ℕ)). container (fields_over trees parts)) fields in
+    let h = container_fields c.args.schema.now.format (type_of c.args.schema.now c.args.id)
+    trees c.as_slice.result.now c.depth-in-Container.result c.args.bytes.now form
+    c.ty.ensures.legal c.requires.faultless c.depth-in-Container.ensures.exact in
+    let P : List (List ℕ × ℕ) → Type 0 = AllByRecursion
+    (λ (part : List ℕ × ℕ). part.1 < c.args.id) in
+    let all : P c.in-Container.fields.items = subst (AreBelow c.args.id)
+    c.in-Container.is c.ty.ensures.before in
+    let known : P c.as_slice.result.now = subst P fields all in
+    let made = container_made (type_of c.args.schema.now c.args.id) trees c.as_slice.result.now
+    c.depth-in-Container.result c.args.bytes.now form c.depth-in-Container.ensures.exact in
+    let room : 2 * (whole c.depth-in-Container.result (parts_from trees c.as_slice.result.now 0
+    c.args.bytes.now)).cost + 1 ≤ c.args.arena.now.spare =
+    omega (arith, c.requires.room, same_cost _ _ made) in
+    search rules
+
+pub bytes_node-returns-in-Container : goal.bytes_node-returns-in-Container
+bytes_node-returns-in-Container g t c =
+    let trees = c.args.schema.now.trees in
+    let fields : c.in-Container.fields.items ≡ c.as_slice.result.now =
+    sym c.as_slice.ensures.value in
+    let form = sym c.ty.ensures.form ∙ ap (tree_over trees) c.in-Container.is
+    ∙ ap (λ (parts : List (List ℕ × ℕ)). container (fields_over trees parts)) fields in
+    Makes-same _ _ _ _ _ (container_made (type_of c.args.schema.now c.args.id) trees
+    c.as_slice.result.now c.depth-in-Container.result c.args.bytes.now form
+    c.depth-in-Container.ensures.exact) c.fields_node.ensures
+
+pub bytes_node-bits_node-bits-requires-clause-few :
+    goal.bytes_node-bits_node-bits-requires-clause-few
+bytes_node-bits_node-bits-requires-clause-few g t c =
+    let input : IsInput c.args.bytes.now = record
+    { bytes = λ i. omega (arith, c.type_inv.bytes i); short = c.requires.short } in
+    let form = sym c.ty.ensures.form ∙ ap (tree_over c.args.schema.now.trees) c.in-Bitlist.is in
+    let h = HasBits-bitlist (λ l r. l) c.args.schema.now.format
+    (type_of c.args.schema.now c.args.id) c.in-Bitlist.field-0 c.depth-in-Bitlist.result
+    c.args.bytes.now form c.ty.ensures.legal input c.requires.faultless
+    c.depth-in-Bitlist.ensures.exact in
+    subst (λ n. (n + 255) / 256 ≤ 2 ^ c.depth-in-Bitlist.result) (sym c.bitlist_len-count.ensures)
+    h.few
+
+pub bytes_node-bits_node-bits-requires-clause-room :
+    goal.bytes_node-bits_node-bits-requires-clause-room
+bytes_node-bits_node-bits-requires-clause-room g t c =
+    let input : IsInput c.args.bytes.now = record
+    { bytes = λ i. omega (arith, c.type_inv.bytes i); short = c.requires.short } in
+    let form = sym c.ty.ensures.form ∙ ap (tree_over c.args.schema.now.trees) c.in-Bitlist.is in
+    omega (
+      arith,
+      c.requires.room,
+      bitlist_pairs _ c.in-Bitlist.field-0 c.depth-in-Bitlist.result c.bitlist_len-count.result
+          c.args.bytes.now form c.depth-in-Bitlist.ensures.exact c.bitlist_len-count.ensures,
+    )
+
+pub bytes_node-leaf-len-requires-in-Bitlist : goal.bytes_node-leaf-len-requires-in-Bitlist
+bytes_node-leaf-len-requires-in-Bitlist g t c =
+    let form = sym c.ty.ensures.form ∙ ap (tree_over c.args.schema.now.trees) c.in-Bitlist.is in
+    omega (
+      arith,
+      c.requires.room,
+      bitlist_pairs _ c.in-Bitlist.field-0 c.depth-in-Bitlist.result c.bitlist_len-count.result
+          c.args.bytes.now form c.depth-in-Bitlist.ensures.exact c.bitlist_len-count.ensures,
+      cost-chunks c.depth-in-Bitlist.result ((c.bitlist_len-count.result + 255) / 256)
+          (undelimited c.args.bytes.now),
+      c.bits_node-bits.ensures.adds.spare,
+    )
+
+pub bytes_node-pair-requires-in-Bitlist-clause-room :
+    goal.bytes_node-pair-requires-in-Bitlist-clause-room
+bytes_node-pair-requires-in-Bitlist-clause-room g t c =
+    let form = sym c.ty.ensures.form ∙ ap (tree_over c.args.schema.now.trees) c.in-Bitlist.is in
+    omega (
+      arith,
+      c.requires.room,
+      bitlist_pairs _ c.in-Bitlist.field-0 c.depth-in-Bitlist.result c.bitlist_len-count.result
+          c.args.bytes.now form c.depth-in-Bitlist.ensures.exact c.bitlist_len-count.ensures,
+      cost-chunks c.depth-in-Bitlist.result ((c.bitlist_len-count.result + 255) / 256)
+          (undelimited c.args.bytes.now),
+      c.bits_node-bits.ensures.adds.spare,
+      c.leaf-len-in-Bitlist.ensures.spare,
+    )
+
+pub bytes_node-returns-in-Bitlist : goal.bytes_node-returns-in-Bitlist
+bytes_node-returns-in-Bitlist g t c =
+    let input : IsInput c.args.bytes.now = record
+    { bytes = λ i. omega (arith, c.type_inv.bytes i); short = c.requires.short } in
+    let form = sym c.ty.ensures.form ∙ ap (tree_over c.args.schema.now.trees) c.in-Bitlist.is in
+    let h = HasBits-bitlist (λ l r. l) c.args.schema.now.format
+    (type_of c.args.schema.now c.args.id) c.in-Bitlist.field-0 c.depth-in-Bitlist.result
+    c.args.bytes.now form c.ty.ensures.legal input c.requires.faultless
+    c.depth-in-Bitlist.ensures.exact in
+    let number = c.number_chunk-in-Bitlist.ensures ∙ ap number_chunk c.from-in-Bitlist.ensures in
+    let made = bitlist_made (type_of c.args.schema.now c.args.id) c.in-Bitlist.field-0
+    c.depth-in-Bitlist.result c.bitlist_len-count.result c.args.bytes.now
+    c.number_chunk-in-Bitlist.result.0 form input h.some h.delimited
+    c.depth-in-Bitlist.ensures.exact
+    c.bitlist_len-count.ensures number in
+    let e = c.leaf-len-in-Bitlist.ensures in
+    let p = c.pair-in-Bitlist.ensures in
+    Makes-same _ _ _ _ _ made
+    (Makes-joined _ _ _ _ _ c.number_chunk-in-Bitlist.result.0 _ _ _ c.bits_node-bits.ensures
+    (makes_leaf _ _ _ _ e.node e.tree e.todo e.keeps e.same e.unhashed e.count e.spare)
+    (makes_pair _ _ _ _ _ p.node p.tree p.todo p.keeps p.same p.unhashed p.count p.spare))

@@ -1,0 +1,47 @@
+-- The parts that the calls of this crate make.
+use Rattle.std.specs.Prelude.{◌≡◌, ℕ, ◌+◌, List, [], ◌∷◌, length, map, Option, Some, None, sum_by}
+use Rattle.std.specs.List.{AllByRecursion}
+use Rattle.ssz_chunk.specs.Chunk.{zero_chunk}
+use Rattle.ssz_chunk.specs.Tree.{leaf, full, grow}
+use Rattle.ssz_schema.specs.Types.{SszType, Fields, field}
+use Rattle.ssz_schema.specs.Sizes.{basic_size, element_chunks}
+use Rattle.ssz_schema.specs.Unfolding.{tree_at}
+use Rattle.ssz_value.specs.declared.value.Value.{Value}
+use Rattle.ssz_value.specs.Values.{SszValue, Fits}
+use Rattle.ssz_value.specs.Standing.{value_of}
+use Rattle.ssz_value.specs.Reading.{value_in}
+use Rattle.ssz_value.specs.Trees.{tree}
+use Rattle.ssz_value.specs.Pairs.{pairs}
+use Rattle.ssz_packing.specs.Elements.{element_trees}
+use Rattle.ssz_tree.specs.Added.{Part}
+
+-- the tree of a value of the type, with the value's pairs
+abbrev pub part_of : SszType → SszValue → Part
+part_of t v = record { tree = tree t v; cost = pairs t v }
+
+-- a chunk, for which nothing is hashed
+abbrev pub chunk_part : List ℕ → Part
+chunk_part chunk = record { tree = leaf chunk; cost = 0 }
+
+-- the full tree of depth d over elements of the type, packed where it is basic
+abbrev pub elements_part : SszType → ℕ → List SszValue → Part
+elements_part t d vs = record {
+  tree = full d (element_trees t vs);
+  cost = grow d (element_chunks (basic_size t) (length vs)) + sum_by (pairs t) vs;
+}
+
+-- the values of the fields
+abbrev pub field_parts : Fields → List SszValue → List Part
+field_parts (field name t fs) (v ∷ vs) = part_of t v ∷ field_parts fs vs
+field_parts _ _ = []
+
+-- what a union's bytes choose: the value of an option, or the zero chunk for None
+abbrev pub chosen_part : List SszType → Option ℕ → List ℕ → Part
+chosen_part trees None b = chunk_part zero_chunk
+chosen_part trees (Some id) b = part_of (tree_at trees id) (value_in (tree_at trees id) b)
+
+-- the values are of a basic type of this size
+pub record AreBasic (size : ℕ) (parts : List Value) : Type 0 where
+  pub type : SszType
+  pub sized : basic_size type ≡ Some size
+  pub fit : AllByRecursion (Fits type) (map value_of parts)

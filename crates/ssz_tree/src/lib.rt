@@ -1,0 +1,28 @@
+//! Values and bytes as nodes of an arena (simple-serialize.md, Merkleization).
+//!
+//! `build` makes the node of a value, `build_bytes` that of the value which some bytes encode, with
+//! no value made, and `build_default` that of the default of a type, whose equal elements share one
+//! node. No call hashes: the roots are asked of the arena.
+//!
+//! Each call first counts how many nodes it makes at most, takes room for them at once, and then
+//! makes them without taking memory: after want of memory the arena is as it was. What a call adds
+//! to an arena is defined in `specs/Added.antt`, and what it counts for a default in
+//! `specs/Shared.antt`. One builder takes nodes one after another and finishes at a depth; a zero
+//! part of a full tree is the arena's own zero tree.
+#![tactic(auto)]
+
+mod builder;
+mod bytes;
+mod bytes_pairs;
+mod defaults;
+mod packed;
+mod packed_values;
+mod room;
+mod shared_nodes;
+mod value_pairs;
+mod values;
+
+pub use bytes::build_bytes;
+pub use defaults::build_default;
+pub use value_pairs::nodes_needed;
+pub use values::build;

@@ -1,0 +1,51 @@
+ghost use Rattle.std.specs.Prelude.{◌+◌, ◌*◌, ◌/◌, ◌^◌, ◌<◌, ◌≤◌, length, map};
+ghost use Rattle.ssz_chunk.specs.declared.TheConstants.{LEVELS};
+ghost use Rattle.ssz_chunk.specs.Tree.{grow};
+ghost use Rattle.ssz_bytes.specs.Faults.{last_byte};
+ghost use Rattle.ssz_value.specs.Trees.{chunks, pack};
+ghost use Rattle.ssz_packing.specs.Bits.{undelimited};
+ghost use Rattle.ssz_tree.specs.Added.{Makes, whole};
+ghost use Rattle.ssz_tree.specs.Built.{chunk_part};
+
+use super::builder::Builder;
+use ssz_arena::{Arena, NodeId};
+use ssz_chunk::PairHash;
+use ssz_merkle::chunk_at;
+use ssz_packing::bit_chunk_at;
+
+/// The full tree of this depth over the bytes in chunks.
+pub fn packed_node<H: PairHash>(arena: &mut Arena<H>, depth: u32, bytes: &[u8]) -> NodeId
+    requires depth { depth ≤ LEVELS }
+    requires few { (length bytes.now + 31) / 32 ≤ 2 ^ depth }
+    requires room { 2 * grow depth ((length bytes.now + 31) / 32) + 1 ≤ arena.old.spare }
+    ensures { Makes arena.old arena.new (whole depth (map chunk_part (pack bytes.now))) result }
+{
+    let count = (bytes.len() + 31) / 32;
+    let mut leaves = Builder::new(arena, depth);
+    for i in 0..count {
+        let leaf = arena.leaf(chunk_at(bytes, i));
+        leaves.push(arena, leaf);
+    }
+    leaves.finish(arena)
+}
+
+/// The full tree of this depth over so many bits in chunks, without the delimiter.
+pub fn bits_node<H: PairHash>(arena: &mut Arena<H>, depth: u32, len: u64, bytes: &[u8]) -> NodeId
+    requires depth { depth ≤ LEVELS }
+    requires some { 0 < length bytes.now }
+    requires delimited { 0 < last_byte bytes.now }
+    requires short { length bytes.now < 2 ^ 32 }
+    requires len { len < 2 ^ 63 }
+    requires few { (len + 255) / 256 ≤ 2 ^ depth }
+    requires room { 2 * grow depth ((len + 255) / 256) + 1 ≤ arena.old.spare }
+    ensures { Makes arena.old arena.new
+        (whole depth (map chunk_part (chunks ((len + 255) / 256) (undelimited bytes.now)))) result }
+{
+    let count = (len + 255) / 256;
+    let mut leaves = Builder::new(arena, depth);
+    for i in 0..count {
+        let leaf = arena.leaf(bit_chunk_at(bytes, i as usize));
+        leaves.push(arena, leaf);
+    }
+    leaves.finish(arena)
+}

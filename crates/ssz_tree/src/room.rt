@@ -1,0 +1,51 @@
+ghost use Rattle.std.specs.Prelude.{◌≡◌, ℕ, ◌+◌, ◌*◌, ◌-◌, ◌^◌, ◌≤◌, min, IsOk, OnOk, OnErr};
+ghost use Rattle.ssz_chunk.specs.Tree.{grow};
+
+use ssz_arena::Arena;
+use ssz_chunk::PairHash;
+use std::alloc::AllocError;
+
+/// Makes room for so many nodes, where u64::MAX stands for all numbers from there on: for these and
+/// no more where they are as many as those that are there, else as an arena grows little by
+/// little. Fails for want of memory.
+pub fn reserve_nodes<H: PairHash>(arena: &mut Arena<H>, nodes: u64) -> Result<(), AllocError>
+    ensures nodes { arena.new.nodes ≡ arena.old.nodes }
+    ensures more { arena.old.spare ≤ arena.new.spare }
+    ensures ok { OnOk result ((n : ℕ) → nodes ≡ min n (2 ^ 64 - 1) → n ≤ arena.new.spare) }
+    ensures enough { (n : ℕ) → nodes ≡ min n (2 ^ 64 - 1) → n ≤ arena.old.spare → IsOk result }
+    ensures err { OnErr result (arena.new ≡ arena.old) }
+{
+    if nodes <= arena.spare() as u64 {
+        return Ok(());
+    }
+    if nodes == u64::MAX {
+        return Err(AllocError);
+    }
+    if nodes < arena.len() as u64 {
+        arena.reserve(nodes as usize)
+    } else {
+        arena.reserve_exact(nodes as usize)
+    }
+}
+
+/// How many nodes are made at most for a part of so many pairs: twice as many and one. In both
+/// numbers u64::MAX stands for all numbers from there on.
+pub fn nodes_for(pairs: u64) -> u64
+    ensures { (n : ℕ) → pairs ≡ min n (2 ^ 64 - 1) → result ≡ min (2 * n + 1) (2 ^ 64 - 1) }
+{
+    pairs.saturating_add(pairs).saturating_add(1)
+}
+
+/// The pairs of a full tree of depth d above its first n places; u64::MAX stands for all numbers
+/// from there on.
+pub fn pairs_above(depth: u32, n: u64) -> u64
+    ensures { result ≡ min (grow depth n) (2 ^ 64 - 1) }
+{
+    let mut left = n;
+    let mut pairs = 0u64;
+    for _j in 0..depth {
+        left = left / 2 + left % 2;
+        pairs = pairs.saturating_add(left);
+    }
+    pairs
+}
