@@ -9,6 +9,9 @@
 //! to an arena is defined in `specs/Added.antt`, and what it counts for a default in
 //! `specs/Shared.antt`. One builder takes nodes one after another and finishes at a depth; a zero
 //! part of a full tree is the arena's own zero tree.
+//!
+//! A caller that makes more than a value, as an edit does, takes the room for all first
+//! (`nodes_needed`, `reserve_nodes`), and then makes the value's node in it (`value_node`).
 #![tactic(auto)]
 
 mod builder;
@@ -24,5 +27,6 @@ mod values;
 
 pub use bytes::build_bytes;
 pub use defaults::build_default;
+pub use room::reserve_nodes;
 pub use value_pairs::nodes_needed;
-pub use values::build;
+pub use values::{build, value_node};

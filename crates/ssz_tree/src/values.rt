@@ -45,9 +45,10 @@ pub fn build<H: PairHash>(
     Ok(value_node(arena, schema, id, value))
 }
 
-// The node of a value of the type, where there is room for its nodes.
+/// The node of a value of the type, as `build` makes it, where there is room for its nodes: as many
+/// as `nodes_needed` says. Takes no memory.
 #[cycle(node)]
-fn value_node<H: PairHash>(
+pub fn value_node<H: PairHash>(
     arena: &mut Arena<H>,
     schema: &Schema,
     id: TypeId,
