@@ -1,7 +1,7 @@
 -- Chunks, made as leaves one after another.
 use Rattle.std.proofs.Common.{◌≡◌, ℕ, zero, suc, ◌+◌, ◌*◌, ◌^◌, ◌<◌, ◌≤◌, List, [], ◌∷◌, ◌++◌, length, map, take, drop, refl, sym, ap, ◌∙◌, arith}
 use Rattle.std.proofs.lemmas.List.{length-map}
-use Rattle.ssz_chunk.specs.Tree.{grow}
+use Rattle.ssz_chunk.specs.Tree.{full, grow}
 use Rattle.ssz_arena.specs.Content.{Content}
 use Rattle.ssz_merkle.specs.Packing.{chunk_of}
 use Rattle.ssz_value.specs.Trees.{chunks, padded}
@@ -53,3 +53,8 @@ cost-chunks d count b = omega (
   costs-chunks (chunks count b),
   ap (grow d) (length-parts count b),
 )
+
+-- one chunk is its own full tree
+pub one-chunk : (chunk : List ℕ) → whole 0 (chunk_part chunk ∷ []) ≡ chunk_part chunk
+unfolding full grow
+one-chunk chunk = refl

@@ -20,6 +20,20 @@ pub fn packed_node<H: PairHash>(arena: &mut Arena<H>, depth: u32, bytes: &[u8]) 
     requires room { 2 * grow depth ((length bytes.now + 31) / 32) + 1 ≤ arena.old.spare }
     ensures { Makes arena.old arena.new (whole depth (map chunk_part (pack bytes.now))) result }
 {
+    // One chunk stands for itself, and needs no builder.
+    if depth == 0 && !bytes.is_empty() {
+        return arena.leaf(chunk_at(bytes, 0));
+    }
+    chunks_node(arena, depth, bytes)
+}
+
+// The same, chunk by chunk.
+fn chunks_node<H: PairHash>(arena: &mut Arena<H>, depth: u32, bytes: &[u8]) -> NodeId
+    requires depth { depth ≤ LEVELS }
+    requires few { (length bytes.now + 31) / 32 ≤ 2 ^ depth }
+    requires room { 2 * grow depth ((length bytes.now + 31) / 32) + 1 ≤ arena.old.spare }
+    ensures { Makes arena.old arena.new (whole depth (map chunk_part (pack bytes.now))) result }
+{
     let count = (bytes.len() + 31) / 32;
     let mut leaves = Builder::new(arena, depth);
     for i in 0..count {

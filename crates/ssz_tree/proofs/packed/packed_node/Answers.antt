@@ -1,65 +1,22 @@
-use Rattle.std.proofs.Common.{◌≡◌, ℕ, ◌+◌, ◌/◌, length, map, arith}
-use Rattle.ssz_value.specs.Trees.{chunks}
+use Rattle.std.proofs.Common.{◌≡◌, ◌+◌, ◌/◌, ◌^◌, ◌<◌, length, map, sym, ap, ap₂, ◌∙◌, arith}
+use Rattle.ssz_value.specs.Trees.{chunks, padded}
+use Rattle.ssz_parts.proofs.UnionLemmas.{some_byte}
+use Rattle.ssz_tree.specs.Added.{whole}
 use Rattle.ssz_tree.specs.Built.{chunk_part}
-use Rattle.ssz_tree.proofs.Adding.{makes_leaf, Makes-chunk}
-use Rattle.ssz_tree.proofs.Chunks.{chunk-at, chunks-room, length-parts}
-use Rattle.ssz_tree.proofs.Gathering.{First-start, First-room, First-push, First-more, First-finish, First-done}
+use Rattle.ssz_tree.proofs.Adding.{makes_leaf, Makes-chunk, Makes-same}
+use Rattle.ssz_tree.proofs.Chunks.{one-chunk}
 use Rattle.ssz_tree.proofs.packed.packed_node.Goals as goal
 
-pub loop-i-init : goal.loop-i-init
-loop-i-init g c = First-start _ _ _ _ c.new-leaves.ensures.depth c.new-leaves.ensures.holds
-
-pub leaf-leaf-requires : goal.leaf-leaf-requires
-leaf-leaf-requires g c =
-    let count : ℕ = (length c.args.bytes.now + 31) / 32 in
-    let room = chunks-room c.args.arena.now c.args.depth count c.args.bytes.now c.requires.few
-    c.requires.room in
-    let at = chunk-at count c.loop-i.i c.args.bytes.now c.chunk_at.result.0 c.loop-i-test.true
-    c.chunk_at.ensures in
-    omega (arith, First-room _ _ _ _ _ _ _ c.loop-i.invariant at room)
-
-pub push-requires-clause-room : goal.push-requires-clause-room
-push-requires-clause-room g c =
-    let count : ℕ = (length c.args.bytes.now + 31) / 32 in
-    let room = chunks-room c.args.arena.now c.args.depth count c.args.bytes.now c.requires.few
-    c.requires.room in
-    let at = chunk-at count c.loop-i.i c.args.bytes.now c.chunk_at.result.0 c.loop-i-test.true
-    c.chunk_at.ensures in
-    let e = c.leaf-leaf.ensures in
-    let made = Makes-chunk _ _ _ _ (makes_leaf c.loop-i.arena c.leaf-leaf.new.self
-    c.chunk_at.result.0 c.leaf-leaf.result
-    e.node e.tree e.todo e.keeps e.same e.unhashed e.count e.spare)
-    in
-    (First-push _ _ _ _ _ _ _ _ _ c.loop-i.invariant at room made).room
-
-pub loop-i-preserved : goal.loop-i-preserved
-loop-i-preserved g c =
-    let count : ℕ = (length c.args.bytes.now + 31) / 32 in
-    let at = chunk-at count c.loop-i.i c.args.bytes.now c.chunk_at.result.0 c.loop-i-test.true
-    c.chunk_at.ensures in
-    let e = c.leaf-leaf.ensures in
-    let made = Makes-chunk _ _ _ _ (makes_leaf c.loop-i.arena c.leaf-leaf.new.self
-    c.chunk_at.result.0 c.leaf-leaf.result
-    e.node e.tree e.todo e.keeps e.same e.unhashed e.count e.spare)
-    in
-    First-more _ _ _ _ _ _ _ _ _ _ _ c.loop-i.invariant at made c.push.ensures.depth
-    c.push.ensures.holds c.push.ensures.adds
-
-pub finish-requires-clause-room : goal.finish-requires-clause-room
-finish-requires-clause-room g c =
-    let count : ℕ = (length c.args.bytes.now + 31) / 32 in
-    let room = chunks-room c.args.arena.now c.args.depth count c.args.bytes.now c.requires.few
-    c.requires.room in
-    let last : c.loop-i.i ≡ length (map chunk_part (chunks count c.args.bytes.now)) =
-    omega (arith, length-parts count c.args.bytes.now) in
-    (First-finish c.args.arena.now c.loop-i.arena _ _ _ _ c.loop-i.invariant last room).room
-
-pub returns : goal.returns
-returns g c =
-    let count : ℕ = (length c.args.bytes.now + 31) / 32 in
-    let room = chunks-room c.args.arena.now c.args.depth count c.args.bytes.now c.requires.few
-    c.requires.room in
-    let last : c.loop-i.i ≡ length (map chunk_part (chunks count c.args.bytes.now)) =
-    omega (arith, length-parts count c.args.bytes.now) in
-    First-done c.args.arena.now c.loop-i.arena _ _ _ _ _ _ c.loop-i.invariant last room.few
-    c.finish.ensures.part c.finish.ensures.adds
+pub returns-then-not-is_empty : goal.returns-then-not-is_empty
+returns-then-not-is_empty g c =
+    let flat : c.args.depth ≡ 0 = c.if-depth-eq0.true in
+    let some : 0 < length c.args.bytes.now =
+    some_byte c.args.bytes.now (sym c.if-not-is_empty.ensures) in
+    let one : (length c.args.bytes.now + 31) / 32 ≡ 1 =
+    omega (arith, c.requires.few, ap (λ d. 2 ^ d) flat, some) in
+    let e = c.leaf.ensures in
+    Makes-same _ _ (chunk_part c.chunk_at.result.0) _ _
+    (ap chunk_part c.chunk_at.ensures ∙ sym (one-chunk (padded c.args.bytes.now))
+    ∙ sym (ap₂ (λ d n. whole d (map chunk_part (chunks n c.args.bytes.now))) flat one))
+    (Makes-chunk _ _ _ _
+    (makes_leaf _ _ _ _ e.node e.tree e.todo e.keeps e.same e.unhashed e.count e.spare))
