@@ -1,0 +1,227 @@
+use Rattle.std.proofs.Common.{◌%◌, ◌<◌, ◌≤◌, ◌≡◌, length, slice_get, List, Some, None, refl, sym, ap, ◌∙◌, subst, arith, rules}
+use Rattle.std.specs.List.{AllByRecursion}
+use Rattle.ssz_chunk.specs.declared.TheConstants.{LEVELS}
+use Rattle.ssz_schema.specs.Types.{container, vector, list, bitvector, bitlist, union, uint}
+use Rattle.ssz_schema.specs.Sizes.{depth, byte_count}
+use Rattle.ssz_schema.specs.Unfolding.{type_of, tree_over, fields_over, options_over, AreBelow}
+use Rattle.ssz_schema.specs.Legal.{IsLegal}
+use Rattle.ssz_value.specs.declared.value.Value.{Value}
+use Rattle.ssz_value.specs.Standing.{Stands}
+use Rattle.ssz_value.specs.declared.value.Value.TheVariants.{Bits}
+use Rattle.ssz_value.proofs.PartLemmas.{Part, part_known}
+use Rattle.ssz_arena.specs.Content.{tree_of}
+use Rattle.ssz_reading.specs.Shown.{ForValue, basic_type}
+use Rattle.ssz_reading.proofs.Formed.{union_few}
+use Rattle.ssz_reading.proofs.Parts.{Reads, ElementsRead, ElementsRead-start, ElementsRead-more, ElementsRead-end, FieldsRead, FieldsRead-start, FieldsRead-more, FieldsRead-end, vector_read, list_read, container_read, bitvector_read, bitlist_read, basic_read, packed_read, basic_formed, option_read, none_read}
+use Rattle.ssz_reading.proofs.reading.+value.Goals as goal
+
+pub read_elements-loop-i-init : goal.read_elements-loop-i-init
+read_elements-loop-i-init g t c = (
+  c.new-places.ensures.nodes c.args.arena.now c.requires.node,
+  λ vs are. subst (λ (parts : List Value). ElementsRead c.args.arena.now
+      (type_of c.args.schema.now c.args.elem) vs 0 parts c.new-places.result)
+      (sym c.in_ok-parts.ensures.items)
+      (ElementsRead-start c.args.arena.now (type_of c.args.schema.now c.args.elem) c.args.depth
+      c.args.count vs c.args.node c.new-places.result c.requires.composite are
+      (c.new-places.ensures.holds c.args.arena.now)),
+)
+
+pub read_fields-loop-field-init : goal.read_fields-loop-field-init
+read_fields-loop-field-init g t c = (
+  c.new-places.ensures.nodes c.args.arena.now c.requires.node,
+  λ vs are. subst (λ (parts : List Value). FieldsRead c.args.arena.now c.args.schema.now.trees
+      c.args.fields.now vs 0 parts c.new-places.result)
+      (sym c.in_ok-parts.ensures.items)
+      (FieldsRead-start c.args.arena.now c.args.schema.now.trees c.args.fields.now
+      c.args.depth vs c.args.node c.new-places.result are
+      (c.new-places.ensures.holds c.args.arena.now)),
+)
+
+pub read_elements-loop-i-preserved : goal.read_elements-loop-i-preserved
+read_elements-loop-i-preserved g t c = (
+  c.next-part.ensures.nodes,
+  λ vs are. ElementsRead-more c.args.arena.now (type_of c.args.schema.now c.args.elem) vs
+      c.loop-i._i c.loop-i.parts.items c.push.new.self.items c.in_ok-read_value.field-0
+      c.loop-i.places c.next-part.new.self c.next-part.result (c.loop-i.invariant.1 vs are)
+      (omega (arith, are.many, c.loop-i-test.true))
+      (record { tree = c.next-part.ensures.tree; rest = c.next-part.ensures.rest })
+      c.in_ok-read_value.ensures c.in_ok-push.ensures.items,
+)
+
+pub read_elements-returns : goal.read_elements-returns
+read_elements-returns g t c = λ vs are.
+    ElementsRead-end c.args.arena.now (type_of c.args.schema.now c.args.elem) vs c.loop-i._i
+    c.loop-i.parts.items c.loop-i.places (c.loop-i.invariant.1 vs are)
+    (omega (arith, are.many, c.loop-i-test.false))
+
+pub read_fields-read_value-requires : goal.read_fields-read_value-requires
+read_fields-read_value-requires g t c =
+    let below : c.field-item.result.1 < c.args.id =
+    part_known c.args.id c.args.fields.now c.loop-field.field-index c.field-item.result
+    c.loop-field-test.true c.field-item.is c.requires.before in
+    let known : c.field-item.result.1 < length c.args.schema.now.trees =
+    omega (arith, below, c.requires.known) in
+    search rules
+
+pub read_fields-loop-field-preserved : goal.read_fields-loop-field-preserved
+read_fields-loop-field-preserved g t c = (
+  c.next-part.ensures.nodes,
+  λ vs are. FieldsRead-more c.args.arena.now c.args.schema.now.trees c.args.fields.now vs
+      c.loop-field.field-index c.field-item.result c.loop-field.parts.items
+      c.push.new.self.items c.in_ok-read_value.field-0 c.loop-field.places c.next-part.new.self
+      c.next-part.result (c.loop-field.invariant.1 vs are) c.loop-field-test.true c.field-item.is
+      (record { tree = c.next-part.ensures.tree; rest = c.next-part.ensures.rest })
+      c.in_ok-read_value.ensures c.in_ok-push.ensures.items,
+)
+
+pub read_fields-returns : goal.read_fields-returns
+read_fields-returns g t c = λ vs are.
+    FieldsRead-end c.args.arena.now c.args.schema.now.trees c.args.fields.now vs
+    c.loop-field.field-index c.loop-field.parts c.loop-field.places
+    (c.loop-field.invariant.1 vs are) c.loop-field-test.false
+
+pub read_sequence-returns-in_ok-parts-in-Some : goal.read_sequence-returns-in_ok-parts-in-Some
+read_sequence-returns-in_ok-parts-in-Some g t c =
+    packed_read (basic_type c.in-Some.basic) (type_of c.args.schema.now c.args.elem) c.args.depth
+    c.args.count (tree_of c.args.arena.now c.args.node) c.in_ok-parts-in-Some.parts
+    c.in-Some.ensures.form (sym c.is_byte.ensures ∙ c.if-is_byte.false)
+    (basic_formed c.in-Some.basic) c.in_ok-parts-in-Some.ensures
+
+pub read_chosen-returns-in_ok-new-in-Some-Some : goal.read_chosen-returns-in_ok-new-in-Some-Some
+read_chosen-returns-in_ok-new-in-Some-Some g t c =
+    let here : slice_get c.args.options.now (c.mixed_in-number.result.1 % 256)
+    ≡ Some (Some c.in-Some-Some.option) =
+    sym c.option_at.ensures ∙ c.in-Some-Some.is ∙ ap Some c.in-Some-Some.field-0-is in
+    option_read c.args.schema.now.trees c.args.options.now c.mixed_in-number.result.1
+    c.in-Some-Some.option (tree_of c.args.arena.now c.args.node)
+    (tree_of c.args.arena.now c.mixed_in-number.result.0) c.in_ok-inner-in-Some-Some.inner
+    c.in_ok-new-in-Some-Some.field-0 c.requires.few
+    (record {
+      tree = c.mixed_in-number.ensures.tree;
+      number = c.mixed_in-number.ensures.number;
+    })
+    here c.in_ok-inner-in-Some-Some.ensures c.in_ok-new-in-Some-Some.ensures.ok
+
+pub read_chosen-returns-in-Some-None : goal.read_chosen-returns-in-Some-None
+read_chosen-returns-in-Some-None g t c =
+    none_read c.args.schema.now.trees c.args.options.now c.mixed_in-number.result.1
+    (tree_of c.args.arena.now c.args.node)
+    (tree_of c.args.arena.now c.mixed_in-number.result.0) c.requires.few
+    (record {
+      tree = c.mixed_in-number.ensures.tree;
+      number = c.mixed_in-number.ensures.number;
+    })
+    (λ id e. let differ : Some None ≡ Some (Some id) =
+    sym (c.in-Some-None.is ∙ ap Some c.in-Some-None.field-0-is) ∙ c.option_at.ensures ∙ e in cc)
+
+pub read_chosen-returns-in-None : goal.read_chosen-returns-in-None
+read_chosen-returns-in-None g t c =
+    none_read c.args.schema.now.trees c.args.options.now c.mixed_in-number.result.1
+    (tree_of c.args.arena.now c.args.node)
+    (tree_of c.args.arena.now c.mixed_in-number.result.0) c.requires.few
+    (record {
+      tree = c.mixed_in-number.ensures.tree;
+      number = c.mixed_in-number.ensures.number;
+    })
+    (λ id e. let differ : None ≡ Some (Some id) =
+    sym c.in-None.is ∙ c.option_at.ensures ∙ e in cc)
+
+pub read_value-read_chosen-requires : goal.read_value-read_chosen-requires
+read_value-read_chosen-requires g t c =
+    let form : union (options_over c.args.schema.now.trees c.as_slice.result.now)
+    ≡ type_of c.args.schema.now c.args.id =
+    ap (λ ids. union (options_over c.args.schema.now.trees ids)) c.as_slice.ensures.value
+    ∙ ap (tree_over c.args.schema.now.trees) (sym c.in-Union.is) ∙ c.ty.ensures.form in
+    let few : length c.as_slice.result.now ≤ 128 =
+    union_few c.args.schema.now.format c.args.schema.now.trees c.as_slice.result.now
+    (subst (IsLegal c.args.schema.now.format) (sym form) c.ty.ensures.legal) in
+    search rules
+
+pub read_value-read_fields-requires : goal.read_value-read_fields-requires
+read_value-read_fields-requires g t c =
+    let few : c.depth-depth.result ≤ LEVELS = omega (arith, c.depth-depth.ensures.at_most) in
+    let before : AllByRecursion (λ (part : Part). part.1 < c.args.id)
+    c.as_slice-in-Container.result.now =
+    subst (AllByRecursion (λ (part : Part). part.1 < c.args.id))
+    (sym c.as_slice-in-Container.ensures.value)
+    (subst (AreBelow c.args.id) c.in-Container.is c.ty.ensures.before) in
+    search rules
+
+pub read_value-returns-in-Uint : goal.read_value-returns-in-Uint
+read_value-returns-in-Uint g t c =
+    let form : uint c.in-Uint.width ≡ type_of c.args.schema.now c.args.id =
+    ap (tree_over c.args.schema.now.trees) (sym c.in-Uint.is) ∙ c.ty.ensures.form in
+    subst (λ ty. ForValue ty (tree_of c.args.arena.now c.args.node)
+    (λ v. Stands ty v c.value_at.result)) form
+    (basic_read (uint c.in-Uint.width) (byte_count c.in-Uint.width)
+    (tree_of c.args.arena.now c.args.node) c.chunk_of.result.now.0 c.value_at.result refl
+    (λ v. tt) c.chunk_of.ensures c.value_at.ensures)
+
+pub read_value-returns-in_ok-read_bits-in-Bitvector :
+    goal.read_value-returns-in_ok-read_bits-in-Bitvector
+read_value-returns-in_ok-read_bits-in-Bitvector g t c =
+    let form : bitvector c.in-Bitvector.n ≡ type_of c.args.schema.now c.args.id =
+    ap (tree_over c.args.schema.now.trees) (sym c.in-Bitvector.is) ∙ c.ty.ensures.form in
+    subst (λ ty. ForValue ty (tree_of c.args.arena.now c.args.node)
+    (λ v. Stands ty v (Bits c.in_ok-read_bits-in-Bitvector.field-0))) form
+    (bitvector_read c.in-Bitvector.n c.depth-depth.result (tree_of c.args.arena.now c.args.node)
+    c.in_ok-read_bits-in-Bitvector.field-0 (c.depth-depth.ensures.exact ∙ ap depth (sym form))
+    c.in_ok-read_bits-in-Bitvector.ensures)
+
+pub read_value-returns-in_ok-read_bits-in-Bitlist :
+    goal.read_value-returns-in_ok-read_bits-in-Bitlist
+read_value-returns-in_ok-read_bits-in-Bitlist g t c =
+    let form : bitlist c.in-Bitlist.field-0 ≡ type_of c.args.schema.now c.args.id =
+    ap (tree_over c.args.schema.now.trees) (sym c.in-Bitlist.is) ∙ c.ty.ensures.form in
+    subst (λ ty. ForValue ty (tree_of c.args.arena.now c.args.node)
+    (λ v. Stands ty v (Bits c.in_ok-read_bits-in-Bitlist.field-0))) form
+    (bitlist_read c.args.schema.now.format c.in-Bitlist.field-0 c.depth-depth.result
+    c.mixed_in-count.result.1 (tree_of c.args.arena.now c.args.node)
+    (tree_of c.args.arena.now c.mixed_in-count.result.0) c.in_ok-read_bits-in-Bitlist.field-0
+    (subst (IsLegal c.args.schema.now.format) (sym form) c.ty.ensures.legal)
+    (c.depth-depth.ensures.exact ∙ ap depth (sym form))
+    (record { tree = c.mixed_in-count.ensures.tree; number = c.mixed_in-count.ensures.number })
+    c.in_ok-read_bits-in-Bitlist.ensures)
+
+pub read_value-returns-in-Vector : goal.read_value-returns-in-Vector
+read_value-returns-in-Vector g t c =
+    let form : vector (type_of c.args.schema.now c.in-Vector.elem) c.in-Vector.n
+    ≡ type_of c.args.schema.now c.args.id =
+    ap (tree_over c.args.schema.now.trees) (sym c.in-Vector.is) ∙ c.ty.ensures.form in
+    subst (λ ty. ForValue ty (tree_of c.args.arena.now c.args.node)
+    (λ v. Reads ty v c.read_sequence.result)) form
+    (vector_read (type_of c.args.schema.now c.in-Vector.elem) c.in-Vector.n c.depth-depth.result
+    (tree_of c.args.arena.now c.args.node) c.read_sequence.result
+    (c.depth-depth.ensures.exact ∙ ap depth (sym form)) c.read_sequence.ensures)
+
+pub read_value-returns-in-List : goal.read_value-returns-in-List
+read_value-returns-in-List g t c =
+    let form : list (type_of c.args.schema.now c.in-List.elem) c.in-List.field-1
+    ≡ type_of c.args.schema.now c.args.id =
+    ap (tree_over c.args.schema.now.trees) (sym c.in-List.is) ∙ c.ty.ensures.form in
+    subst (λ ty. ForValue ty (tree_of c.args.arena.now c.args.node)
+    (λ v. Reads ty v c.read_sequence-in-List.result)) form
+    (list_read c.args.schema.now.format (type_of c.args.schema.now c.in-List.elem)
+    c.in-List.field-1 c.depth-depth.result c.mixed_in-count-in-List.result.1
+    (tree_of c.args.arena.now c.args.node)
+    (tree_of c.args.arena.now c.mixed_in-count-in-List.result.0) c.read_sequence-in-List.result
+    (subst (IsLegal c.args.schema.now.format) (sym form) c.ty.ensures.legal)
+    (c.depth-depth.ensures.exact ∙ ap depth (sym form))
+    (record {
+      tree = c.mixed_in-count-in-List.ensures.tree;
+      number = c.mixed_in-count-in-List.ensures.number;
+    })
+    c.read_sequence-in-List.ensures)
+
+pub read_value-returns-in-Container : goal.read_value-returns-in-Container
+read_value-returns-in-Container g t c =
+    let form : container (fields_over c.args.schema.now.trees c.as_slice-in-Container.result.now)
+    ≡ type_of c.args.schema.now c.args.id =
+    ap (λ fs. container (fields_over c.args.schema.now.trees fs))
+    c.as_slice-in-Container.ensures.value
+    ∙ ap (tree_over c.args.schema.now.trees) (sym c.in-Container.is) ∙ c.ty.ensures.form in
+    subst (λ ty. ForValue ty (tree_of c.args.arena.now c.args.node)
+    (λ v. Reads ty v c.read_fields.result)) form
+    (container_read (fields_over c.args.schema.now.trees c.as_slice-in-Container.result.now)
+    c.depth-depth.result (tree_of c.args.arena.now c.args.node) c.read_fields.result
+    (c.depth-depth.ensures.exact ∙ ap depth (sym form)) c.read_fields.ensures)

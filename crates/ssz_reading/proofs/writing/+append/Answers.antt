@@ -1,0 +1,301 @@
+use Rattle.std.proofs.Common.{ℕ, ◌+◌, ◌*◌, ◌%◌, ◌/◌, ◌<◌, ◌≤◌, ◌≡◌, ◌++◌, length, map, slice_get, List, Some, None, sym, ap, ◌∙◌, subst, arith, rules}
+use Rattle.std.proofs.lemmas.List.{append-nil}
+use Rattle.std.specs.List.{AllByRecursion}
+use Rattle.ssz_chunk.specs.declared.TheConstants.{LEVELS}
+use Rattle.ssz_schema.specs.Types.{container, vector, list, bitvector, bitlist, union}
+use Rattle.ssz_schema.specs.Sizes.{depth, fixed_size, head_size, part_sizes}
+use Rattle.ssz_schema.specs.Unfolding.{type_of, tree_over, fields_over, options_over, AreBelow}
+use Rattle.ssz_schema.specs.Legal.{IsLegal}
+use Rattle.ssz_value.specs.Encoding.{enc, heads, bodies, field_encodings}
+use Rattle.ssz_value.proofs.PartLemmas.{Part}
+use Rattle.ssz_arena.specs.Content.{tree_of}
+use Rattle.ssz_parts.specs.Encoded.{capped}
+use Rattle.ssz_reading.specs.Shown.{ForValue, Adds}
+use Rattle.ssz_reading.proofs.Formed.{union_few}
+use Rattle.ssz_reading.proofs.Chunked.{Extends-same, Extends-trans}
+use Rattle.ssz_reading.proofs.Written.{on_ok, alike, HeadsSoFar-start, HeadsSoFar-more, BodiesSoFar-start, BodiesSoFar-more, no_bodies, elements_adds, packed_adds}
+use Rattle.ssz_reading.proofs.FieldsWritten.{FieldHeads-start, FieldHeads-more, FieldBodies-start, FieldBodies-more, fields_adds, vector_adds, list_adds, container_adds, bitvector_adds, bitlist_adds, option_adds, none_adds}
+use Rattle.ssz_reading.proofs.writing.+append.Goals as goal
+
+pub append_heads-loop-i-init : goal.append_heads-loop-i-init
+append_heads-loop-i-init g t c = (
+  c.new-places.ensures.nodes c.args.arena.now c.requires.node,
+  Extends-same c.args.out.now.items,
+  λ vs are short. HeadsSoFar-start c.args.arena.now (type_of c.args.schema.now c.args.elem)
+      c.args.depth c.args.count c.args.offset vs c.args.out.now.items c.args.node
+      c.new-places.result c.requires.composite are (c.new-places.ensures.holds c.args.arena.now)
+      short,
+)
+
+pub append_heads-loop-i-preserved : goal.append_heads-loop-i-preserved
+append_heads-loop-i-preserved g t c = (
+  c.next-part.ensures.nodes,
+  Extends-trans c.args.out.now.items c.loop-i.out.items c.append_head.new.out.items
+      c.loop-i.invariant.1 c.append_head.ensures.kept,
+  λ vs are short. HeadsSoFar-more c.args.arena.now (type_of c.args.schema.now c.args.elem) vs
+      c.loop-i._i c.loop-i.offset _
+      (c.args.out.now.items ++ heads (alike (type_of c.args.schema.now c.args.elem) vs)
+      (map (enc (type_of c.args.schema.now c.args.elem)) vs) c.args.offset)
+      c.loop-i.out.items c.append_head.new.out.items c.loop-i.places c.next-part.new.self
+      c.next-part.result (c.loop-i.invariant.2 vs are short)
+      (omega (arith, are.many, c.loop-i-test.true))
+      (record { tree = c.next-part.ensures.tree; rest = c.next-part.ensures.rest })
+      c.in_ok-offset.ensures.head c.in_ok-offset.ensures.next,
+)
+
+pub append_bodies-loop-i-init : goal.append_bodies-loop-i-init
+append_bodies-loop-i-init g t c = (
+  c.new-places.ensures.nodes c.args.arena.now c.requires.node,
+  Extends-same c.args.out.now.items,
+  λ vs are short. BodiesSoFar-start c.args.arena.now (type_of c.args.schema.now c.args.elem)
+      c.args.depth c.args.count vs c.args.out.now.items c.args.node
+      c.new-places.result c.requires.composite are (c.new-places.ensures.holds c.args.arena.now)
+      short,
+)
+
+pub append_bodies-loop-i-preserved : goal.append_bodies-loop-i-preserved
+append_bodies-loop-i-preserved g t c = (
+  c.next-part.ensures.nodes,
+  Extends-trans c.args.out.now.items c.loop-i.out.items c.append_body.new.out.items
+      c.loop-i.invariant.1 c.append_body.ensures.kept,
+  λ vs are short. BodiesSoFar-more c.args.arena.now (type_of c.args.schema.now c.args.elem) vs
+      c.loop-i._i
+      (c.args.out.now.items ++ bodies (alike (type_of c.args.schema.now c.args.elem) vs)
+      (map (enc (type_of c.args.schema.now c.args.elem)) vs))
+      c.loop-i.out.items c.append_body.new.out.items c.loop-i.places c.next-part.new.self
+      c.next-part.result (c.loop-i.invariant.2 vs are short)
+      (omega (arith, are.many, c.loop-i-test.true))
+      (record { tree = c.next-part.ensures.tree; rest = c.next-part.ensures.rest })
+      c.in_ok-append_body.ensures.value,
+)
+
+pub append_field_heads-loop-field-init : goal.append_field_heads-loop-field-init
+append_field_heads-loop-field-init g t c = (
+  c.new-places.ensures.nodes c.args.arena.now c.requires.node,
+  Extends-same c.args.out.now.items,
+  λ vs are short. FieldHeads-start c.args.arena.now c.args.schema.now.trees c.args.fields.now
+      c.args.depth c.args.offset vs c.args.out.now.items c.args.node c.new-places.result are
+      (c.new-places.ensures.holds c.args.arena.now) short,
+)
+
+pub append_field_heads-loop-field-preserved : goal.append_field_heads-loop-field-preserved
+append_field_heads-loop-field-preserved g t c = (
+  c.next-part.ensures.nodes,
+  Extends-trans c.args.out.now.items c.loop-field.out.items c.append_head.new.out.items
+      c.loop-field.invariant.1 c.append_head.ensures.kept,
+  λ vs are short. FieldHeads-more c.args.arena.now c.args.schema.now.trees c.args.fields.now
+      c.loop-field.field-index c.loop-field.offset _ c.field-item.result
+      (c.args.out.now.items
+      ++ heads (part_sizes (fields_over c.args.schema.now.trees c.args.fields.now))
+      (field_encodings (fields_over c.args.schema.now.trees c.args.fields.now) vs) c.args.offset)
+      c.loop-field.out.items c.append_head.new.out.items c.loop-field.places
+      c.next-part.new.self c.next-part.result (c.loop-field.invariant.2 vs are short)
+      c.loop-field-test.true c.field-item.is
+      (record { tree = c.next-part.ensures.tree; rest = c.next-part.ensures.rest })
+      c.in_ok-offset.ensures.head c.in_ok-offset.ensures.next,
+)
+
+pub append_field_bodies-loop-field-init : goal.append_field_bodies-loop-field-init
+append_field_bodies-loop-field-init g t c = (
+  c.new-places.ensures.nodes c.args.arena.now c.requires.node,
+  Extends-same c.args.out.now.items,
+  λ vs are short. FieldBodies-start c.args.arena.now c.args.schema.now.trees c.args.fields.now
+      c.args.depth vs c.args.out.now.items c.args.node c.new-places.result are
+      (c.new-places.ensures.holds c.args.arena.now) short,
+)
+
+pub append_field_bodies-loop-field-preserved : goal.append_field_bodies-loop-field-preserved
+append_field_bodies-loop-field-preserved g t c = (
+  c.next-part.ensures.nodes,
+  Extends-trans c.args.out.now.items c.loop-field.out.items c.append_body.new.out.items
+      c.loop-field.invariant.1 c.append_body.ensures.kept,
+  λ vs are short. FieldBodies-more c.args.arena.now c.args.schema.now.trees c.args.fields.now
+      c.loop-field.field-index c.field-item.result
+      (c.args.out.now.items
+      ++ bodies (part_sizes (fields_over c.args.schema.now.trees c.args.fields.now))
+      (field_encodings (fields_over c.args.schema.now.trees c.args.fields.now) vs))
+      c.loop-field.out.items c.append_body.new.out.items c.loop-field.places
+      c.next-part.new.self c.next-part.result (c.loop-field.invariant.2 vs are short)
+      c.loop-field-test.true c.field-item.is
+      (record { tree = c.next-part.ensures.tree; rest = c.next-part.ensures.rest })
+      c.in_ok-append_body.ensures.value,
+)
+
+pub append_bodies-returns-in-Some-clause-value : goal.append_bodies-returns-in-Some-clause-value
+append_bodies-returns-in-Some-clause-value g t c = λ vs are short.
+    let none = no_bodies (fixed_size (type_of c.args.schema.now c.args.elem)) c.in-Some.field-0
+    (length vs) (map (enc (type_of c.args.schema.now c.args.elem)) vs)
+    (sym c.fixed_size.ensures.exact ∙ c.in-Some.is) in
+    sym (append-nil c.args.out.now.items)
+    ∙ ap (λ (xs : List ℕ). c.args.out.now.items ++ xs) (sym none)
+
+pub append_chosen-returns-in-Some-Some-clause-value :
+    goal.append_chosen-returns-in-Some-Some-clause-value
+append_chosen-returns-in-Some-Some-clause-value g t c =
+    let here : slice_get c.args.options.now (c.mixed_in-number.result.1 % 256)
+    ≡ Some (Some c.in-Some-Some.option) =
+    sym c.option_at.ensures ∙ c.in-Some-Some.is ∙ ap Some c.in-Some-Some.field-0-is in
+    option_adds c.args.schema.now.trees c.args.options.now c.mixed_in-number.result.1
+    c.in-Some-Some.option (tree_of c.args.arena.now c.args.node)
+    (tree_of c.args.arena.now c.mixed_in-number.result.0) c.args.out.now.items
+    c.push.new.self.items c.append_value.new.out.items c.append_value.result c.requires.few
+    (record {
+      tree = c.mixed_in-number.ensures.tree;
+      number = c.mixed_in-number.ensures.number;
+    })
+    here c.in_ok-push.ensures.items c.append_value.ensures.value
+
+pub append_chosen-returns-in-Some-None-clause-value :
+    goal.append_chosen-returns-in-Some-None-clause-value
+append_chosen-returns-in-Some-None-clause-value g t c =
+    none_adds c.args.schema.now.trees c.args.options.now c.mixed_in-number.result.1
+    (tree_of c.args.arena.now c.args.node)
+    (tree_of c.args.arena.now c.mixed_in-number.result.0) c.args.out.now.items
+    c.push.new.self.items c.requires.few
+    (record {
+      tree = c.mixed_in-number.ensures.tree;
+      number = c.mixed_in-number.ensures.number;
+    })
+    (λ id e. let differ : Some None ≡ Some (Some id) =
+    sym (c.in-Some-None.is ∙ ap Some c.in-Some-None.field-0-is) ∙ c.option_at.ensures ∙ e in cc)
+    c.in_ok-push.ensures.items
+
+pub append_chosen-returns-in-None-clause-value : goal.append_chosen-returns-in-None-clause-value
+append_chosen-returns-in-None-clause-value g t c =
+    none_adds c.args.schema.now.trees c.args.options.now c.mixed_in-number.result.1
+    (tree_of c.args.arena.now c.args.node)
+    (tree_of c.args.arena.now c.mixed_in-number.result.0) c.args.out.now.items
+    c.push.new.self.items c.requires.few
+    (record {
+      tree = c.mixed_in-number.ensures.tree;
+      number = c.mixed_in-number.ensures.number;
+    })
+    (λ id e. let differ : None ≡ Some (Some id) =
+    sym c.in-None.is ∙ c.option_at.ensures ∙ e in cc)
+    c.in_ok-push.ensures.items
+
+pub append_fields-returns-clause-value : goal.append_fields-returns-clause-value
+append_fields-returns-clause-value g t c = λ format legal vs are.
+    on_ok c.append_field_bodies.result (λ end.
+    fields_adds format (fields_over c.args.schema.now.trees c.args.fields.now)
+    c.heads_len-offset.result vs c.args.out.now.items c.append_field_heads.new.out.items
+    c.append_field_bodies.new.out.items legal are.fit c.heads_len-offset.ensures
+    (c.in_ok-append_field_heads.ensures.value vs are) end)
+    (c.append_field_bodies.ensures.value vs are)
+
+pub append_sequence-returns-in-Some-clause-value : goal.append_sequence-returns-in-Some-clause-value
+append_sequence-returns-in-Some-clause-value g t c =
+    packed_adds c.in-Some.basic (type_of c.args.schema.now c.args.elem) c.size.result
+    c.args.depth c.args.count (c.from.result * c.size.result)
+    (tree_of c.args.arena.now c.args.node) c.args.out.now.items c.append_chunks.new.out.items
+    c.append_chunks.result c.in-Some.ensures.form c.size.ensures.exact
+    (ap (λ n. n * c.size.result) c.from.ensures) c.append_chunks.ensures.bytes
+
+pub append_sequence-returns-in_ok-append_heads-in-None-clause-value :
+    goal.append_sequence-returns-in_ok-append_heads-in-None-clause-value
+append_sequence-returns-in_ok-append_heads-in-None-clause-value g t c = λ vs are.
+    on_ok c.append_bodies.result (λ end.
+    elements_adds c.args.schema.now.format (type_of c.args.schema.now c.args.elem) c.args.count
+    c.saturating_mul-offset.result vs c.args.out.now.items c.append_heads.new.out.items
+    c.append_bodies.new.out.items c.ty-legal.ensures.legal are.fit are.many
+    (c.saturating_mul-offset.ensures
+    ∙ ap (λ n. capped (c.args.count * n)) (c.head_len.ensures
+    ∙ ap head_size c.fixed_size.ensures.exact))
+    (c.in_ok-append_heads-in-None.ensures.value vs are) end)
+    (c.append_bodies.ensures.value vs are)
+
+pub append_value-append_chosen-requires : goal.append_value-append_chosen-requires
+append_value-append_chosen-requires g t c =
+    let form : union (options_over c.args.schema.now.trees c.as_slice.result.now)
+    ≡ type_of c.args.schema.now c.args.id =
+    ap (λ ids. union (options_over c.args.schema.now.trees ids)) c.as_slice.ensures.value
+    ∙ ap (tree_over c.args.schema.now.trees) (sym c.in-Union.is) ∙ c.ty.ensures.form in
+    let few : length c.as_slice.result.now ≤ 128 =
+    union_few c.args.schema.now.format c.args.schema.now.trees c.as_slice.result.now
+    (subst (IsLegal c.args.schema.now.format) (sym form) c.ty.ensures.legal) in
+    search rules
+
+pub append_value-append_fields-requires : goal.append_value-append_fields-requires
+append_value-append_fields-requires g t c =
+    let few : c.depth-depth.result ≤ LEVELS = omega (arith, c.depth-depth.ensures.at_most) in
+    let before : AllByRecursion (λ (part : Part). part.1 < c.args.id)
+    c.as_slice-in-Container.result.now =
+    subst (AllByRecursion (λ (part : Part). part.1 < c.args.id))
+    (sym c.as_slice-in-Container.ensures.value)
+    (subst (AreBelow c.args.id) c.in-Container.is c.ty.ensures.before) in
+    search rules
+
+pub append_value-returns-in-Bitvector-clause-value :
+    goal.append_value-returns-in-Bitvector-clause-value
+append_value-returns-in-Bitvector-clause-value g t c =
+    let form : bitvector c.in-Bitvector.n ≡ type_of c.args.schema.now c.args.id =
+    ap (tree_over c.args.schema.now.trees) (sym c.in-Bitvector.is) ∙ c.ty.ensures.form in
+    subst (λ ty. ForValue ty (tree_of c.args.arena.now c.args.node)
+    (λ v. Adds (enc ty v) c.args.out.now.items c.append_chunks.new.out.items
+    c.append_chunks.result)) form
+    (bitvector_adds c.in-Bitvector.n c.depth-depth.result ((c.from.result + 7) / 8)
+    (tree_of c.args.arena.now c.args.node) c.args.out.now.items c.append_chunks.new.out.items
+    c.append_chunks.result (c.depth-depth.ensures.exact ∙ ap depth (sym form))
+    (ap (λ n. (n + 7) / 8) c.from.ensures) c.append_chunks.ensures.bytes)
+
+pub append_value-returns-in-Bitlist-clause-value : goal.append_value-returns-in-Bitlist-clause-value
+append_value-returns-in-Bitlist-clause-value g t c =
+    let form : bitlist c.in-Bitlist.field-0 ≡ type_of c.args.schema.now c.args.id =
+    ap (tree_over c.args.schema.now.trees) (sym c.in-Bitlist.is) ∙ c.ty.ensures.form in
+    subst (λ ty. ForValue ty (tree_of c.args.arena.now c.args.node)
+    (λ v. Adds (enc ty v) c.args.out.now.items c.append_bitlist.new.out.items
+    c.append_bitlist.result)) form
+    (bitlist_adds c.args.schema.now.format c.in-Bitlist.field-0 c.depth-depth.result
+    (tree_of c.args.arena.now c.args.node) c.args.out.now.items c.append_bitlist.new.out.items
+    c.append_bitlist.result
+    (subst (IsLegal c.args.schema.now.format) (sym form) c.ty.ensures.legal)
+    (c.depth-depth.ensures.exact ∙ ap depth (sym form)) c.append_bitlist.ensures.value)
+
+pub append_value-returns-in-Vector-clause-value : goal.append_value-returns-in-Vector-clause-value
+append_value-returns-in-Vector-clause-value g t c =
+    let form : vector (type_of c.args.schema.now c.in-Vector.elem) c.in-Vector.n
+    ≡ type_of c.args.schema.now c.args.id =
+    ap (tree_over c.args.schema.now.trees) (sym c.in-Vector.is) ∙ c.ty.ensures.form in
+    subst (λ ty. ForValue ty (tree_of c.args.arena.now c.args.node)
+    (λ v. Adds (enc ty v) c.args.out.now.items c.append_sequence.new.out.items
+    c.append_sequence.result)) form
+    (vector_adds (type_of c.args.schema.now c.in-Vector.elem) c.in-Vector.n c.depth-depth.result
+    (tree_of c.args.arena.now c.args.node) c.args.out.now.items c.append_sequence.new.out.items
+    c.append_sequence.result (c.depth-depth.ensures.exact ∙ ap depth (sym form))
+    c.append_sequence.ensures.value)
+
+pub append_value-returns-in-List-clause-value : goal.append_value-returns-in-List-clause-value
+append_value-returns-in-List-clause-value g t c =
+    let form : list (type_of c.args.schema.now c.in-List.elem) c.in-List.field-1
+    ≡ type_of c.args.schema.now c.args.id =
+    ap (tree_over c.args.schema.now.trees) (sym c.in-List.is) ∙ c.ty.ensures.form in
+    subst (λ ty. ForValue ty (tree_of c.args.arena.now c.args.node)
+    (λ v. Adds (enc ty v) c.args.out.now.items c.append_sequence-in-List.new.out.items
+    c.append_sequence-in-List.result)) form
+    (list_adds c.args.schema.now.format (type_of c.args.schema.now c.in-List.elem)
+    c.in-List.field-1 c.depth-depth.result c.mixed_in-count.result.1
+    (tree_of c.args.arena.now c.args.node)
+    (tree_of c.args.arena.now c.mixed_in-count.result.0) c.args.out.now.items
+    c.append_sequence-in-List.new.out.items c.append_sequence-in-List.result
+    (subst (IsLegal c.args.schema.now.format) (sym form) c.ty.ensures.legal)
+    (c.depth-depth.ensures.exact ∙ ap depth (sym form))
+    (record { tree = c.mixed_in-count.ensures.tree; number = c.mixed_in-count.ensures.number })
+    c.append_sequence-in-List.ensures.value)
+
+pub append_value-returns-in-Container-clause-value :
+    goal.append_value-returns-in-Container-clause-value
+append_value-returns-in-Container-clause-value g t c =
+    let form : container (fields_over c.args.schema.now.trees c.as_slice-in-Container.result.now)
+    ≡ type_of c.args.schema.now c.args.id =
+    ap (λ fs. container (fields_over c.args.schema.now.trees fs))
+    c.as_slice-in-Container.ensures.value
+    ∙ ap (tree_over c.args.schema.now.trees) (sym c.in-Container.is) ∙ c.ty.ensures.form in
+    let legal = subst (IsLegal c.args.schema.now.format) (sym form) c.ty.ensures.legal in
+    subst (λ ty. ForValue ty (tree_of c.args.arena.now c.args.node)
+    (λ v. Adds (enc ty v) c.args.out.now.items c.append_fields.new.out.items
+    c.append_fields.result)) form
+    (container_adds (fields_over c.args.schema.now.trees c.as_slice-in-Container.result.now)
+    c.depth-depth.result (tree_of c.args.arena.now c.args.node) c.args.out.now.items
+    c.append_fields.new.out.items c.append_fields.result
+    (c.depth-depth.ensures.exact ∙ ap depth (sym form))
+    (c.append_fields.ensures.value c.args.schema.now.format legal.1))

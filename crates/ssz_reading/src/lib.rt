@@ -1,0 +1,28 @@
+//! Values, and their encodings, read back from the nodes of an arena.
+//!
+//! The node of a value has its tree, so that the value can be read from it, or its encoding can be
+//! written with no value made. Each call goes over the places of a full tree from left to right
+//! with a `Places`, which keeps the subtrees still to come, one for each level at most.
+//!
+//! No call but `read_value` and `write_encoding` takes memory. None asks anything of the tree of
+//! the node that it is handed: what it answers is said of a node that has the tree of a value.
+#![tactic(auto)]
+
+mod basics;
+mod chunks;
+mod measuring;
+mod nodes;
+mod packed;
+mod places;
+mod reading;
+mod writing;
+
+pub use basics::{bit_of, number_of};
+pub use measuring::part_len;
+pub use nodes::chunk_of;
+pub use reading::read_value;
+pub use ssz_parts::EncodeFault;
+pub use writing::write_encoding;
+
+#[cfg(test)]
+mod tests;

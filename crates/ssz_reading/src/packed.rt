@@ -1,0 +1,127 @@
+//! Basic values and bits that are packed in the chunks of a full tree.
+ghost use Rattle.std.specs.Prelude.{ℕ, ◌≡◌, ◌+◌, ◌*◌, ◌<◌, ◌≤◌, ◌^◌, ◌++◌, Bool, false, List, length, map, take, drop, slice_index_or, IfOk, OnOk, Some};
+ghost use Rattle.std.specs.List.{AllByRecursion, concat};
+ghost use Rattle.ssz_chunk.specs.declared.TheConstants.{LEVELS};
+ghost use Rattle.ssz_schema.specs.declared.width.Width.TheVariants.{W8};
+ghost use Rattle.ssz_schema.specs.Types.{uint};
+ghost use Rattle.ssz_schema.specs.Sizes.{basic_size};
+ghost use Rattle.ssz_value.specs.Values.{SszValue, number, Fits};
+ghost use Rattle.ssz_value.specs.Encoding.{enc};
+ghost use Rattle.ssz_value.specs.Standing.{value_of};
+ghost use Rattle.ssz_arena.specs.Content.{IsNodeOf, tree_of};
+ghost use Rattle.ssz_reading.specs.Shown.{AreBits, AreElements, ForElements, basic_type, bit_in, chunk_from};
+
+use super::basics::{Basic, bit_of};
+use super::chunks::append_chunks;
+use super::nodes::chunk_of;
+use super::places::Places;
+use ssz_arena::{Arena, NodeId};
+use ssz_bytes::{BitRun, ByteRun};
+use ssz_chunk::{Chunk, PairHash};
+use ssz_value::Value;
+use std::alloc::{AllocError, Global};
+
+/// Count bytes.
+pub fn read_bytes<H: PairHash>(
+    alloc: Global,
+    arena: &Arena<H>,
+    depth: u32,
+    count: u64,
+    node: NodeId,
+) -> Result<ByteRun, AllocError>
+    requires depth { depth ≤ LEVELS }
+    requires node { IsNodeOf arena.now node }
+    ensures { ForElements (uint W8) depth count (tree_of arena.now node)
+        (λ vs. IfOk result (λ run. map number run ≡ vs)) }
+{
+    let mut bytes = Vec::with_capacity(alloc, count as usize)?;
+    append_chunks(arena, depth, u128::from(count), node, &mut bytes)?;
+    Ok(ByteRun::from_bytes(bytes))
+}
+
+/// Count values of a basic type.
+pub fn read_packed<H: PairHash>(
+    alloc: Global,
+    arena: &Arena<H>,
+    basic: Basic,
+    depth: u32,
+    count: u64,
+    node: NodeId,
+) -> Result<Vec<Value>, AllocError>
+    requires depth { depth ≤ LEVELS }
+    requires node { IsNodeOf arena.now node }
+    ensures { ForElements (basic_type basic) depth count (tree_of arena.now node)
+        (λ vs. IfOk result (λ parts. map value_of parts.items ≡ vs)) }
+{
+    let per_chunk = 32 / basic.size();
+    let mut parts = Vec::with_capacity(alloc, count as usize)?;
+    let mut places = Places::new(node, depth);
+    let mut left = count as usize;
+    while left > 0 {
+        let chunk = chunk_of(arena, places.next(arena));
+        let here = left.min(per_chunk);
+        append_values(basic, chunk, here, &mut parts)?;
+        left -= here;
+    }
+    Ok(parts)
+}
+
+// Appends the first count values of a chunk.
+fn append_values(
+    basic: Basic,
+    chunk: &Chunk,
+    count: usize,
+    parts: &mut Vec<Value>,
+) -> Result<(), AllocError>
+    requires { (size : ℕ) → basic_size (basic_type basic) ≡ Some size → count * size ≤ 32 }
+    ensures { (vs : List SszValue) (j from : ℕ) → AllByRecursion (Fits (basic_type basic)) vs
+        → chunk.now.0 ≡ chunk_from (concat (map (enc (basic_type basic)) vs)) j
+        → ((size : ℕ) → basic_size (basic_type basic) ≡ Some size → from * size ≡ 32 * j)
+        → from + count ≤ length vs
+        → OnOk result (map value_of parts.new.items
+        ≡ map value_of parts.old.items ++ take count (drop from vs)) }
+{
+    let size = basic.size();
+    for k in 0..count {
+        parts.push(basic.value_at(chunk, k * size))?;
+    }
+    Ok(())
+}
+
+/// Count bits.
+pub fn read_bits<H: PairHash>(
+    alloc: Global,
+    arena: &Arena<H>,
+    depth: u32,
+    count: u64,
+    node: NodeId,
+) -> Result<BitRun, AllocError>
+    requires depth { depth ≤ LEVELS }
+    requires node { IsNodeOf arena.now node }
+    ensures { (bs : List Bool) → AreBits depth count bs (tree_of arena.now node)
+        → IfOk result (λ run. run ≡ bs) }
+{
+    let mut bits = Vec::with_capacity(alloc, count as usize)?;
+    let mut places = Places::new(node, depth);
+    let mut left = count as usize;
+    while left > 0 {
+        let chunk = chunk_of(arena, places.next(arena));
+        let here = left.min(256);
+        append_bits(chunk, here, &mut bits)?;
+        left -= here;
+    }
+    Ok(BitRun::from_bits(bits))
+}
+
+// Appends the first count bits of a chunk.
+fn append_bits(chunk: &Chunk, count: usize, bits: &mut Vec<bool>) -> Result<(), AllocError>
+    requires { count ≤ 256 }
+    ensures { (bs : List Bool) (from : ℕ) → ((k : ℕ) → k < count
+        → bit_in chunk.now.0 k ≡ slice_index_or bs (from + k) false) → from + count ≤ length bs
+        → OnOk result (bits.new.items ≡ bits.old.items ++ take count (drop from bs)) }
+{
+    for k in 0..count {
+        bits.push(bit_of(chunk, k))?;
+    }
+    Ok(())
+}
