@@ -1,0 +1,59 @@
+use Rattle.std.proofs.Common.{◌≡◌, ◌<◌, Bool, false, eqb, List, [], ◌∷◌, length, sym, subst, arith}
+use Rattle.ssz_schema.specs.Unfolding.{type_of}
+use Rattle.ssz_walk.specs.Found.{spot_of}
+use Rattle.ssz_views.specs.Looking.{Looking, CanLie, Misses, Reaches}
+use Rattle.ssz_views.proofs.Reaching.{CanLie-found, Reaches-found, Misses-lost, view_of}
+use Rattle.ssz_views.proofs.view.View.at.Goals as goal
+
+some_path : {X : Type 0} (path : List X) {b : Bool} → b ≡ eqb (length path) 0 → b ≡ false
+    → 0 < length path
+some_path [] is none = cc
+some_path (step ∷ path) is none = omega arith
+
+pub to-requires-clause-lies : goal.to-requires-clause-lies
+to-requires-clause-lies g c =
+    let inside : Looking = record {
+      arena = c.self.inside.arena.now;
+      types = c.self.inside.schema.now;
+      id = c.self.inside.id;
+      node = c.self.inside.node;
+      lies = spot_of c.self.inside.spot;
+    } in
+    let some : 0 < length c.args.path.now = some_path c.args.path.now
+    (c.is_empty.ensures) c.if-is_empty.false in
+    subst (λ (view : Looking). CanLie (type_of view.types c.in-Ok.place.id)
+    (spot_of c.in-Ok.place.spot)) c.self.view_is
+    (CanLie-found inside c.args.path.now c.self.invariant some c.in-Ok.place
+    c.in-Ok.ensures.found)
+
+pub returns-in-Ok-clause-reached : goal.returns-in-Ok-clause-reached
+returns-in-Ok-clause-reached g c =
+    let inside : Looking = record {
+      arena = c.self.inside.arena.now;
+      types = c.self.inside.schema.now;
+      id = c.self.inside.id;
+      node = c.self.inside.node;
+      lies = spot_of c.self.inside.spot;
+    } in
+    let some : 0 < length c.args.path.now = some_path c.args.path.now
+    (c.is_empty.ensures) c.if-is_empty.false in
+    subst (Reaches c.args.self.now c.args.path.now) (sym c.to.ensures)
+    (subst (λ (view : Looking). Reaches view c.args.path.now (view_of view c.in-Ok.place))
+    c.self.view_is
+    (Reaches-found inside c.args.path.now c.self.invariant some c.in-Ok.place
+    c.self.inside.schema.now.format c.ty-legal.ensures.legal c.in-Ok.ensures.found))
+
+pub returns-in-Err-clause-missed : goal.returns-in-Err-clause-missed
+returns-in-Err-clause-missed g c =
+    let inside : Looking = record {
+      arena = c.self.inside.arena.now;
+      types = c.self.inside.schema.now;
+      id = c.self.inside.id;
+      node = c.self.inside.node;
+      lies = spot_of c.self.inside.spot;
+    } in
+    let some : 0 < length c.args.path.now = some_path c.args.path.now
+    (c.is_empty.ensures) c.if-is_empty.false in
+    subst (λ (view : Looking). Misses view c.args.path.now c.in-Err.fault) c.self.view_is
+    (Misses-lost inside c.args.path.now c.self.invariant some c.in-Err.fault
+    c.in-Err.ensures.lost)
