@@ -1,0 +1,9 @@
+pub mod Parting
+pub mod Replacing
+pub mod Landing
+pub mod Growing
+pub mod Slotting
+pub mod Counted
+pub mod ListLanding
+pub mod ChoiceLanding
+pub mod Calling

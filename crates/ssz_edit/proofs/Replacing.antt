@@ -1,0 +1,51 @@
+-- A part put in its place, from an arena to one that has more nodes.
+use Rattle.std.proofs.Common.{◌≡◌, ℕ, ◌+◌, ◌≤◌, List, length, sym, ap, ap₂, ◌∙◌, Some, None, Result, Err, arith}
+use Rattle.std.specs.Prelude.{IsOk, is_ok, slice_index}
+use Rattle.std.proofs.lemmas.Bool.{false≢true}
+use Rattle.std.specs.List.{count_by}
+use Rattle.std.proofs.lemmas.Option.{none-some}
+use Rattle.ssz_chunk.specs.Tree.{Tree}
+use Rattle.ssz_chunk.specs.Index.{at, put, levels}
+use Rattle.ssz_arena.specs.declared.node.NodeId.{NodeId}
+use Rattle.ssz_arena.specs.declared.node.Node.{Node}
+use Rattle.ssz_arena.specs.Content.{Content, tree_of, todo, todos, is_unhashed, IsNodeOf, KeepsNodes}
+use Rattle.ssz_arena.proofs.Keeping.{keeps_same}
+use Rattle.ssz_tree.specs.Added.{Adds, Part, IsPart}
+use Rattle.ssz_edit.specs.Edited.{IsPut}
+
+-- an error is no answer
+pub not_ok : {X E : Type 0} (r : Result X E) (e : E) → r ≡ Err e → IsOk r → ⊥
+not_ok r e is ok = false≢true (sym (ap is_ok is) ∙ ok)
+
+-- nothing but room was added
+pub adds_room : (old new : Content) → new.nodes ≡ old.nodes → old.spare ≤ new.spare
+    → Adds 0 0 old new
+adds_room old new same more = record {
+  keeps = keeps_same old new same;
+  same = record { each = λ id known. ap (λ ns. slice_index (todos ns) id.0) same };
+  count = omega (arith, ap (λ (ns : List Node). length ns) same);
+  unhashed = omega (arith, ap (count_by is_unhashed) same);
+  spare = omega arith;
+}
+
+-- a node that was there
+module _ (old new : Content) (keeps : KeepsNodes old new) (node : NodeId)
+    (known : IsNodeOf old node)
+  where
+    -- has an index where it had it
+    pub index_there : {X : Type 0} (index : ℕ) (found : Tree)
+        → at (tree_of old node) index ≡ Some found → at (tree_of new node) index ≡ None → X
+    index_there index found is none = absurd (none-some found
+        (sym none ∙ ap (λ t. at t index) (keeps.trees node known) ∙ is))
+
+    -- and with a part put there
+    pub put_made : (index : ℕ) (other : Part) (part made : NodeId) → IsPart new other part
+        → (last : Content) → IsNodeOf last made
+        → put (tree_of new node) index (tree_of new part) ≡ Some (tree_of last made)
+        → todo last made ≤ todo new node + levels index + todo new part
+        → IsPut old last node index other made
+    put_made index other part made is last there tree due = record {
+      known = there;
+      is = ap₂ (λ t o. put t index o) (sym (keeps.trees node known)) (sym is.tree) ∙ tree;
+      due = omega (arith, due, is.todo, keeps.todo node known);
+    }

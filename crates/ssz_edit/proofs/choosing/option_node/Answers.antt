@@ -1,0 +1,72 @@
+use Rattle.std.proofs.Common.{◌+◌, ◌*◌, sym, ap, subst, arith, option_map}
+use Rattle.std.specs.Prelude.{IfOk}
+use Rattle.ssz_schema.specs.Unfolding.{type_of}
+use Rattle.ssz_value.specs.Standing.{value_of}
+use Rattle.ssz_value.specs.Suiting.{inner_of}
+use Rattle.ssz_tree.specs.Added.{Adds, IsPart, Part}
+use Rattle.ssz_tree.specs.Built.{part_of}
+use Rattle.ssz_tree.proofs.Adding.{Adds-then, Adds-within}
+use Rattle.ssz_edit.proofs.Replacing.{adds_room}
+use Rattle.ssz_edit.proofs.ChoiceLanding.{none_part, no_value_part, value_of_option, value_part}
+use Rattle.ssz_edit.proofs.choosing.option_node.Goals as goal
+
+pub returns-in_default-clause-part : goal.returns-in_default-clause-part
+returns-in_default-clause-part g c =
+    subst (λ (part : Part). IfOk c.none_node.result (IsPart c.none_node.new.arena part))
+    (sym (none_part c.args.schema.now c.args.option _ c.in_default.is)) c.none_node.ensures.part
+
+pub returns-in_default-clause-adds : goal.returns-in_default-clause-adds
+returns-in_default-clause-adds g c =
+    Adds-within 0 0 _ _ c.args.arena.now c.none_node.new.arena c.none_node.ensures.adds
+    (omega arith) (omega arith)
+
+pub returns-in_default-inner-clause-part : goal.returns-in_default-inner-clause-part
+returns-in_default-inner-clause-part g c =
+    subst (λ (part : Part). IfOk c.none_node-in_default-inner.result
+    (IsPart c.none_node-in_default-inner.new.arena part))
+    (sym (no_value_part c.args.schema.now c.args.option _
+    (ap (λ value. option_map value_of (inner_of value)) c.in_default-inner.is)))
+    c.none_node-in_default-inner.ensures.part
+
+pub returns-in_default-inner-clause-adds : goal.returns-in_default-inner-clause-adds
+returns-in_default-inner-clause-adds g c =
+    Adds-within 0 0 _ _ c.args.arena.now c.none_node-in_default-inner.new.arena
+    c.none_node-in_default-inner.ensures.adds (omega arith) (omega arith)
+
+pub reserve_for-requires-clause-value : goal.reserve_for-requires-clause-value
+reserve_for-requires-clause-value g c =
+    value_of_option c.args.schema.now c.args.option (inner_of c.args.inner) c.in-Some.id
+    c.in-Some-inner.value.now c.in-Some.is (ap inner_of c.in-Some-inner.is) c.requires.inner
+
+pub value_node-requires-clause-value : goal.value_node-requires-clause-value
+value_node-requires-clause-value g c =
+    value_of_option c.args.schema.now c.args.option (inner_of c.args.inner) c.in-Some.id
+    c.in-Some-inner.value.now c.in-Some.is (ap inner_of c.in-Some-inner.is) c.requires.inner
+
+pub returns-in_err-reserve_for-clause-adds : goal.returns-in_err-reserve_for-clause-adds
+returns-in_err-reserve_for-clause-adds g c =
+    Adds-within 0 0 _ _ c.args.arena.now c.reserve_for.new.arena
+    (adds_room c.args.arena.now c.reserve_for.new.arena c.reserve_for.ensures.nodes
+    c.reserve_for.ensures.more) (omega arith) (omega arith)
+
+pub returns-clause-part : goal.returns-clause-part
+returns-clause-part g c =
+    subst (λ (part : Part). IsPart c.value_node.new.arena part c.value_node.result)
+    (sym (value_part c.args.schema.now c.args.option (inner_of c.args.inner) c.in-Some.id
+    c.in-Some-inner.value.now c.in-Some.is (ap inner_of c.in-Some-inner.is)))
+    c.value_node.ensures.is
+
+pub returns-clause-adds : goal.returns-clause-adds
+returns-clause-adds g c =
+    let part = part_of (type_of c.args.schema.now c.in-Some.id)
+    (value_of c.in-Some-inner.value.now) in
+    subst (λ (part : Part). Adds (2 * part.cost + 1) part.cost c.args.arena.now
+    c.value_node.new.arena)
+    (sym (value_part c.args.schema.now c.args.option (inner_of c.args.inner) c.in-Some.id
+    c.in-Some-inner.value.now c.in-Some.is (ap inner_of c.in-Some-inner.is)))
+    (Adds-within (0 + (2 * part.cost + 1)) (0 + part.cost) _ _ c.args.arena.now
+    c.value_node.new.arena
+    (Adds-then 0 0 (2 * part.cost + 1) part.cost c.args.arena.now c.reserve_for.new.arena
+    c.value_node.new.arena
+    (adds_room c.args.arena.now c.reserve_for.new.arena c.reserve_for.ensures.nodes
+    c.reserve_for.ensures.more) c.value_node.ensures.adds) (omega arith) (omega arith))

@@ -1,0 +1,64 @@
+use Rattle.std.proofs.Common.{◌≡◌, ◌+◌, ◌*◌, ap, subst, arith}
+use Rattle.ssz_chunk.specs.Index.{levels}
+use Rattle.ssz_schema.specs.Unfolding.{type_of}
+use Rattle.ssz_value.specs.Pairs.{pairs}
+use Rattle.ssz_value.specs.Standing.{value_of}
+use Rattle.ssz_arena.specs.Content.{tree_of}
+use Rattle.ssz_arena.proofs.Keeping.{keeps_same, keeps_trans}
+use Rattle.ssz_arena.proofs.Nodes.{tree}
+use Rattle.ssz_places.specs.Spots.{CanHold}
+use Rattle.ssz_tree.specs.Added.{IsPart}
+use Rattle.ssz_tree.proofs.Adding.{Adds-then, Adds-within}
+use Rattle.ssz_walk.specs.Found.{spot_of}
+use Rattle.ssz_edit.specs.Edited.{part_with}
+use Rattle.ssz_edit.proofs.Replacing.{not_ok, adds_room, put_made}
+use Rattle.ssz_edit.proofs.putting.put_part.Goals as goal
+
+pub returns-in_err-reserve_for-clause-adds : goal.returns-in_err-reserve_for-clause-adds
+returns-in_err-reserve_for-clause-adds g c =
+    Adds-within 0 0 _ _ c.args.arena.now c.reserve_for.new.arena
+    (adds_room c.args.arena.now c.reserve_for.new.arena c.reserve_for.ensures.nodes
+    c.reserve_for.ensures.more) (omega arith) (omega arith)
+
+pub returns-in_err-reserve_for-clause-basic : goal.returns-in_err-reserve_for-clause-basic
+returns-in_err-reserve_for-clause-basic g c basic enough =
+    absurd (not_ok c.reserve_for.result c.in_err-reserve_for.field-0.0 c.in_err-reserve_for.was
+    (c.reserve_for.ensures.basic basic (omega (arith, enough, c.levels-levels.ensures.exact))))
+
+pub returns-in-Some-clause-put : goal.returns-in-Some-clause-put
+returns-in-Some-clause-put g c holds =
+    let u = type_of c.args.schema.now c.args.place.now.id in
+    let x = value_of c.args.value.now in
+    let spot = spot_of c.args.place.now.spot in
+    let same : tree_of c.reserve_for.new.arena c.args.place.now.node
+    ≡ tree_of c.args.arena.now c.args.place.now.node =
+    ap (λ ns. tree ns c.args.place.now.node.0) c.reserve_for.ensures.nodes in
+    put_made c.args.arena.now c.part_node-part.new.arena
+    (keeps_trans (keeps_same c.args.arena.now c.reserve_for.new.arena c.reserve_for.ensures.nodes)
+    c.part_node-part.ensures.adds.keeps) c.args.node c.requires.node c.args.place.now.index
+    (part_with spot u x (tree_of c.args.arena.now c.args.place.now.node)) c.part_node-part.result
+    c.in-Some.made
+    (subst (λ t. CanHold spot t
+    → IsPart c.part_node-part.new.arena (part_with spot u x t) c.part_node-part.result) same
+    c.part_node-part.ensures.part holds)
+    c.replace.new.self c.in-Some.ensures.node c.in-Some.ensures.tree c.in-Some.ensures.todo
+
+pub returns-in-Some-clause-adds : goal.returns-in-Some-clause-adds
+returns-in-Some-clause-adds g c =
+    let cost = pairs (type_of c.args.schema.now c.args.place.now.id)
+    (value_of c.args.value.now) in
+    let more = levels c.args.place.now.index in
+    let before = Adds-then 0 0 (2 * cost + 1) cost c.args.arena.now c.reserve_for.new.arena
+    c.part_node-part.new.arena
+    (adds_room c.args.arena.now c.reserve_for.new.arena c.reserve_for.ensures.nodes
+    c.reserve_for.ensures.more) c.part_node-part.ensures.adds in
+    Adds-within (0 + (2 * cost + 1) + more) (0 + cost + more) _ _ c.args.arena.now
+    c.replace.new.self
+    (Adds-then (0 + (2 * cost + 1)) (0 + cost) more more c.args.arena.now
+    c.part_node-part.new.arena c.replace.new.self before (record {
+      keeps = c.replace.ensures.keeps;
+      same = c.replace.ensures.same;
+      count = c.replace.ensures.count;
+      unhashed = c.replace.ensures.unhashed;
+      spare = c.replace.ensures.spare;
+    })) (omega arith) (omega arith)
