@@ -1,0 +1,6 @@
+pub mod Alike
+pub mod Forms
+pub mod Steps
+pub mod Made
+pub mod Changed
+pub mod Parting
