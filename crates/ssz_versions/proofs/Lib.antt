@@ -1,0 +1,10 @@
+pub mod Ordered
+pub mod Changes
+pub mod Relabelled
+pub mod Forking
+pub mod Inserting
+pub mod Compacting
+pub mod Moving
+pub mod Lent
+pub mod Own
+pub mod Beside

@@ -1,0 +1,10 @@
+pub mod Keys
+pub mod Content
+pub mod Outcomes
+pub mod Lending
+pub mod Compacted
+pub mod Trees
+pub mod Branches
+pub mod Falls
+pub mod LentFork
+pub mod Lists

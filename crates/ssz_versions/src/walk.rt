@@ -1,0 +1,77 @@
+ghost use Rattle.std.specs.Prelude.{◌≡◌, ◌+◌, ◌≤◌, ◌++◌, T, map, length, drop, OnOk};
+ghost use Rattle.std.specs.FinMap.Entries.{is_sorted};
+ghost use Rattle.ssz_versions.specs.Keys.{key_cmp};
+ghost use Rattle.ssz_versions.specs.Lists.{moved, relabelled};
+
+use super::balance::fork;
+use super::tree::{Branch, Cell, Entry, Top, Tree};
+use ssz_arena::NodeId;
+use std::alloc::AllocError;
+use std::cmp::Ordering;
+
+impl Tree {
+    /// What a writer holds, in order, under the keys of another one. It goes where entries of the
+    /// writer can be, and nowhere else.
+    pub(crate) fn relabelled(
+        &self,
+        from: u8,
+        to: u8,
+        own: &mut Vec<Entry>,
+    ) -> Result<(), AllocError>
+        requires { T (is_sorted key_cmp self.now) }
+        ensures { OnOk result (own.new.items ≡ own.old.items ++ relabelled from to self.now) }
+    {
+        let Top::Held(cell) = &self.top else {
+            return Ok(());
+        };
+        let Cell::Full(fork) = &**cell else {
+            return Ok(());
+        };
+        match fork.entry.0.writer().cmp(&from) {
+            Ordering::Less => fork.right.relabelled(from, to, own),
+            Ordering::Equal => {
+                fork.left.relabelled(from, to, own)?;
+                own.push((fork.entry.0.of(to), fork.entry.1))?;
+                fork.right.relabelled(from, to, own)
+            }
+            Ordering::Greater => fork.left.relabelled(from, to, own),
+        }
+    }
+
+    /// The nodes of all entries, in order.
+    pub(crate) fn nodes(&self, nodes: &mut Vec<NodeId>) -> Result<(), AllocError>
+        ensures { OnOk result
+            (nodes.new.items ≡ nodes.old.items ++ map (λ entry. entry.1.1) self.now) }
+    {
+        let Top::Held(cell) = &self.top else {
+            return Ok(());
+        };
+        let Cell::Full(fork) = &**cell else {
+            return Ok(());
+        };
+        fork.left.nodes(nodes)?;
+        nodes.push(fork.entry.1.1)?;
+        fork.right.nodes(nodes)
+    }
+
+    /// The same entries with other nodes, those from a place on, and the place behind them.
+    pub(crate) fn with_nodes(self, nodes: &[NodeId], at: usize) -> (Tree, usize)
+        requires { at + length self ≤ length nodes.now }
+        ensures tree { result.0 ≡ moved self (drop at nodes.now) }
+        ensures place { result.1 ≡ at + length self }
+    {
+        let Some(branch) = self.open() else {
+            return (Tree::empty(), at);
+        };
+        let Branch {
+            room,
+            left,
+            entry,
+            right,
+        } = branch;
+        let (left, own) = left.with_nodes(nodes, at);
+        let (right, end) = right.with_nodes(nodes, own + 1);
+        let (key, held) = entry;
+        (fork(room, left, (key, (held.0, nodes[own])), right), end)
+    }
+}
