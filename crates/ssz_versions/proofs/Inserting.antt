@@ -39,7 +39,8 @@ at_append (x ∷ xs) ys q =
     ap (cond (eq_by_cmp key_cmp q x.0) (Some x.1)) (at_append xs ys q)
     ∙ elim (eq_by_cmp key_cmp q x.0) as (λ b.
     cond b (Some x.1) (or_else (find key_cmp q xs) (find key_cmp q ys))
-    ≡ or_else (cond b (Some x.1) (find key_cmp q xs)) (find key_cmp q ys)) [ true ↦ refl | false ↦ refl ]
+    ≡ or_else (cond b (Some x.1) (find key_cmp q xs)) (find key_cmp q ys))
+    [ true ↦ refl | false ↦ refl ]
 
 is_eq_then : (o p : Ordering) → is_eq (ordering_then o p) ≡ (is_eq o && is_eq p)
 is_eq_then Less p = refl
@@ -82,7 +83,8 @@ at_relabelled from to (e ∷ es) w n =
     ∙ ap (λ rest. cond (e.0.0 == from)
     (cond (eq_by_cmp key_cmp (w, n) (to, e.0.1)) (Some e.1) rest) rest)
     (at_relabelled from to es w n)
-    ∙ ap (λ b. cond (e.0.0 == from) (cond b (Some e.1) (cond (w == to) (find key_cmp (from, n) es) None))
+    ∙ ap (λ b. cond (e.0.0 == from)
+    (cond b (Some e.1) (cond (w == to) (find key_cmp (from, n) es) None))
     (cond (w == to) (find key_cmp (from, n) es) None)) (equal_parts w to n e.0.1)
     ∙ taken_over (e.0.0 == from) (w == to) named e.1 (find key_cmp (from, n) es)
     ∙ ap (λ b. cond (w == to) (cond (b && named) (Some e.1) (find key_cmp (from, n) es)) None)

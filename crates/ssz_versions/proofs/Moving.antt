@@ -15,7 +15,8 @@ moved-append (e ∷ l) m (id ∷ ids) few =
     ap (λ row. (e.0, (e.1.0, id)) ∷ row) (moved-append l m ids (omega arith))
 
 -- the entry has the node behind those of the entries to its left
-pub moved_fork : (l : Row) (e : Key × Held) (r : Row) (nodes : List NodeId) (at own : ℕ) (id : NodeId)
+pub moved_fork : (l : Row) (e : Key × Held) (r : Row) (nodes : List NodeId) (at own : ℕ)
+    (id : NodeId)
     → own ≡ at + length l → own < length nodes → drop own nodes ≡ id ∷ drop (own + 1) nodes
     → moved (l ++ e ∷ r) (drop at nodes)
     ≡ moved l (drop at nodes) ++ (e.0, (e.1.0, id)) ∷ moved r (drop (own + 1) nodes)

@@ -1,5 +1,5 @@
 -- Entries in the order of their keys, around one of them.
-use Rattle.std.proofs.Common.{◌≡◌, Bool, true, false, cond, not, ◌&&◌, T, List, [], ◌∷◌, ◌++◌, Some, ◌<◌, length, arith, length-append, refl, ap, subst, ◌∙◌}
+use Rattle.std.proofs.Common.{◌≡◌, Bool, true, false, cond, not, ◌&&◌, T, List, [], ◌∷◌, ◌++◌, Some, ◌<◌, length, arith, length-append, refl, sym, ap, subst, ◌∙◌}
 use Rattle.std.specs.FinMap.Entries.{find, put, by_order, below_all, is_sorted}
 use Rattle.std.specs.List.{AllByRecursion}
 use Rattle.std.specs.Ordering.{eq_by_cmp, is_eq, is_lt, ordering_reverse}
@@ -7,7 +7,11 @@ use Rattle.std.specs.declared.cmp.Ordering.{Ordering}
 use Rattle.std.specs.declared.cmp.Ordering.TheVariants.{Less, Equal, Greater}
 use Rattle.ssz_versions.specs.Content.{Held}
 use Rattle.ssz_versions.specs.Keys.{Key, key_cmp, key_cmp-total}
-use Rattle.ssz_versions.specs.Trees.{without}
+use Rattle.ssz_versions.specs.declared.tree.Cell.{Cell}
+use Rattle.ssz_versions.specs.declared.tree.Cell.TheVariants.{Full}
+use Rattle.ssz_versions.specs.declared.tree.Fork.{Fork}
+use Rattle.ssz_versions.specs.declared.tree.Top.{Top}
+use Rattle.ssz_versions.specs.Trees.{entries_of, in_cell, in_fork, without}
 
 -- entries from left to right
 abbrev pub Row : Type 0
@@ -16,6 +20,11 @@ Row = List (Key × Held)
 -- whether the entries stand in the order of their keys
 abbrev pub IsOrdered : Row → Type 0
 IsOrdered row = T (is_sorted key_cmp row)
+
+-- the entries of a tree with full memory on top are those of the fork in it
+pub full_fork : (row : Row) (top : Top) (cell : Cell) (fork : Fork) → entries_of top ≡ row
+    → entries_of top ≡ in_cell cell → cell ≡ Full fork → row ≡ in_fork fork
+full_fork row top cell fork seen held full = sym seen ∙ held ∙ ap in_cell full
 
 -- the key comes after each of the entries
 abbrev pub IsPast : Key → Row → Type 0
@@ -171,8 +180,11 @@ module _ (q : Key) (l : Row) (e : Key × Held) (r : Row) {row : Row} (is : row �
     right_ordered = rest_of _ _ (ordered_back l (e ∷ r) ordered)
 
     before_less : key_cmp q e.0 ≡ Less → IsBefore q (e ∷ r)
-    before_less less =
-        (less, right_of (λ k. key_cmp q k ≡ Less) l e r (λ k. key_cmp-total.trans q e.0 k less) ordered)
+    before_less less = (
+      less,
+      right_of (λ k. key_cmp q k ≡ Less) l e r (λ k. key_cmp-total.trans q e.0 k less)
+          ordered,
+    )
 
     before_equal : key_cmp q e.0 ≡ Equal → IsBefore q r
     before_equal equal =

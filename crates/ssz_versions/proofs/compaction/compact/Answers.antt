@@ -21,7 +21,8 @@ with_nodes-held-requires g c = omega (
   ap length c.deref-2.ensures.value,
   as_many c.versions.inside.held c.deref.result.now c.in_ok-made.made.ids.items _ _
       (c.deref.ensures.value ∙ c.in_ok-nodes.ensures
-      ∙ ap (λ ids. ids ++ roots_of c.versions.inside.held) c.new-nodes.ensures.items) c.in_ok-made.ensures,
+      ∙ ap (λ ids. ids ++ roots_of c.versions.inside.held) c.new-nodes.ensures.items)
+      c.in_ok-made.ensures,
 )
 
 pub invariant_of-versions : goal.invariant_of-versions

@@ -2,20 +2,15 @@ use Rattle.std.proofs.Common.{◌≡◌, [], ◌∷◌, ◌++◌, append_assoc, 
 use Rattle.std.specs.Ordering.{nat_cmp}
 use Rattle.std.specs.Result.{OnOk}
 use Rattle.ssz_versions.specs.Lists.{relabelled}
-use Rattle.ssz_versions.specs.Trees.{entries_of, in_cell, in_fork}
-use Rattle.ssz_versions.proofs.Ordered.{IsOrdered, left_shorter, right_shorter, left_ordered, right_ordered}
+use Rattle.ssz_versions.specs.Trees.{entries_of}
+use Rattle.ssz_versions.proofs.Ordered.{full_fork, IsOrdered, left_shorter, right_shorter, left_ordered, right_ordered}
 use Rattle.ssz_versions.proofs.Relabelled.{relabelled_less, relabelled_equal, relabelled_greater}
 use Rattle.ssz_versions.proofs.tree.Tree.+relabelled.Goals as goal
-use Rattle.ssz_versions.proofs.tree.Tree.+relabelled.Goals.{In-Full}
-
--- the entries are those of the fork
-is_fork : (t : _) (c : In-Full t) → c.args.self.now ≡ in_fork c.in-Full.fork
-is_fork t c = sym c.self.view_is ∙ ap entries_of c.in-Held.is
-    ∙ ap in_cell (sym c.deref.ensures ∙ c.in-Full.is)
 
 pub relabelled-requires : goal.relabelled-requires
 relabelled-requires t c =
-    let is = is_fork t (goal.at.relabelled-requires t c).In-Full in
+    let is = full_fork _ _ _ _ c.self.view_is (ap entries_of c.in-Held.is)
+    (sym c.deref.ensures ∙ c.in-Full.is) in
     let fork = c.in-Full.fork in (
       omega (arith, c.decreases, right_shorter fork.entry.0 fork.left fork.entry fork.right is),
       right_ordered fork.entry.0 fork.left fork.entry fork.right is c.requires,
@@ -23,7 +18,8 @@ relabelled-requires t c =
 
 pub relabelled-requires-in-Equal : goal.relabelled-requires-in-Equal
 relabelled-requires-in-Equal t c =
-    let is = is_fork t (goal.at.relabelled-requires-in-Equal t c).In-Full in
+    let is = full_fork _ _ _ _ c.self.view_is (ap entries_of c.in-Held.is)
+    (sym c.deref.ensures ∙ c.in-Full.is) in
     let fork = c.in-Full.fork in (
       omega (arith, c.decreases, left_shorter fork.entry.0 fork.left fork.entry fork.right is),
       left_ordered fork.entry.0 fork.left fork.entry fork.right is c.requires,
@@ -31,7 +27,8 @@ relabelled-requires-in-Equal t c =
 
 pub relabelled-requires-in-Equal-2 : goal.relabelled-requires-in-Equal-2
 relabelled-requires-in-Equal-2 t c =
-    let is = is_fork t (goal.at.relabelled-requires-in-Equal-2 t c).In-Full in
+    let is = full_fork _ _ _ _ c.self.view_is (ap entries_of c.in-Held.is)
+    (sym c.deref.ensures ∙ c.in-Full.is) in
     let fork = c.in-Full.fork in (
       omega (arith, c.decreases, right_shorter fork.entry.0 fork.left fork.entry fork.right is),
       right_ordered fork.entry.0 fork.left fork.entry fork.right is c.requires,
@@ -39,7 +36,8 @@ relabelled-requires-in-Equal-2 t c =
 
 pub relabelled-requires-in-Greater : goal.relabelled-requires-in-Greater
 relabelled-requires-in-Greater t c =
-    let is = is_fork t (goal.at.relabelled-requires-in-Greater t c).In-Full in
+    let is = full_fork _ _ _ _ c.self.view_is (ap entries_of c.in-Held.is)
+    (sym c.deref.ensures ∙ c.in-Full.is) in
     let fork = c.in-Full.fork in (
       omega (arith, c.decreases, left_shorter fork.entry.0 fork.left fork.entry fork.right is),
       left_ordered fork.entry.0 fork.left fork.entry fork.right is c.requires,
@@ -47,18 +45,21 @@ relabelled-requires-in-Greater t c =
 
 pub returns-in-Less : goal.returns-in-Less
 returns-in-Less t c =
-    let is = is_fork t (goal.at.returns-in-Less t c).In-Full in
+    let is = full_fork _ _ _ _ c.self.view_is (ap entries_of c.in-Held.is)
+    (sym c.deref.ensures ∙ c.in-Full.is) in
     let fork = c.in-Full.fork in
     let own = ap (relabelled c.args.from c.args.to) is
     ∙ relabelled_less c.args.from c.args.to fork.left fork.entry fork.right
     (subst IsOrdered is c.requires)
     (ap (λ w. nat_cmp w c.args.from) (sym c.writer.ensures) ∙ sym c.cmp.ensures ∙ c.in-Less.is) in
-    subst (λ row. OnOk c.relabelled.result (c.relabelled.new.own.items ≡ c.args.own.now.items ++ row))
+    subst (λ row. OnOk c.relabelled.result
+    (c.relabelled.new.own.items ≡ c.args.own.now.items ++ row))
     (sym own) c.relabelled.ensures
 
 pub returns-in_ok-push-in-Equal : goal.returns-in_ok-push-in-Equal
 returns-in_ok-push-in-Equal t c =
-    let is = is_fork t (goal.at.returns-in_ok-push-in-Equal t c).In-Full in
+    let is = full_fork _ _ _ _ c.self.view_is (ap entries_of c.in-Held.is)
+    (sym c.deref.ensures ∙ c.in-Full.is) in
     let fork = c.in-Full.fork in
     let from = c.args.from in
     let to = c.args.to in
@@ -81,12 +82,14 @@ returns-in_ok-push-in-Equal t c =
 
 pub returns-in-Greater : goal.returns-in-Greater
 returns-in-Greater t c =
-    let is = is_fork t (goal.at.returns-in-Greater t c).In-Full in
+    let is = full_fork _ _ _ _ c.self.view_is (ap entries_of c.in-Held.is)
+    (sym c.deref.ensures ∙ c.in-Full.is) in
     let fork = c.in-Full.fork in
     let own = ap (relabelled c.args.from c.args.to) is
     ∙ relabelled_greater c.args.from c.args.to fork.left fork.entry fork.right
     (subst IsOrdered is c.requires)
-    (ap (λ w. nat_cmp w c.args.from) (sym c.writer.ensures) ∙ sym c.cmp.ensures ∙ c.in-Greater.is) in
+    (ap (λ w. nat_cmp w c.args.from) (sym c.writer.ensures) ∙ sym c.cmp.ensures
+    ∙ c.in-Greater.is) in
     subst (λ row. OnOk c.relabelled-in-Greater.result
     (c.relabelled-in-Greater.new.own.items ≡ c.args.own.now.items ++ row))
     (sym own) c.relabelled-in-Greater.ensures
