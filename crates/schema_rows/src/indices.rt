@@ -34,11 +34,17 @@ pub fn print_helpers(rt: &HostRuntime, numbers: &str) -> Result<()> {
     let indices = indices_of(rt.alloc(), numbers)?;
     match helper_indices(rt.alloc(), indices.as_slice()) {
         Ok(helpers) => print_list(rt, indices.as_slice(), helpers.as_slice()),
-        Err(HelperFault::Nested(upper, lower)) => {
+        Err(fault) => print_fault(rt, fault),
+    }
+}
+
+fn print_fault(rt: &HostRuntime, fault: HelperFault) -> Result<()> {
+    match fault {
+        HelperFault::Nested(upper, lower) => {
             println!(rt; "nested {} {}", upper.get(), lower.get())?;
             Ok(())
         }
-        Err(HelperFault::Memory) => bail!("want of memory"),
+        HelperFault::Memory => bail!("want of memory"),
     }
 }
 
