@@ -1,4 +1,4 @@
-ghost use Rattle.std.specs.Prelude.{◌≡◌, ◌+◌, ◌≤◌, OnOk, OnErr, IfOk};
+ghost use Rattle.std.specs.Prelude.{◌≡◌, ◌+◌, ◌≤◌, OnOk, OnErr, IfOk, IsOk};
 
 use super::tree::Cell;
 use std::alloc::{AllocError, Global};
@@ -50,10 +50,12 @@ impl Pool {
         }
     }
 
-    /// Memory for n entries at least.
+    /// Memory for n entries at least. Where there is as much, none is taken.
     pub(crate) fn reserve(&mut self, n: usize) -> Result<(), AllocError>
         ensures ok { OnOk result (n ≤ self.new) }
         ensures more { self.old ≤ self.new }
+        ensures idle { n ≤ self.old → IsOk result }
+        ensures same { n ≤ self.old → self.new ≡ self.old }
     {
         while self.rooms.len() < n {
             let room = Box::new(self.alloc, Cell::Blank)?;

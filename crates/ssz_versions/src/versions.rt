@@ -1,4 +1,4 @@
-ghost use Rattle.std.specs.Prelude.{◌≡◌, ◌+◌, ◌≤◌, ℕ, List, None, IsOkAnd, IfOk, OnOk, OnErr, option_map};
+ghost use Rattle.std.specs.Prelude.{◌≡◌, ◌+◌, ◌≤◌, ℕ, List, None, IsOk, IsOkAnd, IfOk, OnOk, OnErr, option_map};
 ghost use Rattle.std.specs.Borrow.{sem};
 ghost use Rattle.std.specs.FinMap as finite;
 ghost use Rattle.ssz_schema.specs.Names.{IsName};
@@ -136,11 +136,14 @@ impl Versions {
         Ok(())
     }
 
-    /// Makes room for n more versions.
+    /// Makes room for n more versions. Where there is as much, nothing is changed and no memory
+    /// taken.
     pub fn reserve(&mut self, n: usize) -> Result<(), AllocError>
         ensures entries { IsUnchanged self.old self.new }
         ensures ok { OnOk result (n ≤ self.new.spare) }
         ensures more { self.old.spare ≤ self.new.spare }
+        ensures idle { n ≤ self.old.spare → IsOk result }
+        ensures same { n ≤ self.old.spare → self.new ≡ self.old }
     {
         self.pool.reserve(n)
     }
