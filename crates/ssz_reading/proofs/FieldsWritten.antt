@@ -9,7 +9,7 @@ use Rattle.ssz_bytes.specs.Bytes.{le_bytes, number_of_bits}
 use Rattle.ssz_schema.specs.Unfolding.{tree_at, fields_over, options_over}
 use Rattle.ssz_schema.specs.Legal.{IsLegal, AreLegalFields}
 use Rattle.ssz_value.specs.Values.{SszValue, bits, items, FitFields}
-use Rattle.ssz_value.specs.Encoding.{enc, heads_length, heads, bodies, joined, joined_alike, field_encodings, option_encoding}
+use Rattle.ssz_value.specs.Encoding.{enc, heads, bodies, joined, joined_alike, field_encodings, option_encoding}
 use Rattle.ssz_bytes.proofs.Numbers.{length-le_bytes}
 use Rattle.ssz_value.proofs.ExactLaw.{fields_agree}
 use Rattle.ssz_schema.proofs.WalkFields.{drop_at}
@@ -20,188 +20,156 @@ use Rattle.ssz_arena.specs.Content.{Content, tree_of}
 use Rattle.ssz_reading.specs.Ahead.{Ahead, Holds}
 use Rattle.ssz_places.specs.PlaceLaws.{IsTreeOf}
 use Rattle.ssz_parts.specs.Encoded.{head_of, body_of, capped}
-use Rattle.ssz_reading.specs.Shown.{ForValue, AreElements, AreFields, AreBits, AreCountedBits, ArePacked, ForElements, ForFields, Adds, AreShort, delimited_bytes}
+use Rattle.ssz_reading.specs.Shown.{ForValue, AreElements, AreFields, AreBits, AreCountedBits, ArePacked, ForElements, ForFields, Adds, room_of, rooms, delimited_bytes}
+use Rattle.ssz_reading.proofs.Rooms.{rooms_step, Filled, Filled-start, Filled-more, Filled-end, joined_adds}
 use Rattle.ssz_reading.proofs.Walked.{Takes, FieldsLeft, FieldsLeft-start, FieldsLeft-first}
 use Rattle.ssz_reading.proofs.Formed.{IsVector, vector_elements, IsList, list_elements, IsContainer, container_fields, IsBitvector, bitvector_bits, IsBitlist, bitlist_bits, IsUnion, union_option, Unmixes}
-use Rattle.ssz_reading.proofs.Written.{on_ok, heads_step, bodies_step, joined_adds}
+use Rattle.ssz_reading.proofs.Written.{on_ok}
 
 -- the fixed parts of the fields from i on are still to be written
-pub record FieldHeads (arena : Content) (trees : List SszType) (fields : List Part)
-    (i offset : ℕ) (all out : List ℕ) (places : Ahead) : Type 0 where
+pub record FieldHeads (arena : Content) (trees : List SszType) (fields : List Part) (i : ℕ)
+    (all out : List ℕ) (places : Ahead) : Type 0 where
   pub rest : List SszValue
   pub left : FieldsLeft arena trees fields i rest places
-  pub short : AreShort (part_sizes (fields_over trees (drop i fields)))
-      (field_encodings (fields_over trees (drop i fields)) rest) offset
-  pub is : out ++ heads (part_sizes (fields_over trees (drop i fields)))
-      (field_encodings (fields_over trees (drop i fields)) rest) offset ≡ all
-
-pub FieldHeads-start : (arena : Content) (trees : List SszType) (fields : List Part)
-    (depth offset : ℕ) (vs : List SszValue) (out : List ℕ) (node : NodeId) (places : Ahead)
-    → AreFields (fields_over trees fields) depth vs (tree_of arena node)
-    → ((ts : List Tree) → length ts ≤ 2 ^ depth → tree_of arena node ≡ full depth ts
-    → Holds arena ts places)
-    → AreShort (part_sizes (fields_over trees fields))
-    (field_encodings (fields_over trees fields) vs) offset
-    → FieldHeads arena trees fields 0 offset (out ++ heads (part_sizes (fields_over trees fields))
-    (field_encodings (fields_over trees fields) vs) offset) out places
-FieldHeads-start arena trees fields depth offset vs out node places are holds short = record {
-  rest = vs;
-  left = FieldsLeft-start arena trees fields depth vs node places are holds;
-  short = short;
-  is = refl;
-}
-
-pub FieldHeads-more : (arena : Content) (trees : List SszType) (fields : List Part)
-    (i offset next : ℕ) (part : Part) (all out written : List ℕ) (old new : Ahead) (node : NodeId)
-    → FieldHeads arena trees fields i offset all out old → i < length fields
-    → part ≡ get_or fields i part → Takes arena old new node
-    → ForValue (tree_at trees part.1) (tree_of arena node)
-    (λ v. length (enc (tree_at trees part.1) v) < 2 ^ 32
-    → written ≡ out ++ head_of (size_at trees part) (enc (tree_at trees part.1) v) offset)
-    → ForValue (tree_at trees part.1) (tree_of arena node)
-    (λ v. next ≡ capped (offset
-    + length (body_of (size_at trees part) (enc (tree_at trees part.1) v))))
-    → FieldHeads arena trees fields (i + 1) next all written new
-FieldHeads-more arena trees fields i offset next part all out written old new node h below e takes
-    head ahead =
-    let first = FieldsLeft-first arena trees fields i part h.rest old new node h.left below e
-    takes in
-    let here = drop_at fields i part below e in
-    let fs : Fields = fields_over trees (drop (i + 1) fields) in
-    let step = heads_step (size_at trees part)
-    (part_sizes (fields_over trees (drop (i + 1) fields)))
-    (enc (tree_at trees part.1) first.value)
-    (field_encodings (fields_over trees (drop (i + 1) fields)) first.others) offset next out written
-    all
-    (subst (λ (ws : List SszValue). AreShort
-    (part_sizes (fields_over trees (part ∷ drop (i + 1) fields)))
-    (field_encodings (fields_over trees (part ∷ drop (i + 1) fields)) ws) offset) first.are
-    (subst (λ (ps : List Part). AreShort (part_sizes (fields_over trees ps))
-    (field_encodings (fields_over trees ps) h.rest) offset) here h.short))
-    (subst (λ (ws : List SszValue). out ++ heads
-    (part_sizes (fields_over trees (part ∷ drop (i + 1) fields)))
-    (field_encodings (fields_over trees (part ∷ drop (i + 1) fields)) ws) offset ≡ all) first.are
-    (subst (λ (ps : List Part). out ++ heads (part_sizes (fields_over trees ps))
-    (field_encodings (fields_over trees ps) h.rest) offset ≡ all) here h.is))
-    (head first.value first.is) (ahead first.value first.is) in
-    record { rest = first.others; left = first.left; short = step.0; is = step.1 }
-
-pub FieldHeads-end : (arena : Content) (trees : List SszType) (fields : List Part)
-    (i offset : ℕ) (all out : List ℕ) (places : Ahead)
-    → FieldHeads arena trees fields i offset all out places → length fields ≤ i → out ≡ all
-FieldHeads-end arena trees fields i offset all out places h past =
-    sym (append-nil out)
-    ∙ subst (λ (ps : List Part). out ++ heads (part_sizes (fields_over trees ps))
-    (field_encodings (fields_over trees ps) h.rest) offset ≡ all) (drop_all i fields past) h.is
-
--- their variable parts
-pub record FieldBodies (arena : Content) (trees : List SszType) (fields : List Part)
-    (i : ℕ) (all out : List ℕ) (places : Ahead) : Type 0 where
-  pub rest : List SszValue
-  pub left : FieldsLeft arena trees fields i rest places
-  pub short : length (bodies (part_sizes (fields_over trees (drop i fields)))
-      (field_encodings (fields_over trees (drop i fields)) rest)) < 2 ^ 32
-  pub is : out ++ bodies (part_sizes (fields_over trees (drop i fields)))
+  pub is : out ++ rooms (part_sizes (fields_over trees (drop i fields)))
       (field_encodings (fields_over trees (drop i fields)) rest) ≡ all
 
-pub FieldBodies-start : (arena : Content) (trees : List SszType) (fields : List Part)
+pub FieldHeads-start : (arena : Content) (trees : List SszType) (fields : List Part)
     (depth : ℕ) (vs : List SszValue) (out : List ℕ) (node : NodeId) (places : Ahead)
     → AreFields (fields_over trees fields) depth vs (tree_of arena node)
     → ((ts : List Tree) → length ts ≤ 2 ^ depth → tree_of arena node ≡ full depth ts
     → Holds arena ts places)
-    → length (bodies (part_sizes (fields_over trees fields))
-    (field_encodings (fields_over trees fields) vs)) < 2 ^ 32
-    → FieldBodies arena trees fields 0 (out ++ bodies (part_sizes (fields_over trees fields))
+    → FieldHeads arena trees fields 0 (out ++ rooms (part_sizes (fields_over trees fields))
     (field_encodings (fields_over trees fields) vs)) out places
-FieldBodies-start arena trees fields depth vs out node places are holds short = record {
+FieldHeads-start arena trees fields depth vs out node places are holds = record {
   rest = vs;
   left = FieldsLeft-start arena trees fields depth vs node places are holds;
-  short = short;
   is = refl;
 }
 
-pub FieldBodies-more : (arena : Content) (trees : List SszType) (fields : List Part)
+pub FieldHeads-more : (arena : Content) (trees : List SszType) (fields : List Part)
     (i : ℕ) (part : Part) (all out written : List ℕ) (old new : Ahead) (node : NodeId)
-    → FieldBodies arena trees fields i all out old → i < length fields
+    → FieldHeads arena trees fields i all out old → i < length fields
     → part ≡ get_or fields i part → Takes arena old new node
     → ForValue (tree_at trees part.1) (tree_of arena node)
-    (λ v. length (body_of (size_at trees part) (enc (tree_at trees part.1) v)) < 2 ^ 32
-    → written ≡ out ++ body_of (size_at trees part) (enc (tree_at trees part.1) v))
-    → FieldBodies arena trees fields (i + 1) all written new
-FieldBodies-more arena trees fields i part all out written old new node h below e takes body =
+    (λ v. written ≡ out ++ room_of (size_at trees part) (enc (tree_at trees part.1) v))
+    → FieldHeads arena trees fields (i + 1) all written new
+FieldHeads-more arena trees fields i part all out written old new node h below e takes head =
     let first = FieldsLeft-first arena trees fields i part h.rest old new node h.left below e
     takes in
     let here = drop_at fields i part below e in
-    let step = bodies_step (size_at trees part)
-    (part_sizes (fields_over trees (drop (i + 1) fields)))
-    (enc (tree_at trees part.1) first.value)
-    (field_encodings (fields_over trees (drop (i + 1) fields)) first.others) out written all
-    (subst (λ (ws : List SszValue). length (bodies
-    (part_sizes (fields_over trees (part ∷ drop (i + 1) fields)))
-    (field_encodings (fields_over trees (part ∷ drop (i + 1) fields)) ws)) < 2 ^ 32) first.are
-    (subst (λ (ps : List Part). length (bodies (part_sizes (fields_over trees ps))
-    (field_encodings (fields_over trees ps) h.rest)) < 2 ^ 32) here h.short))
-    (subst (λ (ws : List SszValue). out ++ bodies
-    (part_sizes (fields_over trees (part ∷ drop (i + 1) fields)))
-    (field_encodings (fields_over trees (part ∷ drop (i + 1) fields)) ws) ≡ all) first.are
-    (subst (λ (ps : List Part). out ++ bodies (part_sizes (fields_over trees ps))
-    (field_encodings (fields_over trees ps) h.rest) ≡ all) here h.is))
-    (body first.value first.is) in
-    record { rest = first.others; left = first.left; short = step.0; is = step.1 }
-
-pub FieldBodies-end : (arena : Content) (trees : List SszType) (fields : List Part)
-    (i : ℕ) (all out : List ℕ) (places : Ahead)
-    → FieldBodies arena trees fields i all out places → length fields ≤ i → out ≡ all
-FieldBodies-end arena trees fields i all out places h past =
-    sym (append-nil out)
-    ∙ subst (λ (ps : List Part). out ++ bodies (part_sizes (fields_over trees ps))
-    (field_encodings (fields_over trees ps) h.rest) ≡ all) (drop_all i fields past) h.is
-
--- the length of the fixed parts, so far
-pub record HeadSum (trees : List SszType) (fields : List Part) (i len : ℕ) : Type 0 where
-  pub sum : capped (len + heads_length (part_sizes (fields_over trees (drop i fields))))
-      ≡ capped (heads_length (part_sizes (fields_over trees fields)))
-  pub small : len < 2 ^ 64
-
-pub HeadSum-start : (trees : List SszType) (fields : List Part) → HeadSum trees fields 0 0
-HeadSum-start trees fields = record { sum = omega arith; small = omega arith }
-
-pub HeadSum-more : (trees : List SszType) (fields : List Part) (i len size next : ℕ) (part : Part)
-    → HeadSum trees fields i len → i < length fields → part ≡ get_or fields i part
-    → size ≡ head_size (size_at trees part) → next ≡ min (len + size) (2 ^ 64 - 1)
-    → HeadSum trees fields (i + 1) next
-HeadSum-more trees fields i len size next part h below e size_is is =
-    let here : heads_length (part_sizes (fields_over trees (drop i fields)))
-    ≡ head_size (size_at trees part)
-    + heads_length (part_sizes (fields_over trees (drop (i + 1) fields))) =
-    ap (λ (ps : List Part). heads_length (part_sizes (fields_over trees ps)))
-    (drop_at fields i part below e) in
     record {
-      sum = omega (arith, h.sum, here, size_is, is, h.small);
-      small = omega (arith, is);
+      rest = first.others;
+      left = first.left;
+      is = rooms_step (size_at trees part)
+          (part_sizes (fields_over trees (drop (i + 1) fields)))
+          (enc (tree_at trees part.1) first.value)
+          (field_encodings (fields_over trees (drop (i + 1) fields)) first.others) out written all
+          (subst (λ (ws : List SszValue). out ++ rooms
+          (part_sizes (fields_over trees (part ∷ drop (i + 1) fields)))
+          (field_encodings (fields_over trees (part ∷ drop (i + 1) fields)) ws) ≡ all) first.are
+          (subst (λ (ps : List Part). out ++ rooms (part_sizes (fields_over trees ps))
+          (field_encodings (fields_over trees ps) h.rest) ≡ all) here h.is))
+          (head first.value first.is);
     }
 
-pub HeadSum-end : (trees : List SszType) (fields : List Part) (i len : ℕ)
-    → HeadSum trees fields i len → length fields ≤ i
-    → len ≡ capped (heads_length (part_sizes (fields_over trees fields)))
-HeadSum-end trees fields i len h past =
-    let none : heads_length (part_sizes (fields_over trees (drop i fields))) ≡ 0 =
-    ap (λ (ps : List Part). heads_length (part_sizes (fields_over trees ps)))
-    (drop_all i fields past) in
-    omega (arith, h.sum, none, h.small)
+pub FieldHeads-end : (arena : Content) (trees : List SszType) (fields : List Part)
+    (i : ℕ) (all out : List ℕ) (places : Ahead)
+    → FieldHeads arena trees fields i all out places → length fields ≤ i → out ≡ all
+FieldHeads-end arena trees fields i all out places h past =
+    sym (append-nil out)
+    ∙ subst (λ (ps : List Part). out ++ rooms (part_sizes (fields_over trees ps))
+    (field_encodings (fields_over trees ps) h.rest) ≡ all) (drop_all i fields past) h.is
 
-pub fields_adds : (format : Format) (fs : Fields) (offset : ℕ) (vs : List SszValue)
-    (old mid new : List ℕ) → AreLegalFields format fs → FitFields fs vs
-    → offset ≡ capped (heads_length (part_sizes fs))
-    → (AreShort (part_sizes fs) (field_encodings fs vs) offset
-    → mid ≡ old ++ heads (part_sizes fs) (field_encodings fs vs) offset)
-    → (length (bodies (part_sizes fs) (field_encodings fs vs)) < 2 ^ 32
-    → new ≡ mid ++ bodies (part_sizes fs) (field_encodings fs vs))
-    → length (joined (part_sizes fs) (field_encodings fs vs)) < 2 ^ 32
+-- their variable parts
+pub record FieldBodies (arena : Content) (trees : List SszType) (fields : List Part)
+    (i start room : ℕ) (all out : List ℕ) (places : Ahead) : Type 0 where
+  pub rest : List SszValue
+  pub left : FieldsLeft arena trees fields i rest places
+  pub filled : Filled (part_sizes (fields_over trees (drop i fields)))
+      (field_encodings (fields_over trees (drop i fields)) rest) start room all out
+
+pub FieldBodies-start : (arena : Content) (format : Format) (trees : List SszType)
+    (fields : List Part) (depth start : ℕ) (vs : List SszValue) (front out : List ℕ)
+    (node : NodeId) (places : Ahead) → AreLegalFields format (fields_over trees fields)
+    → AreFields (fields_over trees fields) depth vs (tree_of arena node)
+    → ((ts : List Tree) → length ts ≤ 2 ^ depth → tree_of arena node ≡ full depth ts
+    → Holds arena ts places)
+    → start < 2 ^ 64 → length front ≡ start
+    → out ≡ front ++ rooms (part_sizes (fields_over trees fields))
+    (field_encodings (fields_over trees fields) vs)
+    → FieldBodies arena trees fields 0 start start
+    (front ++ heads (part_sizes (fields_over trees fields))
+    (field_encodings (fields_over trees fields) vs) (length out - start)
+    ++ bodies (part_sizes (fields_over trees fields))
+    (field_encodings (fields_over trees fields) vs)) out places
+FieldBodies-start arena format trees fields depth start vs front out node places legal are holds
+    small at is = record {
+      rest = vs;
+      left = FieldsLeft-start arena trees fields depth vs node places are holds;
+      filled = Filled-start (part_sizes (fields_over trees fields))
+          (field_encodings (fields_over trees fields) vs) start front out
+          ((fields_agree format (fields_over trees fields) legal).sized vs are.fit) small at is;
+    }
+
+pub FieldBodies-more : (arena : Content) (trees : List SszType) (fields : List Part)
+    (i start room next : ℕ) (part : Part) (all out written : List ℕ) (old new : Ahead)
+    (node : NodeId) → FieldBodies arena trees fields i start room all out old → i < length fields
+    → part ≡ get_or fields i part → Takes arena old new node
+    → next ≡ min (room + head_size (size_at trees part)) (2 ^ 64 - 1)
+    → ForValue (tree_at trees part.1) (tree_of arena node) (λ v. (front back : List ℕ)
+    → room ≡ capped (length front)
+    → out ≡ front ++ room_of (size_at trees part) (enc (tree_at trees part.1) v) ++ back
+    → written ≡ front ++ head_of (size_at trees part) (enc (tree_at trees part.1) v)
+    (length out - start) ++ back ++ body_of (size_at trees part) (enc (tree_at trees part.1) v))
+    → FieldBodies arena trees fields (i + 1) start next all written new
+FieldBodies-more arena trees fields i start room next part all out written old new node h below e
+    takes is body =
+    let first = FieldsLeft-first arena trees fields i part h.rest old new node h.left below e
+    takes in
+    let here = drop_at fields i part below e in
+    record {
+      rest = first.others;
+      left = first.left;
+      filled = Filled-more (size_at trees part)
+          (part_sizes (fields_over trees (drop (i + 1) fields)))
+          (enc (tree_at trees part.1) first.value)
+          (field_encodings (fields_over trees (drop (i + 1) fields)) first.others) start room next
+          all out written
+          (subst (λ (ws : List SszValue). Filled
+          (part_sizes (fields_over trees (part ∷ drop (i + 1) fields)))
+          (field_encodings (fields_over trees (part ∷ drop (i + 1) fields)) ws) start room all
+          out) first.are
+          (subst (λ (ps : List Part). Filled (part_sizes (fields_over trees ps))
+          (field_encodings (fields_over trees ps) h.rest) start room all out) here h.filled))
+          is (body first.value first.is);
+    }
+
+pub FieldBodies-end : (arena : Content) (trees : List SszType) (fields : List Part)
+    (i start room : ℕ) (all out : List ℕ) (places : Ahead)
+    → FieldBodies arena trees fields i start room all out places → length fields ≤ i → out ≡ all
+FieldBodies-end arena trees fields i start room all out places h past =
+    end h.rest (subst (λ (ps : List Part). FitFields (fields_over trees ps) h.rest)
+    (drop_all i fields past) h.left.fit)
+    (subst (λ (ps : List Part). Filled (part_sizes (fields_over trees ps))
+    (field_encodings (fields_over trees ps) h.rest) start room all out) (drop_all i fields past)
+    h.filled)
+  where
+    end : (rest : List SszValue) → FitFields (fields_over trees []) rest
+        → Filled (part_sizes (fields_over trees []))
+        (field_encodings (fields_over trees []) rest) start room all out → out ≡ all
+    end [] fit filled = Filled-end start room all out filled
+    end (v ∷ rest) fit filled = absurd fit
+
+pub fields_adds : (format : Format) (fs : Fields) (start : ℕ) (vs : List SszValue)
+    (old mid new : List ℕ) → AreLegalFields format fs → FitFields fs vs → start ≡ length old
+    → mid ≡ old ++ rooms (part_sizes fs) (field_encodings fs vs)
+    → new ≡ old ++ heads (part_sizes fs) (field_encodings fs vs) (length mid - start)
+    ++ bodies (part_sizes fs) (field_encodings fs vs)
     → new ≡ old ++ joined (part_sizes fs) (field_encodings fs vs)
-fields_adds format fs offset vs old mid new legal fit offset_is front end short =
-    joined_adds (part_sizes fs) (field_encodings fs vs) offset old mid new
-    ((fields_agree format fs legal).sized vs fit) offset_is front end short
+fields_adds format fs start vs old mid new legal fit at front end =
+    joined_adds (part_sizes fs) (field_encodings fs vs) start old mid new
+    ((fields_agree format fs legal).sized vs fit) at front end
 
 -- by the form of the type
 
@@ -265,7 +233,7 @@ bitvector_adds n d len node old new result deep long adds = λ v h.
     let bytes : bit_bytes of.run ≡ enc (bitvector n) (bits of.run) =
     ap (λ k. le_bytes ((k + 7) / 8) (number_of_bits of.run)) of.are.many in
     subst (λ (w : SszValue). Adds (enc (bitvector n) w) old new result) (sym of.is)
-    (on_ok result (λ is short. is ∙ ap (λ xs. old ++ xs) bytes) (adds (bit_bytes of.run) packed))
+    (on_ok result (λ is. is ∙ ap (λ xs. old ++ xs) bytes) (adds (bit_bytes of.run) packed))
 
 pub bitlist_adds : {E : Type 0} (format : Format) (limit d : ℕ) (node : Tree) (old new : List ℕ)
     (result : Result Unit E) → IsLegal format (bitlist limit) → d ≡ depth (bitlist limit)
@@ -275,7 +243,7 @@ pub bitlist_adds : {E : Type 0} (format : Format) (limit d : ℕ) (node : Tree) 
 bitlist_adds format limit d node old new result legal deep adds = λ v h.
     let of : IsBitlist limit v node = bitlist_bits format limit v node legal h in
     subst (λ (w : SszValue). Adds (enc (bitlist limit) w) old new result) (sym of.is)
-    (on_ok result (λ is short. is) (adds of.run (record {
+    (on_ok result (λ is. is) (adds of.run (record {
       content = of.content;
       tree = of.tree;
       are = subst (λ k. AreBits k (length of.run) of.run of.content) (sym deep) of.are;
@@ -332,8 +300,7 @@ option_adds {E = E} trees ids number id node content old mid new result few mixe
               ap (enc (union (options_over trees ids))) some.is
               ∙ ap₂ (λ k xs. k ∷ xs) (sym same)
               (option_encoding_at trees ids of.k id some.value at) in
-              on_ok result (λ is short.
-              is (omega (arith, short, ap (λ (xs : List ℕ). length xs) bytes))
+              on_ok result (λ is. is
               ∙ ap (λ xs. xs ++ enc (tree_at trees id) some.value) first
               ∙ append_assoc old (number % 256 ∷ []) (enc (tree_at trees id) some.value)
               ∙ ap (λ xs. old ++ xs) (sym bytes))
@@ -350,9 +317,8 @@ pub none_adds : (trees : List SszType) (ids : List (Option ℕ)) (number : ℕ)
     → ((id : ℕ) → slice_get ids (number % 256) ≡ Some (Some id) → ⊥)
     → new ≡ old ++ number % 256 ∷ []
     → ForValue (union (options_over trees ids)) node
-    (λ v. length (enc (union (options_over trees ids)) v) < 2 ^ 32
-    → new ≡ old ++ enc (union (options_over trees ids)) v)
-none_adds trees ids number node content old new few mixed none is = λ v h short.
+    (λ v. new ≡ old ++ enc (union (options_over trees ids)) v)
+none_adds trees ids number node content old new few mixed none is = λ v h.
     go v (union_option trees ids v node h)
   where
     go : (v : SszValue) → IsUnion trees ids v node

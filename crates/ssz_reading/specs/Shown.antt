@@ -1,13 +1,14 @@
 -- The values whose trees nodes have.
-use Rattle.std.specs.Prelude.{ℕ, ◌+◌, ◌^◌, ◌<◌, ◌≤◌, ◌≡◌, ◌==◌, ◌*◌, ◌/◌, ◌%◌, slice_index, drop, Bool, true, List, ◌++◌, length, map, Option, Result, OnOk}
+use Rattle.std.specs.Prelude.{ℕ, ◌-◌, ◌^◌, ◌<◌, ◌≤◌, ◌≡◌, ◌==◌, ◌*◌, ◌/◌, ◌%◌, slice_index, drop, Bool, true, List, [], ◌∷◌, ◌++◌, length, map, Option, Some, None, Result, OnOk}
 use Rattle.std.specs.List.{AllByRecursion}
 use Rattle.ssz_chunk.specs.Tree.{Tree, leaf, full}
 use Rattle.ssz_schema.specs.Types.{SszType, Fields, uint, boolean}
 use Rattle.ssz_schema.specs.Sizes.{basic_size, element_chunks}
-use Rattle.ssz_bytes.specs.Bytes.{le_bytes, number_of_bits, delimited, bits_size}
+use Rattle.ssz_bytes.specs.Bytes.{le_bytes, offset_bytes, number_of_bits, delimited, bits_size}
 use Rattle.ssz_value.specs.Values.{SszValue, Fits, FitFields}
 use Rattle.ssz_value.specs.Encoding.{enc, heads, bodies}
 use Rattle.ssz_places.specs.PlaceLaws.{IsTreeOf}
+use Rattle.ssz_parts.specs.Encoded.{head_of, body_of, capped}
 use Rattle.ssz_value.specs.Trees.{tree, mixed_in, element_leaves, field_trees, padded, pack, pack_bits}
 use Rattle.ssz_reading.specs.declared.basics.Basic.{Basic}
 use Rattle.ssz_reading.specs.declared.basics.Basic.TheVariants.{Number, Flag}
@@ -80,17 +81,36 @@ abbrev pub basic_type : Basic → SszType
 basic_type (Number width) = uint width
 basic_type Flag = boolean
 
--- the bytes are appended, if they are fewer than 2 ^ 32
+-- the bytes are appended
 abbrev pub Adds : {E : Type 0} → List ℕ → List ℕ → List ℕ → Result Unit E → Type 0
-Adds bytes old new result = OnOk result (length bytes < 2 ^ 32 → new ≡ old ++ bytes)
+Adds bytes old new result = OnOk result (new ≡ old ++ bytes)
 
--- the fixed parts are fewer than 2 ^ 32 bytes, and so are the offsets
-pub record AreShort (sizes : List (Option ℕ)) (parts : List (List ℕ)) (offset : ℕ) : Type 0 where
-  pub front : length (heads sizes parts offset) < 2 ^ 32
-  pub end : offset + length (bodies sizes parts) < 2 ^ 32
+-- what is kept for a part among the fixed parts: itself, or room for its offset
+abbrev pub room_of : Option ℕ → List ℕ → List ℕ
+room_of (Some z) bytes = bytes
+room_of None bytes = offset_bytes 0
 
--- the fixed parts are appended, where the first variable part begins at this offset
-abbrev pub AddsHeads : {E : Type 0} → List (Option ℕ) → List (List ℕ) → ℕ → List ℕ → List ℕ
+-- the fixed parts, with room for the offsets
+abbrev pub rooms : List (Option ℕ) → List (List ℕ) → List ℕ
+rooms (size ∷ sizes) (p ∷ parts) = room_of size p ++ rooms sizes parts
+rooms _ _ = []
+
+-- what began both goes on beginning them, as far as this place
+abbrev pub KeepsUpTo : ℕ → List ℕ → List ℕ → Type 0
+KeepsUpTo place old new = (front : List ℕ) → length front ≤ place → Extends front old
+    → Extends front new
+
+-- the offset of a part, counted from start, stands in its room, and the variable part at the end
+abbrev pub Fills : {E : Type 0} → Option ℕ → List ℕ → ℕ → ℕ → List ℕ → List ℕ → Result Unit E
+    → Type 0
+Fills size p start room old new result = (front back : List ℕ) → room ≡ capped (length front)
+    → old ≡ front ++ room_of size p ++ back
+    → OnOk result (new ≡ front ++ head_of size p (length old - start) ++ back ++ body_of size p)
+
+-- the offsets of all parts stand in their rooms, which began at start, and the variable parts at
+-- the end
+abbrev pub FillsAll : {E : Type 0} → List (Option ℕ) → List (List ℕ) → ℕ → List ℕ → List ℕ
     → Result Unit E → Type 0
-AddsHeads sizes parts offset old new result =
-    OnOk result (AreShort sizes parts offset → new ≡ old ++ heads sizes parts offset)
+FillsAll sizes parts start old new result = (front : List ℕ) → length front ≡ start
+    → old ≡ front ++ rooms sizes parts
+    → OnOk result (new ≡ front ++ heads sizes parts (length old - start) ++ bodies sizes parts)

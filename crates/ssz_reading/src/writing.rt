@@ -1,4 +1,4 @@
-ghost use Rattle.std.specs.Prelude.{ℕ, ◌≡◌, ◌+◌, ◌<◌, ◌≤◌, ◌^◌, ◌++◌, Bool, List, length, map, replicate, Option, None, IfOk, OnOk};
+ghost use Rattle.std.specs.Prelude.{ℕ, ◌≡◌, ◌<◌, ◌≤◌, ◌++◌, Bool, List, length, map, replicate, Option, None, OnOk};
 ghost use Rattle.std.specs.List.{AllByRecursion};
 ghost use Rattle.ssz_chunk.specs.declared.TheConstants.{LEVELS};
 ghost use Rattle.ssz_schema.specs.Types.{union};
@@ -7,10 +7,10 @@ ghost use Rattle.ssz_schema.specs.Sizes.{basic_size, fixed_size, part_sizes};
 ghost use Rattle.ssz_schema.specs.Unfolding.{type_of, fields_over, options_over, IsBelow};
 ghost use Rattle.ssz_schema.specs.Legal.{AreLegalFields};
 ghost use Rattle.ssz_bytes.specs.Bytes.{offset_bytes};
-ghost use Rattle.ssz_value.specs.Encoding.{enc, heads_length, heads, bodies, joined, joined_alike, field_encodings};
+ghost use Rattle.ssz_value.specs.Encoding.{enc, joined, joined_alike, field_encodings};
 ghost use Rattle.ssz_arena.specs.Content.{IsNodeOf, tree_of};
-ghost use Rattle.ssz_parts.specs.Encoded.{Appends, head_of, body_of, capped};
-ghost use Rattle.ssz_reading.specs.Shown.{ForValue, ForElements, ForFields, AreCountedBits, delimited_bytes, Adds, AddsHeads, Extends, basic_type};
+ghost use Rattle.ssz_parts.specs.Encoded.{Appends, capped};
+ghost use Rattle.ssz_reading.specs.Shown.{ForValue, ForElements, ForFields, AreCountedBits, delimited_bytes, Adds, Extends, KeepsUpTo, room_of, rooms, Fills, FillsAll, basic_type};
 
 use super::basics::Basic;
 use super::chunks::append_chunks;
@@ -162,15 +162,14 @@ fn append_sequence<H: PairHash>(
         None => {
             // Every type of a schema is legal.
             let _legal = schema.ty(elem);
-            let offset = count.saturating_mul(head_len(schema.fixed_size(elem)));
-            append_heads(arena, schema, elem, depth, count, node, offset, out)?;
-            append_bodies(arena, schema, elem, depth, count, node, out)
+            let start = out.len();
+            append_heads(arena, schema, elem, depth, count, node, out)?;
+            append_bodies(arena, schema, elem, depth, count, node, start, out)
         }
     }
 }
 
-// The fixed parts of count elements of a composite type, where the first variable part begins at
-// offset.
+// The fixed parts of count elements of a composite type, with room for their offsets.
 #[cycle(append)]
 fn append_heads<H: PairHash>(
     arena: &Arena<H>,
@@ -179,7 +178,6 @@ fn append_heads<H: PairHash>(
     depth: u32,
     count: u64,
     node: NodeId,
-    offset: u64,
     out: &mut Vec<u8>,
 ) -> Result<(), AllocError>
     requires known { elem < length schema.now.trees }
@@ -189,19 +187,19 @@ fn append_heads<H: PairHash>(
     ensures kept { Extends out.old.items out.new.items }
     ensures value { let t = type_of schema.now elem in
         ForElements t depth count (tree_of arena.now node)
-        (λ vs. AddsHeads (replicate (length vs) (fixed_size t)) (map (enc t) vs) offset
-        out.old.items out.new.items result) }
+        (λ vs. Adds (rooms (replicate (length vs) (fixed_size t)) (map (enc t) vs)) out.old.items
+        out.new.items result) }
 {
-    let mut offset = offset;
     let mut places = Places::new(node, depth);
     for _i in 0..count {
         let part = places.next(arena);
-        offset = append_head(arena, schema, elem, part, offset, out)?;
+        append_head(arena, schema, elem, part, out)?;
     }
     Ok(())
 }
 
-// The variable parts of count elements of a composite type.
+// The variable parts of count elements of a composite type, and the offsets of these, counted from
+// start, from where their rooms stand.
 #[cycle(append)]
 fn append_bodies<H: PairHash>(
     arena: &Arena<H>,
@@ -210,67 +208,35 @@ fn append_bodies<H: PairHash>(
     depth: u32,
     count: u64,
     node: NodeId,
+    start: usize,
     out: &mut Vec<u8>,
 ) -> Result<(), AllocError>
     requires known { elem < length schema.now.trees }
     requires composite { basic_size (type_of schema.now elem) ≡ None }
     requires depth { depth ≤ LEVELS }
     requires node { IsNodeOf arena.now node }
-    ensures kept { Extends out.old.items out.new.items }
+    ensures kept { KeepsUpTo start out.old.items out.new.items }
     ensures value { let t = type_of schema.now elem in
         ForElements t depth count (tree_of arena.now node)
-        (λ vs. Adds (bodies (replicate (length vs) (fixed_size t)) (map (enc t) vs))
+        (λ vs. FillsAll (replicate (length vs) (fixed_size t)) (map (enc t) vs) start
         out.old.items out.new.items result) }
 {
     if let Some(_) = schema.fixed_size(elem) {
         return Ok(());
     }
     let mut places = Places::new(node, depth);
+    let mut room = start;
     for _i in 0..count {
         let part = places.next(arena);
-        append_body(arena, schema, elem, part, out)?;
+        append_body(arena, schema, elem, part, start, room, out)?;
+        room = room.saturating_add(4);
     }
     Ok(())
 }
 
-// The fixed part of a part whose variable part begins at offset. Answers where the next variable
-// part begins.
+// The fixed part of a part, or room for its offset.
 #[cycle(append)]
 fn append_head<H: PairHash>(
-    arena: &Arena<H>,
-    schema: &Schema,
-    id: TypeId,
-    node: NodeId,
-    offset: u64,
-    out: &mut Vec<u8>,
-) -> Result<u64, AllocError>
-    requires known { id < length schema.now.trees }
-    requires node { IsNodeOf arena.now node }
-    ensures kept { Extends out.old.items out.new.items }
-    ensures head { let t = type_of schema.now id in
-        ForValue t (tree_of arena.now node)
-        (λ v. OnOk result (length (enc t v) < 2 ^ 32
-        → out.new.items ≡ out.old.items ++ head_of (fixed_size t) (enc t v) offset)) }
-    ensures next { let t = type_of schema.now id in
-        ForValue t (tree_of arena.now node)
-        (λ v. IfOk result (λ next. next
-        ≡ capped (offset + length (body_of (fixed_size t) (enc t v))))) }
-{
-    match schema.fixed_size(id) {
-        Some(_) => {
-            append_value(arena, schema, id, node, out)?;
-            Ok(offset)
-        }
-        None => {
-            append_offset(offset, out)?;
-            Ok(offset.saturating_add(part_len(arena, schema, id, node)))
-        }
-    }
-}
-
-// The variable part of a part.
-#[cycle(append)]
-fn append_body<H: PairHash>(
     arena: &Arena<H>,
     schema: &Schema,
     id: TypeId,
@@ -282,22 +248,62 @@ fn append_body<H: PairHash>(
     ensures kept { Extends out.old.items out.new.items }
     ensures value { let t = type_of schema.now id in
         ForValue t (tree_of arena.now node)
-        (λ v. Adds (body_of (fixed_size t) (enc t v)) out.old.items out.new.items result) }
+        (λ v. Adds (room_of (fixed_size t) (enc t v)) out.old.items out.new.items result) }
 {
     match schema.fixed_size(id) {
-        Some(_) => Ok(()),
-        None => append_value(arena, schema, id, node, out),
+        Some(_) => append_value(arena, schema, id, node, out),
+        None => {
+            out.extend_from_slice(&[0; 4])?;
+            Ok(())
+        }
     }
 }
 
-fn append_offset(offset: u64, out: &mut Vec<u8>) -> Result<(), AllocError>
-    ensures kept { Extends out.old.items out.new.items }
-    ensures bytes { OnOk result (out.new.items ≡ out.old.items ++ offset_bytes offset) }
+// The variable part of a part, and its offset, counted from start, into the room that was kept.
+#[cycle(append)]
+fn append_body<H: PairHash>(
+    arena: &Arena<H>,
+    schema: &Schema,
+    id: TypeId,
+    node: NodeId,
+    start: usize,
+    room: usize,
+    out: &mut Vec<u8>,
+) -> Result<(), AllocError>
+    requires known { id < length schema.now.trees }
+    requires node { IsNodeOf arena.now node }
+    requires behind { start ≤ room }
+    ensures kept { KeepsUpTo start out.old.items out.new.items }
+    ensures value { let t = type_of schema.now id in
+        ForValue t (tree_of arena.now node)
+        (λ v. Fills (fixed_size t) (enc t v) start room out.old.items out.new.items result) }
 {
-    let mut bytes = [0u8; 4];
-    put_uint(Width::W32, u128::from(offset % (1 << 32)), &mut bytes);
-    out.extend_from_slice(&bytes)?;
-    Ok(())
+    match schema.fixed_size(id) {
+        Some(_) => Ok(()),
+        None => {
+            let offset = out.len().saturating_sub(start);
+            put_offset(room, offset, out.as_mut_slice());
+            append_value(arena, schema, id, node, out)
+        }
+    }
+}
+
+// Writes the offset into its room, if there are so many bytes.
+fn put_offset(room: usize, offset: usize, bytes: &mut [u8])
+    ensures kept { KeepsUpTo room bytes.old bytes.new }
+    ensures put { (front back : List ℕ) → room ≡ capped (length front)
+        → bytes.old ≡ front ++ offset_bytes 0 ++ back
+        → bytes.new ≡ front ++ offset_bytes offset ++ back }
+{
+    let len = bytes.len();
+    if room >= len {
+        return;
+    }
+    if len - room < 4 {
+        return;
+    }
+    let low = offset as u128 % (1 << 32);
+    put_uint(Width::W32, low, &mut bytes[room..room + 4]);
 }
 
 // Of these fields, whose types stand before id, in a full tree of this depth.
@@ -321,26 +327,12 @@ fn append_fields<H: PairHash>(
         (λ vs. Adds (joined (part_sizes fs) (field_encodings fs vs)) out.old.items out.new.items
         result) }
 {
-    let offset = heads_len(schema, id, fields);
-    append_field_heads(arena, schema, id, depth, fields, node, offset, out)?;
-    append_field_bodies(arena, schema, id, depth, fields, node, out)
+    let start = out.len();
+    append_field_heads(arena, schema, id, depth, fields, node, out)?;
+    append_field_bodies(arena, schema, id, depth, fields, node, start, out)
 }
 
-// The length of all fixed parts, or the greatest u64 where that is greater.
-fn heads_len(schema: &Schema, id: TypeId, fields: &[(Name, TypeId)]) -> u64
-    requires known { id < length schema.now.trees }
-    requires before { AllByRecursion (λ part. part.1 < id) fields.now }
-    ensures { result
-        ≡ capped (heads_length (part_sizes (fields_over schema.now.trees fields.now))) }
-{
-    let mut len = 0u64;
-    for field in fields {
-        len = len.saturating_add(head_len(schema.fixed_size(field.1)));
-    }
-    len
-}
-
-// The fixed parts of fields, where the first variable part begins at offset.
+// The fixed parts of fields, with room for their offsets.
 #[cycle(append)]
 fn append_field_heads<H: PairHash>(
     arena: &Arena<H>,
@@ -349,7 +341,6 @@ fn append_field_heads<H: PairHash>(
     depth: u32,
     fields: &[(Name, TypeId)],
     node: NodeId,
-    offset: u64,
     out: &mut Vec<u8>,
 ) -> Result<(), AllocError>
     requires known { id < length schema.now.trees }
@@ -359,19 +350,19 @@ fn append_field_heads<H: PairHash>(
     ensures kept { Extends out.old.items out.new.items }
     ensures value { let fs = fields_over schema.now.trees fields.now in
         ForFields fs depth (tree_of arena.now node)
-        (λ vs. AddsHeads (part_sizes fs) (field_encodings fs vs) offset out.old.items
-        out.new.items result) }
+        (λ vs. Adds (rooms (part_sizes fs) (field_encodings fs vs)) out.old.items out.new.items
+        result) }
 {
-    let mut offset = offset;
     let mut places = Places::new(node, depth);
     for field in fields {
         let part = places.next(arena);
-        offset = append_head(arena, schema, field.1, part, offset, out)?;
+        append_head(arena, schema, field.1, part, out)?;
     }
     Ok(())
 }
 
-// The variable parts of fields.
+// The variable parts of fields, and the offsets of these, counted from start, from where the fixed
+// parts stand.
 #[cycle(append)]
 fn append_field_bodies<H: PairHash>(
     arena: &Arena<H>,
@@ -380,22 +371,25 @@ fn append_field_bodies<H: PairHash>(
     depth: u32,
     fields: &[(Name, TypeId)],
     node: NodeId,
+    start: usize,
     out: &mut Vec<u8>,
 ) -> Result<(), AllocError>
     requires known { id < length schema.now.trees }
     requires before { AllByRecursion (λ part. part.1 < id) fields.now }
     requires depth { depth ≤ LEVELS }
     requires node { IsNodeOf arena.now node }
-    ensures kept { Extends out.old.items out.new.items }
+    ensures kept { KeepsUpTo start out.old.items out.new.items }
     ensures value { let fs = fields_over schema.now.trees fields.now in
-        ForFields fs depth (tree_of arena.now node)
-        (λ vs. Adds (bodies (part_sizes fs) (field_encodings fs vs)) out.old.items out.new.items
+        (format : Format) → AreLegalFields format fs → ForFields fs depth (tree_of arena.now node)
+        (λ vs. FillsAll (part_sizes fs) (field_encodings fs vs) start out.old.items out.new.items
         result) }
 {
     let mut places = Places::new(node, depth);
+    let mut room = start;
     for field in fields {
         let part = places.next(arena);
-        append_body(arena, schema, field.1, part, out)?;
+        append_body(arena, schema, field.1, part, start, room, out)?;
+        room = room.saturating_add(head_len(schema.fixed_size(field.1)) as usize);
     }
     Ok(())
 }

@@ -1,5 +1,4 @@
-use Rattle.std.proofs.Common.{ℕ, ◌+◌, ◌*◌, ◌%◌, ◌/◌, ◌<◌, ◌≤◌, ◌≡◌, ◌++◌, length, map, slice_get, List, Some, None, sym, ap, ◌∙◌, subst, arith, rules}
-use Rattle.std.proofs.lemmas.List.{append-nil}
+use Rattle.std.proofs.Common.{◌+◌, ◌-◌, ◌*◌, ◌^◌, ◌%◌, ◌/◌, ◌<◌, ◌≤◌, ◌≡◌, ◌++◌, min, length, map, slice_get, Some, None, sym, ap, ◌∙◌, subst, arith, rules}
 use Rattle.std.specs.List.{AllByRecursion}
 use Rattle.ssz_chunk.specs.declared.TheConstants.{LEVELS}
 use Rattle.ssz_schema.specs.Types.{container, vector, list, bitvector, bitlist, union}
@@ -9,22 +8,22 @@ use Rattle.ssz_schema.specs.Legal.{IsLegal}
 use Rattle.ssz_value.specs.Encoding.{enc, heads, bodies, field_encodings}
 use Rattle.ssz_value.proofs.PartLemmas.{Part}
 use Rattle.ssz_arena.specs.Content.{tree_of}
-use Rattle.ssz_parts.specs.Encoded.{capped}
-use Rattle.ssz_reading.specs.Shown.{ForValue, Adds}
+use Rattle.ssz_reading.specs.Shown.{ForValue, Adds, rooms}
 use Rattle.ssz_reading.proofs.Formed.{union_few}
 use Rattle.ssz_reading.proofs.Chunked.{Extends-same, Extends-trans}
-use Rattle.ssz_reading.proofs.Written.{on_ok, alike, HeadsSoFar-start, HeadsSoFar-more, BodiesSoFar-start, BodiesSoFar-more, no_bodies, elements_adds, packed_adds}
-use Rattle.ssz_reading.proofs.FieldsWritten.{FieldHeads-start, FieldHeads-more, FieldBodies-start, FieldBodies-more, fields_adds, vector_adds, list_adds, container_adds, bitvector_adds, bitlist_adds, option_adds, none_adds}
+use Rattle.ssz_reading.proofs.Written.{on_ok, alike, HeadsSoFar-start, HeadsSoFar-more, BodiesSoFar-start, BodiesSoFar-more, elements_adds, packed_adds}
+use Rattle.ssz_reading.proofs.Rooms.{fixed_filled}
+use Rattle.ssz_reading.proofs.FieldsWritten.{FieldHeads-start, FieldHeads-more, FieldBodies-start, FieldBodies-more, FieldBodies-end, fields_adds, vector_adds, list_adds, container_adds, bitvector_adds, bitlist_adds, option_adds, none_adds}
 use Rattle.ssz_reading.proofs.writing.+append.Goals as goal
 
 pub append_heads-loop-i-init : goal.append_heads-loop-i-init
 append_heads-loop-i-init g t c = (
   c.new-places.ensures.nodes c.args.arena.now c.requires.node,
   Extends-same c.args.out.now.items,
-  λ vs are short. HeadsSoFar-start c.args.arena.now (type_of c.args.schema.now c.args.elem)
-      c.args.depth c.args.count c.args.offset vs c.args.out.now.items c.args.node
-      c.new-places.result c.requires.composite are (c.new-places.ensures.holds c.args.arena.now)
-      short,
+  λ vs are. HeadsSoFar-start c.args.arena.now (type_of c.args.schema.now c.args.elem)
+      c.args.depth c.args.count vs c.args.out.now.items c.args.node
+      c.new-places.result c.requires.composite are
+      (c.new-places.ensures.holds c.args.arena.now),
 )
 
 pub append_heads-loop-i-preserved : goal.append_heads-loop-i-preserved
@@ -32,50 +31,57 @@ append_heads-loop-i-preserved g t c = (
   c.next-part.ensures.nodes,
   Extends-trans c.args.out.now.items c.loop-i.out.items c.append_head.new.out.items
       c.loop-i.invariant.1 c.append_head.ensures.kept,
-  λ vs are short. HeadsSoFar-more c.args.arena.now (type_of c.args.schema.now c.args.elem) vs
-      c.loop-i._i c.loop-i.offset _
-      (c.args.out.now.items ++ heads (alike (type_of c.args.schema.now c.args.elem) vs)
-      (map (enc (type_of c.args.schema.now c.args.elem)) vs) c.args.offset)
+  λ vs are. HeadsSoFar-more c.args.arena.now (type_of c.args.schema.now c.args.elem) vs
+      c.loop-i._i
+      (c.args.out.now.items ++ rooms (alike (type_of c.args.schema.now c.args.elem) vs)
+      (map (enc (type_of c.args.schema.now c.args.elem)) vs))
       c.loop-i.out.items c.append_head.new.out.items c.loop-i.places c.next-part.new.self
-      c.next-part.result (c.loop-i.invariant.2 vs are short)
+      c.next-part.result (c.loop-i.invariant.2 vs are)
       (omega (arith, are.many, c.loop-i-test.true))
       (record { tree = c.next-part.ensures.tree; rest = c.next-part.ensures.rest })
-      c.in_ok-offset.ensures.head c.in_ok-offset.ensures.next,
+      c.in_ok-append_head.ensures.value,
 )
 
 pub append_bodies-loop-i-init : goal.append_bodies-loop-i-init
 append_bodies-loop-i-init g t c = (
   c.new-places.ensures.nodes c.args.arena.now c.requires.node,
-  Extends-same c.args.out.now.items,
-  λ vs are short. BodiesSoFar-start c.args.arena.now (type_of c.args.schema.now c.args.elem)
-      c.args.depth c.args.count vs c.args.out.now.items c.args.node
-      c.new-places.result c.requires.composite are (c.new-places.ensures.holds c.args.arena.now)
-      short,
+  omega arith,
+  λ front within kept. kept,
+  λ vs are front at is. BodiesSoFar-start c.args.arena.now
+      (type_of c.args.schema.now c.args.elem) c.args.depth c.args.count c.args.start vs front
+      c.args.out.now.items c.args.node c.new-places.result
+      (sym c.fixed_size.ensures.exact ∙ c.in_default.is) are
+      (c.new-places.ensures.holds c.args.arena.now) (omega arith) at is,
 )
 
 pub append_bodies-loop-i-preserved : goal.append_bodies-loop-i-preserved
 append_bodies-loop-i-preserved g t c = (
   c.next-part.ensures.nodes,
-  Extends-trans c.args.out.now.items c.loop-i.out.items c.append_body.new.out.items
-      c.loop-i.invariant.1 c.append_body.ensures.kept,
-  λ vs are short. BodiesSoFar-more c.args.arena.now (type_of c.args.schema.now c.args.elem) vs
-      c.loop-i._i
-      (c.args.out.now.items ++ bodies (alike (type_of c.args.schema.now c.args.elem) vs)
+  omega (arith, c.loop-i.invariant.1),
+  λ front within kept. c.append_body.ensures.kept front within
+      (c.loop-i.invariant.2 front within kept),
+  λ vs are front at is. BodiesSoFar-more c.args.arena.now
+      (type_of c.args.schema.now c.args.elem) vs c.loop-i._i c.args.start c.loop-i.room _
+      (front ++ heads (alike (type_of c.args.schema.now c.args.elem) vs)
+      (map (enc (type_of c.args.schema.now c.args.elem)) vs)
+      (length c.args.out.now.items - c.args.start)
+      ++ bodies (alike (type_of c.args.schema.now c.args.elem) vs)
       (map (enc (type_of c.args.schema.now c.args.elem)) vs))
       c.loop-i.out.items c.append_body.new.out.items c.loop-i.places c.next-part.new.self
-      c.next-part.result (c.loop-i.invariant.2 vs are short)
+      c.next-part.result (c.loop-i.invariant.3 vs are front at is)
       (omega (arith, are.many, c.loop-i-test.true))
+      (sym c.fixed_size.ensures.exact ∙ c.in_default.is)
       (record { tree = c.next-part.ensures.tree; rest = c.next-part.ensures.rest })
-      c.in_ok-append_body.ensures.value,
+      c.saturating_add-room.ensures c.in_ok-append_body.ensures.value,
 )
 
 pub append_field_heads-loop-field-init : goal.append_field_heads-loop-field-init
 append_field_heads-loop-field-init g t c = (
   c.new-places.ensures.nodes c.args.arena.now c.requires.node,
   Extends-same c.args.out.now.items,
-  λ vs are short. FieldHeads-start c.args.arena.now c.args.schema.now.trees c.args.fields.now
-      c.args.depth c.args.offset vs c.args.out.now.items c.args.node c.new-places.result are
-      (c.new-places.ensures.holds c.args.arena.now) short,
+  λ vs are. FieldHeads-start c.args.arena.now c.args.schema.now.trees c.args.fields.now
+      c.args.depth vs c.args.out.now.items c.args.node c.new-places.result are
+      (c.new-places.ensures.holds c.args.arena.now),
 )
 
 pub append_field_heads-loop-field-preserved : goal.append_field_heads-loop-field-preserved
@@ -83,51 +89,67 @@ append_field_heads-loop-field-preserved g t c = (
   c.next-part.ensures.nodes,
   Extends-trans c.args.out.now.items c.loop-field.out.items c.append_head.new.out.items
       c.loop-field.invariant.1 c.append_head.ensures.kept,
-  λ vs are short. FieldHeads-more c.args.arena.now c.args.schema.now.trees c.args.fields.now
-      c.loop-field.field-index c.loop-field.offset _ c.field-item.result
+  λ vs are. FieldHeads-more c.args.arena.now c.args.schema.now.trees c.args.fields.now
+      c.loop-field.field-index c.field-item.result
       (c.args.out.now.items
-      ++ heads (part_sizes (fields_over c.args.schema.now.trees c.args.fields.now))
-      (field_encodings (fields_over c.args.schema.now.trees c.args.fields.now) vs) c.args.offset)
+      ++ rooms (part_sizes (fields_over c.args.schema.now.trees c.args.fields.now))
+      (field_encodings (fields_over c.args.schema.now.trees c.args.fields.now) vs))
       c.loop-field.out.items c.append_head.new.out.items c.loop-field.places
-      c.next-part.new.self c.next-part.result (c.loop-field.invariant.2 vs are short)
+      c.next-part.new.self c.next-part.result (c.loop-field.invariant.2 vs are)
       c.loop-field-test.true c.field-item.is
       (record { tree = c.next-part.ensures.tree; rest = c.next-part.ensures.rest })
-      c.in_ok-offset.ensures.head c.in_ok-offset.ensures.next,
+      c.in_ok-append_head.ensures.value,
 )
 
 pub append_field_bodies-loop-field-init : goal.append_field_bodies-loop-field-init
 append_field_bodies-loop-field-init g t c = (
   c.new-places.ensures.nodes c.args.arena.now c.requires.node,
-  Extends-same c.args.out.now.items,
-  λ vs are short. FieldBodies-start c.args.arena.now c.args.schema.now.trees c.args.fields.now
-      c.args.depth vs c.args.out.now.items c.args.node c.new-places.result are
-      (c.new-places.ensures.holds c.args.arena.now) short,
+  omega arith,
+  λ front within kept. kept,
+  λ format legal vs are front at is. FieldBodies-start c.args.arena.now format
+      c.args.schema.now.trees c.args.fields.now c.args.depth c.args.start vs front
+      c.args.out.now.items c.args.node c.new-places.result legal are
+      (c.new-places.ensures.holds c.args.arena.now) (omega arith) at is,
 )
 
 pub append_field_bodies-loop-field-preserved : goal.append_field_bodies-loop-field-preserved
 append_field_bodies-loop-field-preserved g t c = (
   c.next-part.ensures.nodes,
-  Extends-trans c.args.out.now.items c.loop-field.out.items c.append_body.new.out.items
-      c.loop-field.invariant.1 c.append_body.ensures.kept,
-  λ vs are short. FieldBodies-more c.args.arena.now c.args.schema.now.trees c.args.fields.now
-      c.loop-field.field-index c.field-item.result
-      (c.args.out.now.items
+  omega (arith, c.loop-field.invariant.1),
+  λ front within kept. c.append_body.ensures.kept front within
+      (c.loop-field.invariant.2 front within kept),
+  λ format legal vs are front at is. FieldBodies-more c.args.arena.now
+      c.args.schema.now.trees c.args.fields.now c.loop-field.field-index c.args.start
+      c.loop-field.room _ c.field-item.result
+      (front ++ heads (part_sizes (fields_over c.args.schema.now.trees c.args.fields.now))
+      (field_encodings (fields_over c.args.schema.now.trees c.args.fields.now) vs)
+      (length c.args.out.now.items - c.args.start)
       ++ bodies (part_sizes (fields_over c.args.schema.now.trees c.args.fields.now))
       (field_encodings (fields_over c.args.schema.now.trees c.args.fields.now) vs))
       c.loop-field.out.items c.append_body.new.out.items c.loop-field.places
-      c.next-part.new.self c.next-part.result (c.loop-field.invariant.2 vs are short)
+      c.next-part.new.self c.next-part.result
+      (c.loop-field.invariant.3 format legal vs are front at is)
       c.loop-field-test.true c.field-item.is
       (record { tree = c.next-part.ensures.tree; rest = c.next-part.ensures.rest })
+      (c.saturating_add-room.ensures
+      ∙ ap (λ n. min (c.loop-field.room + n) (2 ^ 64 - 1))
+      (c.head_len.ensures ∙ ap head_size c.fixed_size.ensures.exact))
       c.in_ok-append_body.ensures.value,
 )
 
+pub append_field_bodies-returns-clause-value : goal.append_field_bodies-returns-clause-value
+append_field_bodies-returns-clause-value g t c = λ format legal vs are front at is.
+    FieldBodies-end c.args.arena.now c.args.schema.now.trees c.args.fields.now
+    c.loop-field.field-index c.args.start c.loop-field.room _ c.loop-field.out.items
+    c.loop-field.places (c.loop-field.invariant.3 format legal vs are front at is)
+    (omega (arith, c.loop-field-test.false))
+
 pub append_bodies-returns-in-Some-clause-value : goal.append_bodies-returns-in-Some-clause-value
-append_bodies-returns-in-Some-clause-value g t c = λ vs are short.
-    let none = no_bodies (fixed_size (type_of c.args.schema.now c.args.elem)) c.in-Some.field-0
-    (length vs) (map (enc (type_of c.args.schema.now c.args.elem)) vs)
-    (sym c.fixed_size.ensures.exact ∙ c.in-Some.is) in
-    sym (append-nil c.args.out.now.items)
-    ∙ ap (λ (xs : List ℕ). c.args.out.now.items ++ xs) (sym none)
+append_bodies-returns-in-Some-clause-value g t c = λ vs are front at is.
+    is ∙ fixed_filled (fixed_size (type_of c.args.schema.now c.args.elem)) c.in-Some.field-0
+    (length vs) (length c.args.out.now.items - c.args.start)
+    (map (enc (type_of c.args.schema.now c.args.elem)) vs) front
+    (sym c.fixed_size.ensures.exact ∙ c.in-Some.is)
 
 pub append_chosen-returns-in-Some-Some-clause-value :
     goal.append_chosen-returns-in-Some-Some-clause-value
@@ -176,12 +198,15 @@ append_chosen-returns-in-None-clause-value g t c =
 
 pub append_fields-returns-clause-value : goal.append_fields-returns-clause-value
 append_fields-returns-clause-value g t c = λ format legal vs are.
-    on_ok c.append_field_bodies.result (λ end.
-    fields_adds format (fields_over c.args.schema.now.trees c.args.fields.now)
-    c.heads_len-offset.result vs c.args.out.now.items c.append_field_heads.new.out.items
-    c.append_field_bodies.new.out.items legal are.fit c.heads_len-offset.ensures
-    (c.in_ok-append_field_heads.ensures.value vs are) end)
-    (c.append_field_bodies.ensures.value vs are)
+    let start : c.len-start.result ≡ length c.args.out.now.items =
+    omega (arith, c.len-start.ensures, c.args.out.now.ok.0) in
+    on_ok c.append_field_bodies.result
+    (fields_adds format (fields_over c.args.schema.now.trees c.args.fields.now)
+    c.len-start.result vs c.args.out.now.items c.append_field_heads.new.out.items
+    c.append_field_bodies.new.out.items legal are.fit start
+    (c.in_ok-append_field_heads.ensures.value vs are))
+    (c.append_field_bodies.ensures.value format legal vs are c.args.out.now.items
+    (sym start) (c.in_ok-append_field_heads.ensures.value vs are))
 
 pub append_sequence-returns-in-Some-clause-value : goal.append_sequence-returns-in-Some-clause-value
 append_sequence-returns-in-Some-clause-value g t c =
@@ -194,15 +219,15 @@ append_sequence-returns-in-Some-clause-value g t c =
 pub append_sequence-returns-in_ok-append_heads-in-None-clause-value :
     goal.append_sequence-returns-in_ok-append_heads-in-None-clause-value
 append_sequence-returns-in_ok-append_heads-in-None-clause-value g t c = λ vs are.
-    on_ok c.append_bodies.result (λ end.
-    elements_adds c.args.schema.now.format (type_of c.args.schema.now c.args.elem) c.args.count
-    c.saturating_mul-offset.result vs c.args.out.now.items c.append_heads.new.out.items
-    c.append_bodies.new.out.items c.ty-legal.ensures.legal are.fit are.many
-    (c.saturating_mul-offset.ensures
-    ∙ ap (λ n. capped (c.args.count * n)) (c.head_len.ensures
-    ∙ ap head_size c.fixed_size.ensures.exact))
-    (c.in_ok-append_heads-in-None.ensures.value vs are) end)
-    (c.append_bodies.ensures.value vs are)
+    let start : c.len-start.result ≡ length c.args.out.now.items =
+    omega (arith, c.len-start.ensures, c.args.out.now.ok.0) in
+    on_ok c.append_bodies.result
+    (elements_adds c.args.schema.now.format (type_of c.args.schema.now c.args.elem)
+    c.len-start.result vs c.args.out.now.items c.append_heads.new.out.items
+    c.append_bodies.new.out.items c.ty-legal.ensures.legal are.fit start
+    (c.in_ok-append_heads-in-None.ensures.value vs are))
+    (c.append_bodies.ensures.value vs are c.args.out.now.items
+    (sym start) (c.in_ok-append_heads-in-None.ensures.value vs are))
 
 pub append_value-append_chosen-requires : goal.append_value-append_chosen-requires
 append_value-append_chosen-requires g t c =
