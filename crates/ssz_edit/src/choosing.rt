@@ -69,8 +69,8 @@ pub fn choose<H: PairHash>(
     Ok(made)
 }
 
-// The options of a union, None of any other type.
-fn options_of(schema: &Schema, id: TypeId) -> Option<&[Option<TypeId>]>
+/// The options of a union, None of any other type.
+pub fn options_of(schema: &Schema, id: TypeId) -> Option<&[Option<TypeId>]>
     requires { id < length schema.now.trees }
     ensures some { IfSome result (λ options.
         (type_of schema.now id ≡ union (options_over schema.now.trees options.now))

@@ -18,6 +18,7 @@ mod putting;
 mod room;
 mod setting;
 
-pub use choosing::choose;
+pub use choosing::{choose, options_of};
 pub use listing::{append, pop};
-pub use setting::set;
+pub use lists::limit_of;
+pub use setting::{is_changeable, set};

@@ -69,8 +69,8 @@ pub fn set<H: PairHash>(
     Ok(made)
 }
 
-// Whether no step leads to a length or a selector, which cannot be changed alone.
-fn is_changeable(path: &[PathStep]) -> bool
+/// Whether no step leads to a length or a selector, which cannot be changed alone.
+pub fn is_changeable(path: &[PathStep]) -> bool
     ensures { result ≡ is_changeable path.now }
 {
     for step in path {
