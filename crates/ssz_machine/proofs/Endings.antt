@@ -1,0 +1,268 @@
+-- How runs that are under way end, as the job of all their events: for the numbers that were
+-- printed, and whatever numbers are still to come.
+use Rattle.std.proofs.Common.{ℕ, ◌+◌, ◌<◌, ◌≤◌, ◌≡◌, ◌==◌, cond, inl, inr, Bool, true, false, List, [], ◌∷◌, ◌++◌, length, take, Option, Some, refl, sym, ap, ◌∙◌, subst, arith, length-append, append_assoc}
+use Rattle.std.specs.Prelude.{slice_get}
+use Rattle.std.specs.List.{list_any}
+use Rattle.std.proofs.lemmas.Bool.{or_right}
+use Rattle.std.proofs.lemmas.List.{map-append}
+use Rattle.std.proofs.Math.Seq.{take-append_seam, take-length}
+use Rattle.ssz_outside.specs.Content.{Content}
+use Rattle.ssz_outside.specs.Job.{Job, Moment, Save, Ends, StandsAt, Finishes}
+use Rattle.ssz_outside.specs.Outcome.{Tears}
+use Rattle.ssz_outside.specs.Pieces.{Told, told_append}
+use Rattle.ssz_outside.specs.declared.status.Status.{Status}
+use Rattle.ssz_outside.specs.declared.status.Status.TheVariants as status
+use Rattle.ssz_machine.specs.declared.place.Place.{Place}
+use Rattle.ssz_machine.specs.State.{State}
+use Rattle.ssz_machine.specs.Rules.{Rules}
+use Rattle.ssz_machine.specs.Machine.{Line, Turn, step, state_of, save_of, reads_file, is_refused}
+use Rattle.ssz_machine.specs.Plays.{Event, says, play, shown, shown_all}
+use Rattle.ssz_machine.specs.Jobs.{files_after, is_reading, saved_by, status_after, after_reading}
+use Rattle.ssz_machine.specs.Runs.{IsUnderWay, job_from}
+use Rattle.ssz_machine.proofs.UnderWay.{under_way_line, under_way_all}
+
+-- the step behind some others
+at-seam : (done : List Turn) (turn : Turn) (rest : List Turn)
+    → slice_get (done ++ turn ∷ rest) (length done) ≡ Some turn
+at-seam [] turn rest = refl
+at-seam (first ∷ done) turn rest = at-seam done turn rest
+
+-- What a run that is under way looks like in the job of all its steps, where these numbers are
+-- still to be printed.
+module _ (rules : Rules) (place : Place) (events : List Event) (first : State)
+    (done : List Turn) (state : State) (left : List Event)
+    (u : IsUnderWay rules place events first done state left) (more : List ℕ) where
+  abbrev turns : List Turn
+  turns = play rules place (u.numbers ++ more) first events
+
+  abbrev this_job : Job
+  this_job = job_from rules place events first (u.numbers ++ more)
+
+  front : take (length done) turns ≡ done
+  front =
+      ap (take (length done)) (u.turns more)
+      ∙ take-append_seam done (play rules place more state left)
+
+  -- where it stands
+  moment : this_job.at (length done) ≡ record { files = state.files; lines = shown_all place done }
+  moment i = record {
+    files = (ap (files_after first.files) front ∙ u.files) i;
+    lines = ap (shown_all place) front i;
+  }
+
+  within : length done ≤ length turns
+  within =
+      let rest = play rules place more state left in
+      let whole = ap length (u.turns more) ∙ length-append done rest in
+      omega arith
+
+  stands : (old new : Told) (held : Option Content)
+      → new ≡ told_append old (shown_all place done) → held ≡ Some state.files
+      → StandsAt (this_job.at (length done)) old new held
+  stands old new held printed are =
+      subst (λ (m : Moment). StandsAt m old new held) (sym moment)
+      (record { printed = printed; held = are })
+
+  -- want of memory between two lines
+  pub ends_without_memory : (old new : Told) (held : Option Content)
+      → new ≡ told_append old (shown_all place done) → held ≡ Some state.files
+      → Ends status.Memory this_job old new held
+  ends_without_memory old new held printed are =
+      (length done, inl (within, stands old new held printed are))
+
+-- what a run looks like in which one line more was done, or was begun
+module _ (rules : Rules) (place : Place) (events : List Event) (first : State)
+    (done : List Turn) (state : State) (writer : ℕ) (line : Line) (left : List Event) (number : ℕ)
+    (u : IsUnderWay rules place events first done state (says writer line ∷ left))
+    (more : List ℕ) where
+  abbrev turn : Turn
+  turn = step rules place number state writer line
+
+  abbrev on : IsUnderWay rules place events first (done ++ turn ∷ []) (state_of turn) left
+  on = under_way_line rules place events first done state writer line left number u
+
+  abbrev all : List Turn
+  all = play rules place (on.numbers ++ more) first events
+
+  abbrev whole : Job
+  whole = job_from rules place events first (on.numbers ++ more)
+
+  abbrev rest : List Turn
+  rest = play rules place more (state_of turn) left
+
+  split : all ≡ done ++ turn ∷ rest
+  split = on.turns more ∙ append_assoc done (turn ∷ []) rest
+
+  front_before : take (length done) all ≡ done
+  front_before = ap (take (length done)) split ∙ take-append_seam done (turn ∷ rest)
+
+  one_more : length (done ++ turn ∷ []) ≡ length done + 1
+  one_more = length-append done (turn ∷ [])
+
+  front_after : take (length done + 1) all ≡ done ++ turn ∷ []
+  front_after =
+      ap (λ n. take n all) (sym one_more)
+      ∙ ap (take (length (done ++ turn ∷ []))) (on.turns more)
+      ∙ take-append_seam (done ++ turn ∷ []) rest
+
+  here : slice_get all (length done) ≡ Some turn
+  here = ap (λ turns. slice_get turns (length done)) split ∙ at-seam done turn rest
+
+  lines_before : (whole.at (length done)).lines ≡ shown_all place done
+  lines_before = ap (shown_all place) front_before
+
+  files_before : (whole.at (length done)).files ≡ state.files
+  files_before = ap (files_after first.files) front_before ∙ u.files
+
+  lines_after : (whole.at (length done + 1)).lines ≡ shown_all place done ++ shown place turn ∷ []
+  lines_after = ap (shown_all place) front_after ∙ map-append (shown place) done (turn ∷ [])
+
+  files_later : (whole.at (length done + 1)).files ≡ (state_of turn).files
+  files_later = ap (files_after first.files) front_after ∙ on.files
+
+  below : length done < whole.steps
+  below =
+      let count = ap length split ∙ length-append done (turn ∷ rest) in
+      omega arith
+
+  -- the line's file was not read
+  pub ends_unread : (old new : Told) (held : Option Content) → reads_file rules turn ≡ true
+      → new ≡ told_append old (shown_all place done) → held ≡ Some state.files
+      → Ends status.ReadFault whole old new held
+  ends_unread old new held reads printed are = (
+    length done,
+    let few = below in omega arith,
+    ap (is_reading rules) here ∙ reads,
+    record {
+      printed = printed ∙ ap (told_append old) (sym lines_before);
+      held = are ∙ ap Some (sym files_before);
+    },
+  )
+
+  -- the line's file was not written whole
+  pub ends_torn_file : (old new : Told) (held : Option Content) (save : Save)
+      → save_of turn ≡ Some save → new ≡ told_append old (shown_all place done)
+      → Tears save.name save.bytes (Some state.files) held
+      → Ends status.WriteFault whole old new held
+  ends_torn_file old new held save saves printed tears = (
+    length done,
+    below,
+    inl (record {
+      save = save;
+      saves = ap saved_by here ∙ saves;
+      printed = printed ∙ ap (told_append old) (sym lines_before);
+      held = subst (λ (files : Content). Tears save.name save.bytes (Some files) held)
+          (sym files_before) tears;
+    }),
+  )
+
+  -- the line was done, and its reply was not printed whole
+  pub ends_torn_line : (old new : Told) (held : Option Content) (count : ℕ)
+      → new ≡ told_append old (shown_all place done ++ take count (shown place turn) ∷ [])
+      → held ≡ Some (state_of turn).files
+      → Ends status.WriteFault whole old new held
+  ends_torn_line old new held count printed are = (
+    length done,
+    below,
+    inr (record {
+      line = shown place turn;
+      count = count;
+      whole = lines_after ∙ ap (λ lines. lines ++ shown place turn ∷ []) (sym lines_before);
+      printed = printed
+          ∙ ap (λ lines. told_append old (lines ++ take count (shown place turn) ∷ []))
+          (sym lines_before);
+      held = are ∙ ap Some (sym files_later);
+    }),
+  )
+
+  -- the line was done, and there was no memory to print its reply
+  pub ends_ahead : (old new : Told) (held : Option Content)
+      → new ≡ told_append old (shown_all place done) → held ≡ Some (state_of turn).files
+      → Ends status.Memory whole old new held
+  ends_ahead old new held printed are = (
+    length done,
+    inr (
+      below,
+      record {
+        printed = printed ∙ ap (told_append old) (sym lines_before);
+        held = are ∙ ap Some (sym files_later);
+      },
+    ),
+  )
+
+-- all lines were done
+module _ (rules : Rules) (place : Place) (events : List Event) (first : State)
+    (done : List Turn) (state : State)
+    (u : IsUnderWay rules place events first done state []) where
+  abbrev last : List ℕ
+  last = u.numbers ++ []
+
+  every : play rules place last first events ≡ done
+  every = under_way_all rules place events first done state u
+
+  finished : (old new : Told) (held : Option Content)
+      → new ≡ told_append old (shown_all place done) → held ≡ Some state.files
+      → Finishes (job_from rules place events first last) (status_after done) old new held
+  finished old new held printed are =
+      let turns = play rules place last first events in
+      let whole : take (length turns) turns
+      ≡ done = take-length (play rules place last first events) ∙ every in
+      record {
+        status = ap status_after (sym every);
+        last = record {
+          printed = printed ∙ ap (λ turns. told_append old (shown_all place turns)) (sym whole);
+          held = are ∙ ap Some (sym (ap (files_after first.files) whole ∙ u.files));
+        };
+      }
+
+  pub ends_done : (old new : Told) (held : Option Content)
+      → new ≡ told_append old (shown_all place done) → held ≡ Some state.files
+      → Ends (status_after done) (job_from rules place events first last) old new held
+  ends_done old new held printed are =
+      by (list_any is_refused done) (finished old new held printed are)
+    where
+      by : (b : Bool)
+          → Finishes (job_from rules place events first last)
+          (cond b status.Refused status.Accepted) old new held
+          → Ends (cond b status.Refused status.Accepted) (job_from rules place events first last)
+          old new held
+      by true is = is
+      by false is = is
+
+-- A job before which files are read ends as the job does.
+pub ends_after_reading : (ended : Status) (job : Job) (old new : Told) (held : Option Content)
+    → Ends ended job old new held → Ends ended (after_reading job) old new held
+ends_after_reading status.Accepted job old new held ends =
+    record { status = ends.status; last = ends.last }
+ends_after_reading status.Refused job old new held ends =
+    record { status = ends.status; last = ends.last }
+ends_after_reading status.Usage job old new held ends =
+    record { status = ends.status; last = ends.last }
+ends_after_reading status.SchemaFault job old new held ends =
+    record { status = ends.status; last = ends.last }
+ends_after_reading status.ReadFault job old new held (k, few, reads, stands) =
+    (k, few, or_right (k == 0) (job.reads k) reads, stands)
+ends_after_reading status.WriteFault job old new held (k, below, inl torn) = (
+  k,
+  below,
+  inl (record {
+    save = torn.save;
+    saves = torn.saves;
+    printed = torn.printed;
+    held = torn.held;
+  }),
+)
+ends_after_reading status.WriteFault job old new held (k, below, inr torn) = (
+  k,
+  below,
+  inr (record {
+    line = torn.line;
+    count = torn.count;
+    whole = torn.whole;
+    printed = torn.printed;
+    held = torn.held;
+  }),
+)
+ends_after_reading status.Memory job old new held (k, inl stands) = (k, inl stands)
+ends_after_reading status.Memory job old new held (k, inr (below, ahead)) =
+    (k, inr (below, record { printed = ahead.printed; held = ahead.held }))

@@ -1,0 +1,17 @@
+pub mod State
+pub mod Rules
+pub mod Making
+pub mod Editing
+pub mod Asking
+pub mod Machine
+pub mod Plays
+pub mod Jobs
+pub mod Drawing
+pub mod Work
+pub mod Counts
+pub mod Changes
+pub mod Isolation
+pub mod Numbers
+pub mod Proofs
+pub mod OneLine
+pub mod Runs

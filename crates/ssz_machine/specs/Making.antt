@@ -1,0 +1,63 @@
+-- Statements that make, take away and list versions. Each is a list of tests in order, and then
+-- what it does.
+use Rattle.std.specs.Prelude.{ℕ, nat_lt, List, length, map, Ok}
+use Rattle.ssz_schema.specs.Types.{SszType}
+use Rattle.ssz_script.specs.declared.reply.Reply.TheVariants.{Done, List as Listed}
+use Rattle.ssz_script.specs.declared.reply.TheConstants.Reply.{NO_TYPE, NO_VERSION, NAME_TAKEN, TOO_LONG}
+use Rattle.ssz_value.specs.Values.{SszValue}
+use Rattle.ssz_value.specs.Defaults.{default_of}
+use Rattle.ssz_value.specs.Faults.{why}
+use Rattle.ssz_value.specs.Reading.{value_in}
+use Rattle.ssz_value.specs.Pairs.{pairs}
+use Rattle.ssz_machine.specs.State.{Name, Versions, version_of, has_version, without_version}
+use Rattle.ssz_machine.specs.Rules.{Rules, Outcome, ◌>>=◌, ◌>>◌, need, refuse, faultless, Row, says, makes}
+
+-- the value of a type that the bytes encode
+abbrev pub decoded : SszType → List ℕ → Outcome SszValue
+decoded type bytes = do
+  faultless (why type 0 bytes)
+  Ok (value_in type bytes)
+
+-- `new V T`: V is the default of T
+abbrev pub new : Rules → Versions → Name → Name → Row
+new rules versions v t = do
+  type ← need NO_TYPE (rules.type_named t)
+  refuse NAME_TAKEN (has_version v versions)
+  makes versions v type (default_of type) (pairs type (default_of type))
+
+-- `lit V T LIT`: V is the value of T that the literal encodes
+abbrev pub lit : Rules → Versions → Name → Name → List ℕ → Row
+lit rules versions v t literal = do
+  type ← need NO_TYPE (rules.type_named t)
+  refuse NAME_TAKEN (has_version v versions)
+  value ← decoded type literal
+  makes versions v type value (pairs type value)
+
+-- `load V T FILE`: V is the value of T that the file's bytes encode
+abbrev pub load : Rules → Versions → Name → Name → List ℕ → Row
+load rules versions v t bytes = do
+  type ← need NO_TYPE (rules.type_named t)
+  refuse NAME_TAKEN (has_version v versions)
+  refuse TOO_LONG (nat_lt rules.max_bytes (length bytes))
+  value ← decoded type bytes
+  makes versions v type value (pairs type value)
+
+-- `fork V W`: W is the value of V
+abbrev pub fork : Versions → Name → Name → Row
+fork versions v w = do
+  version ← need NO_VERSION (version_of v versions)
+  refuse NAME_TAKEN (has_version w versions)
+  makes versions w version.type version.value 0
+
+-- `drop V`: V is gone
+abbrev pub drop : Versions → Name → Row
+drop versions v = do
+  version ← need NO_VERSION (version_of v versions)
+  says (without_version v versions) Done
+
+-- `list`: the writer's names in byte order
+abbrev pub names_of : Versions → List Name
+names_of versions = map (λ entry. entry.0) versions
+
+abbrev pub list : Versions → Row
+list versions = says versions (Listed (names_of versions))
