@@ -1,0 +1,263 @@
+-- From one point of a run to the next, or to its end.
+use Rattle.std.proofs.Common.{ℕ, ◌+◌, ◌-◌, ◌≤◌, ◌≡◌, Bool, true, false, List, [], ◌∷◌, ◌++◌, length, replicate, take, Option, refl, sym, ap, ap₂, ◌∙◌, subst, arith, append_assoc}
+use Rattle.std.specs.Prelude.{◌||◌}
+use Rattle.std.specs.List.{list_any, AllByRecursion}
+use Rattle.std.proofs.lemmas.List.{map-append}
+use Rattle.ssz_arena.specs.Content.{unhashed}
+use Rattle.ssz_outside.specs.Content.{Content as Files}
+use Rattle.ssz_outside.specs.Outcome.{Tears}
+use Rattle.ssz_outside.specs.Pieces.{Told, told_append}
+use Rattle.ssz_outside.proofs.Told.{told_append-twice}
+use Rattle.ssz_outside.specs.declared.status.Status.TheVariants as status
+use Rattle.ssz_proof.specs.Calculation.{PairOf}
+use Rattle.ssz_schema.specs.Unfolding.{Types}
+use Rattle.ssz_script.specs.Texts.{reply_line}
+use Rattle.ssz_machine.specs.declared.place.Place.{Place}
+use Rattle.ssz_machine.specs.Machine.{Line, Turn, step, reply_of, state_of, is_refused}
+use Rattle.ssz_machine.specs.Plays.{Event, says, front, play, shown, shown_all}
+use Rattle.ssz_machine.specs.Runs.{IsUnderWay}
+use Rattle.ssz_machine.proofs.UnderWay.{under_way_line}
+use Rattle.ssz_machine.proofs.Endings.{ends_without_memory, ends_unread, ends_torn_file, ends_torn_line, ends_ahead}
+use Rattle.ssz_engine.specs.Content.{Content, rules_of}
+use Rattle.ssz_engine.specs.Steps.{Keeps, SavesPart, is_refusal}
+use Rattle.ssz_engine.specs.Scripts.{Scene, files_reached}
+use Rattle.ssz_engine.specs.Points.{Course, Comes, IsCutShort, Pays, turns_of}
+use Rattle.ssz_engine.specs.Lines.{Makes, Missed}
+use Rattle.ssz_engine.specs.declared.outcome.Outcome.{Outcome}
+use Rattle.ssz_engine.proofs.Paying.{pays_step}
+use Rattle.ssz_engine.proofs.Reaching.{reached_at}
+use Rattle.ssz_engine.proofs.Settling.{pays_nothing, settled}
+
+-- the rules stay where types and limit do
+pub same_rules : (pair_of : PairOf) (old new : Content) → Keeps old new
+    → rules_of pair_of new ≡ rules_of pair_of old
+same_rules pair_of old new keeps =
+    ap₂ (λ (types : Types) (most : ℕ). rules_of pair_of (record old { types = types; most = most }))
+    keeps.types keeps.most
+
+any-append : (done : List Turn) (turn : Turn) (before was : Bool)
+    → before ≡ list_any is_refused done → was ≡ is_refused turn
+    → (was || before) ≡ list_any is_refused (done ++ turn ∷ [])
+any-append done turn before was old new = rw (old, new) (sides done)
+  where
+    swap : (a b : Bool) → (a || b) ≡ (b || (a || false))
+    swap true true = refl
+    swap true false = refl
+    swap false true = refl
+    swap false false = refl
+
+    under : (a b c d : Bool) → (b || c) ≡ d → (b || (a || c)) ≡ (a || d)
+    under true true c d same = refl
+    under true false c d same = refl
+    under false b c d same = same
+
+    sides : (done : List Turn)
+        → (is_refused turn || list_any is_refused done)
+        ≡ list_any is_refused (done ++ turn ∷ [])
+    sides [] = refl
+    sides (first ∷ done) =
+        under (is_refused first) (is_refused turn) (list_any is_refused done) _ (sides done)
+
+-- no pair was hashed beyond those that were to be hashed
+pub record Hashes (before after : Scene) : Type 0 where
+  pub rises : before.hashed ≤ after.hashed
+  pub most : after.hashed ≤ before.hashed + unhashed before.engine.arena
+
+no-read-write : (P : Type 0) → status.WriteFault ≡ status.ReadFault → P
+no-read-write P e = absurd cc
+
+no-read-memory : status.Memory ≡ status.ReadFault → ⊥
+no-read-memory e = cc
+
+module _ (pair_of : PairOf) (place : Place) (course : Course) where
+  -- the numbers of the lines to come, where no pair is hashed any more
+  abbrev last : Scene → List Event → List ℕ
+  last scene left = replicate (length left) (scene.hashed - course.base)
+
+  -- no memory between two lines
+  pub no_memory : (left : List Event) (refused : Bool) (before after : Scene)
+      → Comes pair_of place course left refused before → after.told ≡ before.told
+      → after.pieces ≡ before.pieces → Hashes before after
+      → IsCutShort place course status.Memory before after
+  no_memory left refused before after c told pieces hashes =
+      let u = c.at.under in
+      record {
+        numbers = u.numbers ++ last before left;
+        ends = ends_without_memory course.rules place course.events course.first c.done c.state left
+            u (last before left) course.pieces after.pieces after.told (pieces ∙ c.at.printed)
+            (told ∙ c.at.files);
+        now = before.hashed;
+        rest = unhashed before.engine.arena;
+        pays = settled course.rules place course.base before.hashed (unhashed before.engine.arena)
+            course.events course.first c.done c.state left course.hashed course.left u c.at.pays;
+        most = hashes.rises;
+        least = hashes.most;
+        broken = λ done. done;
+        reached = λ all. no-read-memory;
+      }
+
+  module _ (writer : ℕ) (line : Line) (left : List Event) (was : Bool) (before after : Scene)
+      (c : Comes pair_of place course (says writer line ∷ left) was before) where
+    abbrev number : ℕ
+    number = before.hashed - course.base
+
+    abbrev turn : Turn
+    turn = step course.rules place number c.state writer line
+
+    abbrev on : IsUnderWay course.rules place course.events course.first (c.done ++ turn ∷ [])
+        (state_of turn) left
+    on = under_way_line course.rules place course.events course.first c.done c.state writer line
+        left number c.at.under
+
+    abbrev numbers_before : List ℕ
+    numbers_before = on.numbers ++ last before left
+
+    -- paid for, as if nothing were hashed in this line
+    pays_before : Pays course.base (turns_of place course numbers_before) course.hashed course.left
+        before.hashed (unhashed before.engine.arena)
+    pays_before =
+        settled course.rules place course.base before.hashed (unhashed before.engine.arena)
+        course.events course.first (c.done ++ turn ∷ []) (state_of turn) left course.hashed
+        course.left on
+        (pays_step course.base c.done turn course.hashed course.left before.hashed
+        (unhashed before.engine.arena) before.hashed (unhashed before.engine.arena) c.at.pays
+        (pays_nothing course.rules place course.base before.hashed (unhashed before.engine.arena)
+        c.state writer line))
+
+    split : (numbers : List ℕ)
+        → turns_of place course (on.numbers ++ numbers)
+        ≡ c.done ++ turn ∷ play course.rules place numbers (state_of turn) left
+    split numbers =
+        on.turns numbers
+        ∙ append_assoc c.done (turn ∷ []) (play course.rules place numbers (state_of turn) left)
+
+    pub line_unread : Missed course.rules turn before after → after.pieces ≡ before.pieces
+        → Hashes before after → IsCutShort place course status.ReadFault before after
+    line_unread missed pieces hashes = record {
+      numbers = numbers_before;
+      ends = ends_unread course.rules place course.events course.first c.done c.state writer line
+          left number c.at.under (last before left) course.pieces after.pieces after.told
+          missed.reads (pieces ∙ c.at.printed) (missed.files ∙ c.at.files);
+      now = before.hashed;
+      rest = unhashed before.engine.arena;
+      pays = pays_before;
+      most = hashes.rises;
+      least = hashes.most;
+      broken = λ done. done;
+      reached = λ all e. missed.unread (reached_at before.readable course.rules c.done turn
+          (play course.rules place (last before left) (state_of turn) left) missed.name missed.reads
+          missed.named
+          (subst (λ turns. AllByRecursion before.readable (files_reached course.rules turns))
+          (split (last before left)) all));
+    }
+
+    pub line_unwritten : SavesPart turn before.told after.told → after.pieces ≡ before.pieces
+        → Hashes before after → IsCutShort place course status.WriteFault before after
+    line_unwritten part pieces hashes = record {
+      numbers = numbers_before;
+      ends = ends_torn_file course.rules place course.events course.first c.done c.state writer line
+          left number c.at.under (last before left) course.pieces after.pieces after.told part.0
+          part.1 (pieces ∙ c.at.printed)
+          (subst (λ (told : Option Files). Tears part.0.name part.0.bytes told after.told)
+          c.at.files part.2);
+      now = before.hashed;
+      rest = unhashed before.engine.arena;
+      pays = pays_before;
+      most = hashes.rises;
+      least = hashes.most;
+      broken = λ done. done;
+      reached = λ all. no-read-write ⊥;
+    }
+
+    pub line_memory : after.told ≡ before.told → after.pieces ≡ before.pieces → Hashes before after
+        → IsCutShort place course status.Memory before after
+    line_memory told pieces hashes =
+        no_memory (says writer line ∷ left) was before after c told pieces hashes
+
+    module _ (made : Outcome) (text piece : List ℕ)
+        (makes : Makes course.base turn made before after text piece)
+        (fronted : text ≡ front place writer) where
+      is_shown : piece ≡ shown place turn
+      is_shown = makes.line ∙ ap (λ t. t ++ reply_line (reply_of turn)) fronted
+
+      more_lines : shown_all place (c.done ++ turn ∷ []) ≡ shown_all place c.done ++ piece ∷ []
+      more_lines =
+          map-append (shown place) c.done (turn ∷ [])
+          ∙ ap (λ (p : List ℕ). shown_all place c.done ++ p ∷ []) (sym is_shown)
+
+      pays_after : Pays course.base (c.done ++ turn ∷ []) course.hashed course.left after.hashed
+          (unhashed after.engine.arena)
+      pays_after =
+          pays_step course.base c.done turn course.hashed course.left before.hashed
+          (unhashed before.engine.arena) after.hashed (unhashed after.engine.arena) c.at.pays
+          makes.pays
+
+      -- the line was done and printed
+      pub line_done : after.pieces ≡ told_append before.pieces (piece ∷ [])
+          → Keeps before.engine after.engine
+          → Comes pair_of place course left (is_refusal made || was) after
+      line_done printed keeps = record {
+        done = c.done ++ turn ∷ [];
+        state = state_of turn;
+        at = record {
+          under = on;
+          rules = same_rules pair_of before.engine after.engine keeps ∙ c.at.rules;
+          base = keeps.base ∙ c.at.base;
+          versions = makes.versions;
+          files = makes.files;
+          printed = printed ∙ ap (λ (t : Told). told_append t (piece ∷ [])) c.at.printed
+              ∙ told_append-twice course.pieces (shown_all place c.done) (piece ∷ [])
+              ∙ ap (told_append course.pieces) (sym more_lines);
+          answer = any-append c.done turn was (is_refusal made) c.at.answer makes.outcome;
+          pays = pays_after;
+        };
+      }
+
+      abbrev numbers_after : List ℕ
+      numbers_after = on.numbers ++ last after left
+
+      pays_settled : Pays course.base (turns_of place course numbers_after) course.hashed
+          course.left after.hashed (unhashed after.engine.arena)
+      pays_settled =
+          settled course.rules place course.base after.hashed (unhashed after.engine.arena)
+          course.events course.first (c.done ++ turn ∷ []) (state_of turn) left course.hashed
+          course.left on pays_after
+
+      -- it was done, and printed in part
+      pub line_cut : (count : ℕ) → after.pieces ≡ told_append before.pieces (take count piece ∷ [])
+          → IsCutShort place course status.WriteFault before after
+      line_cut count printed = record {
+        numbers = numbers_after;
+        ends = ends_torn_line course.rules place course.events course.first c.done c.state writer
+            line left number c.at.under (last after left) course.pieces after.pieces after.told
+            count
+            (printed ∙ ap (λ (t : Told). told_append t (take count piece ∷ [])) c.at.printed
+            ∙ told_append-twice course.pieces (shown_all place c.done) (take count piece ∷ [])
+            ∙ ap (λ p. told_append course.pieces (shown_all place c.done ++ take count p ∷ []))
+            is_shown)
+            makes.files;
+        now = after.hashed;
+        rest = unhashed after.engine.arena;
+        pays = pays_settled;
+        most = omega arith;
+        least = omega arith;
+        broken = λ done. done;
+        reached = λ all. no-read-write ⊥;
+      }
+
+      -- it was done, and there was no memory to print it
+      pub line_ahead : after.pieces ≡ before.pieces
+          → IsCutShort place course status.Memory before after
+      line_ahead same = record {
+        numbers = numbers_after;
+        ends = ends_ahead course.rules place course.events course.first c.done c.state writer line
+            left number c.at.under (last after left) course.pieces after.pieces after.told
+            (same ∙ c.at.printed) makes.files;
+        now = after.hashed;
+        rest = unhashed after.engine.arena;
+        pays = pays_settled;
+        most = omega arith;
+        least = omega arith;
+        broken = λ done. done;
+        reached = λ all. no-read-memory;
+      }

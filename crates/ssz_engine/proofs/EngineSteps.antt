@@ -1,0 +1,163 @@
+-- What a step of the engine does, as a line of a run.
+use Rattle.std.proofs.Common.{ℕ, ◌+◌, ◌-◌, ◌≤◌, ◌≡◌, Bool, true, false, List, [], Option, Some, None, refl, sym, ap, ◌∙◌, subst}
+use Rattle.std.specs.Prelude.{Result, Ok, Err, IfOk, IfErr, is_some, ◌≢◌}
+use Rattle.std.specs.List.{AllByRecursion}
+use Rattle.ssz_arena.specs.Content.{unhashed}
+use Rattle.ssz_outside.specs.Content.{Content as Files}
+use Rattle.ssz_proof.specs.Calculation.{PairOf}
+use Rattle.ssz_script.specs.declared.statement.Statement.{Statement}
+use Rattle.ssz_script.specs.declared.statement.Statement.TheVariants.{Load}
+use Rattle.ssz_machine.specs.declared.place.Place.{Place}
+use Rattle.ssz_machine.specs.State.{Name, State, Versions}
+use Rattle.ssz_machine.specs.Rules.{Row, Rules}
+use Rattle.ssz_machine.specs.Machine.{Turn, step, state_of, charge_of, is_refused_row, reads}
+use Rattle.ssz_machine.specs.Counts.{asks_root, hashes_row}
+use Rattle.ssz_engine.specs.Content.{rules_of}
+use Rattle.ssz_engine.specs.Outside.{Holds}
+use Rattle.ssz_engine.specs.Steps.{DoesStep, Leaves, SavesPart, Stops, file_read, is_refusal, turn_at}
+use Rattle.ssz_engine.specs.Scripts.{Scene, file_named, name_before}
+use Rattle.ssz_engine.specs.Lines.{DoesLine}
+use Rattle.ssz_engine.specs.declared.outcome.Outcome.{Outcome}
+use Rattle.ssz_engine.specs.declared.outcome.Outcome.TheVariants.{Accepted, Refused}
+use Rattle.ssz_engine.specs.declared.fault.EngineFault.{EngineFault}
+use Rattle.ssz_engine.specs.declared.fault.EngineFault.TheVariants.{Read, Write, Memory}
+use Rattle.ssz_engine.proofs.Replies.{said_number}
+
+not-both : false ≡ true → ⊥
+not-both e = cc
+
+-- files that told go on telling
+stays_told : (old new : Option Files) (f g : Files) → is_some new ≡ is_some old → old ≡ Some f
+    → Holds new g → new ≡ Some g
+stays_told old None f g same is holds = absurd (not-both (same ∙ ap is_some is))
+stays_told old (Some h) f g same is holds = ap Some holds
+
+-- what they hold is what they tell
+holds_is : (told : Option Files) (f g : Files) → told ≡ Some f → Holds told g → g ≡ f
+holds_is told f g is holds = sym (subst (λ t. Holds t g) is holds)
+
+-- a step that may hash nothing hashed nothing
+quiet : (P : Type 0) (row : Row) (asks : Bool) (made : Outcome)
+    → is_refusal made ≡ is_refused_row row → hashes_row asks row ≡ false
+    → (asks ≡ false → P) → (made ≡ Refused → P) → P
+quiet P (Ok effect) asks made same none still refused = still none
+quiet P (Err refusal) asks Accepted same none still refused = absurd (not-both same)
+quiet P (Err refusal) asks Refused same none still refused = refused refl
+
+-- a statement that reads names a file
+record Names (statement : Statement) : Type 0 where
+  name : Name
+  named : file_named (Some statement) ≡ Some name
+
+names : (rules : Rules) (versions : Versions) (statement : Statement)
+    → reads rules versions (Some statement) ≡ true → Names statement
+names rules versions (Load v t file) is = record { name = file; named = refl }
+names rules versions other is = absurd (not-both is)
+
+module _ (pair_of : PairOf) (place : Place) (writer line : ℕ) (statement : Statement)
+    (before after : Scene) (text more : List ℕ) where
+  abbrev number : ℕ
+  number = before.hashed - before.engine.base
+
+  abbrev turn_of : State → Turn
+  turn_of state =
+      step (rules_of pair_of before.engine) place number state writer (line, Some statement)
+
+  -- the turn over what the files hold is the turn of the state
+  at_files : (P : Turn → Type 0) (state : State) (files : Files) → before.told ≡ Some state.files
+      → Holds before.told files
+      → P (turn_at pair_of before.engine place number writer line statement state.versions files)
+      → P (turn_of state)
+  at_files P state files told tells is =
+      subst (λ f. P (turn_at pair_of before.engine place number writer line statement state.versions
+      f)) (holds_is before.told state.files files told tells) is
+
+  -- it was done
+  step_makes : (made : Outcome)
+      → DoesStep pair_of place writer line statement before.engine after.engine before.hashed
+      after.hashed before.told after.told text more made
+      → is_some after.told ≡ is_some before.told → before.hashed ≤ after.hashed
+      → (asks_root (Some statement) ≡ false → after.hashed ≡ before.hashed)
+      → (made ≡ Refused → after.hashed ≡ before.hashed)
+      → DoesLine pair_of place writer (line, Some statement) (Ok made) before after text more
+  step_makes made does same rises still refused state stands told =
+      let leaves : Leaves (turn_of state) made after.engine after.told text more =
+      at_files (λ turn. Leaves turn made after.engine after.told text more) state does.files told
+      does.tells (does.leaves state.versions stands) in
+      let spends : after.hashed + unhashed after.engine.arena
+      ≤ before.hashed + unhashed before.engine.arena + charge_of (turn_of state) =
+      at_files (λ turn. after.hashed + unhashed after.engine.arena
+      ≤ before.hashed + unhashed before.engine.arena + charge_of turn) state does.files told
+      does.tells (does.spends state.versions stands) in
+      record {
+        outcome = leaves.outcome;
+        line = leaves.text;
+        versions = leaves.versions;
+        files = stays_told before.told after.told state.files (state_of (turn_of state)).files same
+            told leaves.files;
+        pays = record {
+          rises = rises;
+          stays = λ none. quiet (after.hashed ≡ before.hashed) (turn_of state).row
+              (asks_root (Some statement)) made leaves.outcome none still refused;
+          paid = spends;
+          said = said_number (rules_of pair_of before.engine) place number state writer
+              (line, Some statement);
+        };
+      }
+
+  -- it was not done
+  step_stops : (fault : EngineFault)
+      → Stops fault pair_of place writer line number statement before.engine before.told after.told
+      → ((name : Name) → file_read statement ≡ Some name → before.readable name → fault ≢ Read)
+      → DoesLine pair_of place writer (line, Some statement) (Err fault) before after text more
+  step_stops Read stops fails state stands told =
+      let asks = stops.1 (state.versions writer) (stands.each writer) in
+      let file = names (rules_of pair_of before.engine) (state.versions writer) statement asks in
+      record {
+        reads = asks;
+        files = stops.0;
+        name = file.name;
+        named = file.named;
+        unread = λ readable. fails file.name file.named readable refl;
+      }
+  step_stops Write stops fails state stands told =
+      at_files (λ turn. SavesPart turn before.told after.told) state stops.files told stops.tells
+      (stops.part state.versions stands)
+  step_stops Memory stops fails state stands told = stops
+
+  -- a step is a line
+  pub step_does : (result : Result Outcome EngineFault)
+      → IfOk result (DoesStep pair_of place writer line statement before.engine after.engine
+      before.hashed after.hashed before.told after.told text more)
+      → IfErr result (λ fault. Stops fault pair_of place writer line number statement before.engine
+      before.told after.told)
+      → is_some after.told ≡ is_some before.told → before.hashed ≤ after.hashed
+      → (asks_root (Some statement) ≡ false → after.hashed ≡ before.hashed)
+      → IfOk result (λ made. made ≡ Refused → after.hashed ≡ before.hashed)
+      → ((name : Name) → file_read statement ≡ Some name → before.readable name
+      → result ≢ Err Read)
+      → DoesLine pair_of place writer (line, Some statement) result before after text more
+  step_does (Ok made) does stops same rises still refused fails =
+      step_makes made does same rises still refused
+  step_does (Err fault) does stops same rises still refused fails =
+      step_stops fault stops (λ name named readable e. fails name named readable (ap Err e))
+
+-- what is so of two hashers that are the same is so of their counts
+pub same_counts : {X : Type 0} (pairs : X → ℕ) (old new : X) (result : Result Outcome EngineFault)
+    → IfOk result (λ made. made ≡ Refused → new ≡ old)
+    → IfOk result (λ made. made ≡ Refused → pairs new ≡ pairs old)
+same_counts pairs old new (Ok made) same = λ refused. ap pairs (same refused)
+same_counts pairs old new (Err fault) same = tt
+
+-- a read fails only of a file that is named and cannot be read
+pub reads_named : {T : Type 0} (readable : Name → Type 0) (statement : Statement)
+    (result : Result T EngineFault)
+    → (file_read statement ≡ None → result ≢ Err Read)
+    → ((name : Name) → file_read statement ≡ Some name → readable name → result ≢ Err Read)
+    → AllByRecursion readable (name_before (file_named (Some statement)) []) → result ≢ Err Read
+reads_named readable statement result none some all = by (file_read statement) refl all
+  where
+    by : (o : Option Name) → file_read statement ≡ o → AllByRecursion readable (name_before o [])
+        → result ≢ Err Read
+    by None is all = none is
+    by (Some name) is all = some name is all.0

@@ -1,0 +1,158 @@
+-- A whole script.
+use Rattle.std.proofs.Common.{ℕ, ◌-◌, ◌≡◌, ◌++◌, Bool, true, false, List, [], Some, None, refl, sym, ap, subst, arith}
+use Rattle.std.specs.Prelude.{Ok, Err, ◌≢◌}
+use Rattle.std.specs.List.{AllByRecursion}
+use Rattle.std.proofs.lemmas.List.{append-nil}
+use Rattle.ssz_arena.specs.Content.{unhashed}
+use Rattle.ssz_outside.specs.Job.{Ends}
+use Rattle.ssz_outside.specs.Pieces.{Told, told_append}
+use Rattle.ssz_outside.specs.declared.status.Status.{Status}
+use Rattle.ssz_outside.specs.declared.status.Status.TheVariants as status
+use Rattle.ssz_proof.specs.Calculation.{PairOf}
+use Rattle.ssz_script.specs.Lines.{statements_in}
+use Rattle.ssz_machine.specs.declared.place.Place.{Place}
+use Rattle.ssz_machine.specs.declared.place.Place.TheVariants.{Run}
+use Rattle.ssz_machine.specs.State.{State}
+use Rattle.ssz_machine.specs.Machine.{Turn}
+use Rattle.ssz_machine.specs.Plays.{Event, all_of}
+use Rattle.ssz_machine.specs.Counts.{AreCounts}
+use Rattle.ssz_machine.specs.Runs.{job_from}
+use Rattle.ssz_machine.proofs.UnderWay.{under_way_all, under_way_begins}
+use Rattle.ssz_machine.proofs.Endings.{ends_done}
+use Rattle.ssz_engine.specs.Content.{rules_of}
+use Rattle.ssz_engine.specs.Standing.{StandsFor}
+use Rattle.ssz_engine.specs.Scripts.{EndsRun, EndsScript, Scene}
+use Rattle.ssz_engine.specs.Points.{Comes, Course, Goes, IsCutShort, Pays, finished, turns_of}
+use Rattle.ssz_engine.proofs.Paying.{pays_counts, pays_total}
+use Rattle.ssz_engine.proofs.Reaching.{same_files}
+
+told_append-none : (told : Told) → told ≡ told_append told []
+told_append-none None = refl
+told_append-none (Some taken) = ap Some (sym (append-nil taken))
+
+-- the numbers of steps that were paid for from a fresh engine on
+fresh_counts : (base : ℕ) (turns : List Turn) (a b c d : ℕ) → base ≡ a → b ≡ 0
+    → Pays base turns a b c d → AreCounts turns (c - a)
+fresh_counts base turns a b c d start none pays =
+    subst (λ n. AreCounts turns (c - n)) start
+    (pays_counts base turns b c d (subst (λ n. Pays base turns n b c d) (sym start) pays) none)
+
+-- a run that was done ended with no fault
+finished_no_fault : (refused : Bool) → finished refused ≢ status.ReadFault
+finished_no_fault true e = cc
+finished_no_fault false e = cc
+
+module _ (pair_of : PairOf) (place : Place) (events : List Event) (before after : Scene)
+    (first : State) where
+  abbrev course : Course
+  course = record {
+    rules = rules_of pair_of before.engine;
+    events = events;
+    first = first;
+    base = before.engine.base;
+    hashed = before.hashed;
+    left = unhashed before.engine.arena;
+    pieces = before.pieces;
+  }
+
+  -- at the start all its lines are left
+  start : StandsFor before.engine first.versions → before.told ≡ Some first.files
+      → Comes pair_of place course (events ++ []) false before
+  start versions files =
+      subst (λ (left : List Event). Comes pair_of place course left false before)
+      (sym (append-nil events)) (record {
+        done = [];
+        state = first;
+        at = record {
+          under = under_way_begins course.rules place events first;
+          rules = refl;
+          base = refl;
+          versions = versions;
+          files = files;
+          printed = told_append-none before.pieces;
+          answer = refl;
+          pays = (refl, refl);
+        };
+      })
+
+  -- all were done
+  run_done : (refused : Bool) → Comes pair_of place course [] refused after
+      → EndsRun course.rules place events first (finished refused) before after
+  run_done refused c =
+      let u = c.at.under in
+      let numbers = u.numbers ++ [] in
+      let every : turns_of place course numbers ≡ c.done =
+      under_way_all course.rules place events first c.done c.state u in
+      let pays : Pays course.base (turns_of place course numbers) course.hashed course.left
+      after.hashed (unhashed after.engine.arena) =
+      subst (λ turns. Pays course.base turns course.hashed course.left after.hashed
+      (unhashed after.engine.arena)) (sym every) c.at.pays in
+      let total = pays_total course.base (turns_of place course numbers) course.hashed course.left
+      after.hashed (unhashed after.engine.arena) pays in
+      record {
+        numbers = numbers;
+        ends = subst (λ (r : Bool). Ends (finished r)
+            (job_from course.rules place events first numbers) before.pieces after.pieces
+            after.told) (sym c.at.answer)
+            (ends_done course.rules place events first c.done c.state u before.pieces after.pieces
+            after.told c.at.printed c.at.files);
+        paid = omega (arith, total);
+        counts = λ fresh. record {
+          total = after.hashed - before.hashed;
+          most = omega arith;
+          whole = λ done. refl;
+          counts = fresh_counts course.base (turns_of place course numbers) course.hashed
+              course.left after.hashed (unhashed after.engine.arena) fresh.base fresh.left pays;
+        };
+        reached = λ others all. finished_no_fault refused;
+        through = λ done. record {
+          paid = total;
+          stands = subst (λ (s : State). StandsFor after.engine s.versions) (sym (u.final []))
+              c.at.versions;
+        };
+      }
+
+  -- or the run ended before
+  run_stopped : (ended : Status) → IsCutShort place course ended before after
+      → EndsRun course.rules place events first ended before after
+  run_stopped ended cut =
+      let turns = turns_of place course cut.numbers in
+      let total = pays_total course.base turns course.hashed course.left cut.now cut.rest
+      cut.pays in
+      record {
+        numbers = cut.numbers;
+        ends = cut.ends;
+        paid = let least = cut.least in omega (arith, total);
+        counts = λ fresh. record {
+          total = cut.now - before.hashed;
+          most = let most = cut.most in omega arith;
+          whole = λ done. absurd (cut.broken done);
+          counts = fresh_counts course.base turns course.hashed course.left cut.now cut.rest
+              fresh.base fresh.left cut.pays;
+        };
+        reached = λ others all. cut.reached
+            (subst (λ names. AllByRecursion before.readable names)
+            (same_files course.rules place events first others cut.numbers) all);
+        through = λ done. absurd (cut.broken done);
+      }
+
+module _ (pair_of : PairOf) (script : List ℕ) (before after : Scene) (refused : Bool) where
+  abbrev events : List Event
+  events = all_of 0 (statements_in script)
+
+  -- all lines of a script were done
+  pub script_done : Goes pair_of Run events (Ok tt) false refused before after
+      → EndsScript pair_of script (finished refused) before after
+  script_done goes first versions files =
+      run_done pair_of Run events before after first refused
+      (goes (course pair_of Run events before after first) []
+      (start pair_of Run events before after first versions files))
+
+  -- or a fault or want of memory ended it
+  pub script_stopped : (ended : Status)
+      → Goes pair_of Run events (Err ended) false refused before after
+      → EndsScript pair_of script ended before after
+  script_stopped ended goes first versions files =
+      run_stopped pair_of Run events before after first ended
+      (goes (course pair_of Run events before after first) []
+      (start pair_of Run events before after first versions files))

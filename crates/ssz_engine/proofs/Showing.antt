@@ -1,0 +1,229 @@
+-- Encodings that are shown.
+use Rattle.std.proofs.Common.{◌≡◌, ◌≤◌, ◌<◌, ◌∙◌, ℕ, Bool, true, false, List, [], Option, Some, None, Ok, Err, length, refl, sym, ap, subst}
+use Rattle.std.specs.Prelude.{nat_lt}
+use Rattle.std.proofs.lemmas.Option.{same_Some}
+use Rattle.ssz_chunk.specs.Tree.{Tree}
+use Rattle.ssz_chunk.specs.Index.{at}
+use Rattle.ssz_schema.specs.declared.format.Format.{Format}
+use Rattle.ssz_schema.specs.Types.{SszType}
+use Rattle.ssz_schema.specs.Indices.{Spot}
+use Rattle.ssz_schema.specs.Legal.{IsLegal}
+use Rattle.ssz_schema.specs.Paths.{Path, path_type}
+use Rattle.ssz_schema.specs.Unfolding.{Types, type_of}
+use Rattle.ssz_value.specs.Encoding.{enc}
+use Rattle.ssz_value.specs.Parts.{part}
+use Rattle.ssz_value.specs.Values.{SszValue, Fits}
+use Rattle.ssz_value.specs.declared.path_fault.PathFault.{PathFault}
+use Rattle.ssz_value.specs.declared.path_fault.PathFault.TheVariants as path_fault
+use Rattle.ssz_arena.specs.declared.node.NodeId.{NodeId}
+use Rattle.ssz_arena.specs.Content.{Content as Nodes, tree_of}
+use Rattle.ssz_gindex.proofs.HelperNodes.{some_from}
+use Rattle.ssz_places.specs.PlaceLaws.{IsTreeOf}
+use Rattle.ssz_places.specs.Spots.{HasPart}
+use Rattle.ssz_places.proofs.Theorems.{law_of_places}
+use Rattle.ssz_walk.specs.declared.place.Place.{Place}
+use Rattle.ssz_walk.specs.Found.{IsFound, IsLost, spot_of}
+use Rattle.ssz_script.specs.declared.reply.Reply.TheVariants.{Bytes, Done}
+use Rattle.ssz_script.specs.declared.reply.TheConstants.Reply.{NO_VERSION, BAD_PATH, ABSENT, TOO_LONG}
+use Rattle.ssz_versions.specs.Content.{Held, held_at}
+use Rattle.ssz_machine.specs.declared.place.Place.TheVariants.{Run}
+use Rattle.ssz_machine.specs.State.{Name, Version, Versions, version_of}
+use Rattle.ssz_machine.specs.Rules.{Rules, Outcome, Row, ◌>>=◌, ◌>>◌, coded, need, refuse, says}
+use Rattle.ssz_machine.specs.Asking.{bytes, save}
+use Rattle.ssz_engine.specs.Content.{Content}
+use Rattle.ssz_engine.specs.Standing.{IsVersion, Match}
+use Rattle.ssz_engine.specs.Shown.{path_code, shown, Shows}
+use Rattle.ssz_engine.proofs.Entries.{some_held}
+use Rattle.ssz_engine.proofs.Brought.{below-true, free-there, not-below}
+
+-- a version is there where its entry is
+pub record IsHeld (types : Types) (arena : Nodes) (held : Held) (there : Option Version)
+    : Type 0 where
+  pub version : Version
+  pub is : there ≡ Some version
+  pub stands : IsVersion types arena held version
+
+pub held-there : (types : Types) (arena : Nodes) (held : Held) (entry : Option Held)
+    (there : Option Version) → entry ≡ Some held → Match types arena entry there
+    → IsHeld types arena held there
+held-there types arena held None there e is = absurd (none-held held e)
+  where
+    none-held : (held : Held) → None ≡ Some held → ⊥
+    none-held held e = cc
+held-there types arena held (Some other) None e is = absurd is
+held-there types arena held (Some other) (Some version) e is = record {
+  version = version;
+  is = refl;
+  stands = subst (λ (h : Held). IsVersion types arena h version) (some_held other held e) is;
+}
+
+-- the node of a version has the tree of its value
+pub tree-stands : (types : Types) (arena : Nodes) (held : Held) (version : Version)
+    → IsVersion types arena held version
+    → IsTreeOf (type_of types held.0) version.value (tree_of arena held.1)
+tree-stands types arena held version is =
+    subst (λ (t : SszType). IsTreeOf t version.value (tree_of arena held.1)) (sym is.type)
+    (record { fits = is.fits; is = is.tree })
+
+-- what is shown of a value
+abbrev pub seen : ℕ → SszType → SszValue → Path → Outcome (List ℕ)
+seen most t x path = need BAD_PATH (path_type t path)
+    >>= (λ type. need ABSENT (part t x path)
+    >>= (λ value. refuse TOO_LONG (nat_lt most (length (enc type value))) >> Ok (enc type value)))
+
+-- the part at a path that leads to a place
+pub record IsThere (t : SszType) (x : SszValue) (path : Path) (u : SszType) (spot : Spot)
+    (node : Tree) : Type 0 where
+  pub value : SszValue
+  pub is : part t x path ≡ Some value
+  pub fits : Fits u value
+  pub has : HasPart spot u value node
+
+pub is-there : (format : Format) (types : Types) (arena : Nodes) (id : ℕ) (node : NodeId)
+    (path : Path) (place : Place) (x : SszValue) → IsLegal format (type_of types id)
+    → IsFound types arena id node path place
+    → IsTreeOf (type_of types id) x (tree_of arena node)
+    → IsThere (type_of types id) x path (type_of types place.id) (spot_of place.spot)
+    (tree_of arena place.node)
+is-there format types arena id node path place x legal found of =
+    let t = type_of types id in
+    let u = type_of types place.id in
+    let w = some_from (part t x path) (found.present x of) in
+    let n = law_of_places format t x path u w.0 place.index (spot_of place.spot)
+    (record { legal = legal; fits = of.fits })
+    (record {
+      type_at = found.led.type_at;
+      value = w.1;
+      index = found.led.index_at;
+      spot = found.led.spot_at;
+    }) in
+    let same : n.0 ≡ tree_of arena place.node = same_Some n.0 (tree_of arena place.node)
+    (sym n.1.found ∙ ap (λ o. at o place.index) (sym of.is) ∙ found.led.tree_at) in
+    record {
+      value = w.0;
+      is = w.1;
+      fits = n.1.value.fits;
+      has = subst (HasPart (spot_of place.spot) u w.0) same n.1.has;
+    }
+
+-- what is shown of a part that is there
+
+seen-part : (most : ℕ) (t : SszType) (x : SszValue) (path : Path) (u : SszType) (w : SszValue)
+    → path_type t path ≡ Some u → part t x path ≡ Some w
+    → seen most t x path ≡ (refuse TOO_LONG (nat_lt most (length (enc u w))) >> Ok (enc u w))
+seen-part most t x path u w typed there =
+    ap (λ (o : Option SszType). need BAD_PATH o >>= (λ type. need ABSENT (part t x path)
+    >>= (λ value. refuse TOO_LONG (nat_lt most (length (enc type value)))
+    >> Ok (enc type value)))) typed
+    ∙ ap (λ (o : Option SszValue). need ABSENT o
+    >>= (λ value. refuse TOO_LONG (nat_lt most (length (enc u value))) >> Ok (enc u value))) there
+
+pub seen-short : (most : ℕ) (t : SszType) (x : SszValue) (path : Path) (u : SszType) (w : SszValue)
+    (text : List ℕ) → path_type t path ≡ Some u → part t x path ≡ Some w
+    → length (enc u w) ≤ most → text ≡ enc u w → seen most t x path ≡ Ok text
+seen-short most t x path u w text typed there few is =
+    seen-part most t x path u w typed there
+    ∙ ap (λ b. refuse TOO_LONG b >> Ok (enc u w)) (not-below most (length (enc u w)) few)
+    ∙ ap Ok (sym is)
+
+pub seen-long : (most : ℕ) (t : SszType) (x : SszValue) (path : Path) (u : SszType) (w : SszValue)
+    → path_type t path ≡ Some u → part t x path ≡ Some w → most < length (enc u w)
+    → seen most t x path ≡ Err (coded TOO_LONG)
+seen-long most t x path u w typed there long =
+    seen-part most t x path u w typed there
+    ∙ ap (λ b. refuse TOO_LONG b >> Ok (enc u w)) (below-true most (length (enc u w)) long)
+
+-- of a path that leads to no part
+pub seen-lost : (most : ℕ) (types : Types) (arena : Nodes) (id : ℕ) (node : NodeId) (path : Path)
+    (fault : PathFault) (x : SszValue) → IsLost types arena id node path fault
+    → IsTreeOf (type_of types id) x (tree_of arena node)
+    → seen most (type_of types id) x path ≡ Err (coded (path_code fault))
+seen-lost most types arena id node path path_fault.BadPath x lost of =
+    ap (λ (o : Option SszType). need BAD_PATH o
+    >>= (λ type. need ABSENT (part (type_of types id) x path)
+    >>= (λ value. refuse TOO_LONG (nat_lt most (length (enc type value)))
+    >> Ok (enc type value)))) lost
+seen-lost most types arena id node path path_fault.Absent x lost of =
+    let typed = some_from (path_type (type_of types id) path) lost.0 in
+    ap (λ (o : Option SszType). need BAD_PATH o
+    >>= (λ type. need ABSENT (part (type_of types id) x path)
+    >>= (λ value. refuse TOO_LONG (nat_lt most (length (enc type value)))
+    >> Ok (enc type value)))) typed.1
+    ∙ ap (λ (o : Option SszValue). need ABSENT o
+    >>= (λ value. refuse TOO_LONG (nat_lt most (length (enc typed.0 value)))
+    >> Ok (enc typed.0 value))) (lost.1 x of)
+
+-- what is shown of the value of an entry is shown of the version
+pub shows-held : (engine : Content) (writer : ℕ) (v : Name) (path : Path) (held : Held)
+    (answer : Outcome (List ℕ)) → held_at engine.entries writer v ≡ Some held
+    → ((x : SszValue) → IsTreeOf (type_of engine.types held.0) x (tree_of engine.arena held.1)
+    → seen engine.most (type_of engine.types held.0) x path ≡ answer)
+    → Shows engine writer v path answer
+shows-held engine writer v path held answer there is = λ versions stand.
+    let h = held-there engine.types engine.arena held _ _ there (stand.each v) in
+    ap (λ (o : Option Version). need NO_VERSION o
+    >>= (λ version. seen engine.most version.type version.value path)) h.is
+    ∙ ap (λ t. seen engine.most t h.version.value path) (sym h.stands.type)
+    ∙ is h.version.value (tree-stands engine.types engine.arena held h.version h.stands)
+
+-- no entry, no version
+pub shows-none : (engine : Content) (writer : ℕ) (v : Name) (path : Path)
+    → held_at engine.entries writer v ≡ None
+    → Shows engine writer v path (Err (coded NO_VERSION))
+shows-none engine writer v path none = λ versions stand.
+    ap (λ (o : Option Version). need NO_VERSION o
+    >>= (λ version. seen engine.most version.type version.value path))
+    (free-there engine.types engine.arena _ _ none (stand.each v))
+
+-- a row that shows it and goes on
+
+after-tests : (most : ℕ) (t : Option SszType) (x : Option SszValue) (next : List ℕ → Row)
+    → (need BAD_PATH t >>= (λ type. need ABSENT x
+    >>= (λ value. refuse TOO_LONG (nat_lt most (length (enc type value)))
+    >> next (enc type value))))
+    ≡ ((need BAD_PATH t >>= (λ type. need ABSENT x
+    >>= (λ value. refuse TOO_LONG (nat_lt most (length (enc type value)))
+    >> Ok (enc type value))))
+    >>= next)
+after-tests most None x next = refl
+after-tests most (Some type) None next = refl
+after-tests most (Some type) (Some value) next =
+    by (nat_lt most (length (enc type value))) (enc type value)
+  where
+    by : (long : Bool) (text : List ℕ)
+        → (refuse TOO_LONG long >> next text) ≡ ((refuse TOO_LONG long >> Ok text) >>= next)
+    by true text = refl
+    by false text = refl
+
+after-version : (most : ℕ) (there : Option Version) (path : Path) (next : List ℕ → Row)
+    → (need NO_VERSION there >>= (λ version. need BAD_PATH (path_type version.type path)
+    >>= (λ type. need ABSENT (part version.type version.value path)
+    >>= (λ value. refuse TOO_LONG (nat_lt most (length (enc type value)))
+    >> next (enc type value)))))
+    ≡ ((need NO_VERSION there >>= (λ version. seen most version.type version.value path)) >>= next)
+after-version most None path next = refl
+after-version most (Some version) path next =
+    after-tests most (path_type version.type path) (part version.type version.value path) next
+
+pub bytes-shown : (rules : Rules) (versions : Versions) (v : Name) (path : Path)
+    (answer : Outcome (List ℕ)) → shown rules.max_bytes versions v path ≡ answer
+    → bytes rules versions v path ≡ (answer >>= (λ text. says versions (Bytes text)))
+bytes-shown rules versions v path answer is =
+    after-version rules.max_bytes (version_of v versions) path (λ text. says versions (Bytes text))
+    ∙ ap (λ (o : Outcome (List ℕ)). o >>= (λ text. says versions (Bytes text))) is
+
+-- what a run saves into a file
+abbrev pub saves : Versions → Name → List ℕ → Row
+saves versions file text = Ok (record {
+  reply = Done;
+  versions = versions;
+  save = Some (record { name = file; bytes = text });
+  charge = 0;
+})
+
+pub save-shown : (rules : Rules) (versions : Versions) (v file : Name) (answer : Outcome (List ℕ))
+    → shown rules.max_bytes versions v [] ≡ answer
+    → save rules Run versions v file ≡ (answer >>= saves versions file)
+save-shown rules versions v file answer is =
+    after-version rules.max_bytes (version_of v versions) [] (saves versions file)
+    ∙ ap (λ (o : Outcome (List ℕ)). o >>= saves versions file) is

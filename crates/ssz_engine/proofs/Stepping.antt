@@ -1,0 +1,162 @@
+-- A decision that is carried out is a step.
+use Rattle.std.proofs.Common.{◌≡◌, ◌≤◌, ◌+◌, ◌-◌, ℕ, List, Option, Some, None, Result, Ok, Err, IfOk, IfErr, sym, ap, ◌∙◌, arith}
+use Rattle.ssz_outside.specs.Content.{Content as Files}
+use Rattle.ssz_arena.specs.Content.{Content as Nodes, todo, unhashed}
+use Rattle.ssz_proof.specs.Calculation.{PairOf}
+use Rattle.ssz_script.specs.declared.statement.Statement.{Statement}
+use Rattle.ssz_versions.specs.Content.{Entries, Held, held_at, with_held}
+use Rattle.ssz_machine.specs.declared.place.Place.{Place}
+use Rattle.ssz_machine.specs.State.{Name, Versions}
+use Rattle.ssz_machine.specs.Rules.{Row}
+use Rattle.ssz_machine.specs.Machine.{charge_in}
+use Rattle.ssz_machine.specs.Changes.{Touch, nothing, puts, takes, touch}
+use Rattle.ssz_engine.specs.Content.{Content, Grows, SameNodes}
+use Rattle.ssz_engine.specs.Decisions.{CanDo, Comes, IsOf}
+use Rattle.ssz_engine.specs.Steps.{Decides, DoesStep, Fails, IsCarriedOut, Stops}
+use Rattle.ssz_engine.specs.declared.decision.Decision.{Decision}
+use Rattle.ssz_engine.specs.declared.decision.Decision.TheVariants as decision
+use Rattle.ssz_engine.specs.declared.outcome.Outcome.{Outcome}
+use Rattle.ssz_engine.specs.declared.outcome.Outcome.TheVariants.{Accepted, Refused}
+use Rattle.ssz_engine.specs.declared.fault.EngineFault.{EngineFault}
+use Rattle.ssz_engine.specs.declared.fault.EngineFault.TheVariants.{Read, Write, Memory}
+use Rattle.ssz_engine.proofs.Entries.{held-there-now, some_held}
+use Rattle.ssz_engine.proofs.Leaving.{leaves}
+
+-- what is held under a name after it was put there
+put-there : (entries new : Entries) (writer : ℕ) (name : Name) (held is : Held)
+    → new ≡ with_held entries writer name held → held_at new writer name ≡ Some is → is ≡ held
+put-there entries new writer name held is put there =
+    some_held is held (sym there ∙ ap (λ (es : Entries). held_at es writer name) put
+    ∙ held-there-now entries writer name held)
+
+same-name : (a b : Name) → puts a ≡ puts b → a ≡ b
+same-name a b e = cc
+
+module _ (first mid new : Content) (grows : Grows first mid) (same : SameNodes mid new)
+    (before after : ℕ) (writer line : ℕ) (done : Outcome) (told_old told_new : Option Files)
+    (out_old out_new : List ℕ) where
+  -- an edit is paid for
+  edit-paid : (made : Decision) (versions : Versions) (row : Row) (does : Touch) (name : Name)
+      (was is : Held) → CanDo mid writer made → IsOf does made
+      → Comes first mid before after writer versions row made
+      → IsCarriedOut made writer line mid.entries new.entries done told_old told_new out_old
+      out_new
+      → does ≡ puts name → done ≡ Accepted
+      → held_at first.entries writer name ≡ Some was → held_at new.entries writer name ≡ Some is
+      → after + todo new.arena is.1 ≤ before + todo first.arena was.1 + charge_in row
+  edit-paid (decision.Refused code) versions row does name was is can of comes out does-put ok
+      there now
+      = absurd (not-both (sym out.outcome ∙ ok))
+    where
+      not-both : Refused ≡ Accepted → ⊥
+      not-both e = cc
+  edit-paid (decision.BadBytes f) versions row does name was is can of comes out does-put ok there
+      now
+      = absurd (not-both (sym out.outcome ∙ ok))
+    where
+      not-both : Refused ≡ Accepted → ⊥
+      not-both e = cc
+  edit-paid (decision.Said r) versions row does name was is can of comes out does-put ok there now
+      = absurd (not-both (sym of ∙ does-put))
+    where
+      not-both : nothing ≡ puts name → ⊥
+      not-both e = cc
+  edit-paid (decision.Made n id node) versions row does name was is can of comes out does-put ok
+      there now = absurd (not-both (sym can.0
+      ∙ ap (λ (m : Name). held_at mid.entries writer m) (same-name n.now name (sym of ∙ does-put))
+      ∙ ap (λ (es : Entries). held_at es writer name) grows.entries ∙ there))
+    where
+      not-both : None ≡ Some was → ⊥
+      not-both e = cc
+  edit-paid (decision.Edited n node) versions row does name was is can of comes out does-put ok
+      there now =
+      let e : n.now ≡ name = same-name n.now name (sym of ∙ does-put) in
+      let here : held_at first.entries writer n.now ≡ Some was
+      = ap (λ (m : Name). held_at first.entries writer m) e ∙ there in
+      let was-is : comes.held ≡ was = some_held comes.held was (sym comes.there ∙ here) in
+      let after-is : held_at new.entries writer n.now ≡ Some is
+      = ap (λ (m : Name). held_at new.entries writer m) e ∙ now in
+      let node-is : is ≡ (out.entries.0.0, node)
+      = put-there mid.entries new.entries writer n.now _ is out.entries.2 after-is in
+      let left : todo new.arena is.1 ≡ todo mid.arena node
+      = ap (λ (a : Nodes). todo a is.1) same.arena ∙ ap (λ (h : Held). todo mid.arena h.1) node-is
+      in
+      let right : todo first.arena comes.held.1 ≡ todo first.arena was.1
+      = ap (λ (h : Held). todo first.arena h.1) was-is in
+      let cost : charge_in row ≡ comes.charge = ap charge_in comes.row in
+      let paid = comes.todo in
+      omega arith
+  edit-paid (decision.Dropped n) versions row does name was is can of comes out does-put ok there
+      now = absurd (not-both (sym of ∙ does-put))
+    where
+      not-both : takes n.now ≡ puts name → ⊥
+      not-both e = cc
+  edit-paid (decision.Saved n bytes) versions row does name was is can of comes out does-put ok
+      there
+      now = absurd (not-both (sym of ∙ does-put))
+    where
+      not-both : nothing ≡ puts name → ⊥
+      not-both e = cc
+
+  module _ (pair_of : PairOf) (place : Place) (statement : Statement) where
+    pub does-step : (made : Decision)
+        → Decides pair_of place statement writer (before - first.base) told_old first mid before
+        after made
+        → IsCarriedOut made writer line mid.entries new.entries done told_old told_new out_old
+        out_new
+        → DoesStep pair_of place writer line statement first new before after told_old told_new
+        out_old out_new done
+    does-step made found out = record {
+      files = found.files;
+      tells = found.tells;
+      leaves = λ versions stands.
+          leaves first mid new grows same writer line (Some statement)
+          (record { versions = versions; files = found.files }) stands told_old told_new
+          found.tells out_old out_new done made _ before after
+          (found.answers.comes (versions writer) (stands.each writer)) out;
+      spends = λ versions stands.
+          let spent = found.answers.spends (versions writer) (stands.each writer) in
+          let e : unhashed new.arena ≡ unhashed mid.arena = ap unhashed same.arena in
+          omega arith;
+      edits = λ versions stands name was is does ok there now.
+          edit-paid made (versions writer) _ (touch statement) name was is found.answers.can
+          found.answers.of (found.answers.comes (versions writer) (stands.each writer)) out
+          does ok there now;
+    }
+
+    -- what is left where it was not carried out
+    pub stops : (made : Decision) (fault : EngineFault)
+        → Decides pair_of place statement writer (before - first.base) told_old first mid before
+        after made
+        → Fails fault made told_old told_new
+        → Stops fault pair_of place writer line (before - first.base) statement first told_old
+        told_new
+    stops made Read found fails = absurd fails
+    stops made Memory found fails = fails
+    stops (decision.Saved name bytes) Write found fails = record {
+      files = found.files;
+      tells = found.tells;
+      part = λ versions stands. (
+        record { name = name.now; bytes = bytes.items },
+        ap Rattle.ssz_machine.specs.Machine.save_in
+            (found.answers.comes (versions writer) (stands.each writer)),
+        fails,
+      );
+    }
+    stops (decision.Refused code) Write found fails = absurd fails
+    stops (decision.BadBytes fault) Write found fails = absurd fails
+    stops (decision.Said reply) Write found fails = absurd fails
+    stops (decision.Made name id node) Write found fails = absurd fails
+    stops (decision.Edited name node) Write found fails = absurd fails
+    stops (decision.Dropped name) Write found fails = absurd fails
+
+-- of results
+pub ok-of : {A E : Type 0} (P Q : A → Type 0) (r : Result A E) → ((x : A) → P x → Q x)
+    → IfOk r P → IfOk r Q
+ok-of P Q (Ok x) f h = f x h
+ok-of P Q (Err e) f h = h
+
+pub err-of : {A E : Type 0} (P Q : E → Type 0) (r : Result A E) → ((e : E) → P e → Q e)
+    → IfErr r P → IfErr r Q
+err-of P Q (Ok x) f h = h
+err-of P Q (Err e) f h = f e h

@@ -1,0 +1,51 @@
+use Rattle.std.proofs.Common.{◌≡◌, ◌∙◌, Some, sym, ap, subst}
+use Rattle.ssz_script.specs.declared.reply.Reply.TheVariants.{Len}
+use Rattle.ssz_versions.specs.Content.{Held, held_at}
+use Rattle.ssz_views.specs.Looking.{Looking, ForPart, type_seen}
+use Rattle.ssz_machine.specs.Asking.{len}
+use Rattle.ssz_machine.specs.Changes.{nothing}
+use Rattle.ssz_engine.specs.Content.{Content}
+use Rattle.ssz_engine.specs.Counted.{HasCount, HasNoCount}
+use Rattle.ssz_engine.specs.Decisions.{AnswersWith}
+use Rattle.ssz_engine.specs.declared.decision.Decision.TheVariants.{Said, Refused}
+use Rattle.ssz_engine.proofs.Brought.{over}
+use Rattle.ssz_engine.proofs.Numbers.{len-said, len-refused}
+use Rattle.ssz_engine.proofs.counting.len.Goals as goal
+
+pub returns-in-Ok : goal.returns-in-Ok
+returns-in-Ok g c =
+    let pair_of = g.H.PairHash.pair_of in
+    let w = c.args.writer.0 in
+    let v = c.args.v.now in
+    let path = c.args.path.now in
+    let held : Held = c.in-Some.held in
+    let seen : Content = over c.engine.inside.schema c.engine.inside.max
+    c.engine.inside.versions.entries c.engine.inside.base c.engine.inside.arena in
+    let there : held_at seen.entries w v ≡ Some held
+    = ap (λ n. held_at seen.entries w n) (sym c.as_name.ensures.text) ∙ sym c.get.ensures
+    ∙ c.in-Some.is in
+    subst (λ (s : Content). AnswersWith pair_of (λ rules versions. len versions v path) nothing w s
+    s
+    (Said (Len c.in-Ok.count))) c.engine.view_is
+    (len-said pair_of seen w v path held there c.in-Ok.count
+    (subst (λ (view : Looking). ForPart view (HasCount (type_seen view) path c.in-Ok.count))
+    c.new-view.ensures c.in-Ok.ensures.ok))
+
+pub returns-in-Err : goal.returns-in-Err
+returns-in-Err g c =
+    let pair_of = g.H.PairHash.pair_of in
+    let w = c.args.writer.0 in
+    let v = c.args.v.now in
+    let path = c.args.path.now in
+    let held : Held = c.in-Some.held in
+    let seen : Content = over c.engine.inside.schema c.engine.inside.max
+    c.engine.inside.versions.entries c.engine.inside.base c.engine.inside.arena in
+    let there : held_at seen.entries w v ≡ Some held
+    = ap (λ n. held_at seen.entries w n) (sym c.as_name.ensures.text) ∙ sym c.get.ensures
+    ∙ c.in-Some.is in
+    subst (λ (s : Content). AnswersWith pair_of (λ rules versions. len versions v path) nothing w s
+    s
+    (Refused c.in-Err.code)) c.engine.view_is
+    (len-refused pair_of seen w v path held there c.in-Err.code
+    (subst (λ (view : Looking). ForPart view (HasNoCount (type_seen view) path c.in-Err.code))
+    c.new-view.ensures c.in-Err.ensures.err))

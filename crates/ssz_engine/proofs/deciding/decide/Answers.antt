@@ -1,0 +1,52 @@
+use Rattle.std.proofs.Common.{◌≡◌, ◌-◌, sym, subst}
+use Rattle.ssz_engine.specs.Steps.{CanAsk}
+use Rattle.ssz_engine.specs.declared.fault.EngineFault.TheVariants.{Read, Write, Memory}
+use Rattle.ssz_engine.proofs.Found.{counts-none, decides-ok, loads-ok, memory-alone}
+use Rattle.ssz_engine.proofs.deciding.decide.Goals as goal
+
+no-read : Read ≡ Memory → ⊥
+no-read e = cc
+
+no-write : Write ≡ Memory → ⊥
+no-write e = cc
+
+pub returns-in_default-clause-decides : goal.returns-in_default-clause-decides
+returns-in_default-clause-decides g c =
+    decides-ok g.H.PairHash.pair_of c.args.place
+    (g.H.PairHash.pairs c.args.hasher.now - c.args.engine.now.base) c.args.writer.0
+    c.args.engine.now c.decide_alone.new.engine (g.H.PairHash.pairs c.args.hasher.now)
+    (g.H.PairHash.pairs c.decide_alone.new.hasher) c.args.statement.now
+    (g.F.Files.content c.args.files.now) c.decide_alone.result c.decide_alone.ensures.decides
+
+pub returns-in_default-clause-asked : goal.returns-in_default-clause-asked
+returns-in_default-clause-asked g c = λ e.
+    absurd (no-read (memory-alone c.decide_alone.result Read c.decide_alone.ensures.memory e))
+
+pub returns-in_default-clause-no_write : goal.returns-in_default-clause-no_write
+returns-in_default-clause-no_write g c = λ e.
+    no-write (memory-alone c.decide_alone.result Write c.decide_alone.ensures.memory e)
+
+pub returns-in_default-clause-fails : goal.returns-in_default-clause-fails
+returns-in_default-clause-fails g c = λ name is readable e.
+    no-read (memory-alone c.decide_alone.result Read c.decide_alone.ensures.memory e)
+
+pub returns-in_default-clause-asks : goal.returns-in_default-clause-asks
+returns-in_default-clause-asks g c = λ none e.
+    no-read (memory-alone c.decide_alone.result Read c.decide_alone.ensures.memory e)
+
+pub returns-in_default-clause-gets : goal.returns-in_default-clause-gets
+returns-in_default-clause-gets g c =
+    counts-none c.decide_alone.result _ c.decide_alone.ensures.memory
+
+pub returns-in-Load-clause-decides : goal.returns-in-Load-clause-decides
+returns-in-Load-clause-decides g c =
+    loads-ok g.H.PairHash.pair_of c.args.place
+    (g.H.PairHash.pairs c.args.hasher.now - c.args.engine.now.base) c.args.writer.0
+    c.args.engine.now c.load.new.engine (g.H.PairHash.pairs c.args.hasher.now)
+    (g.F.Files.content c.args.files.now) c.args.statement.now c.in-Load.v c.in-Load.t
+    c.in-Load.file c.load.result c.in-Load.is c.load.ensures.answers
+
+pub returns-in-Load-clause-asked : goal.returns-in-Load-clause-asked
+returns-in-Load-clause-asked g c = λ e.
+    subst (λ s. CanAsk g.H.PairHash.pair_of c.args.engine.now c.args.writer.0 s) (sym c.in-Load.is)
+    (c.load.ensures.asked e)

@@ -1,0 +1,220 @@
+use Rattle.std.proofs.Common.{◌-◌, IfOk, List, ℕ, Result, Ok, Err, subst}
+use Rattle.ssz_outside.specs.Content.{Content as Files}
+use Rattle.ssz_schema.specs.Paths.{Path}
+use Rattle.ssz_machine.specs.Making.{new, lit, list}
+use Rattle.ssz_machine.specs.Editing.{append, choose, pop, set}
+use Rattle.ssz_machine.specs.Asking.{bytes, gindex, len, prove, save}
+use Rattle.ssz_machine.specs.Changes.{nothing, puts}
+use Rattle.ssz_engine.specs.Decisions.{Answers, AnswersWith}
+use Rattle.ssz_engine.specs.declared.decision.Decision.{Decision}
+use Rattle.ssz_engine.specs.declared.fault.EngineFault.{EngineFault}
+use Rattle.ssz_engine.proofs.Found.{alone, alone-ok, with-ok}
+use Rattle.ssz_engine.proofs.deciding.decide_alone.Goals as goal
+
+pub returns-in-New-clause-decides : goal.returns-in-New-clause-decides
+returns-in-New-clause-decides g c =
+    alone-ok g.H.PairHash.pair_of c.args.place
+    (g.H.PairHash.pairs c.args.hasher.now - c.args.engine.now.base) c.args.writer.0
+    c.args.engine.now c.new.new.engine (g.H.PairHash.pairs c.args.hasher.now)
+    (g.H.PairHash.pairs c.args.hasher.now) c.args.statement.now _ c.new.result c.in-New.is
+    (with-ok g.H.PairHash.pair_of (λ rules versions. new rules versions c.in-New.v c.in-New.t)
+    (puts c.in-New.v) c.args.writer.0 c.args.engine.now c.new.new.engine
+    (g.H.PairHash.pairs c.args.hasher.now) c.new.result c.new.ensures.answers)
+
+pub returns-in-Lit-clause-decides : goal.returns-in-Lit-clause-decides
+returns-in-Lit-clause-decides g c =
+    alone-ok g.H.PairHash.pair_of c.args.place
+    (g.H.PairHash.pairs c.args.hasher.now - c.args.engine.now.base) c.args.writer.0
+    c.args.engine.now c.lit.new.engine (g.H.PairHash.pairs c.args.hasher.now)
+    (g.H.PairHash.pairs c.args.hasher.now) c.args.statement.now _ c.lit.result c.in-Lit.is
+    (with-ok g.H.PairHash.pair_of (λ rules versions. lit rules versions c.in-Lit.v c.in-Lit.t
+    c.in-Lit.literal)
+    (puts c.in-Lit.v) c.args.writer.0 c.args.engine.now c.lit.new.engine
+    (g.H.PairHash.pairs c.args.hasher.now) c.lit.result
+    (subst (λ (bytes : List ℕ). IfOk c.lit.result (AnswersWith g.H.PairHash.pair_of
+    (λ rules versions. lit rules versions c.in-Lit.v c.in-Lit.t bytes)
+    (puts c.in-Lit.v) c.args.writer.0 c.args.engine.now c.lit.new.engine))
+    c.as_slice.ensures.value c.lit.ensures.answers))
+
+pub returns-in-List-clause-decides : goal.returns-in-List-clause-decides
+returns-in-List-clause-decides g c =
+    alone-ok g.H.PairHash.pair_of c.args.place
+    (g.H.PairHash.pairs c.args.hasher.now - c.args.engine.now.base) c.args.writer.0
+    c.args.engine.now c.args.engine.now (g.H.PairHash.pairs c.args.hasher.now)
+    (g.H.PairHash.pairs c.args.hasher.now) c.args.statement.now _ c.list.result c.in-List.is
+    (with-ok g.H.PairHash.pair_of (λ rules versions. list versions) nothing c.args.writer.0
+    c.args.engine.now c.args.engine.now (g.H.PairHash.pairs c.args.hasher.now) c.list.result
+    c.list.ensures.answers)
+
+pub returns-in-Fork-clause-decides : goal.returns-in-Fork-clause-decides
+returns-in-Fork-clause-decides g c =
+    alone g.H.PairHash.pair_of c.args.place
+    (g.H.PairHash.pairs c.args.hasher.now - c.args.engine.now.base) c.args.writer.0
+    c.args.engine.now c.args.engine.now (g.H.PairHash.pairs c.args.hasher.now)
+    (g.H.PairHash.pairs c.args.hasher.now) c.args.statement.now _ _ c.in-Fork.is
+    (λ files. c.fork.ensures.answers (g.H.PairHash.pairs c.args.hasher.now))
+
+pub returns-in-Drop-clause-decides : goal.returns-in-Drop-clause-decides
+returns-in-Drop-clause-decides g c =
+    alone g.H.PairHash.pair_of c.args.place
+    (g.H.PairHash.pairs c.args.hasher.now - c.args.engine.now.base) c.args.writer.0
+    c.args.engine.now c.args.engine.now (g.H.PairHash.pairs c.args.hasher.now)
+    (g.H.PairHash.pairs c.args.hasher.now) c.args.statement.now _ _ c.in-Drop.is
+    (λ files. c.drop.ensures (g.H.PairHash.pairs c.args.hasher.now))
+
+pub returns-in-Hashes-clause-decides : goal.returns-in-Hashes-clause-decides
+returns-in-Hashes-clause-decides g c =
+    alone g.H.PairHash.pair_of c.args.place
+    (g.H.PairHash.pairs c.args.hasher.now - c.args.engine.now.base) c.args.writer.0
+    c.args.engine.now c.args.engine.now (g.H.PairHash.pairs c.args.hasher.now)
+    (g.H.PairHash.pairs c.args.hasher.now) c.args.statement.now _ _ c.in-Hashes.is
+    (λ files. c.hashes.ensures (g.H.PairHash.pairs c.args.hasher.now))
+
+pub returns-in-Root-clause-decides : goal.returns-in-Root-clause-decides
+returns-in-Root-clause-decides g c =
+    alone g.H.PairHash.pair_of c.args.place
+    (g.H.PairHash.pairs c.args.hasher.now - c.args.engine.now.base) c.args.writer.0
+    c.args.engine.now c.root.new.engine (g.H.PairHash.pairs c.args.hasher.now)
+    (g.H.PairHash.pairs c.root.new.hasher) c.args.statement.now _ _ c.in-Root.is
+    (λ files. c.root.ensures.answers)
+
+pub returns-in-Gindex-clause-decides : goal.returns-in-Gindex-clause-decides
+returns-in-Gindex-clause-decides g c =
+    alone g.H.PairHash.pair_of c.args.place
+    (g.H.PairHash.pairs c.args.hasher.now - c.args.engine.now.base) c.args.writer.0
+    c.args.engine.now c.args.engine.now (g.H.PairHash.pairs c.args.hasher.now)
+    (g.H.PairHash.pairs c.args.hasher.now) c.args.statement.now _ _ c.in-Gindex.is
+    (λ files. subst (λ path. Answers g.H.PairHash.pair_of
+    (λ rules versions. gindex rules versions c.in-Gindex.t path) nothing c.args.writer.0
+    c.args.engine.now c.args.engine.now (g.H.PairHash.pairs c.args.hasher.now)
+    (g.H.PairHash.pairs c.args.hasher.now) c.gindex.result)
+    c.as_slice-in-Gindex.ensures (c.gindex.ensures (g.H.PairHash.pairs c.args.hasher.now)))
+
+pub returns-in-Save-clause-decides : goal.returns-in-Save-clause-decides
+returns-in-Save-clause-decides g c =
+    alone-ok g.H.PairHash.pair_of c.args.place
+    (g.H.PairHash.pairs c.args.hasher.now - c.args.engine.now.base) c.args.writer.0
+    c.args.engine.now c.args.engine.now (g.H.PairHash.pairs c.args.hasher.now)
+    (g.H.PairHash.pairs c.args.hasher.now) c.args.statement.now _ c.save.result c.in-Save.is
+    (with-ok g.H.PairHash.pair_of
+    (λ rules versions. save rules c.args.place versions c.in-Save.v c.in-Save.file) nothing
+    c.args.writer.0 c.args.engine.now c.args.engine.now (g.H.PairHash.pairs c.args.hasher.now)
+    c.save.result c.save.ensures.answers)
+
+pub returns-in-Bytes-clause-decides : goal.returns-in-Bytes-clause-decides
+returns-in-Bytes-clause-decides g c =
+    alone-ok g.H.PairHash.pair_of c.args.place
+    (g.H.PairHash.pairs c.args.hasher.now - c.args.engine.now.base) c.args.writer.0
+    c.args.engine.now c.args.engine.now (g.H.PairHash.pairs c.args.hasher.now)
+    (g.H.PairHash.pairs c.args.hasher.now) c.args.statement.now _ c.bytes.result c.in-Bytes.is
+    (with-ok g.H.PairHash.pair_of
+    (λ rules versions. bytes rules versions c.in-Bytes.v c.in-Bytes.path) nothing
+    c.args.writer.0 c.args.engine.now c.args.engine.now (g.H.PairHash.pairs c.args.hasher.now)
+    c.bytes.result
+    (subst (λ (path : Path). IfOk c.bytes.result (AnswersWith g.H.PairHash.pair_of
+    (λ rules versions. bytes rules versions c.in-Bytes.v path) nothing c.args.writer.0
+    c.args.engine.now c.args.engine.now))
+    c.as_slice-in-Bytes.ensures c.bytes.ensures.answers))
+
+pub returns-in-Len-clause-decides : goal.returns-in-Len-clause-decides
+returns-in-Len-clause-decides g c =
+    alone g.H.PairHash.pair_of c.args.place
+    (g.H.PairHash.pairs c.args.hasher.now - c.args.engine.now.base) c.args.writer.0
+    c.args.engine.now c.args.engine.now (g.H.PairHash.pairs c.args.hasher.now)
+    (g.H.PairHash.pairs c.args.hasher.now) c.args.statement.now _ _ c.in-Len.is
+    (λ files. subst (λ (path : Path). Answers g.H.PairHash.pair_of
+    (λ rules versions. len versions c.in-Len.v path) nothing c.args.writer.0
+    c.args.engine.now c.args.engine.now (g.H.PairHash.pairs c.args.hasher.now)
+    (g.H.PairHash.pairs c.args.hasher.now) c.len.result)
+    c.as_slice-in-Len.ensures (c.len.ensures (g.H.PairHash.pairs c.args.hasher.now)))
+
+-- what is so, is so whatever the files hold
+whatever-files : (P : Decision → Type 0) (r : Result Decision EngineFault) → IfOk r P
+    → IfOk r (λ made. (files : Files) → P made)
+whatever-files P (Ok made) h = λ files. h
+whatever-files P (Err fault) h = h
+
+pub returns-in-Prove-clause-decides : goal.returns-in-Prove-clause-decides
+returns-in-Prove-clause-decides g c =
+    alone-ok g.H.PairHash.pair_of c.args.place
+    (g.H.PairHash.pairs c.args.hasher.now - c.args.engine.now.base) c.args.writer.0
+    c.args.engine.now c.prove.new.engine (g.H.PairHash.pairs c.args.hasher.now)
+    (g.H.PairHash.pairs c.prove.new.hasher) c.args.statement.now _ c.prove.result c.in-Prove.is
+    (whatever-files (Answers g.H.PairHash.pair_of
+    (λ rules versions. prove rules versions c.in-Prove.v c.in-Prove.indices) nothing
+    c.args.writer.0 c.args.engine.now c.prove.new.engine
+    (g.H.PairHash.pairs c.args.hasher.now) (g.H.PairHash.pairs c.prove.new.hasher))
+    c.prove.result c.prove.ensures.answers)
+
+pub returns-in-Set-clause-decides : goal.returns-in-Set-clause-decides
+returns-in-Set-clause-decides g c =
+    let old = c.args.engine.now in
+    let new = c.set.new.engine in
+    let pair_of = g.H.PairHash.pair_of in
+    let count = g.H.PairHash.pairs c.args.hasher.now in
+    let w = c.args.writer.0 in
+    alone-ok pair_of c.args.place (count - old.base) w old new count count c.args.statement.now _
+    c.set.result c.in-Set.is
+    (with-ok pair_of (λ rules versions. set versions c.in-Set.v c.in-Set.path c.in-Set.literal)
+    (puts c.in-Set.v) w old new count c.set.result
+    (subst (λ (path : Path). IfOk c.set.result (AnswersWith pair_of
+    (λ rules versions. set versions c.in-Set.v path c.in-Set.literal) (puts c.in-Set.v) w old new))
+    c.as_slice-in-Set.ensures
+    (subst (λ (bytes : List ℕ). IfOk c.set.result (AnswersWith pair_of
+    (λ rules versions. set versions c.in-Set.v c.as_slice-in-Set.result.now bytes)
+    (puts c.in-Set.v) w old new))
+    c.as_slice-in-Set-2.ensures.value c.set.ensures.answers)))
+
+pub returns-in-Append-clause-decides : goal.returns-in-Append-clause-decides
+returns-in-Append-clause-decides g c =
+    let old = c.args.engine.now in
+    let new = c.append.new.engine in
+    let pair_of = g.H.PairHash.pair_of in
+    let count = g.H.PairHash.pairs c.args.hasher.now in
+    let w = c.args.writer.0 in
+    alone-ok pair_of c.args.place (count - old.base) w old new count count c.args.statement.now _
+    c.append.result c.in-Append.is
+    (with-ok pair_of
+    (λ rules versions. append versions c.in-Append.v c.in-Append.path c.in-Append.literal)
+    (puts c.in-Append.v) w old new count c.append.result
+    (subst (λ (path : Path). IfOk c.append.result (AnswersWith pair_of
+    (λ rules versions. append versions c.in-Append.v path c.in-Append.literal)
+    (puts c.in-Append.v) w old new))
+    c.as_slice-in-Append.ensures
+    (subst (λ (bytes : List ℕ). IfOk c.append.result (AnswersWith pair_of
+    (λ rules versions. append versions c.in-Append.v c.as_slice-in-Append.result.now bytes)
+    (puts c.in-Append.v) w old new))
+    c.as_slice-in-Append-2.ensures.value c.append.ensures.answers)))
+
+pub returns-in-Pop-clause-decides : goal.returns-in-Pop-clause-decides
+returns-in-Pop-clause-decides g c =
+    let old = c.args.engine.now in
+    let new = c.pop.new.engine in
+    let pair_of = g.H.PairHash.pair_of in
+    let count = g.H.PairHash.pairs c.args.hasher.now in
+    let w = c.args.writer.0 in
+    alone-ok pair_of c.args.place (count - old.base) w old new count count c.args.statement.now _
+    c.pop.result c.in-Pop.is
+    (with-ok pair_of (λ rules versions. pop versions c.in-Pop.v c.in-Pop.path)
+    (puts c.in-Pop.v) w old new count c.pop.result
+    (subst (λ (path : Path). IfOk c.pop.result (AnswersWith pair_of
+    (λ rules versions. pop versions c.in-Pop.v path) (puts c.in-Pop.v) w old new))
+    c.as_slice-in-Pop.ensures c.pop.ensures.answers))
+
+pub returns-in-Choose-clause-decides : goal.returns-in-Choose-clause-decides
+returns-in-Choose-clause-decides g c =
+    let old = c.args.engine.now in
+    let new = c.choose.new.engine in
+    let pair_of = g.H.PairHash.pair_of in
+    let count = g.H.PairHash.pairs c.args.hasher.now in
+    let w = c.args.writer.0 in
+    alone-ok pair_of c.args.place (count - old.base) w old new count count c.args.statement.now _
+    c.choose.result c.in-Choose.is
+    (with-ok pair_of
+    (λ rules versions.
+    choose versions c.in-Choose.v c.in-Choose.path c.in-Choose.selector c.in-Choose.literal)
+    (puts c.in-Choose.v) w old new count c.choose.result
+    (subst (λ (path : Path). IfOk c.choose.result (AnswersWith pair_of
+    (λ rules versions. choose versions c.in-Choose.v path c.in-Choose.selector c.in-Choose.literal)
+    (puts c.in-Choose.v) w old new))
+    c.as_slice-in-Choose.ensures c.choose.ensures.answers))

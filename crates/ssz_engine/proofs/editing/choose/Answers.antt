@@ -1,0 +1,116 @@
+use Rattle.std.proofs.Common.{◌≡◌, ◌∙◌, Some, Ok, Err, Result, IfOk, option_map, sym, ap, subst}
+use Rattle.ssz_schema.specs.Unfolding.{type_of}
+use Rattle.ssz_schema.specs.Unfolding.{options_over}
+use Rattle.ssz_value.specs.Standing.{value_of}
+use Rattle.ssz_value.specs.Edits.{choose_at}
+use Rattle.ssz_places.specs.Charges.{choose_charge}
+use Rattle.ssz_versions.specs.Content.{Held, held_at}
+use Rattle.ssz_machine.specs.Rules.{bad_bytes, coded}
+use Rattle.ssz_machine.specs.Editing.{choose}
+use Rattle.ssz_machine.specs.Changes.{puts}
+use Rattle.ssz_engine.specs.Content.{Content}
+use Rattle.ssz_engine.specs.Decisions.{AnswersWith}
+use Rattle.ssz_engine.specs.declared.decision.Decision.TheVariants.{Refused}
+use Rattle.ssz_engine.specs.declared.decision.Decision.{Decision}
+use Rattle.ssz_engine.specs.declared.fault.EngineFault.{EngineFault}
+use Rattle.ssz_engine.specs.Finished.{unread}
+use Rattle.ssz_engine.specs.EditTests.{IsInnerRead}
+use Rattle.ssz_codec.specs.declared.fault.DecodeFault.{DecodeFault}
+use Rattle.ssz_value.specs.Suiting.{inner_of}
+use Rattle.ssz_engine.proofs.Brought.{over}
+use Rattle.ssz_engine.proofs.EditRows.{choose_read, choose_refused}
+use Rattle.ssz_engine.proofs.Edited.{unread-answers, code-answers, finished-answers}
+use Rattle.ssz_engine.proofs.editing.choose.Goals as goal
+
+pub returns-in-Err-clause-answers : goal.returns-in-Err-clause-answers
+returns-in-Err-clause-answers g c =
+    let pair_of = g.H.PairHash.pair_of in
+    let schema = c.engine.inside.schema in
+    let most = c.engine.inside.max in
+    let entries = c.engine.inside.versions.entries in
+    let base = c.engine.inside.base in
+    let v = c.args.v.now in
+    let w = c.args.writer.0 in
+    let path = c.args.path.now in
+    let literal = c.args.literal.now in
+    let held : Held = c.in-Some.held in
+    let t = type_of schema held.0 in
+    let old = c.engine.inside.arena in
+    let there : held_at entries w v ≡ Some held
+    = ap (λ n. held_at entries w n) (sym c.as_name.ensures.text) ∙ sym c.get.ensures
+    ∙ c.in-Some.is in
+    let k = c.args.selector in
+    subst (λ (seen : Content). AnswersWith pair_of
+    (λ rules versions. choose versions v path k literal) (puts v) w seen seen
+    (Refused c.in-Err.code)) c.engine.view_is
+    (code-answers pair_of schema most entries base old old w c.args.v held
+    (λ rules versions. choose versions v path k literal) there c.in-Err.code
+    (λ versions value found of. choose_refused versions v (record { type = t; value = value }) path
+    found k literal (coded c.in-Err.code) (c.in-Err.ensures.err value of)))
+
+pub returns-in-Ok-inner_value-clause-answers : goal.returns-in-Ok-inner_value-clause-answers
+returns-in-Ok-inner_value-clause-answers g c =
+    let pair_of = g.H.PairHash.pair_of in
+    let schema = c.engine.inside.schema in
+    let most = c.engine.inside.max in
+    let entries = c.engine.inside.versions.entries in
+    let base = c.engine.inside.base in
+    let v = c.args.v.now in
+    let w = c.args.writer.0 in
+    let path = c.args.path.now in
+    let literal = c.args.literal.now in
+    let held : Held = c.in-Some.held in
+    let t = type_of schema held.0 in
+    let old = c.engine.inside.arena in
+    let there : held_at entries w v ≡ Some held
+    = ap (λ n. held_at entries w n) (sym c.as_name.ensures.text) ∙ sym c.get.ensures
+    ∙ c.in-Some.is in
+    let k = c.args.selector in
+    let new = c.choose-made.new.arena in
+    let x = option_map value_of (inner_of c.as_ref.result) in
+    let can = c.in-Ok.ensures.ok in
+    subst (λ (seen : Content). IfOk c.finish.result (AnswersWith pair_of
+    (λ rules versions. choose versions v path k literal) (puts v) w seen
+    (over schema most entries base new))) c.engine.view_is
+    (finished-answers pair_of schema most entries base old new w v held
+    (λ name rules versions. choose versions name path k literal)
+    (λ value. choose_at t value path k x) (λ value. choose_charge t path k x)
+    (λ versions value found of. choose_read versions v (record { type = t; value = value }) path
+    found k literal (options_over schema.trees can.options) (Ok x) (can.tests value of)
+    ((c.in-Ok-inner_value.ensures can.options k can.there).0
+    ∙ ap (λ i. Ok (option_map value_of i)) (sym c.as_ref.ensures.value)))
+    c.engine.invariant there c.choose-made.result c.choose-made.ensures.refused
+    c.choose-made.ensures.answers c.finish.result c.finish.ensures)
+
+pub returns-in-Err-inner_value-clause-answers : goal.returns-in-Err-inner_value-clause-answers
+returns-in-Err-inner_value-clause-answers g c =
+    let pair_of = g.H.PairHash.pair_of in
+    let schema = c.engine.inside.schema in
+    let most = c.engine.inside.max in
+    let entries = c.engine.inside.versions.entries in
+    let base = c.engine.inside.base in
+    let v = c.args.v.now in
+    let w = c.args.writer.0 in
+    let path = c.args.path.now in
+    let literal = c.args.literal.now in
+    let held : Held = c.in-Some.held in
+    let t = type_of schema held.0 in
+    let old = c.engine.inside.arena in
+    let there : held_at entries w v ≡ Some held
+    = ap (λ n. held_at entries w n) (sym c.as_name.ensures.text) ∙ sym c.get.ensures
+    ∙ c.in-Some.is in
+    let k = c.args.selector in
+    let can = c.in-Ok.ensures.ok in
+    let fault = c.in-Err-inner_value.fault in
+    let os = options_over schema.trees can.options in
+    subst (λ (r : Result Decision EngineFault). IfOk r (AnswersWith pair_of
+    (λ rules versions. choose versions v path k literal) (puts v) w c.args.engine.now
+    c.args.engine.now)) (sym c.unread.ensures)
+    (subst (λ (seen : Content). IfOk (unread fault) (AnswersWith pair_of
+    (λ rules versions. choose versions v path k literal) (puts v) w seen seen)) c.engine.view_is
+    (unread-answers pair_of schema most entries base old old w c.args.v held
+    (λ rules versions. choose versions v path k literal) there fault
+    (λ bad is versions value found of. choose_read versions v (record { type = t; value = value })
+    path found k literal os (Err (bad_bytes bad)) (can.tests value of)
+    (subst (λ (f : DecodeFault). IsInnerRead os k literal (Err f)) is
+    (c.in-Err-inner_value.ensures can.options k can.there)))))

@@ -1,0 +1,41 @@
+use Rattle.std.proofs.Common.{◌≡◌, ◌∙◌, Some, IfOk, sym, ap, subst}
+use Rattle.ssz_schema.specs.Unfolding.{type_of}
+use Rattle.ssz_value.specs.Edits.{pop_at}
+use Rattle.ssz_places.specs.Charges.{pop_charge}
+use Rattle.ssz_versions.specs.Content.{Held, held_at}
+use Rattle.ssz_machine.specs.Editing.{pop}
+use Rattle.ssz_machine.specs.Changes.{puts}
+use Rattle.ssz_engine.specs.Content.{Content}
+use Rattle.ssz_engine.specs.Decisions.{AnswersWith}
+use Rattle.ssz_engine.proofs.Brought.{over}
+use Rattle.ssz_engine.proofs.EditRows.{pop_row}
+use Rattle.ssz_engine.proofs.Edited.{finished-answers}
+use Rattle.ssz_engine.proofs.editing.pop.Goals as goal
+
+pub returns-clause-answers : goal.returns-clause-answers
+returns-clause-answers g c =
+    let pair_of = g.H.PairHash.pair_of in
+    let schema = c.engine.inside.schema in
+    let most = c.engine.inside.max in
+    let entries = c.engine.inside.versions.entries in
+    let base = c.engine.inside.base in
+    let v = c.args.v.now in
+    let w = c.args.writer.0 in
+    let path = c.args.path.now in
+    let held : Held = c.in-Some.held in
+    let t = type_of schema held.0 in
+    let old = c.engine.inside.arena in
+    let new = c.pop-made.new.arena in
+    let there : held_at entries w v ≡ Some held
+    = ap (λ n. held_at entries w n) (sym c.as_name.ensures.text) ∙ sym c.get.ensures
+    ∙ c.in-Some.is in
+    subst (λ (seen : Content). IfOk c.finish.result (AnswersWith pair_of
+    (λ rules versions. pop versions v path) (puts v) w seen (over schema most entries base new)))
+    c.engine.view_is
+    (finished-answers pair_of schema most entries base old new w v held
+    (λ name rules versions. pop versions name path)
+    (λ value. pop_at t value path) (λ value. pop_charge t value path)
+    (λ versions value found of. pop_row schema.format versions v
+    (record { type = t; value = value }) path c.ty-legal.ensures.legal of.fits found)
+    c.engine.invariant there c.pop-made.result c.pop-made.ensures.refused c.pop-made.ensures.answers
+    c.finish.result c.finish.ensures)

@@ -1,0 +1,114 @@
+use Rattle.std.proofs.Common.{◌≡◌, ◌∙◌, Some, None, Result, IfOk, sym, ap, subst}
+use Rattle.ssz_schema.specs.Unfolding.{type_of}
+use Rattle.ssz_value.specs.Standing.{value_of}
+use Rattle.ssz_value.specs.Edits.{set_at}
+use Rattle.ssz_places.specs.Charges.{set_charge}
+use Rattle.ssz_versions.specs.Content.{Held, held_at}
+use Rattle.ssz_machine.specs.Rules.{coded, edits}
+use Rattle.ssz_machine.specs.Editing.{set}
+use Rattle.ssz_machine.specs.Changes.{puts}
+use Rattle.ssz_engine.specs.Content.{Content}
+use Rattle.ssz_engine.specs.Decisions.{AnswersWith}
+use Rattle.ssz_engine.specs.declared.decision.Decision.TheVariants.{Refused}
+use Rattle.ssz_engine.specs.declared.decision.Decision.{Decision}
+use Rattle.ssz_engine.specs.declared.fault.EngineFault.{EngineFault}
+use Rattle.ssz_engine.specs.Finished.{unread}
+use Rattle.ssz_codec.specs.Answers.{Faulty}
+use Rattle.ssz_codec.specs.declared.fault.DecodeFault.{DecodeFault}
+use Rattle.ssz_value.specs.Faults.{why}
+use Rattle.ssz_engine.proofs.Brought.{are-kept, over}
+use Rattle.ssz_engine.proofs.EditRows.{set_read, set_refused}
+use Rattle.ssz_engine.proofs.Edited.{unread-answers, code-answers, finished-answers}
+use Rattle.ssz_engine.proofs.editing.set.Goals as goal
+
+pub returns-in-Err-clause-answers : goal.returns-in-Err-clause-answers
+returns-in-Err-clause-answers g c =
+    let pair_of = g.H.PairHash.pair_of in
+    let schema = c.engine.inside.schema in
+    let most = c.engine.inside.max in
+    let entries = c.engine.inside.versions.entries in
+    let base = c.engine.inside.base in
+    let v = c.args.v.now in
+    let w = c.args.writer.0 in
+    let path = c.args.path.now in
+    let literal = c.args.literal.now in
+    let held : Held = c.in-Some.held in
+    let t = type_of schema held.0 in
+    let old = c.engine.inside.arena in
+    let there : held_at entries w v ≡ Some held
+    = ap (λ n. held_at entries w n) (sym c.as_name.ensures.text) ∙ sym c.get.ensures
+    ∙ c.in-Some.is in
+    subst (λ (seen : Content). AnswersWith pair_of (λ rules versions. set versions v path literal)
+    (puts v) w seen seen (Refused c.in-Err.code)) c.engine.view_is
+    (code-answers pair_of schema most entries base old old w c.args.v held
+    (λ rules versions. set versions v path literal) there c.in-Err.code
+    (λ versions value found of. set_refused versions v (record { type = t; value = value }) path
+    found literal (coded c.in-Err.code) (c.in-Err.ensures.err value of)))
+
+pub returns-in-Ok-decode-clause-answers : goal.returns-in-Ok-decode-clause-answers
+returns-in-Ok-decode-clause-answers g c =
+    let pair_of = g.H.PairHash.pair_of in
+    let schema = c.engine.inside.schema in
+    let most = c.engine.inside.max in
+    let entries = c.engine.inside.versions.entries in
+    let base = c.engine.inside.base in
+    let v = c.args.v.now in
+    let w = c.args.writer.0 in
+    let path = c.args.path.now in
+    let literal = c.args.literal.now in
+    let held : Held = c.in-Some.held in
+    let t = type_of schema held.0 in
+    let old = c.engine.inside.arena in
+    let there : held_at entries w v ≡ Some held
+    = ap (λ n. held_at entries w n) (sym c.as_name.ensures.text) ∙ sym c.get.ensures
+    ∙ c.in-Some.is in
+    let new = c.set-made.new.arena in
+    let x = value_of c.in-Ok-decode.value in
+    subst (λ (seen : Content). IfOk c.finish.result (AnswersWith pair_of
+    (λ rules versions. set versions v path literal) (puts v) w seen
+    (over schema most entries base new))) c.engine.view_is
+    (finished-answers pair_of schema most entries base old new w v held
+    (λ name rules versions. set versions name path literal)
+    (λ value. set_at t value path x) (λ value. set_charge t path x)
+    (λ versions value found of. set_read versions v (record { type = t; value = value }) path
+    found literal (type_of schema c.in-Ok.part) None (c.in-Ok.ensures.ok.tests value of)
+    c.in-Ok-decode.ensures.answer.0
+    ∙ ap (λ y. edits versions v t (set_at t value path y) (set_charge t path y))
+    (sym c.in-Ok-decode.ensures.answer.1.value))
+    c.engine.invariant there c.set-made.result c.set-made.ensures.refused
+    c.set-made.ensures.answers c.finish.result c.finish.ensures)
+
+pub returns-in-Err-decode-clause-answers : goal.returns-in-Err-decode-clause-answers
+returns-in-Err-decode-clause-answers g c =
+    let pair_of = g.H.PairHash.pair_of in
+    let schema = c.engine.inside.schema in
+    let most = c.engine.inside.max in
+    let entries = c.engine.inside.versions.entries in
+    let base = c.engine.inside.base in
+    let v = c.args.v.now in
+    let w = c.args.writer.0 in
+    let path = c.args.path.now in
+    let literal = c.args.literal.now in
+    let held : Held = c.in-Some.held in
+    let t = type_of schema held.0 in
+    let old = c.engine.inside.arena in
+    let there : held_at entries w v ≡ Some held
+    = ap (λ n. held_at entries w n) (sym c.as_name.ensures.text) ∙ sym c.get.ensures
+    ∙ c.in-Some.is in
+    let fault = c.in-Err-decode.fault in
+    let u = type_of schema c.in-Ok.part in
+    subst (λ (r : Result Decision EngineFault). IfOk r (AnswersWith pair_of
+    (λ rules versions. set versions v path literal) (puts v) w c.args.engine.now
+    c.args.engine.now)) (sym c.unread.ensures)
+    (subst (λ (seen : Content). IfOk (unread fault) (AnswersWith pair_of
+    (λ rules versions. set versions v path literal) (puts v) w seen seen)) c.engine.view_is
+    (unread-answers pair_of schema most entries base old old w c.args.v held
+    (λ rules versions. set versions v path literal) there fault
+    (λ bad is versions value found of. set_read versions v (record { type = t; value = value })
+    path found literal u (Some bad) (c.in-Ok.ensures.ok.tests value of)
+    (subst (λ (f : DecodeFault). Faulty (why u 0 literal) f) is c.in-Err-decode.ensures.answer))))
+
+pub invariant_of-engine : goal.invariant_of-engine
+invariant_of-engine g c =
+    are-kept c.engine.inside.schema c.engine.inside.arena c.set-made.new.arena
+    c.engine.inside.versions.entries c.set-made.ensures.keeps c.engine.invariant

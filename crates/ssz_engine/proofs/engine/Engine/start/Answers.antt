@@ -1,0 +1,11 @@
+use Rattle.ssz_engine.proofs.Beginning.{stand-none}
+use Rattle.ssz_engine.proofs.Brought.{are-none}
+use Rattle.ssz_engine.proofs.engine.Engine.start.Goals as goal
+
+pub invariant_of-result : goal.invariant_of-result
+invariant_of-result g c = are-none _ _ _ c.in_ok-versions.ensures
+
+pub returns-clause-stands : goal.returns-clause-stands
+returns-clause-stands g c = record {
+  each = λ writer. stand-none _ _ _ writer c.in_ok-versions.ensures;
+}

@@ -1,0 +1,90 @@
+use Rattle.std.proofs.Common.{◌-◌, Option, IfOk, IfErr, sym, subst}
+use Rattle.ssz_outside.specs.Content.{Content as Files}
+use Rattle.ssz_engine.specs.Steps.{Decides, DoesStep, Fails, ForksWhere, IsCarriedOut, Stops}
+use Rattle.ssz_engine.specs.declared.outcome.Outcome.TheVariants.{Accepted}
+use Rattle.ssz_engine.proofs.Forking.{forks}
+use Rattle.ssz_engine.proofs.Stepping.{does-step, err-of, ok-of, stops}
+use Rattle.ssz_engine.proofs.engine.Engine.step.Goals as goal
+
+pub returns-clause-ok : goal.returns-clause-ok
+returns-clause-ok g c =
+    let pair_of = g.H.PairHash.pair_of in
+    let first = c.args.self.now in
+    let mid = c.decide.new.engine in
+    let new = c.carry_out.new.engine in
+    let before = g.H.PairHash.pairs c.args.hasher.now in
+    let after = g.H.PairHash.pairs c.decide.new.hasher in
+    let w = c.args.writer.0 in
+    let statement = c.args.statement.now in
+    let made = c.in_ok-decision.decision in
+    let told_mid = g.F.Files.content c.decide.new.files in
+    let told_new = g.F.Files.content c.carry_out.new.files in
+    let out_old = c.args.out.now.items in
+    let out_new = c.carry_out.new.out.items in
+    let same = c.in_ok-decision.ensures.content in
+    let found : Decides pair_of c.args.place statement w (before - first.base) told_mid first mid
+    before after made
+    = subst (λ (told : Option Files). Decides pair_of c.args.place statement w
+    (before - first.base) told first mid before after made) (sym same)
+    c.in_ok-decision.ensures.decides in
+    subst (λ (told : Option Files). IfOk c.carry_out.result (DoesStep pair_of c.args.place w
+    c.args.line statement first new before after told told_new out_old out_new)) same
+    (ok-of (λ done. IsCarriedOut made w c.args.line mid.entries new.entries done told_mid told_new
+    out_old out_new)
+    (DoesStep pair_of c.args.place w c.args.line statement first new before after told_mid
+    told_new out_old out_new)
+    c.carry_out.result
+    (λ done out. does-step first mid new c.in_ok-decision.ensures.grows
+    c.carry_out.ensures.nodes before after w c.args.line done told_mid told_new out_old
+    out_new pair_of c.args.place statement made found out)
+    c.carry_out.ensures.ok)
+
+pub returns-clause-stops : goal.returns-clause-stops
+returns-clause-stops g c =
+    let pair_of = g.H.PairHash.pair_of in
+    let first = c.args.self.now in
+    let mid = c.decide.new.engine in
+    let new = c.carry_out.new.engine in
+    let before = g.H.PairHash.pairs c.args.hasher.now in
+    let after = g.H.PairHash.pairs c.decide.new.hasher in
+    let w = c.args.writer.0 in
+    let statement = c.args.statement.now in
+    let made = c.in_ok-decision.decision in
+    let told_mid = g.F.Files.content c.decide.new.files in
+    let told_new = g.F.Files.content c.carry_out.new.files in
+    let out_old = c.args.out.now.items in
+    let out_new = c.carry_out.new.out.items in
+    let same = c.in_ok-decision.ensures.content in
+    let found : Decides pair_of c.args.place statement w (before - first.base) told_mid first mid
+    before after made
+    = subst (λ (told : Option Files). Decides pair_of c.args.place statement w
+    (before - first.base) told first mid before after made) (sym same)
+    c.in_ok-decision.ensures.decides in
+    subst (λ (told : Option Files). IfErr c.carry_out.result (λ fault. Stops fault pair_of
+    c.args.place w c.args.line (before - first.base) statement first told told_new)) same
+    (err-of (λ fault. Fails fault made told_mid told_new)
+    (λ fault. Stops fault pair_of c.args.place w c.args.line (before - first.base) statement
+    first told_mid told_new)
+    c.carry_out.result
+    (λ fault fails. stops first mid new c.in_ok-decision.ensures.grows
+    c.carry_out.ensures.nodes before after w c.args.line Accepted told_mid told_new out_old
+    out_new pair_of c.args.place statement made fault found fails)
+    c.carry_out.ensures.fails)
+
+pub returns-clause-forks : goal.returns-clause-forks
+returns-clause-forks g c =
+    let first = c.args.self.now.entries in
+    let mid = c.decide.new.engine.entries in
+    let new = c.carry_out.new.engine.entries in
+    let w = c.args.writer.0 in
+    let statement = c.args.statement.now in
+    let made = c.in_ok-decision.decision in
+    let told_mid = g.F.Files.content c.decide.new.files in
+    let told_new = g.F.Files.content c.carry_out.new.files in
+    let out_old = c.args.out.now.items in
+    let out_new = c.carry_out.new.out.items in
+    ok-of (λ done. IsCarriedOut made w c.args.line mid new done told_mid told_new out_old out_new)
+    (λ done. ForksWhere done statement w first new) c.carry_out.result
+    (λ done out. forks made w c.args.line first mid new done told_mid told_new out_old out_new
+    c.in_ok-decision.ensures.grows.entries out statement c.in_ok-decision.ensures.forks)
+    c.carry_out.ensures.ok

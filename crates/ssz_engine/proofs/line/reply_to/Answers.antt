@@ -1,0 +1,33 @@
+use Rattle.std.proofs.Common.{Option, sym, ap, subst}
+use Rattle.ssz_script.specs.declared.statement.Statement.{Statement}
+use Rattle.ssz_machine.specs.declared.place.Place.TheVariants.{Run}
+use Rattle.ssz_engine.specs.Lines.{DoesLine}
+use Rattle.ssz_engine.specs.Scripts.{Scene}
+use Rattle.ssz_engine.proofs.EngineSteps.{same_counts, step_does}
+use Rattle.ssz_engine.proofs.line.reply_to.Goals as goal
+
+pub returns-clause-does : goal.returns-clause-does
+returns-clause-does g c = λ was is.
+    let pairs = g.H.PairHash.pairs in
+    let before : Scene = record {
+      engine = c.args.engine.now;
+      hashed = pairs c.args.hasher.now;
+      told = g.F.Files.content c.args.files.now;
+      readable = g.F.Files.readable c.args.files.now;
+      pieces = was;
+    } in
+    let after : Scene = record {
+      engine = c.step.new.self;
+      hashed = pairs c.step.new.hasher;
+      told = g.F.Files.content c.step.new.files;
+      readable = g.F.Files.readable c.step.new.files;
+      pieces = is;
+    } in
+    let step = c.step.ensures in
+    subst (λ (statement : Option Statement). DoesLine g.H.PairHash.pair_of Run 0
+    (c.args.line.now.line, statement) c.step.result before after c.args.out.now.items
+    c.step.new.out.items) (sym c.in-Some.is)
+    (step_does g.H.PairHash.pair_of Run 0 c.args.line.now.line c.in-Some.statement before after
+    c.args.out.now.items c.step.new.out.items c.step.result step.ok step.stops step.told step.rises
+    (λ asks. ap pairs (step.still asks))
+    (same_counts pairs c.args.hasher.now c.step.new.hasher c.step.result step.refused) step.fails)

@@ -1,0 +1,98 @@
+use Rattle.std.proofs.Common.{◌≡◌, ◌≤◌, ◌<◌, ◌∙◌, List, ℕ, Bool, Some, IfOk, length, arith, refl, sym, ap, subst}
+use Rattle.std.specs.Prelude.{IfSome, IsSomeAnd}
+use Rattle.ssz_outside.specs.Content.{bytes_of}
+use Rattle.ssz_schema.specs.Unfolding.{type_of}
+use Rattle.ssz_script.specs.declared.reply.TheConstants.Reply.{TOO_LONG}
+use Rattle.ssz_machine.specs.Making.{load}
+use Rattle.ssz_machine.specs.Rules.{◌>>◌, refuse}
+use Rattle.ssz_machine.specs.Changes.{puts}
+use Rattle.ssz_engine.specs.Content.{Content}
+use Rattle.ssz_engine.specs.Decisions.{AnswersWith, LoadsWith, brought}
+use Rattle.std.specs.Prelude.{nat_lt}
+use Rattle.ssz_engine.proofs.Brought.{IsLong, answers-same, free-row, loads-any, not-below, refused-answers, taken-row, too-long, whole}
+use Rattle.ssz_engine.proofs.Stepping.{ok-of}
+use Rattle.ssz_engine.proofs.making.load.Goals as goal
+
+pub returns-in-Err-clause-answers : goal.returns-in-Err-clause-answers
+returns-in-Err-clause-answers g c =
+    loads-any g.H.PairHash.pair_of (g.F.Files.content c.args.files.now) c.args.file.now
+    (λ bytes rules versions. load rules versions c.args.v.now c.args.t.now bytes)
+    (puts c.args.v.now) c.args.writer.0 c.args.engine.now c.args.engine.now _
+    (λ bytes. refused-answers g.H.PairHash.pair_of
+    (λ rules versions. load rules versions c.args.v.now c.args.t.now bytes)
+    (puts c.args.v.now) c.args.writer.0 c.args.engine.now c.in-Err.code
+    (λ versions stand. taken-row g.H.PairHash.pair_of c.args.engine.now c.args.writer.0
+    c.args.v.now c.args.t.now versions stand c.in-Err.code
+    (λ type. refuse TOO_LONG (nat_lt c.args.engine.now.most (length bytes))
+    >> brought versions c.args.v.now type bytes) c.in-Err.ensures.err))
+
+pub returns-in-Ok-TooLong-clause-answers : goal.returns-in-Ok-TooLong-clause-answers
+returns-in-Ok-TooLong-clause-answers g c =
+    let pair_of = g.H.PairHash.pair_of in
+    let told = g.F.Files.content c.args.files.now in
+    let engine = c.args.engine.now in
+    let most : c.from.result ≡ engine.most
+    = c.from.ensures ∙ ap (λ (s : Content). s.most) c.engine.view_is in
+    let read : IfSome told (λ held. IsSomeAnd (bytes_of held c.args.file.now)
+    (λ b. engine.most < length b))
+    = subst (λ (m : ℕ). IfSome told (λ held. IsSomeAnd (bytes_of held c.args.file.now)
+    (λ b. m < length b))) most
+    (subst (λ (n : List ℕ). IfSome told (λ held. IsSomeAnd (bytes_of held n)
+    (λ b. c.from.result < length b))) c.as_str.ensures.text
+    (rw c.in-Ok-TooLong.field-0-is at c.in-Ok-TooLong.ensures.read)) in
+    let long : IsLong told c.args.file.now engine.most = too-long told c.args.file.now engine.most
+    read in
+    record {
+      bytes = long.bytes;
+      read = long.read;
+      answers = refused-answers pair_of
+          (λ rules versions. load rules versions c.args.v.now c.args.t.now long.bytes)
+          (puts c.args.v.now) c.args.writer.0 engine TOO_LONG
+          (λ versions stand. free-row pair_of engine c.args.writer.0 c.args.v.now c.args.t.now
+          versions stand c.in-Ok.id
+          (λ type. refuse TOO_LONG (nat_lt engine.most (length long.bytes))
+          >> brought versions c.args.v.now type long.bytes) c.in-Ok.ensures.ok
+          ∙ ap (λ (b : Bool). refuse TOO_LONG b >> brought versions c.args.v.now
+          (type_of engine.types c.in-Ok.id) long.bytes) long.long);
+    }
+
+pub returns-in-Ok-Whole-clause-answers : goal.returns-in-Ok-Whole-clause-answers
+returns-in-Ok-Whole-clause-answers g c =
+    let pair_of = g.H.PairHash.pair_of in
+    let told = g.F.Files.content c.args.files.now in
+    let engine = c.args.engine.now in
+    let new = c.bring.new.engine in
+    let bytes = c.as_slice.result.now in
+    let v = c.args.v.now in
+    let t = c.args.t.now in
+    let w = c.args.writer.0 in
+    let type = type_of engine.types c.in-Ok.id in
+    let most : c.from.result ≡ engine.most
+    = c.from.ensures ∙ ap (λ (s : Content). s.most) c.engine.view_is in
+    let read : IfSome told (λ held. bytes_of held c.args.file.now ≡ Some bytes)
+    = subst (λ (b : List ℕ). IfSome told (λ held. bytes_of held c.args.file.now ≡ Some b))
+    (sym c.as_slice.ensures.value)
+    (subst (λ (n : List ℕ). IfSome told (λ held.
+    bytes_of held n ≡ Some c.get.new.into.items)) c.as_str.ensures.text
+    (rw c.in-Ok-Whole.field-0-is at c.in-Ok-Whole.ensures.read)) in
+    let few : length bytes ≤ engine.most
+    = let bound = c.in-Ok-Whole.ensures.bound (ap Rattle.std.proofs.Common.Ok
+    c.in-Ok-Whole.field-0-is) in
+    let len = c.as_slice.ensures.len in omega arith in
+    ok-of
+    (AnswersWith pair_of (λ rules versions. brought versions v type bytes) (puts v) w engine new)
+    (LoadsWith pair_of told c.args.file.now
+    (λ bytes rules versions. load rules versions v t bytes) (puts v) w engine new)
+    c.bring.result
+    (λ made answers. record {
+      bytes = bytes;
+      read = whole told c.args.file.now bytes read;
+      answers = answers-same pair_of (λ rules versions. brought versions v type bytes)
+          (λ rules versions. load rules versions v t bytes) (puts v) w engine new made
+          (λ versions stand. free-row pair_of engine w v t versions stand c.in-Ok.id
+          (λ type. refuse TOO_LONG (nat_lt engine.most (length bytes))
+          >> brought versions v type bytes) c.in-Ok.ensures.ok
+          ∙ ap (λ (b : Bool). refuse TOO_LONG b >> brought versions v type bytes)
+          (not-below engine.most (length bytes) few)) answers;
+    })
+    c.bring.ensures.answers

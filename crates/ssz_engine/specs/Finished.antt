@@ -1,0 +1,28 @@
+-- What an edit of a version comes to: by the answer of its node, or by a literal that has a fault.
+use Rattle.std.specs.Prelude.{◌≡◌, ℕ, List, Result, Ok, Err}
+use Rattle.std.specs.Borrow.{Bor}
+use Rattle.ssz_value.specs.declared.edit_fault.EditFault.{EditFault}
+use Rattle.ssz_value.specs.declared.edit_fault.EditFault.TheVariants as edit_fault
+use Rattle.ssz_arena.specs.declared.node.NodeId.{NodeId}
+use Rattle.ssz_machine.specs.Rules.{code_of}
+use Rattle.ssz_codec.specs.declared.fault.DecodeFault.{DecodeFault}
+use Rattle.ssz_codec.specs.declared.fault.DecodeFault.TheVariants as decode_fault
+use Rattle.ssz_engine.specs.declared.decision.Decision.{Decision}
+use Rattle.ssz_engine.specs.declared.decision.Decision.TheVariants.{BadBytes, Edited, Refused}
+use Rattle.ssz_engine.specs.declared.fault.EngineFault.{EngineFault}
+use Rattle.ssz_engine.specs.declared.fault.EngineFault.TheVariants as engine_fault
+
+-- the version gets the node that was made; a fault is a refusal, but for want of memory
+abbrev pub finished : Bor (List ℕ) → Result NodeId EditFault → Result Decision EngineFault
+finished name (Ok node) = Ok (Edited name node)
+finished name (Err edit_fault.Memory) = Err engine_fault.Memory
+finished name (Err fault) = Ok (Refused (code_of fault))
+
+-- so for the version of this name
+abbrev pub Finishes : List ℕ → Result NodeId EditFault → Result Decision EngineFault → Type 0
+Finishes name edited result = (v : Bor (List ℕ)) × (v.now ≡ name) × (result ≡ finished v edited)
+
+-- the first fault of a literal is said; want of memory is none
+abbrev pub unread : DecodeFault → Result Decision EngineFault
+unread (decode_fault.Bad fault) = Ok (BadBytes fault)
+unread decode_fault.Memory = Err engine_fault.Memory

@@ -1,0 +1,12 @@
+pub mod Content
+pub mod Standing
+pub mod Decisions
+pub mod Shown
+pub mod Counted
+pub mod EditTests
+pub mod Finished
+pub mod Steps
+pub mod Outside
+pub mod Scripts
+pub mod Points
+pub mod Lines

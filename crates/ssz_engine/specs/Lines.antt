@@ -1,0 +1,78 @@
+-- What a line of a script does, as the plain machine does it.
+use Rattle.std.specs.Prelude.{◌≡◌, ℕ, ◌-◌, true, List, [], ◌∷◌, ◌++◌, take, Some, Result, Ok, Err}
+use Rattle.ssz_arena.specs.Content.{unhashed}
+use Rattle.ssz_outside.specs.Outcome.{Rose}
+use Rattle.ssz_outside.specs.Pieces.{Told, told_append}
+use Rattle.ssz_outside.specs.declared.status.Status.{Status}
+use Rattle.ssz_outside.specs.declared.status.Status.TheVariants as status
+use Rattle.ssz_proof.specs.Calculation.{PairOf}
+use Rattle.ssz_script.specs.Texts.{reply_line}
+use Rattle.ssz_machine.specs.declared.place.Place.{Place}
+use Rattle.ssz_machine.specs.State.{Name, State}
+use Rattle.ssz_machine.specs.Rules.{Rules}
+use Rattle.ssz_machine.specs.Machine.{Line, Turn, step, reply_of, state_of, is_refused, reads_file}
+use Rattle.ssz_engine.specs.Content.{rules_of}
+use Rattle.ssz_engine.specs.Standing.{StandsFor}
+use Rattle.ssz_engine.specs.Steps.{SavesPart, is_refusal}
+use Rattle.ssz_engine.specs.Scripts.{Scene, file_named}
+use Rattle.ssz_engine.specs.Points.{PaysStep}
+use Rattle.ssz_engine.specs.declared.outcome.Outcome.{Outcome}
+use Rattle.ssz_engine.specs.declared.fault.EngineFault.{EngineFault}
+use Rattle.ssz_engine.specs.declared.fault.EngineFault.TheVariants.{Read, Write, Memory}
+
+-- The turn was made and paid for: its line is appended, and what is there stands for the state
+-- after it.
+pub record Makes (base : ℕ) (turn : Turn) (made : Outcome) (before after : Scene)
+    (text more : List ℕ) : Type 0 where
+  pub outcome : is_refusal made ≡ is_refused turn
+  pub line : more ≡ text ++ reply_line (reply_of turn)
+  pub versions : StandsFor after.engine (state_of turn).versions
+  pub files : after.told ≡ Some (state_of turn).files
+  pub pays : PaysStep base turn before.hashed (unhashed before.engine.arena) after.hashed
+      (unhashed after.engine.arena)
+
+-- a file that was to be read was not, and the files stay
+pub record Missed (rules : Rules) (turn : Turn) (before after : Scene) : Type 0 where
+  pub reads : reads_file rules turn ≡ true
+  pub files : after.told ≡ before.told
+  pub name : Name
+  pub named : file_named turn.line.1 ≡ Some name
+  pub unread : before.readable name → ⊥
+
+-- What a line comes to at a turn of the machine, by an engine with this base.
+abbrev pub Does : Rules → ℕ → Turn → Result Outcome EngineFault → Scene → Scene → List ℕ → List ℕ
+    → Type 0
+Does rules base turn (Ok made) before after text more = Makes base turn made before after text more
+Does rules base turn (Err Read) before after text more = Missed rules turn before after
+Does rules base turn (Err Write) before after text more = SavesPart turn before.told after.told
+Does rules base turn (Err Memory) before after text more = after.told ≡ before.told
+
+-- So it does from whatever state is stood for, where the files tell what they hold. A number that
+-- `hashes` prints is the hasher's count less the base.
+abbrev pub DoesLine : PairOf → Place → ℕ → Line → Result Outcome EngineFault → Scene → Scene
+    → List ℕ → List ℕ → Type 0
+DoesLine pair_of place writer line result before after text more =
+    (state : State) → StandsFor before.engine state.versions → before.told ≡ Some state.files
+    → Does (rules_of pair_of before.engine) before.engine.base
+    (step (rules_of pair_of before.engine) place (before.hashed - before.engine.base) state writer
+    line) result before after text more
+
+-- the status of a run that a line ended
+abbrev pub ended_by : EngineFault → Status
+ended_by Read = status.ReadFault
+ended_by Write = status.WriteFault
+ended_by Memory = status.Memory
+
+-- what a sink has after a line was printed: the line, or a part of it, or nothing of it
+abbrev pub Prints : {T : Type 0} → Result T Status → List ℕ → Told → Told → Type 0
+Prints (Ok done) piece old new = new ≡ told_append old (piece ∷ [])
+Prints (Err status.WriteFault) piece old new =
+    (count : ℕ) × (new ≡ told_append old (take count piece ∷ []))
+Prints (Err status.Memory) piece old new = new ≡ old
+Prints (Err other) piece old new = ⊥
+
+-- a failed print is counted
+abbrev pub CountsPrint : {T : Type 0} → Result T Status → ℕ → ℕ → Type 0
+CountsPrint (Ok done) before now = now ≡ before
+CountsPrint (Err status.WriteFault) before now = Rose before now
+CountsPrint (Err other) before now = now ≡ before

@@ -1,0 +1,120 @@
+-- Points of a run, and what leads from one to another.
+use Rattle.std.specs.Prelude.{◌≡◌, ◌≢◌, ◌≤◌, ℕ, ◌+◌, ◌-◌, Bool, false, if◌then◌else◌, List, [], ◌∷◌, ◌++◌, Some, Result, Ok, Err}
+use Rattle.std.specs.List.{AllByRecursion, list_any}
+use Rattle.ssz_arena.specs.Content.{unhashed}
+use Rattle.ssz_outside.specs.Job.{CountsRun, CountsNone, Ends, IsFinished}
+use Rattle.ssz_outside.specs.Pieces.{Told, told_append}
+use Rattle.ssz_outside.specs.declared.status.Status.{Status}
+use Rattle.ssz_outside.specs.declared.status.Status.TheVariants as status
+use Rattle.ssz_proof.specs.Calculation.{PairOf}
+use Rattle.ssz_machine.specs.declared.place.Place.{Place}
+use Rattle.ssz_machine.specs.State.{State}
+use Rattle.ssz_machine.specs.Rules.{Rules}
+use Rattle.ssz_machine.specs.Machine.{Turn, reply_of, charge_of, is_refused}
+use Rattle.ssz_machine.specs.Plays.{Event, play, shown_all}
+use Rattle.ssz_machine.specs.Counts.{may_hash, number_said}
+use Rattle.ssz_machine.specs.Runs.{IsUnderWay, job_from}
+use Rattle.ssz_engine.specs.Content.{rules_of}
+use Rattle.ssz_engine.specs.Standing.{StandsFor}
+use Rattle.ssz_engine.specs.Scripts.{Scene, files_reached}
+
+-- A step was paid for. Before it `was` pairs were hashed and `left` were to be hashed, behind it
+-- `now` and `rest`; where it prints a number, that is what was hashed since the count was `base`.
+pub record PaysStep (base : ℕ) (turn : Turn) (was left now rest : ℕ) : Type 0 where
+  pub rises : was ≤ now
+  pub stays : may_hash turn ≡ false → now ≡ was
+  pub paid : now + rest ≤ was + left + charge_of turn
+  pub said : (n : ℕ) → number_said (reply_of turn) ≡ Some n → n ≡ was - base
+
+-- each of some steps was, one behind another
+abbrev pub Pays : ℕ → List Turn → ℕ → ℕ → ℕ → ℕ → Type 0
+Pays base [] was left now rest = (now ≡ was) × (rest ≡ left)
+Pays base (turn ∷ turns) was left now rest =
+    (mid : ℕ) × (mid_left : ℕ) × PaysStep base turn was left mid mid_left
+    × Pays base turns mid mid_left now rest
+
+-- What a run began with: its rules, its events, the first state, the engine's base, the pairs that
+-- were hashed and that were left to be hashed, and the pieces of the sink.
+pub record Course : Type 0 where
+  pub rules : Rules
+  pub events : List Event
+  pub first : State
+  pub base : ℕ
+  pub hashed : ℕ
+  pub left : ℕ
+  pub pieces : Told
+
+-- the steps of the whole run, where `hashes` prints these numbers
+abbrev pub turns_of : Place → Course → List ℕ → List Turn
+turns_of place course numbers = play course.rules place numbers course.first course.events
+
+-- A run has come to a point: these steps were made, printed and paid for, and these events are
+-- left.
+pub record IsAt (pair_of : PairOf) (place : Place) (course : Course) (done : List Turn)
+    (state : State) (events : List Event) (refused : Bool) (scene : Scene) : Type 0 where
+  pub under : IsUnderWay course.rules place course.events course.first done state events
+  pub rules : rules_of pair_of scene.engine ≡ course.rules
+  pub base : scene.engine.base ≡ course.base
+  pub versions : StandsFor scene.engine state.versions
+  pub files : scene.told ≡ Some state.files
+  pub printed : scene.pieces ≡ told_append course.pieces (shown_all place done)
+  pub answer : refused ≡ list_any is_refused done
+  pub pays : Pays course.base done course.hashed course.left scene.hashed
+      (unhashed scene.engine.arena)
+
+-- it has come to some point with these events left
+pub record Comes (pair_of : PairOf) (place : Place) (course : Course) (events : List Event)
+    (refused : Bool) (scene : Scene) : Type 0 where
+  pub done : List Turn
+  pub state : State
+  pub at : IsAt pair_of place course done state events refused scene
+
+-- What is so of a run that a fault or want of memory ended: for some numbers it ended as its job
+-- does; its steps were paid for, as if nothing had been hashed in the last one begun; and a read
+-- failed only of a file that the steps read.
+pub record IsCutShort (place : Place) (course : Course) (ended : Status) (before after : Scene)
+    : Type 0 where
+  pub numbers : List ℕ
+  pub ends : Ends ended (job_from course.rules place course.events course.first numbers)
+      course.pieces after.pieces after.told
+  pub now : ℕ
+  pub rest : ℕ
+  pub pays : Pays course.base (turns_of place course numbers) course.hashed course.left now rest
+  pub most : now ≤ after.hashed
+  pub least : after.hashed ≤ now + rest
+  pub broken : IsFinished ended → ⊥
+  pub reached : AllByRecursion before.readable
+      (files_reached course.rules (turns_of place course numbers))
+      → ended ≢ status.ReadFault
+
+-- the run went on, or it ended
+abbrev pub GoesTo : PairOf → Place → Course → List Event → Result (Unit {0}) Status → Bool → Scene
+    → Scene → Type 0
+GoesTo pair_of place course events (Ok x) refused before after =
+    Comes pair_of place course events refused after
+GoesTo pair_of place course events (Err ended) refused before after =
+    IsCutShort place course ended before after
+
+-- Whatever run had come to these events, they are done, or it has ended.
+abbrev pub Goes : PairOf → Place → List Event → Result (Unit {0}) Status → Bool → Bool → Scene
+    → Scene → Type 0
+Goes pair_of place these result was refused before after =
+    (course : Course) (left : List Event) → Comes pair_of place course (these ++ left) was before
+    → GoesTo pair_of place course left result refused before after
+
+-- Whatever run had come to some events has come to others.
+abbrev pub LeadsTo : PairOf → Place → List Event → List Event → Bool → Bool → Scene → Scene → Type 0
+LeadsTo pair_of place these those was refused before after =
+    (course : Course) (left : List Event) → Comes pair_of place course (these ++ left) was before
+    → Comes pair_of place course (those ++ left) refused after
+
+-- the status of a run that no fault ended
+abbrev pub finished : Bool → Status
+finished refused = if refused then status.Refused else status.Accepted
+
+-- the counts of faults, of reads, of writes and of the sink
+abbrev pub Counts : Result (Unit {0}) Status → ℕ → ℕ → ℕ → ℕ → ℕ → ℕ → Type 0
+Counts (Ok x) gets gets_now puts puts_now sinks sinks_now =
+    CountsNone gets gets_now puts puts_now sinks sinks_now
+Counts (Err ended) gets gets_now puts puts_now sinks sinks_now =
+    CountsRun ended gets gets_now puts puts_now sinks sinks_now

@@ -1,0 +1,106 @@
+-- How the run of a script ends.
+use Rattle.std.specs.Prelude.{◌≡◌, ◌≢◌, ◌≤◌, ℕ, ◌+◌, ◌-◌, if◌then◌else◌, List, [], ◌∷◌, Option, Some, None}
+use Rattle.std.specs.List.{AllByRecursion}
+use Rattle.ssz_arena.specs.Content.{unhashed}
+use Rattle.ssz_outside.specs.Content.{Content as Files}
+use Rattle.ssz_outside.specs.Job.{Ends, IsFinished}
+use Rattle.ssz_outside.specs.Pieces.{Told}
+use Rattle.ssz_outside.specs.declared.status.Status.{Status}
+use Rattle.ssz_outside.specs.declared.status.Status.TheVariants as status
+use Rattle.ssz_proof.specs.Calculation.{PairOf}
+use Rattle.ssz_script.specs.Lines.{statements_in}
+use Rattle.ssz_script.specs.declared.statement.Statement.{Statement}
+use Rattle.ssz_machine.specs.declared.place.Place.{Place}
+use Rattle.ssz_machine.specs.declared.place.Place.TheVariants.{Run}
+use Rattle.ssz_machine.specs.State.{Name, State}
+use Rattle.ssz_machine.specs.Rules.{Rules}
+use Rattle.ssz_machine.specs.Machine.{Line, Turn, reads_file}
+use Rattle.ssz_machine.specs.Plays.{Event, all_of, charges, play, state_after}
+use Rattle.ssz_machine.specs.Jobs.{job_of}
+use Rattle.ssz_machine.specs.Counts.{AreCounts}
+use Rattle.ssz_engine.specs.Content.{Content, rules_of}
+use Rattle.ssz_engine.specs.Standing.{StandsFor}
+use Rattle.ssz_engine.specs.Steps.{file_read}
+
+-- the file that a line names for reading
+abbrev pub file_named : Option Statement → Option Name
+file_named None = None
+file_named (Some statement) = file_read statement
+
+-- a name before others, where there is one
+abbrev pub name_before : Option Name → List Name → List Name
+name_before None names = names
+name_before (Some name) names = name ∷ names
+
+-- the files that lines name for reading
+abbrev pub files_named : List Line → List Name
+files_named [] = []
+files_named (line ∷ lines) = name_before (file_named line.1) (files_named lines)
+
+-- the file that a step reads: one that is refused before reads none
+abbrev pub file_reached : Rules → Turn → Option Name
+file_reached rules turn = if reads_file rules turn then file_named turn.line.1 else None
+
+-- the files that steps read
+abbrev pub files_reached : Rules → List Turn → List Name
+files_reached rules [] = []
+files_reached rules (turn ∷ turns) =
+    name_before (file_reached rules turn) (files_reached rules turns)
+
+-- What is there before or after a run: the engine, the hasher's count, what the files tell, which
+-- of them can be read, and the pieces that the sink has.
+pub record Scene : Type 1 where
+  pub engine : Content
+  pub hashed : ℕ
+  pub told : Option Files
+  pub readable : Name → Type 0
+  pub pieces : Told
+
+-- as behind `start`: nothing is left to be hashed, and `hashes` prints 0
+pub record IsFresh (scene : Scene) : Type 0 where
+  pub base : scene.engine.base ≡ scene.hashed
+  pub left : unhashed scene.engine.arena ≡ 0
+
+-- The numbers that `hashes` prints among the steps are as they should be. All pairs together are
+-- those that the run hashed, where it was done; at most those, where a fault or want of memory
+-- ended it: lines that it did not come to then print the last count.
+pub record HasCounts (ended : Status) (turns : List Turn) (rise : ℕ) : Type 0 where
+  pub total : ℕ
+  pub most : total ≤ rise
+  pub whole : IsFinished ended → total ≡ rise
+  pub counts : AreCounts turns total
+
+-- What is there after a run that was done: what was hashed, and what is then left to be hashed, is
+-- at most what was left before and the charges; and the engine stands for the versions after it.
+pub record IsThrough (turns : List Turn) (last : State) (before after : Scene) : Type 0 where
+  pub paid : after.hashed + unhashed after.engine.arena
+      ≤ before.hashed + unhashed before.engine.arena + charges turns
+  pub stands : StandsFor after.engine last.versions
+
+-- A run of some events from a first state ended: for some numbers that `hashes` prints, as the job
+-- of the events does.
+pub record EndsRun (rules : Rules) (place : Place) (events : List Event) (first : State)
+    (ended : Status) (before after : Scene) : Type 0 where
+  pub numbers : List ℕ
+  pub ends : Ends ended (job_of rules place first.files (play rules place numbers first events))
+      before.pieces after.pieces after.told
+  -- what was hashed is at most what was left to be hashed before, and the charges
+  pub paid : after.hashed ≤ before.hashed + unhashed before.engine.arena
+      + charges (play rules place numbers first events)
+  pub counts : IsFresh before → HasCounts ended (play rules place numbers first events)
+      (after.hashed - before.hashed)
+  -- a read failed only of a file that the steps read, whatever numbers are printed
+  pub reached : (others : List ℕ)
+      → AllByRecursion before.readable
+      (files_reached rules (play rules place others first events))
+      → ended ≢ status.ReadFault
+  pub through : IsFinished ended → IsThrough (play rules place numbers first events)
+      (state_after rules place numbers first events) before after
+
+-- So the run of a script by writer 0 ended, whatever state of the machine was stood for, where the
+-- files tell what they hold.
+abbrev pub EndsScript : PairOf → List ℕ → Status → Scene → Scene → Type 0
+EndsScript pair_of script ended before after =
+    (first : State) → StandsFor before.engine first.versions → before.told ≡ Some first.files
+    → EndsRun (rules_of pair_of before.engine) Run (all_of 0 (statements_in script)) first ended
+    before after

@@ -1,0 +1,222 @@
+-- What a step of an engine leaves, by a step of the plain machine.
+use Rattle.std.specs.Prelude.{◌≡◌, ◌≤◌, ◌<◌, ◌^◌, ◌+◌, ◌-◌, ℕ, IsTrue, length, Bool, true, false, List, ◌++◌, Option, Some, None}
+use Rattle.ssz_outside.specs.Content.{Content as Files, told_with_bytes}
+use Rattle.ssz_outside.specs.Job.{Save}
+use Rattle.ssz_outside.specs.Outcome.{Tears}
+use Rattle.ssz_arena.specs.Content.{KeepsNodes, todo, unhashed}
+use Rattle.ssz_arena.specs.declared.node.NodeId.{NodeId}
+use Rattle.ssz_proof.specs.Calculation.{PairOf}
+use Rattle.ssz_script.specs.declared.statement.Statement.{Statement}
+use Rattle.ssz_script.specs.declared.statement.Statement.TheVariants.{Lit, Load, Fork, Set, Append, Choose}
+use Rattle.ssz_script.specs.declared.reply.Reply.{Reply}
+use Rattle.ssz_script.specs.declared.reply.Reply.TheVariants as reply
+use Rattle.ssz_script.specs.declared.reply.TheConstants.Reply.{BAD_LITERAL}
+use Rattle.ssz_script.specs.Texts.{reply_line}
+use Rattle.ssz_versions.specs.Content.{Entries, Held, held_at, with_held, without_held}
+use Rattle.ssz_machine.specs.declared.place.Place.{Place}
+use Rattle.ssz_machine.specs.State.{Name, Versions}
+use Rattle.ssz_machine.specs.Machine.{Turn, step, effect, reads, reply_of, state_of, save_of, charge_of, is_refused}
+use Rattle.ssz_machine.specs.Changes.{Touch, nothing, puts, takes, touch}
+use Rattle.ssz_engine.specs.Content.{Content, rules_of}
+use Rattle.ssz_engine.specs.Standing.{StandsFor, StandsForWriter}
+use Rattle.ssz_engine.specs.Decisions.{Answers}
+use Rattle.ssz_engine.specs.Outside.{Holds}
+use Rattle.ssz_engine.specs.declared.decision.Decision.{Decision}
+use Rattle.ssz_engine.specs.declared.decision.Decision.TheVariants as decision
+use Rattle.ssz_engine.specs.declared.outcome.Outcome.{Outcome}
+use Rattle.ssz_engine.specs.declared.outcome.Outcome.TheVariants.{Accepted, Refused}
+use Rattle.ssz_engine.specs.declared.fault.EngineFault.{EngineFault}
+use Rattle.ssz_engine.specs.declared.fault.EngineFault.TheVariants.{Read, Write, Memory}
+
+abbrev pub is_refusal : Outcome → Bool
+is_refusal Accepted = false
+is_refusal Refused = true
+
+-- What a step leaves that was done as the turn says: the line of its reply is appended, and the
+-- engine and the files stand for the state after it.
+pub record Leaves (turn : Turn) (made : Outcome) (engine : Content) (told : Option Files)
+    (out_old out_new : List ℕ) : Type 0 where
+  pub outcome : is_refusal made ≡ is_refused turn
+  pub text : out_new ≡ out_old ++ reply_line (reply_of turn)
+  pub versions : StandsFor engine (state_of turn).versions
+  pub files : Holds told (state_of turn).files
+
+-- the entry has its type and another node
+abbrev pub Edits : Entries → Entries → ℕ → Name → NodeId → Type 0
+Edits old new writer name node =
+    (held : Held) × (held_at old writer name ≡ Some held)
+    × (new ≡ with_held old writer name (held.0, node))
+
+-- what a decision that is carried out does to the entries
+abbrev pub Does : Decision → ℕ → Entries → Entries → Type 0
+Does (decision.Refused code) writer old new = new ≡ old
+Does (decision.BadBytes fault) writer old new = new ≡ old
+Does (decision.Said reply) writer old new = new ≡ old
+Does (decision.Made name id node) writer old new =
+    new ≡ with_held old writer name.now (id, node)
+Does (decision.Edited name node) writer old new = Edits old new writer name.now node
+Does (decision.Dropped name) writer old new = new ≡ without_held old writer name.now
+Does (decision.Saved name bytes) writer old new = new ≡ old
+
+-- the reply to the statement of this line
+abbrev pub reply_to : ℕ → Decision → Reply
+reply_to line (decision.Refused code) = reply.Refused line code None
+reply_to line (decision.BadBytes fault) = reply.Refused line BAD_LITERAL (Some fault)
+reply_to line (decision.Said said) = said
+reply_to line (decision.Made name id node) = reply.Done
+reply_to line (decision.Edited name node) = reply.Done
+reply_to line (decision.Dropped name) = reply.Done
+reply_to line (decision.Saved name bytes) = reply.Done
+
+abbrev pub outcome_of : Decision → Outcome
+outcome_of (decision.Refused code) = Refused
+outcome_of (decision.BadBytes fault) = Refused
+outcome_of _ = Accepted
+
+-- what the files then tell
+abbrev pub told_after : Decision → Option Files → Option Files
+told_after (decision.Saved name bytes) told = told_with_bytes name.now bytes.items told
+told_after _ told = told
+
+-- A decision was carried out.
+pub record IsCarriedOut (made : Decision) (writer line : ℕ) (old new : Entries) (done : Outcome)
+    (told_old told_new : Option Files) (out_old out_new : List ℕ) : Type 0 where
+  pub entries : Does made writer old new
+  pub outcome : done ≡ outcome_of made
+  pub files : told_new ≡ told_after made told_old
+  pub text : out_new ≡ out_old ++ reply_line (reply_to line made)
+
+-- What is left of the files where a decision was not carried out: only a save can fail in writing.
+abbrev pub Fails : EngineFault → Decision → Option Files → Option Files → Type 0
+Fails Read made old new = ⊥
+Fails Memory made old new = new ≡ old
+Fails Write (decision.Saved name bytes) old new = Tears name.now bytes.items old new
+Fails Write _ old new = ⊥
+
+-- only what the table of statements names changes of the entries
+abbrev pub Touches : Touch → ℕ → Entries → Entries → Type 0
+Touches nothing writer old new = new ≡ old
+Touches (puts name) writer old new = (held : Held) × (new ≡ with_held old writer name held)
+Touches (takes name) writer old new = new ≡ without_held old writer name
+
+abbrev pub TouchesWhere : Outcome → Touch → ℕ → Entries → Entries → Type 0
+TouchesWhere Accepted touch writer old new = Touches touch writer old new
+TouchesWhere Refused touch writer old new = new ≡ old
+
+-- a fork holds what its source holds
+abbrev pub Forks : Statement → ℕ → Entries → Entries → Type 0
+Forks (Fork v w) writer old new = held_at new writer w ≡ held_at old writer v
+Forks _ writer old new = Unit {0}
+
+abbrev pub ForksWhere : Outcome → Statement → ℕ → Entries → Entries → Type 0
+ForksWhere Accepted statement writer old new = Forks statement writer old new
+ForksWhere Refused statement writer old new = Unit {0}
+
+-- a fork is found to come to that, or is refused
+abbrev pub MakesFork : Statement → ℕ → Entries → Decision → Type 0
+MakesFork (Fork v w) writer entries (decision.Refused code) = Unit {0}
+MakesFork (Fork v w) writer entries (decision.Made name id node) =
+    (name.now ≡ w) × (held_at entries writer v ≡ Some (id, node))
+MakesFork (Fork v w) writer entries _ = ⊥
+MakesFork _ writer entries made = Unit {0}
+
+-- the turn of the machine for a statement, where the writers have these versions and the files hold
+-- this
+abbrev pub turn_at : PairOf → Content → Place → ℕ → ℕ → ℕ → Statement
+    → (ℕ → Versions) → Files → Turn
+turn_at pair_of engine place number writer line statement versions files =
+    step (rules_of pair_of engine) place number
+    (record { versions = versions; files = files }) writer (line, Some statement)
+
+-- A statement is found to come to a decision: for some content of the files, the told one where
+-- they tell it, it answers the machine's row.
+pub record Decides (pair_of : PairOf) (place : Place) (statement : Statement) (writer number : ℕ)
+    (told : Option Files) (old new : Content) (before after : ℕ) (made : Decision) : Type 0 where
+  pub files : Files
+  pub tells : Holds told files
+  pub answers : Answers pair_of
+      (λ rules versions. effect rules place number
+      (record { versions = versions; files = files }) statement)
+      (touch statement) writer old new before after made
+
+-- the same of a statement that reads no file
+abbrev pub DecidesAlone : PairOf → Place → Statement → ℕ → ℕ → Content → Content → ℕ → ℕ → Decision
+    → Type 0
+DecidesAlone pair_of place statement writer number old new before after made =
+    (files : Files) → Answers pair_of
+    (λ rules versions. effect rules place number
+    (record { versions = versions; files = files }) statement)
+    (touch statement) writer old new before after made
+
+-- a file is read by a statement that reads one
+abbrev pub CanAsk : PairOf → Content → ℕ → Statement → Type 0
+CanAsk pair_of engine writer statement =
+    (versions : Versions) → StandsForWriter engine writer versions
+    → IsTrue (reads (rules_of pair_of engine) versions (Some statement))
+
+-- A statement was done: for some content of the files, the told one where they tell it, and
+-- whatever versions the engine stood for, the turn of the machine.
+pub record DoesStep (pair_of : PairOf) (place : Place) (writer line : ℕ) (statement : Statement)
+    (old new : Content) (before after : ℕ) (told_old told_new : Option Files)
+    (out_old out_new : List ℕ) (made : Outcome) : Type 0 where
+  pub files : Files
+  pub tells : Holds told_old files
+  pub leaves : (versions : ℕ → Versions) → StandsFor old versions
+      → Leaves (turn_at pair_of old place (before - old.base) writer line statement versions
+      files) made new told_new out_old out_new
+  -- what is hashed, and what is then to be hashed, is at most what was to be hashed and the charge
+  pub spends : (versions : ℕ → Versions) → StandsFor old versions
+      → after + unhashed new.arena ≤ before + unhashed old.arena
+      + charge_of (turn_at pair_of old place (before - old.base) writer line statement
+      versions files)
+  -- and so for the root of a version that was edited
+  pub edits : (versions : ℕ → Versions) → StandsFor old versions
+      → (name : Name) (was is : Held) → touch statement ≡ puts name → made ≡ Accepted
+      → held_at old.entries writer name ≡ Some was → held_at new.entries writer name ≡ Some is
+      → after + todo new.arena is.1 ≤ before + todo old.arena was.1
+      + charge_of (turn_at pair_of old place (before - old.base) writer line statement
+      versions files)
+
+-- what the turn was to write into a file was written in part, or not at all
+abbrev pub SavesPart : Turn → Option Files → Option Files → Type 0
+SavesPart turn old new =
+    (save : Save) × (save_of turn ≡ Some save) × Tears save.name save.bytes old new
+
+-- A failed write: for some content of the files, the told one where they tell it.
+pub record SaveFails (pair_of : PairOf) (place : Place) (writer line number : ℕ)
+    (statement : Statement) (old : Content) (told_old told_new : Option Files) : Type 0 where
+  pub files : Files
+  pub tells : Holds told_old files
+  pub part : (versions : ℕ → Versions) → StandsFor old versions
+      → SavesPart (turn_at pair_of old place number writer line statement versions files)
+      told_old told_new
+
+-- Why a statement was not done, and what is then left of the files.
+abbrev pub Stops : EngineFault → PairOf → Place → ℕ → ℕ → ℕ → Statement → Content → Option Files
+    → Option Files → Type 0
+Stops Read pair_of place writer line number statement old told_old told_new =
+    (told_new ≡ told_old) × CanAsk pair_of old writer statement
+Stops Write pair_of place writer line number statement old told_old told_new =
+    SaveFails pair_of place writer line number statement old told_old told_new
+Stops Memory pair_of place writer line number statement old told_old told_new = told_new ≡ told_old
+
+-- the literal has fewer than 2 ^ 32 bytes
+abbrev pub IsShort : Statement → Type 0
+IsShort (Lit v t literal) = length literal < 2 ^ 32
+IsShort (Set v path literal) = length literal < 2 ^ 32
+IsShort (Append v path literal) = length literal < 2 ^ 32
+IsShort (Choose v path k (Some literal)) = length literal < 2 ^ 32
+IsShort _ = Unit {0}
+
+-- the statement reads this file
+abbrev pub file_read : Statement → Option Name
+file_read (Load v t file) = Some file
+file_read _ = None
+
+-- what no statement changes: the types, the limit and the base; each node is there, with the same
+-- tree and no more to be hashed
+pub record Keeps (old new : Content) : Type 0 where
+  pub types : new.types ≡ old.types
+  pub most : new.most ≡ old.most
+  pub base : new.base ≡ old.base
+  pub nodes : KeepsNodes old.arena new.arena

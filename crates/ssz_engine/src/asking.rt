@@ -1,0 +1,73 @@
+ghost use Rattle.std.specs.Prelude.{◌≡◌, ◌+◌, ◌-◌, ◌≤◌};
+ghost use Rattle.ssz_arena.specs.Content.{unhashed};
+ghost use Rattle.ssz_machine.specs.Asking.{root_row, gindex, hashes};
+ghost use Rattle.ssz_machine.specs.Changes.{nothing};
+ghost use Rattle.ssz_engine.specs.Content.{Grows};
+ghost use Rattle.ssz_engine.specs.Decisions.{Answers, AnswersOf};
+ghost use Rattle.ssz_engine.specs.Steps.{outcome_of};
+ghost use Rattle.ssz_engine.specs.declared.outcome.Outcome.TheVariants.{Refused};
+
+use super::decision::Decision;
+use super::engine::Engine;
+use ssz_chunk::PairHash;
+use ssz_gindex::Gindex;
+use ssz_machine::Place;
+use ssz_schema::PathStep;
+use ssz_script::{Identifier, Reply};
+use ssz_versions::Writer;
+
+/// `root V`.
+pub(crate) fn root<'a, H: PairHash>(
+    engine: &mut Engine<H>,
+    writer: Writer,
+    v: &Identifier,
+    hasher: &mut H,
+) -> Decision<'a>
+    ensures grows { Grows engine.old engine.new }
+    ensures answers { Answers H.pair_of (λ rules versions. root_row rules versions v.now) nothing
+        writer.0 engine.old engine.new (H.pairs hasher.old) (H.pairs hasher.new) result }
+    ensures rises { H.pairs hasher.old ≤ H.pairs hasher.new }
+    ensures hashed { H.pairs hasher.new ≤ H.pairs hasher.old + unhashed engine.old.arena }
+    ensures refused { outcome_of result ≡ Refused → hasher.new ≡ hasher.old }
+{
+    match engine.versions.get(writer, v.as_name()) {
+        None => Decision::Refused(Reply::NO_VERSION),
+        Some((_, node)) => Decision::Said(Reply::Root(engine.arena.root(node, hasher))),
+    }
+}
+
+/// `gindex T P`.
+pub(crate) fn gindex<'a, H: PairHash>(
+    engine: &Engine<H>,
+    writer: Writer,
+    t: &Identifier,
+    path: &[PathStep],
+) -> Decision<'a>
+    ensures { AnswersOf H.pair_of (λ rules versions. gindex rules versions t.now path.now) nothing
+        writer.0 engine.now result }
+{
+    let Some(id) = engine.schema.find_name(t.as_name()) else {
+        return Decision::Refused(Reply::NO_TYPE);
+    };
+    match Gindex::of_path(&engine.schema, id, path) {
+        None => Decision::Refused(Reply::BAD_PATH),
+        Some(index) => Decision::Said(Reply::Gindex(index.get())),
+    }
+}
+
+/// `hashes`.
+pub(crate) fn hashes<'a, H: PairHash>(
+    engine: &Engine<H>,
+    writer: Writer,
+    place: Place,
+    hasher: &H,
+) -> Decision<'a>
+    ensures { AnswersOf H.pair_of
+        (λ rules versions. hashes place (H.pairs hasher.now - engine.now.base) versions) nothing
+        writer.0 engine.now result }
+{
+    match place {
+        Place::Weave => Decision::Refused(Reply::NOT_HERE),
+        Place::Run => Decision::Said(Reply::Hashes(hasher.count().saturating_sub(engine.base))),
+    }
+}

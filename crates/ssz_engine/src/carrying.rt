@@ -1,0 +1,195 @@
+ghost use Rattle.std.specs.Prelude.{◌≡◌, ◌≢◌, ◌+◌, ◌++◌, ◌≤◌, ℕ, List, None, IsSome, is_some, IfOk, IfErr, OnOk, OnErr, vec_len, vec_capacity};
+ghost use Rattle.ssz_outside.specs.Outcome.{Puts, Tears};
+ghost use Rattle.ssz_script.specs.Texts.{reply_line};
+ghost use Rattle.ssz_versions.specs.Content.{held_at, with_held, without_held};
+ghost use Rattle.ssz_engine.specs.Content.{SameNodes};
+ghost use Rattle.ssz_engine.specs.Standing.{IsSomeVersion};
+ghost use Rattle.ssz_engine.specs.Decisions.{CanDo, CanEdit};
+ghost use Rattle.ssz_engine.specs.Steps.{Edits, Fails, IsCarriedOut};
+ghost use Rattle.ssz_engine.specs.Outside.{CountsReads, CountsWrites, PutsFile};
+
+use super::decision::Decision;
+use super::engine::Engine;
+use super::fault::EngineFault;
+use super::outcome::Outcome;
+use ssz_arena::NodeId;
+use ssz_chunk::PairHash;
+use ssz_outside::{Files, PutFault};
+use ssz_schema::TypeId;
+use ssz_script::{FileName, Identifier, Reply, reply_text};
+use ssz_versions::Writer;
+
+// Appends `ok`, for which there is room.
+fn say_done(out: &mut Vec<u8>)
+    requires { vec_len out.old + 3 ≤ vec_capacity out.old }
+    ensures { out.new.items ≡ out.old.items ++ reply_line Reply.Done }
+{
+    match out.extend_from_slice(b"ok\n") {
+        Ok(()) => {}
+        Err(_) => unreachable!(),
+    }
+}
+
+// A name that is free gets a version.
+fn make<H: PairHash>(
+    engine: &mut Engine<H>,
+    writer: Writer,
+    name: &Identifier,
+    id: TypeId,
+    node: NodeId,
+    out: &mut Vec<u8>,
+) -> Result<(), EngineFault>
+    requires free { held_at engine.old.entries writer.0 name.now ≡ None }
+    requires stands { IsSomeVersion engine.old.types engine.old.arena (id, node) }
+    ensures nodes { SameNodes engine.old engine.new }
+    ensures entries { OnOk result
+        (engine.new.entries ≡ with_held engine.old.entries writer.0 name.now (id, node)) }
+    ensures text { OnOk result (out.new.items ≡ out.old.items ++ reply_line Reply.Done) }
+    ensures err { OnErr result ((engine.new.entries ≡ engine.old.entries)
+        × (out.new.items ≡ out.old.items)) }
+    ensures memory { IfErr result (λ fault. fault ≡ EngineFault.Memory) }
+{
+    out.reserve(3)?;
+    engine.versions.reserve(1)?;
+    match engine.versions.make(writer, name.as_name(), id, node) {
+        Ok(()) => {}
+        Err(_) => unreachable!(),
+    }
+    say_done(out);
+    Ok(())
+}
+
+// A version gets another node.
+fn edit<H: PairHash>(
+    engine: &mut Engine<H>,
+    writer: Writer,
+    name: &Identifier,
+    node: NodeId,
+    out: &mut Vec<u8>,
+) -> Result<(), EngineFault>
+    requires { CanEdit engine.old writer.0 name.now node }
+    ensures nodes { SameNodes engine.old engine.new }
+    ensures entries { OnOk result
+        (Edits engine.old.entries engine.new.entries writer.0 name.now node) }
+    ensures text { OnOk result (out.new.items ≡ out.old.items ++ reply_line Reply.Done) }
+    ensures err { OnErr result ((engine.new.entries ≡ engine.old.entries)
+        × (out.new.items ≡ out.old.items)) }
+    ensures memory { IfErr result (λ fault. fault ≡ EngineFault.Memory) }
+{
+    out.reserve(3)?;
+    match engine.versions.edit(writer, name.as_name()) {
+        Some(held) => *held = node,
+        None => unreachable!(),
+    }
+    say_done(out);
+    Ok(())
+}
+
+// A name is given up.
+fn give_up<H: PairHash>(
+    engine: &mut Engine<H>,
+    writer: Writer,
+    name: &Identifier,
+    out: &mut Vec<u8>,
+) -> Result<(), EngineFault>
+    requires { IsSome (held_at engine.old.entries writer.0 name.now) }
+    ensures nodes { SameNodes engine.old engine.new }
+    ensures entries { OnOk result
+        (engine.new.entries ≡ without_held engine.old.entries writer.0 name.now) }
+    ensures text { OnOk result (out.new.items ≡ out.old.items ++ reply_line Reply.Done) }
+    ensures err { OnErr result ((engine.new.entries ≡ engine.old.entries)
+        × (out.new.items ≡ out.old.items)) }
+    ensures memory { IfErr result (λ fault. fault ≡ EngineFault.Memory) }
+{
+    out.reserve(3)?;
+    match engine.versions.drop_version(writer, name.as_name()) {
+        Ok(()) => {}
+        Err(_) => unreachable!(),
+    }
+    say_done(out);
+    Ok(())
+}
+
+// A file gets these bytes.
+fn save<F: Files>(
+    files: &mut F,
+    name: &FileName,
+    bytes: &[u8],
+    out: &mut Vec<u8>,
+) -> Result<(), EngineFault>
+    ensures content { PutsFile result name.now bytes.now (F.content files.old)
+        (F.content files.new) }
+    ensures told { is_some (F.content files.new) ≡ is_some (F.content files.old) }
+    ensures text { OnOk result (out.new.items ≡ out.old.items ++ reply_line Reply.Done) }
+    ensures err { OnErr result (out.new.items ≡ out.old.items) }
+    ensures readable { (other : List ℕ) → F.readable files.old other → F.readable files.new other }
+    ensures gets { F.get_faults files.new ≡ F.get_faults files.old }
+    ensures puts { CountsWrites result (F.put_faults files.old) (F.put_faults files.new) }
+{
+    out.reserve(3)?;
+    match files.put(name.as_str(), bytes) {
+        Ok(()) => {}
+        Err(PutFault::Failed) => return Err(EngineFault::Write),
+        Err(PutFault::Memory) => return Err(EngineFault::Memory),
+    }
+    say_done(out);
+    Ok(())
+}
+
+/// Carries out a decision, and appends the line of the reply. All memory is taken before anything
+/// is changed.
+pub(crate) fn carry_out<F: Files, H: PairHash>(
+    engine: &mut Engine<H>,
+    writer: Writer,
+    line: u64,
+    decision: Decision<'_>,
+    files: &mut F,
+    out: &mut Vec<u8>,
+) -> Result<Outcome, EngineFault>
+    requires { CanDo engine.old writer.0 decision }
+    ensures nodes { SameNodes engine.old engine.new }
+    ensures ok { IfOk result (λ outcome. IsCarriedOut decision.entry writer.0 line
+        engine.old.entries engine.new.entries outcome (F.content files.old) (F.content files.new)
+        out.old.items out.new.items) }
+    ensures err { OnErr result ((engine.new.entries ≡ engine.old.entries)
+        × (out.new.items ≡ out.old.items)) }
+    ensures fails { IfErr result (λ fault. Fails fault decision.entry (F.content files.old)
+        (F.content files.new)) }
+    ensures told { is_some (F.content files.new) ≡ is_some (F.content files.old) }
+    ensures readable { (other : List ℕ) → F.readable files.old other → F.readable files.new other }
+    ensures gets { F.get_faults files.new ≡ F.get_faults files.old }
+    ensures puts { CountsWrites result (F.put_faults files.old) (F.put_faults files.new) }
+{
+    match decision {
+        Decision::Refused(code) => {
+            let fault = None;
+            reply_text(&Reply::Refused { line, code, fault }, out)?;
+            Ok(Outcome::Refused)
+        }
+        Decision::BadBytes(fault) => {
+            let (code, fault) = (Reply::BAD_LITERAL, Some(fault));
+            reply_text(&Reply::Refused { line, code, fault }, out)?;
+            Ok(Outcome::Refused)
+        }
+        Decision::Said(reply) => {
+            reply_text(&reply, out)?;
+            Ok(Outcome::Accepted)
+        }
+        Decision::Made(name, id, node) => {
+            make(engine, writer, name, id, node, out)?;
+            Ok(Outcome::Accepted)
+        }
+        Decision::Edited(name, node) => {
+            edit(engine, writer, name, node, out)?;
+            Ok(Outcome::Accepted)
+        }
+        Decision::Dropped(name) => {
+            give_up(engine, writer, name, out)?;
+            Ok(Outcome::Accepted)
+        }
+        Decision::Saved(name, bytes) => {
+            save(files, name, bytes.as_slice(), out)?;
+            Ok(Outcome::Accepted)
+        }
+    }
+}

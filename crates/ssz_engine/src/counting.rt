@@ -1,0 +1,52 @@
+//! `len`.
+ghost use Rattle.std.specs.Prelude.{IfOk, IfErr};
+ghost use Rattle.ssz_machine.specs.Asking.{len};
+ghost use Rattle.ssz_machine.specs.Changes.{nothing};
+ghost use Rattle.ssz_views.specs.Looking.{ForPart, type_seen};
+ghost use Rattle.ssz_engine.specs.Counted.{HasCount, HasNoCount};
+ghost use Rattle.ssz_engine.specs.Decisions.{AnswersOf};
+
+use super::decision::Decision;
+use super::engine::Engine;
+use super::refusals::code_of_path;
+use ssz_chunk::PairHash;
+use ssz_schema::PathStep;
+use ssz_script::{Identifier, Reply};
+use ssz_versions::Writer;
+use ssz_views::View;
+
+// How many elements or bits the part at the path has; else the code of the refusal.
+fn count_at<'a, H: PairHash>(view: &View<'a, H>, path: &[PathStep]) -> Result<u64, u8>
+    ensures ok { IfOk result (λ n. ForPart view.now
+        (HasCount (type_seen view.now) path.now n)) }
+    ensures err { IfErr result (λ code. ForPart view.now
+        (HasNoCount (type_seen view.now) path.now code)) }
+{
+    match view.at(path) {
+        Err(fault) => Err(code_of_path(fault)),
+        Ok(part) => match part.len() {
+            Some(count) => Ok(count),
+            None => Err(Reply::NOT_THAT),
+        },
+    }
+}
+
+/// `len V P`.
+pub(crate) fn len<'a, H: PairHash>(
+    engine: &Engine<H>,
+    writer: Writer,
+    v: &Identifier,
+    path: &[PathStep],
+) -> Decision<'a>
+    ensures { AnswersOf H.pair_of (λ rules versions. len versions v.now path.now) nothing writer.0
+        engine.now result }
+{
+    let Some(held) = engine.versions.get(writer, v.as_name()) else {
+        return Decision::Refused(Reply::NO_VERSION);
+    };
+    let view = View::new(&engine.arena, &engine.schema, held.0, held.1);
+    match count_at(&view, path) {
+        Ok(count) => Decision::Said(Reply::Len(count)),
+        Err(code) => Decision::Refused(code),
+    }
+}

@@ -1,0 +1,23 @@
+use ssz_arena::NodeId;
+use ssz_bytes::Fault;
+use ssz_schema::TypeId;
+use ssz_script::{FileName, Identifier, Reply};
+
+/// What a statement comes to.
+#[derive(Debug, Drop)]
+pub(crate) enum Decision<'a> {
+    /// It is refused with this code.
+    Refused(u8),
+    /// Its bytes have a first fault.
+    BadBytes(Fault),
+    /// It changes nothing.
+    Said(Reply),
+    /// A name that is free gets a version.
+    Made(&'a Identifier, TypeId, NodeId),
+    /// A version gets another node.
+    Edited(&'a Identifier, NodeId),
+    /// A name is given up.
+    Dropped(&'a Identifier),
+    /// A file gets these bytes.
+    Saved(&'a FileName, Vec<u8>),
+}

@@ -1,0 +1,197 @@
+//! Statements that edit a version: `set`, `append`, `pop` and `choose`.
+//!
+//! Each finds what it edits first, so that its literal is read only where no test refuses it, and
+//! makes the nodes of the edited value last.
+ghost use Rattle.std.specs.Prelude.{◌≡◌, ◌<◌, ◌^◌, length, IfOk, IfErr, IfSome};
+ghost use Rattle.ssz_machine.specs.Editing.{append, choose, pop, set};
+ghost use Rattle.ssz_machine.specs.Changes.{puts};
+ghost use Rattle.ssz_engine.specs.Content.{Grows};
+ghost use Rattle.ssz_engine.specs.Decisions.{AnswersWith};
+ghost use Rattle.ssz_engine.specs.Finished.{Finishes, unread};
+
+use super::decision::Decision;
+use super::editable::{appendable, choosable, settable};
+use super::engine::Engine;
+use super::fault::EngineFault;
+use super::inner::inner_value;
+use super::refusals::code_of_edit;
+use ssz_arena::NodeId;
+use ssz_bytes::ByteRun;
+use ssz_chunk::PairHash;
+use ssz_codec::{DecodeFault, decode};
+use ssz_schema::PathStep;
+use ssz_script::{Identifier, Reply};
+use ssz_value::EditFault;
+use ssz_versions::Writer;
+
+// What an edit of a version's node comes to.
+fn finish<'a>(
+    v: &'a Identifier,
+    edited: Result<NodeId, EditFault>,
+) -> Result<Decision<'a>, EngineFault>
+    ensures { Finishes v.now edited result }
+{
+    match edited {
+        Ok(node) => Ok(Decision::Edited(v, node)),
+        Err(EditFault::Memory) => Err(EngineFault::Memory),
+        Err(fault) => Ok(Decision::Refused(code_of_edit(fault))),
+    }
+}
+
+// What a literal that was not read comes to.
+fn unread<'a>(fault: DecodeFault) -> Result<Decision<'a>, EngineFault>
+    ensures { result ≡ unread fault }
+{
+    match fault {
+        DecodeFault::Bad(fault) => Ok(Decision::BadBytes(fault)),
+        DecodeFault::Memory => Err(EngineFault::Memory),
+    }
+}
+
+/// `set V P LIT`.
+pub(crate) fn set<'a, H: PairHash>(
+    engine: &mut Engine<H>,
+    writer: Writer,
+    v: &'a Identifier,
+    path: &[PathStep],
+    literal: &[u8],
+) -> Result<Decision<'a>, EngineFault>
+    requires { length literal.now < 2 ^ 32 }
+    ensures grows { Grows engine.old engine.new }
+    ensures answers { IfOk result (AnswersWith H.pair_of
+        (λ rules versions. set versions v.now path.now literal.now) (puts v.now) writer.0
+        engine.old engine.new) }
+    ensures memory { IfErr result (λ fault. fault ≡ EngineFault.Memory) }
+{
+    let Some(held) = engine.versions.get(writer, v.as_name()) else {
+        return Ok(Decision::Refused(Reply::NO_VERSION));
+    };
+    let part = match settable(&engine.arena, &engine.schema, held.0, held.1, path) {
+        Ok(part) => part,
+        Err(code) => return Ok(Decision::Refused(code)),
+    };
+    match decode(engine.alloc, &engine.schema, part, literal) {
+        Ok(value) => {
+            let made = ssz_edit::set(
+                &mut engine.arena,
+                &engine.schema,
+                held.0,
+                held.1,
+                path,
+                &value,
+            );
+            drop(value);
+            finish(v, made)
+        }
+        Err(fault) => unread(fault),
+    }
+}
+
+/// `append V P LIT`.
+pub(crate) fn append<'a, H: PairHash>(
+    engine: &mut Engine<H>,
+    writer: Writer,
+    v: &'a Identifier,
+    path: &[PathStep],
+    literal: &[u8],
+) -> Result<Decision<'a>, EngineFault>
+    requires { length literal.now < 2 ^ 32 }
+    ensures grows { Grows engine.old engine.new }
+    ensures answers { IfOk result (AnswersWith H.pair_of
+        (λ rules versions. append versions v.now path.now literal.now) (puts v.now) writer.0
+        engine.old engine.new) }
+    ensures memory { IfErr result (λ fault. fault ≡ EngineFault.Memory) }
+{
+    let Some(held) = engine.versions.get(writer, v.as_name()) else {
+        return Ok(Decision::Refused(Reply::NO_VERSION));
+    };
+    let element = match appendable(&engine.arena, &engine.schema, held.0, held.1, path) {
+        Ok(element) => element,
+        Err(code) => return Ok(Decision::Refused(code)),
+    };
+    match decode(engine.alloc, &engine.schema, element, literal) {
+        Ok(value) => {
+            let made = ssz_edit::append(
+                &mut engine.arena,
+                &engine.schema,
+                held.0,
+                held.1,
+                path,
+                &value,
+            );
+            drop(value);
+            finish(v, made)
+        }
+        Err(fault) => unread(fault),
+    }
+}
+
+/// `pop V P`.
+pub(crate) fn pop<'a, H: PairHash>(
+    engine: &mut Engine<H>,
+    writer: Writer,
+    v: &'a Identifier,
+    path: &[PathStep],
+) -> Result<Decision<'a>, EngineFault>
+    ensures grows { Grows engine.old engine.new }
+    ensures answers { IfOk result (AnswersWith H.pair_of
+        (λ rules versions. pop versions v.now path.now) (puts v.now) writer.0
+        engine.old engine.new) }
+    ensures memory { IfErr result (λ fault. fault ≡ EngineFault.Memory) }
+{
+    let Some(held) = engine.versions.get(writer, v.as_name()) else {
+        return Ok(Decision::Refused(Reply::NO_VERSION));
+    };
+    // Every type of a schema is legal, so that the parts of its values are of their types.
+    let _legal = engine.schema.ty(held.0);
+    let made = ssz_edit::pop(&mut engine.arena, &engine.schema, held.0, held.1, path);
+    finish(v, made)
+}
+
+/// `choose V P SEL [LIT]`.
+pub(crate) fn choose<'a, H: PairHash>(
+    engine: &mut Engine<H>,
+    writer: Writer,
+    v: &'a Identifier,
+    path: &[PathStep],
+    selector: u8,
+    literal: &Option<ByteRun>,
+) -> Result<Decision<'a>, EngineFault>
+    requires { IfSome literal.now (λ bytes. length bytes < 2 ^ 32) }
+    ensures grows { Grows engine.old engine.new }
+    ensures answers { IfOk result (AnswersWith H.pair_of
+        (λ rules versions. choose versions v.now path.now selector literal.now) (puts v.now)
+        writer.0 engine.old engine.new) }
+    ensures memory { IfErr result (λ fault. fault ≡ EngineFault.Memory) }
+{
+    let Some(held) = engine.versions.get(writer, v.as_name()) else {
+        return Ok(Decision::Refused(Reply::NO_VERSION));
+    };
+    let option = match choosable(
+        &engine.arena,
+        &engine.schema,
+        held.0,
+        held.1,
+        path,
+        selector,
+    ) {
+        Ok(option) => option,
+        Err(code) => return Ok(Decision::Refused(code)),
+    };
+    match inner_value(engine.alloc, &engine.schema, option, literal) {
+        Ok(inner) => {
+            let made = ssz_edit::choose(
+                &mut engine.arena,
+                &engine.schema,
+                held.0,
+                held.1,
+                path,
+                selector,
+                inner.as_ref(),
+            );
+            drop(inner);
+            finish(v, made)
+        }
+        Err(fault) => unread(fault),
+    }
+}

@@ -1,0 +1,136 @@
+ghost use Rattle.std.specs.Prelude.{◌≡◌, ◌≢◌, ◌+◌, ◌-◌, ◌≤◌, ℕ, List, [], is_some, Some, None, Err, false, IfOk, IfErr, OnOk, OnErr};
+ghost use Rattle.std.specs.FinMap as finite;
+ghost use Rattle.ssz_chunk.specs.declared.TheConstants.{LEVELS};
+ghost use Rattle.ssz_chunk.specs.Chunk.{CountsUp};
+ghost use Rattle.ssz_arena.specs.Content.{unhashed};
+ghost use Rattle.ssz_machine.specs.Changes.{touch};
+ghost use Rattle.ssz_machine.specs.Counts.{asks_root};
+ghost use Rattle.ssz_engine.specs.Outside.{CountsReads, CountsWrites};
+ghost use Rattle.ssz_engine.specs.Standing.{StandsFor};
+ghost use Rattle.ssz_engine.specs.Steps.{DoesStep, ForksWhere, IsShort, Keeps, Stops, TouchesWhere, file_read};
+
+use super::carrying::carry_out;
+use super::deciding::decide;
+use super::fault::EngineFault;
+use super::outcome::Outcome;
+use ssz_arena::Arena;
+use ssz_chunk::PairHash;
+use ssz_machine::Place;
+use ssz_outside::Files;
+use ssz_schema::Schema;
+use ssz_script::Statement;
+use ssz_versions::{Versions, Writer};
+use std::alloc::{AllocError, Global};
+use std::marker::Model;
+
+/// A schema, an arena of nodes, and what each writer holds under each name.
+#[derive(Drop)]
+pub struct Engine<H: PairHash> {
+    pub(crate) alloc: Global,
+    pub(crate) schema: Schema,
+    pub(crate) max: u32,
+    pub(crate) arena: Arena<H>,
+    pub(crate) versions: Versions,
+    pub(crate) base: u64,
+}
+
+impl<H: PairHash> Model for Engine<H> {
+    ghost use Rattle.std.specs.Coded.{codes};
+    ghost use Rattle.ssz_schema.specs.Unfolding.{coded_types};
+    ghost use Rattle.ssz_engine.specs.Content.{Content, entries_code};
+    ghost use Rattle.ssz_engine.specs.Standing.{AreVersions};
+
+    ghost Value = { Content };
+
+    ghost coded = { Prim.hlevel (codes, coded_types, entries_code) };
+
+    ghost view = { λ a. record {
+      types = a.schema;
+      most = a.max;
+      arena = a.arena;
+      entries = a.versions.entries;
+      base = a.base;
+    } };
+
+    ghost invariant = { λ a. AreVersions a.schema a.arena a.versions.entries };
+}
+
+impl<H: PairHash> Engine<H> {
+    /// An engine with these types, in which no writer has a version. It takes values and encodings
+    /// of at most `max` bytes from files and prints no longer ones. Hashes the zero trees. After
+    /// want of memory the schema is given up.
+    pub fn start(
+        alloc: Global,
+        schema: Schema,
+        max: u32,
+        hasher: &mut H,
+    ) -> Result<Self, AllocError>
+        ensures types { IfOk result (λ engine. engine.types ≡ schema) }
+        ensures most { IfOk result (λ engine. engine.most ≡ max) }
+        ensures entries { IfOk result (λ engine. engine.entries ≡ finite.empty) }
+        ensures stands { IfOk result (λ engine. StandsFor engine (λ writer. [])) }
+        ensures base { IfOk result (λ engine. engine.base ≡ H.pairs hasher.new) }
+        ensures unhashed { IfOk result (λ engine. unhashed engine.arena ≡ 0) }
+        ensures err { OnErr result (hasher.new ≡ hasher.old) }
+        ensures counts { OnOk result (CountsUp LEVELS (H.pairs hasher.old) (H.pairs hasher.new)) }
+    {
+        let versions = Versions::empty(alloc)?;
+        let arena = Arena::start(alloc, hasher)?;
+        Ok(Engine {
+            alloc,
+            schema,
+            max,
+            arena,
+            versions,
+            base: hasher.count(),
+        })
+    }
+
+    /// Does a statement of this line of a script, and appends the line of the reply. All memory is
+    /// taken before a version or a file changes: after `Memory` or `Read` the versions, the files
+    /// and `out` are as before, and after `Write` all but the file, which has what it had or a part
+    /// of the new bytes.
+    pub fn step<F: Files>(
+        &mut self,
+        writer: Writer,
+        place: Place,
+        line: u64,
+        statement: &Statement,
+        files: &mut F,
+        hasher: &mut H,
+        out: &mut Vec<u8>,
+    ) -> Result<Outcome, EngineFault>
+        requires { IsShort statement.now }
+        ensures keeps { Keeps self.old self.new }
+        ensures ok { IfOk result (DoesStep H.pair_of place writer.0 line statement.now self.old
+            self.new (H.pairs hasher.old) (H.pairs hasher.new) (F.content files.old)
+            (F.content files.new) out.old.items out.new.items) }
+        ensures entries { IfOk result (λ outcome. TouchesWhere outcome (touch statement.now)
+            writer.0 self.old.entries self.new.entries) }
+        // A fork holds what its source holds, the same node.
+        ensures forks { IfOk result (λ outcome. ForksWhere outcome statement.now writer.0
+            self.old.entries self.new.entries) }
+        ensures err { OnErr result ((self.new.entries ≡ self.old.entries)
+            × (out.new.items ≡ out.old.items)) }
+        ensures stops { IfErr result (λ fault. Stops fault H.pair_of place writer.0 line
+            (H.pairs hasher.old - self.old.base) statement.now self.old (F.content files.old)
+            (F.content files.new)) }
+        // Files that tell what they hold go on telling.
+        ensures told { is_some (F.content files.new) ≡ is_some (F.content files.old) }
+        ensures rises { H.pairs hasher.old ≤ H.pairs hasher.new }
+        ensures hashed { H.pairs hasher.new ≤ H.pairs hasher.old + unhashed self.old.arena }
+        ensures refused { IfOk result (λ outcome. outcome ≡ Outcome.Refused
+            → hasher.new ≡ hasher.old) }
+        ensures still { asks_root (Some statement.now) ≡ false → hasher.new ≡ hasher.old }
+        ensures fails { (name : List ℕ) → file_read statement.now ≡ Some name
+            → F.readable files.old name → result ≢ Err EngineFault.Read }
+        ensures asks { file_read statement.now ≡ None → result ≢ Err EngineFault.Read }
+        ensures readable { (other : List ℕ) → F.readable files.old other
+            → F.readable files.new other }
+        ensures gets { CountsReads result (F.get_faults files.old) (F.get_faults files.new) }
+        ensures puts { CountsWrites result (F.put_faults files.old) (F.put_faults files.new) }
+    {
+        let decision = decide(self, writer, place, statement, files, hasher)?;
+        carry_out(self, writer, line, decision, files, out)
+    }
+}

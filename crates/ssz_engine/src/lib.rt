@@ -1,0 +1,34 @@
+//! Statements of scripts over shared cached trees.
+//!
+//! An engine keeps a schema, an arena of nodes, and what each writer holds under each name. A
+//! statement is done in two steps. First it is decided (`decide`, one function a statement): what
+//! it comes to, over the entries as they stand. All that this changes is that the arena may have
+//! more nodes and roots. Then the decision is carried out (`carry_out`), with all memory taken
+//! before anything is changed. So each statement has one function with one shape of contract:
+//! whatever versions of the plain machine the entries stand for, the decision is the machine's row.
+//!
+//! A script is done line by line (`run_script`): each line's reply is made in memory and printed in
+//! one piece.
+#![tactic(auto)]
+
+mod asking;
+mod carrying;
+mod counting;
+mod deciding;
+mod decision;
+mod editable;
+mod editing;
+mod engine;
+mod fault;
+mod inner;
+mod line;
+mod making;
+mod outcome;
+mod proving;
+mod refusals;
+mod run;
+mod shown;
+
+pub use engine::Engine;
+pub use fault::EngineFault;
+pub use outcome::Outcome;

@@ -1,0 +1,191 @@
+// One line of a script.
+ghost use Rattle.std.specs.Prelude.{◌≡◌, ◌≢◌, ◌≤◌, ◌<◌, ◌+◌, ◌^◌, ◌∷◌, ◌++◌, [], ℕ, List, true, length, Some, None, Err, IfOk, IfErr, OnOk};
+ghost use Rattle.std.specs.List.{AllByRecursion};
+ghost use Rattle.ssz_arena.specs.Content.{unhashed};
+ghost use Rattle.ssz_outside.specs.Job.{IsFinished};
+ghost use Rattle.ssz_outside.specs.Pieces.{Told};
+ghost use Rattle.ssz_script.specs.Texts.{reply_line};
+ghost use Rattle.ssz_script.specs.declared.reply.TheConstants.Reply.{SYNTAX};
+ghost use Rattle.ssz_machine.specs.Plays.{says};
+ghost use Rattle.ssz_machine.specs.declared.place.Place.TheVariants.{Run};
+ghost use Rattle.ssz_engine.specs.Lines.{CountsPrint, DoesLine, Prints, ended_by};
+ghost use Rattle.ssz_engine.specs.Outside.{CountsReads, CountsWrites};
+ghost use Rattle.ssz_engine.specs.Points.{Counts, Goes};
+ghost use Rattle.ssz_engine.specs.Scripts.{files_named};
+ghost use Rattle.ssz_engine.specs.Steps.{IsShort, Keeps, is_refusal};
+
+use super::engine::Engine;
+use super::fault::EngineFault;
+use super::outcome::Outcome;
+use ssz_chunk::PairHash;
+use ssz_machine::Place;
+use ssz_outside::{Files, PutFault, Sink, Status};
+use ssz_script::{Reply, ScriptStatement, Statement, reply_text};
+use ssz_versions::Writer;
+
+// Whether there are fewer than 2^32 bytes.
+fn are_few(bytes: &[u8]) -> bool
+    ensures { result ≡ true → length bytes.now < 2 ^ 32 }
+{
+    bytes.len() < 0x1_0000_0000
+}
+
+// Whether the literal, where there is one, has fewer than 2^32 bytes.
+fn is_short(statement: &Statement) -> bool
+    ensures { result ≡ true → IsShort statement.now }
+{
+    match statement {
+        Statement::Lit(_, _, literal) => are_few(literal.as_slice()),
+        Statement::Set(_, _, literal) => are_few(literal.as_slice()),
+        Statement::Append(_, _, literal) => are_few(literal.as_slice()),
+        Statement::Choose(_, _, _, Some(literal)) => are_few(literal.as_slice()),
+        _ => true,
+    }
+}
+
+// Appends the line that refuses what is no statement.
+fn refuse(line: u64, out: &mut Vec<u8>) -> Result<Outcome, EngineFault>
+    ensures refused { IfOk result (λ made. made ≡ Outcome.Refused) }
+    ensures text { OnOk result
+        (out.new.items ≡ out.old.items ++ reply_line (Reply.Refused line SYNTAX None)) }
+    ensures memory { IfErr result (λ fault. fault ≡ EngineFault.Memory) }
+{
+    let refused = Reply::Refused {
+        line,
+        code: Reply::SYNTAX,
+        fault: None,
+    };
+    reply_text(&refused, out)?;
+    Ok(Outcome::Refused)
+}
+
+// Does what a line says, as writer 0, and appends the line of the reply. A literal of 2^32 bytes or
+// more is want of memory.
+fn reply_to<F: Files, H: PairHash>(
+    engine: &mut Engine<H>,
+    line: &ScriptStatement,
+    files: &mut F,
+    hasher: &mut H,
+    out: &mut Vec<u8>,
+) -> Result<Outcome, EngineFault>
+    ensures keeps { Keeps engine.old engine.new }
+    ensures rises { H.pairs hasher.old ≤ H.pairs hasher.new }
+    ensures hashed { H.pairs hasher.new ≤ H.pairs hasher.old + unhashed engine.old.arena }
+    ensures does { (was is : Told) → DoesLine H.pair_of Run 0 (line.now.line, line.now.statement)
+        result
+        (record {
+          engine = engine.old;
+          hashed = H.pairs hasher.old;
+          told = F.content files.old;
+          readable = F.readable files.old;
+          pieces = was;
+        })
+        (record {
+          engine = engine.new;
+          hashed = H.pairs hasher.new;
+          told = F.content files.new;
+          readable = F.readable files.new;
+          pieces = is;
+        })
+        out.old.items out.new.items }
+    ensures fails { AllByRecursion (F.readable files.old)
+        (files_named ((line.now.line, line.now.statement) ∷ [])) → result ≢ Err EngineFault.Read }
+    ensures readable { (other : List ℕ) → F.readable files.old other → F.readable files.new other }
+    ensures gets { CountsReads result (F.get_faults files.old) (F.get_faults files.new) }
+    ensures puts { CountsWrites result (F.put_faults files.old) (F.put_faults files.new) }
+{
+    let Some(statement) = &line.statement else {
+        return refuse(line.line, out);
+    };
+    if !is_short(statement) {
+        return Err(EngineFault::Memory);
+    }
+    engine.step(
+        Writer(0),
+        Place::Run,
+        line.line,
+        statement,
+        files,
+        hasher,
+        out,
+    )
+}
+
+// The status of a run that a line ended.
+fn status_of(fault: EngineFault) -> Status
+    ensures value { result ≡ ended_by fault }
+    ensures stops { ¬ IsFinished result }
+{
+    match fault {
+        EngineFault::Read => Status::ReadFault,
+        EngineFault::Write => Status::WriteFault,
+        EngineFault::Memory => Status::Memory,
+    }
+}
+
+// Prints a line in one piece.
+fn print<S: Sink>(line: &[u8], out: &mut S) -> Result<(), Status>
+    ensures pieces { Prints result line.now (S.pieces out.old) (S.pieces out.new) }
+    ensures counts { CountsPrint result (S.faults out.old) (S.faults out.new) }
+    ensures stops { IfErr result (λ ended. ¬ IsFinished ended) }
+{
+    match out.put(line) {
+        Ok(()) => Ok(()),
+        Err(PutFault::Failed) => Err(Status::WriteFault),
+        Err(PutFault::Memory) => Err(Status::Memory),
+    }
+}
+
+// Whether a line was refused.
+fn is_refusal(made: Outcome) -> bool
+    ensures { result ≡ is_refusal made }
+{
+    match made {
+        Outcome::Accepted => false,
+        Outcome::Refused => true,
+    }
+}
+
+/// Does a line as writer 0 and prints its reply. `refused` becomes true where the line is refused.
+pub(crate) fn run_line<F: Files, S: Sink, H: PairHash>(
+    engine: &mut Engine<H>,
+    line: &ScriptStatement,
+    files: &mut F,
+    out: &mut S,
+    hasher: &mut H,
+    refused: &mut bool,
+) -> Result<(), Status>
+    ensures keeps { Keeps engine.old engine.new }
+    ensures rises { H.pairs hasher.old ≤ H.pairs hasher.new }
+    ensures goes { Goes H.pair_of Run (says 0 (line.now.line, line.now.statement) ∷ []) result
+        refused.old refused.new
+        (record {
+          engine = engine.old;
+          hashed = H.pairs hasher.old;
+          told = F.content files.old;
+          readable = F.readable files.old;
+          pieces = S.pieces out.old;
+        })
+        (record {
+          engine = engine.new;
+          hashed = H.pairs hasher.new;
+          told = F.content files.new;
+          readable = F.readable files.new;
+          pieces = S.pieces out.new;
+        }) }
+    ensures counts { Counts result (F.get_faults files.old) (F.get_faults files.new)
+        (F.put_faults files.old) (F.put_faults files.new) (S.faults out.old) (S.faults out.new) }
+    ensures stops { IfErr result (λ ended. ¬ IsFinished ended) }
+    ensures fails { AllByRecursion (F.readable files.old)
+        (files_named ((line.now.line, line.now.statement) ∷ [])) → result ≢ Err Status.ReadFault }
+    ensures readable { (other : List ℕ) → F.readable files.old other → F.readable files.new other }
+{
+    let mut text = Vec::new(engine.alloc);
+    match reply_to(engine, line, files, hasher, &mut text) {
+        Ok(made) => {
+            *refused = is_refusal(made) | *refused;
+            print(text.as_slice(), out)
+        }
+        Err(fault) => Err(status_of(fault)),
+    }
+}

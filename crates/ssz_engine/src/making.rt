@@ -1,0 +1,199 @@
+ghost use Rattle.std.specs.Prelude.{◌≡◌, ◌≢◌, ◌<◌, ◌^◌, ℕ, List, None, Err, length, IfOk, IfErr};
+ghost use Rattle.ssz_schema.specs.Unfolding.{type_of};
+ghost use Rattle.ssz_versions.specs.Content.{held_at};
+ghost use Rattle.ssz_machine.specs.Making.{new, lit, load, fork, drop, list};
+ghost use Rattle.ssz_machine.specs.Changes.{nothing, puts, takes};
+ghost use Rattle.ssz_engine.specs.Content.{Grows};
+ghost use Rattle.ssz_engine.specs.Decisions.{AnswersOf, AnswersWith, brought, IsFree, IsTaken, LoadsWith, CanLoad};
+ghost use Rattle.ssz_engine.specs.Outside.{CountsReads};
+ghost use Rattle.ssz_engine.specs.Steps.{MakesFork};
+ghost use Rattle.ssz_script.specs.declared.statement.Statement.TheVariants.{Fork};
+
+use super::decision::Decision;
+use super::engine::Engine;
+use super::fault::EngineFault;
+use ssz_bytes::as_bytes;
+use ssz_chunk::PairHash;
+use ssz_codec::check;
+use ssz_outside::{Files, GetFault, Got};
+use ssz_schema::TypeId;
+use ssz_script::{FileName, Identifier, Reply};
+use ssz_tree::{build_bytes, build_default};
+use ssz_versions::Writer;
+
+// The type of a name, for a version whose name is free; else the code of the refusal.
+fn free_type<H: PairHash>(
+    engine: &Engine<H>,
+    writer: Writer,
+    v: &Identifier,
+    t: &Identifier,
+) -> Result<TypeId, u8>
+    ensures ok { IfOk result (IsFree engine.now writer.0 v.now t.now) }
+    ensures err { IfErr result (IsTaken engine.now writer.0 v.now t.now) }
+{
+    let Some(id) = engine.schema.find_name(t.as_name()) else {
+        return Err(Reply::NO_TYPE);
+    };
+    match engine.versions.get(writer, v.as_name()) {
+        Some(_) => Err(Reply::NAME_TAKEN),
+        None => Ok(id),
+    }
+}
+
+/// `new V T`.
+pub(crate) fn new<'a, H: PairHash>(
+    engine: &mut Engine<H>,
+    writer: Writer,
+    v: &'a Identifier,
+    t: &Identifier,
+) -> Result<Decision<'a>, EngineFault>
+    ensures grows { Grows engine.old engine.new }
+    ensures answers { IfOk result (AnswersWith H.pair_of
+        (λ rules versions. new rules versions v.now t.now) (puts v.now) writer.0
+        engine.old engine.new) }
+    ensures memory { IfErr result (λ fault. fault ≡ EngineFault.Memory) }
+{
+    let id = match free_type(engine, writer, v, t) {
+        Ok(id) => id,
+        Err(code) => return Ok(Decision::Refused(code)),
+    };
+    // Every type of a schema is legal, so that its default fits.
+    let _legal = engine.schema.ty(id);
+    let node = build_default(&mut engine.arena, &engine.schema, id)?;
+    Ok(Decision::Made(v, id, node))
+}
+
+/// `lit V T LIT`.
+pub(crate) fn lit<'a, H: PairHash>(
+    engine: &mut Engine<H>,
+    writer: Writer,
+    v: &'a Identifier,
+    t: &Identifier,
+    literal: &[u8],
+) -> Result<Decision<'a>, EngineFault>
+    requires { length literal.now < 2 ^ 32 }
+    ensures grows { Grows engine.old engine.new }
+    ensures answers { IfOk result (AnswersWith H.pair_of
+        (λ rules versions. lit rules versions v.now t.now literal.now) (puts v.now) writer.0
+        engine.old engine.new) }
+    ensures memory { IfErr result (λ fault. fault ≡ EngineFault.Memory) }
+{
+    let id = match free_type(engine, writer, v, t) {
+        Ok(id) => id,
+        Err(code) => return Ok(Decision::Refused(code)),
+    };
+    bring(engine, writer, v, id, literal)
+}
+
+// A name that is free gets the value of a type that some bytes encode.
+fn bring<'a, H: PairHash>(
+    engine: &mut Engine<H>,
+    writer: Writer,
+    v: &'a Identifier,
+    id: TypeId,
+    bytes: &[u8],
+) -> Result<Decision<'a>, EngineFault>
+    requires known { id < length engine.old.types.trees }
+    requires short { length bytes.now < 2 ^ 32 }
+    requires free { held_at engine.old.entries writer.0 v.now ≡ None }
+    ensures grows { Grows engine.old engine.new }
+    ensures answers { IfOk result (AnswersWith H.pair_of
+        (λ rules versions. brought versions v.now (type_of engine.old.types id) bytes.now)
+        (puts v.now) writer.0 engine.old engine.new) }
+    ensures memory { IfErr result (λ fault. fault ≡ EngineFault.Memory) }
+{
+    let _bytes = as_bytes(bytes);
+    match check(&engine.schema, id, bytes) {
+        Some(fault) => Ok(Decision::BadBytes(fault)),
+        None => {
+            // Every type of a schema is legal, so that the value of the bytes fits.
+            let _legal = engine.schema.ty(id);
+            let node = build_bytes(&mut engine.arena, &engine.schema, id, bytes)?;
+            Ok(Decision::Made(v, id, node))
+        }
+    }
+}
+
+/// `load V T FILE`.
+pub(crate) fn load<'a, F: Files, H: PairHash>(
+    engine: &mut Engine<H>,
+    writer: Writer,
+    v: &'a Identifier,
+    t: &Identifier,
+    file: &FileName,
+    files: &mut F,
+) -> Result<Decision<'a>, EngineFault>
+    ensures grows { Grows engine.old engine.new }
+    ensures answers { IfOk result (LoadsWith H.pair_of (F.content files.old) file.now
+        (λ bytes rules versions. load rules versions v.now t.now bytes) (puts v.now) writer.0
+        engine.old engine.new) }
+    ensures asked { result ≡ Err EngineFault.Read
+        → CanLoad H.pair_of engine.old writer.0 v.now t.now }
+    ensures no_write { result ≢ Err EngineFault.Write }
+    ensures content { F.content files.new ≡ F.content files.old }
+    ensures fails { F.readable files.old file.now → result ≢ Err EngineFault.Read }
+    ensures readable { (other : List ℕ) → F.readable files.old other → F.readable files.new other }
+    ensures gets { CountsReads result (F.get_faults files.old) (F.get_faults files.new) }
+    ensures puts { F.put_faults files.new ≡ F.put_faults files.old }
+{
+    let id = match free_type(engine, writer, v, t) {
+        Ok(id) => id,
+        Err(code) => return Ok(Decision::Refused(code)),
+    };
+    let mut bytes = Vec::new(engine.alloc);
+    match files.get(file.as_str(), &mut bytes, u64::from(engine.max)) {
+        Ok(Got::Whole) => bring(engine, writer, v, id, bytes.as_slice()),
+        Ok(Got::TooLong) => Ok(Decision::Refused(Reply::TOO_LONG)),
+        Err(GetFault::Failed) => Err(EngineFault::Read),
+        Err(GetFault::Memory) => Err(EngineFault::Memory),
+    }
+}
+
+/// `fork V W`.
+pub(crate) fn fork<'a, H: PairHash>(
+    engine: &Engine<H>,
+    writer: Writer,
+    v: &Identifier,
+    w: &'a Identifier,
+) -> Decision<'a>
+    ensures answers { AnswersOf H.pair_of (λ rules versions. fork versions v.now w.now) (puts w.now)
+        writer.0 engine.now result }
+    ensures forks { MakesFork (Fork v.now w.now) writer.0 engine.now.entries result }
+{
+    let Some((id, node)) = engine.versions.get(writer, v.as_name()) else {
+        return Decision::Refused(Reply::NO_VERSION);
+    };
+    match engine.versions.get(writer, w.as_name()) {
+        Some(_) => Decision::Refused(Reply::NAME_TAKEN),
+        None => Decision::Made(w, id, node),
+    }
+}
+
+/// `drop V`.
+pub(crate) fn drop<'a, H: PairHash>(
+    engine: &Engine<H>,
+    writer: Writer,
+    v: &'a Identifier,
+) -> Decision<'a>
+    ensures { AnswersOf H.pair_of (λ rules versions. drop versions v.now) (takes v.now) writer.0
+        engine.now result }
+{
+    match engine.versions.get(writer, v.as_name()) {
+        None => Decision::Refused(Reply::NO_VERSION),
+        Some(_) => Decision::Dropped(v),
+    }
+}
+
+/// `list`.
+pub(crate) fn list<'a, H: PairHash>(
+    engine: &Engine<H>,
+    writer: Writer,
+) -> Result<Decision<'a>, EngineFault>
+    ensures answers { IfOk result (AnswersOf H.pair_of
+        (λ rules versions. list versions) nothing writer.0
+        engine.now) }
+    ensures memory { IfErr result (λ fault. fault ≡ EngineFault.Memory) }
+{
+    let names = engine.versions.names(engine.alloc, writer)?;
+    Ok(Decision::Said(Reply::List(names)))
+}

@@ -1,0 +1,117 @@
+//! `prove`.
+ghost use Rattle.std.specs.Prelude.{◌≡◌, ◌+◌, ◌<◌, ◌≤◌, Contains, IfOk, IfErr, IfSome, MatchOption, length, option_map};
+ghost use Rattle.ssz_schema.specs.Unfolding.{type_of};
+ghost use Rattle.ssz_arena.specs.Content.{unhashed};
+ghost use Rattle.ssz_machine.specs.Rules.{need};
+ghost use Rattle.ssz_machine.specs.Asking.{asked_index, asked_indices, prove};
+ghost use Rattle.ssz_machine.specs.Changes.{nothing};
+ghost use Rattle.ssz_engine.specs.Content.{Grows};
+ghost use Rattle.ssz_engine.specs.Decisions.{Answers};
+ghost use Rattle.ssz_engine.specs.Steps.{outcome_of};
+ghost use Rattle.ssz_engine.specs.declared.outcome.Outcome.TheVariants.{Refused};
+
+use super::decision::Decision;
+use super::engine::Engine;
+use super::fault::EngineFault;
+use ssz_bytes::ByteRun;
+use ssz_chunk::PairHash;
+use ssz_gindex::Gindex;
+use ssz_line::Index;
+use ssz_proof::proof_text;
+use ssz_prove::ProveFault;
+use ssz_schema::{Schema, TypeId};
+use ssz_script::{Identifier, Indices, Reply};
+use ssz_versions::Writer;
+use std::alloc::{AllocError, Global};
+
+// The number of an index that is asked; None where its path does not fit the type.
+fn number_asked(schema: &Schema, id: TypeId, index: &Index) -> Option<u128>
+    requires { id < length schema.now.trees }
+    ensures { need Reply.BAD_PATH result ≡ asked_index (type_of schema.now id) index.now }
+{
+    match index {
+        Index::Number(number) => Some(*number),
+        Index::Path(path) => match Gindex::of_path(schema, id, path.as_slice()) {
+            Some(found) => Some(found.get()),
+            None => None,
+        },
+    }
+}
+
+// The numbers of the indices, in their order; None where the path of one does not fit the type.
+fn numbers_asked(
+    alloc: Global,
+    schema: &Schema,
+    id: TypeId,
+    indices: &[Index],
+) -> Result<Option<Vec<u128>>, AllocError>
+    requires { id < length schema.now.trees }
+    ensures asked { IfOk result (λ asked.
+        need Reply.BAD_PATH (option_map (λ list. list.items) asked)
+        ≡ asked_indices (type_of schema.now id) indices.now) }
+    ensures all { IfOk result (λ asked. IfSome asked (λ list.
+        length list.items ≡ length indices.now)) }
+{
+    let mut numbers = Vec::with_capacity(alloc, indices.len())?;
+    for index in indices {
+        match number_asked(schema, id, index) {
+            Some(number) => numbers.push(number)?,
+            None => return Ok(None),
+        }
+    }
+    Ok(Some(numbers))
+}
+
+// The places of these numbers; None where one is 0, which is of no node.
+fn places(alloc: Global, numbers: &[u128]) -> Result<Option<Vec<Gindex>>, AllocError>
+    ensures { IfOk result (λ found. MatchOption found (Contains numbers.now 0)
+        (λ list. list.items ≡ numbers.now)) }
+{
+    let mut list = Vec::with_capacity(alloc, numbers.len())?;
+    for number in numbers {
+        match Gindex::new(*number) {
+            Some(index) => list.push(index)?,
+            None => return Ok(None),
+        }
+    }
+    Ok(Some(list))
+}
+
+/// `prove V I ..`. A path that does not fit comes before an index of 0, whatever their order.
+pub(crate) fn prove<'a, H: PairHash>(
+    engine: &mut Engine<H>,
+    writer: Writer,
+    v: &Identifier,
+    indices: &Indices,
+    hasher: &mut H,
+) -> Result<Decision<'a>, EngineFault>
+    ensures grows { Grows engine.old engine.new }
+    ensures answers { IfOk result (Answers H.pair_of
+        (λ rules versions. prove rules versions v.now indices.now) nothing writer.0
+        engine.old engine.new (H.pairs hasher.old) (H.pairs hasher.new)) }
+    ensures memory { IfErr result (λ fault. fault ≡ EngineFault.Memory) }
+    ensures rises { H.pairs hasher.old ≤ H.pairs hasher.new }
+    ensures hashed { H.pairs hasher.new ≤ H.pairs hasher.old + unhashed engine.old.arena }
+    ensures refused { IfOk result (λ made. outcome_of made ≡ Refused
+        → hasher.new ≡ hasher.old) }
+{
+    let Some(held) = engine.versions.get(writer, v.as_name()) else {
+        return Ok(Decision::Refused(Reply::NO_VERSION));
+    };
+    let found = numbers_asked(engine.alloc, &engine.schema, held.0, indices.as_slice())?;
+    let Some(numbers) = found else {
+        return Ok(Decision::Refused(Reply::BAD_PATH));
+    };
+    let Some(asked) = places(engine.alloc, numbers.as_slice())? else {
+        return Ok(Decision::Refused(Reply::NO_NODE));
+    };
+    match ssz_prove::prove(&mut engine.arena, held.1, asked.as_slice(), hasher) {
+        Ok(proof) => {
+            let text = proof_text(engine.alloc, &proof)?;
+            Ok(Decision::Said(Reply::Proof(ByteRun::from_bytes(text))))
+        }
+        Err(ProveFault::NoNode(_)) => Ok(Decision::Refused(Reply::NO_NODE)),
+        Err(ProveFault::Nested(_, _)) => Ok(Decision::Refused(Reply::NESTED)),
+        Err(ProveFault::Memory) => Err(EngineFault::Memory),
+    }
+}

@@ -1,0 +1,129 @@
+// Scripts that run alone, line after line.
+ghost use Rattle.std.specs.Prelude.{◌≡◌, ◌≢◌, ◌≤◌, ℕ, List, false, Err, IfErr};
+ghost use Rattle.std.specs.List.{AllByRecursion};
+ghost use Rattle.ssz_outside.specs.Job.{CountsRun, IsFinished};
+ghost use Rattle.ssz_script.specs.Lines.{statements_in};
+ghost use Rattle.ssz_machine.specs.Plays.{all_of};
+ghost use Rattle.ssz_machine.specs.declared.place.Place.TheVariants.{Run};
+ghost use Rattle.ssz_engine.specs.Points.{Counts, Goes, finished};
+ghost use Rattle.ssz_engine.specs.Scripts.{EndsScript, files_named};
+ghost use Rattle.ssz_engine.specs.Steps.{Keeps};
+
+use super::engine::Engine;
+use super::line::run_line;
+use ssz_chunk::PairHash;
+use ssz_outside::{Files, Sink, Status};
+use ssz_script::Statements;
+
+// Does all lines that are left of a script, as writer 0.
+fn run_lines<F: Files, S: Sink, H: PairHash>(
+    engine: &mut Engine<H>,
+    lines: &mut Statements<'_>,
+    files: &mut F,
+    out: &mut S,
+    hasher: &mut H,
+    refused: &mut bool,
+) -> Result<(), Status>
+    ensures keeps { Keeps engine.old engine.new }
+    ensures rises { H.pairs hasher.old ≤ H.pairs hasher.new }
+    ensures goes { Goes H.pair_of Run (all_of 0 lines.old) result refused.old refused.new
+        (record {
+          engine = engine.old;
+          hashed = H.pairs hasher.old;
+          told = F.content files.old;
+          readable = F.readable files.old;
+          pieces = S.pieces out.old;
+        })
+        (record {
+          engine = engine.new;
+          hashed = H.pairs hasher.new;
+          told = F.content files.new;
+          readable = F.readable files.new;
+          pieces = S.pieces out.new;
+        }) }
+    ensures counts { Counts result (F.get_faults files.old) (F.get_faults files.new)
+        (F.put_faults files.old) (F.put_faults files.new) (S.faults out.old) (S.faults out.new) }
+    ensures stops { IfErr result (λ ended. ¬ IsFinished ended) }
+    ensures fails { AllByRecursion (F.readable files.old) (files_named lines.old)
+        → result ≢ Err Status.ReadFault }
+    ensures readable { (other : List ℕ) → F.readable files.old other → F.readable files.new other }
+{
+    loop {
+        match lines.next(engine.alloc) {
+            Err(_) => return Err(Status::Memory),
+            Ok(None) => return Ok(()),
+            Ok(Some(line)) => {
+                let ran = run_line(engine, &line, files, out, hasher, refused);
+                drop(line);
+                ran?;
+            }
+        }
+    }
+}
+
+// The status of a run that no fault ended.
+fn status_after(refused: bool) -> Status
+    ensures { result ≡ finished refused }
+{
+    if refused {
+        Status::Refused
+    } else {
+        Status::Accepted
+    }
+}
+
+impl<H: PairHash> Engine<H> {
+    /// Runs a script that stands alone, line after line, as writer 0; each line's reply is printed
+    /// in one piece. A line that is no statement is refused as such, and the run goes on behind it.
+    ///
+    /// Answers Accepted or Refused, the latter where a line was refused; ReadFault, WriteFault and
+    /// Memory where a fault or want of memory ended the run, with no line done behind it. A literal
+    /// of 2^32 bytes or more is want of memory.
+    pub fn run_script<F: Files, S: Sink>(
+        &mut self,
+        script: &[u8],
+        files: &mut F,
+        out: &mut S,
+        hasher: &mut H,
+    ) -> Status
+        ensures keeps { Keeps self.old self.new }
+        // Whatever state of the machine the engine stood for, where the files tell what they hold:
+        // for some numbers that `hashes` prints, the run ended as the script's job does.
+        ensures ends { EndsScript H.pair_of script.now result
+            (record {
+              engine = self.old;
+              hashed = H.pairs hasher.old;
+              told = F.content files.old;
+              readable = F.readable files.old;
+              pieces = S.pieces out.old;
+            })
+            (record {
+              engine = self.new;
+              hashed = H.pairs hasher.new;
+              told = F.content files.new;
+              readable = F.readable files.new;
+              pieces = S.pieces out.new;
+            }) }
+        // The fault that the status names was counted, and no other: none is passed over.
+        ensures counts { CountsRun result (F.get_faults files.old) (F.get_faults files.new)
+            (F.put_faults files.old) (F.put_faults files.new) (S.faults out.old)
+            (S.faults out.new) }
+        ensures rises { H.pairs hasher.old ≤ H.pairs hasher.new }
+        ensures readable { (other : List ℕ) → F.readable files.old other
+            → F.readable files.new other }
+        // It answers none of these two.
+        ensures usage { result ≢ Status.Usage }
+        ensures schema { result ≢ Status.SchemaFault }
+        // Also where it is not told what the files hold, a read fails only of a file that the
+        // script names for reading.
+        ensures fails { AllByRecursion (F.readable files.old)
+            (files_named (statements_in script.now)) → result ≢ Status.ReadFault }
+    {
+        let mut lines = Statements::new(script);
+        let mut refused = false;
+        match run_lines(self, &mut lines, files, out, hasher, &mut refused) {
+            Ok(()) => status_after(refused),
+            Err(ended) => ended,
+        }
+    }
+}

@@ -1,0 +1,141 @@
+//! Statements that show the encoding of a part.
+ghost use Rattle.std.specs.Prelude.{◌≡◌, ◌<◌, Ok, Err, length, IfOk, IfErr};
+ghost use Rattle.ssz_schema.specs.Unfolding.{type_of};
+ghost use Rattle.ssz_value.specs.Values.{SszValue, Fits};
+ghost use Rattle.ssz_value.specs.Encoding.{enc};
+ghost use Rattle.ssz_parts.specs.Encoded.{Appends};
+ghost use Rattle.ssz_arena.specs.Content.{IsNodeOf, tree_of};
+ghost use Rattle.ssz_places.specs.Spots.{HasPart, LiesWithin};
+ghost use Rattle.ssz_walk.specs.Found.{spot_of};
+ghost use Rattle.ssz_machine.specs.Rules.{coded};
+ghost use Rattle.ssz_machine.specs.Asking.{bytes, save};
+ghost use Rattle.ssz_machine.specs.Changes.{nothing};
+ghost use Rattle.ssz_engine.specs.Decisions.{AnswersOf};
+ghost use Rattle.ssz_engine.specs.Shown.{Shows};
+
+use super::decision::Decision;
+use super::engine::Engine;
+use super::fault::EngineFault;
+use super::refusals::code_of_path;
+use ssz_arena::Arena;
+use ssz_bytes::ByteRun;
+use ssz_chunk::PairHash;
+use ssz_machine::Place;
+use ssz_reading::{EncodeFault, bit_of, chunk_of, write_encoding};
+use ssz_schema::{PathStep, Schema};
+use ssz_script::{FileName, Identifier, Reply};
+use ssz_versions::Writer;
+use ssz_walk::{Place as PartPlace, Spot, find};
+
+// Appends the bytes, unless they are more than max.
+fn append_short(bytes: &[u8], max: u32, out: &mut Vec<u8>) -> Result<(), EncodeFault>
+    ensures { Appends bytes.now max out.old.items out.new.items result }
+{
+    if bytes.len() > max as usize {
+        return Err(EncodeFault::TooLong);
+    }
+    out.extend_from_slice(bytes)?;
+    Ok(())
+}
+
+// Appends the encoding of the part at a place: that of the node's value, or what lies in the leaf.
+fn append_part<H: PairHash>(
+    arena: &Arena<H>,
+    schema: &Schema,
+    place: &PartPlace,
+    max: u32,
+    out: &mut Vec<u8>,
+) -> Result<(), EncodeFault>
+    requires known { place.now.id < length schema.now.trees }
+    requires inside { IsNodeOf arena.now place.now.node }
+    requires lies { LiesWithin (type_of schema.now place.now.id) (spot_of place.now.spot) }
+    ensures { let t = type_of schema.now place.now.id in
+        (v : SszValue) → Fits t v
+        → HasPart (spot_of place.now.spot) t v (tree_of arena.now place.now.node)
+        → Appends (enc t v) max out.old.items out.new.items result }
+{
+    match place.spot {
+        Spot::Whole => write_encoding(arena, schema, place.id, place.node, max, out),
+        Spot::Byte(from) => {
+            let chunk = chunk_of(arena, place.node);
+            let from = usize::from(from);
+            match schema.basic_size(place.id) {
+                Some(size) => append_short(&chunk.0[from..from + size as usize], max, out),
+                None => unreachable!(),
+            }
+        }
+        Spot::Bit(at) => {
+            let bit = bit_of(chunk_of(arena, place.node), usize::from(at));
+            append_short(&[u8::from(bit)], max, out)
+        }
+    }
+}
+
+// The encoding of the part at the path, straight from the nodes of the version; else the code of
+// the refusal.
+fn encoded<H: PairHash>(
+    engine: &Engine<H>,
+    writer: Writer,
+    v: &Identifier,
+    path: &[PathStep],
+) -> Result<Result<Vec<u8>, u8>, EngineFault>
+    ensures ok { IfOk result (λ made. IfOk made (λ text.
+        Shows engine.now writer.0 v.now path.now (Ok text.items))) }
+    ensures err { IfOk result (λ made. IfErr made (λ code.
+        Shows engine.now writer.0 v.now path.now (Err (coded code)))) }
+    ensures memory { IfErr result (λ fault. fault ≡ EngineFault.Memory) }
+{
+    let Some(held) = engine.versions.get(writer, v.as_name()) else {
+        return Ok(Err(Reply::NO_VERSION));
+    };
+    // By the type it is known where the tree of a value has its parts.
+    let _legal = engine.schema.ty(held.0);
+    let place = match find(&engine.arena, &engine.schema, held.0, held.1, path) {
+        Ok(place) => place,
+        Err(fault) => return Ok(Err(code_of_path(fault))),
+    };
+    let mut text = Vec::new(engine.alloc);
+    match append_part(&engine.arena, &engine.schema, &place, engine.max, &mut text) {
+        Ok(()) => Ok(Ok(text)),
+        Err(EncodeFault::TooLong) => Ok(Err(Reply::TOO_LONG)),
+        Err(EncodeFault::Memory) => Err(EngineFault::Memory),
+    }
+}
+
+/// `save V FILE`.
+pub(crate) fn save<'a, H: PairHash>(
+    engine: &Engine<H>,
+    writer: Writer,
+    place: Place,
+    v: &Identifier,
+    file: &'a FileName,
+) -> Result<Decision<'a>, EngineFault>
+    ensures answers { IfOk result (AnswersOf H.pair_of
+        (λ rules versions. save rules place versions v.now file.now) nothing writer.0 engine.now) }
+    ensures memory { IfErr result (λ fault. fault ≡ EngineFault.Memory) }
+{
+    match place {
+        Place::Weave => Ok(Decision::Refused(Reply::NOT_HERE)),
+        Place::Run => match encoded(engine, writer, v, &[])? {
+            Ok(text) => Ok(Decision::Saved(file, text)),
+            Err(code) => Ok(Decision::Refused(code)),
+        },
+    }
+}
+
+/// `bytes V P`.
+pub(crate) fn bytes<'a, H: PairHash>(
+    engine: &Engine<H>,
+    writer: Writer,
+    v: &Identifier,
+    path: &[PathStep],
+) -> Result<Decision<'a>, EngineFault>
+    ensures answers { IfOk result (AnswersOf H.pair_of
+        (λ rules versions. bytes rules versions v.now path.now) nothing writer.0 engine.now) }
+    ensures memory { IfErr result (λ fault. fault ≡ EngineFault.Memory) }
+{
+    match encoded(engine, writer, v, path)? {
+        Ok(text) => Ok(Decision::Said(Reply::Bytes(ByteRun::from_bytes(text)))),
+        Err(code) => Ok(Decision::Refused(code)),
+    }
+}
