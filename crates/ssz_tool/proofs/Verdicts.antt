@@ -7,19 +7,29 @@ use Rattle.ssz_proof.specs.Text.{IsReadAs, IsRefused}
 use Rattle.ssz_proof.specs.Judgement.{multiproof_of}
 use Rattle.ssz_proof.proofs.Judged.{multiproof_of-read, multiproof_of-refused, calculated-given, levels-given}
 use Rattle.ssz_tool.specs.Jobs.{Task, says, verifies, line_of_root, task_of_lists, task_of_proof}
+use Rattle.ssz_tool.specs.Runs.{job_of_line}
 use Rattle.ssz_tool.specs.Tasks.{DoesSame}
 use Rattle.ssz_tool.specs.declared.line.Line.TheVariants as line
 
 pub DoesSame-equal : (meant made : Task) → meant ≡ made → DoesSame meant made
-DoesSame-equal meant made same = rw same (record { lines = λ pair_of. refl; pairs = refl })
+DoesSame-equal meant made same = rw same (record {
+  jobs = λ pair_of numbers held reads. refl;
+  turns = λ pair_of numbers held. refl;
+  reached = λ pair_of held. refl;
+  pairs = λ pair_of held. refl;
+})
 
 -- a proof that was read leads where the lists of its text lead
 pub DoesSame-read : (root text : List ℕ) (proof : Multiproof) → IsReadAs text proof
     → DoesSame (task_of_lists root (multiproof_of text)) (verifies root proof)
 DoesSame-read root text proof is =
     rw (multiproof_of-read text proof is) (record {
-      lines = λ pair_of. ap (line_of_root root) (calculated-given pair_of is.lists proof is.is 1);
-      pairs = sym (levels-given is.lists proof is.is);
+      jobs = λ pair_of numbers held reads.
+          ap (λ made. job_of_line held reads (line_of_root root made))
+          (calculated-given pair_of is.lists proof is.is 1);
+      turns = λ pair_of numbers held. refl;
+      reached = λ pair_of held. refl;
+      pairs = λ pair_of held. sym (levels-given is.lists proof is.is);
     })
 
 pub DoesSame-refused : (root text : List ℕ) → IsRefused text

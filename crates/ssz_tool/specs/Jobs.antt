@@ -1,8 +1,7 @@
 -- What the commands do over files.
-use Rattle.std.specs.Prelude.{ℕ, ◌+◌, ◌^◌, nat_lt, List, length, bytes_eq, sum_by, Bool, false, Option, Some, None, Result, Ok, Err, if◌then◌else◌}
-use Rattle.ssz_chunk.specs.Index.{levels}
+use Rattle.std.specs.Prelude.{ℕ, ◌^◌, nat_lt, List, length, bytes_eq, Bool, true, false, Option, Some, None, Result, Ok, Err, if◌then◌else◌}
 use Rattle.ssz_outside.specs.Content.{Content, contents}
-use Rattle.ssz_proof.specs.Calculation.{calculated, indices_of}
+use Rattle.ssz_proof.specs.Calculation.{PairOf, calculated}
 use Rattle.ssz_proof.specs.Multiproof.{Multiproof, known_of}
 use Rattle.ssz_proof.specs.Judgement.{multiproof_of}
 use Rattle.ssz_schema.specs.Types.{SszType}
@@ -12,8 +11,9 @@ use Rattle.ssz_schema_json.specs.Schema.{NamedTypes, FileFault, not_json, no_doc
 use Rattle.ssz_value.specs.Faults.{why}
 use Rattle.ssz_value.specs.Reading.{value_in}
 use Rattle.ssz_value.specs.Trees.{hash_tree_root}
-use Rattle.ssz_value.specs.Pairs.{pairs}
+use Rattle.ssz_machine.specs.Jobs.{is_too_long}
 use Rattle.ssz_words.specs.declared.commands.RootArgs.{RootArgs}
+use Rattle.ssz_words.specs.declared.commands.RunArgs.{RunArgs}
 use Rattle.ssz_words.specs.declared.commands.VerifyArgs.{VerifyArgs}
 use Rattle.ssz_tool.specs.Lines.{is_usage}
 use Rattle.ssz_tool.specs.Words.{taken}
@@ -22,12 +22,14 @@ use Rattle.ssz_tool.specs.declared.line.Line.TheVariants as line
 use Rattle.ssz_tool.specs.declared.words.Asked.{Asked}
 use Rattle.ssz_tool.specs.declared.words.Asked.TheVariants as asked
 
--- What is left to do once the files are read: a line to print, the root to take of the value of a
--- type that bytes encode, or a root to compare with the one that a multiproof leads to.
+-- What is left to do once the files of the words are read: a line to print, the root to take of the
+-- value of a type that bytes encode, a root to compare with the one that a multiproof leads to, or
+-- a script to run over types by their names, with the most bytes of a value.
 pub data Task : Type 0 where
   says : Line → Task
   roots : SszType → List ℕ → Task
   verifies : List ℕ → Multiproof → Task
+  plays : (List ℕ → Option SszType) → ℕ → List ℕ → Task
 
 -- what the bytes of a schema file give: types by their names, or the line that refuses them
 pub data Reading : Type 0 where
@@ -83,10 +85,25 @@ task_of_proof root bytes =
 abbrev pub task_of_verify : Content → VerifyArgs → Task
 task_of_verify held args = task_of_proof args.root (contents held args.file)
 
+-- what the bytes of a script give, of which there are at most 2 ^ 26
+unfoldable pub task_of_script : (List ℕ → Option SszType) → ℕ → List ℕ → Task
+task_of_script type_named most script =
+    if is_too_long script then says line.TooLong else plays type_named most script
+
+abbrev pub task_of_rules : Content → RunArgs → Reading → Task
+task_of_rules held args (refused line) = says line
+task_of_rules held args (accepted names) =
+    task_of_script (lookup_name names.types) args.max_bytes (contents held args.script)
+
+-- the task of `run SCHEMA SCRIPT`
+abbrev pub task_of_run : Content → RunArgs → Task
+task_of_run held args = task_of_rules held args (reading_of (contents held args.schema))
+
 abbrev pub task_of_asked : Content → Option Asked → Task
 task_of_asked held None = says line.Usage
 task_of_asked held (Some (asked.Root args)) = task_of_root held args
 task_of_asked held (Some (asked.Verify args)) = task_of_verify held args
+task_of_asked held (Some (asked.Run args)) = task_of_run held args
 
 -- the task of these words
 abbrev pub task_of : Content → List (List ℕ) → Task
@@ -97,25 +114,25 @@ abbrev pub line_of_root : List ℕ → List ℕ → Line
 line_of_root wanted made =
     if bytes_eq made wanted then line.Valid else line.Unlike (record { 0 = made })
 
--- the line that a task prints
-abbrev pub line_of : (List ℕ → List ℕ → List ℕ) → Task → Line
-line_of pair_of (says line) = line
-line_of pair_of (roots t bytes) =
+-- the line of the root of the value that bytes encode
+abbrev pub line_of_value : PairOf → SszType → List ℕ → Line
+line_of_value pair_of t bytes =
     line.Root (record { 0 = hash_tree_root pair_of t (value_in t bytes) })
-line_of pair_of (verifies root lists) =
-    line_of_root root (calculated pair_of (known_of lists) 1)
 
--- how many pairs a task may hash: 126 for the zero table and those of the value; of a multiproof
--- the levels of its leaves together
-abbrev pub pairs_of_task : Task → ℕ
-pairs_of_task (says line) = 0
-pairs_of_task (roots t bytes) = 126 + pairs t (value_in t bytes)
-pairs_of_task (verifies root lists) = sum_by levels (indices_of lists.leaves)
+-- the line of a root by the one that a multiproof leads to
+abbrev pub line_of_proof : PairOf → List ℕ → Multiproof → Line
+line_of_proof pair_of root lists = line_of_root root (calculated pair_of (known_of lists) 1)
 
 abbrev pub is_usage_task : Task → Bool
 is_usage_task (says line) = is_usage line
 is_usage_task (roots t bytes) = false
 is_usage_task (verifies root lists) = false
+is_usage_task (plays type_named most script) = false
+
+-- whether a script is run: all other tasks print one line
+abbrev pub is_script : Task → Bool
+is_script (plays type_named most script) = true
+is_script other = false
 
 abbrev pub is_usage_reading : Reading → Bool
 is_usage_reading (accepted names) = false

@@ -1,11 +1,16 @@
 -- The files that the words reach over what the files hold, in the order of work. A file that stands
--- behind another one is reached where that one gives what it is wanted for.
-use Rattle.std.specs.Prelude.{ℕ, List, [], ◌∷◌, Option, Some, None}
+-- behind another one is reached where that one gives what it is wanted for, and that of a statement
+-- where the statement is not refused before it reads.
+use Rattle.std.specs.Prelude.{ℕ, List, [], ◌∷◌, ◌++◌, Option, Some, None}
 use Rattle.ssz_outside.specs.Content.{Content, contents}
 use Rattle.ssz_schema.specs.Lookup.{lookup_name}
 use Rattle.ssz_schema.specs.Types.{SszType}
+use Rattle.ssz_proof.specs.Calculation.{PairOf}
 use Rattle.ssz_words.specs.declared.commands.RootArgs.{RootArgs}
-use Rattle.ssz_tool.specs.Jobs.{Reading, accepted, refused, reading_of}
+use Rattle.ssz_words.specs.declared.commands.RunArgs.{RunArgs}
+use Rattle.ssz_engine.specs.Scripts.{files_reached}
+use Rattle.ssz_tool.specs.Jobs.{Reading, accepted, refused, reading_of, Task, says, roots, verifies, plays, task_of}
+use Rattle.ssz_tool.specs.Runs.{rules_of, turns_of_task}
 use Rattle.ssz_tool.specs.Words.{taken}
 use Rattle.ssz_tool.specs.declared.words.Asked.{Asked}
 use Rattle.ssz_tool.specs.declared.words.Asked.TheVariants as asked
@@ -26,11 +31,36 @@ abbrev pub reached_of_root : Content → RootArgs → List (List ℕ)
 reached_of_root held args =
     args.schema ∷ reached_of_reading args (reading_of (contents held args.schema))
 
+-- the script, where the schema is accepted
+abbrev pub reached_of_rules : RunArgs → Reading → List (List ℕ)
+reached_of_rules args (refused line) = []
+reached_of_rules args (accepted names) = args.script ∷ []
+
+-- `run SCHEMA SCRIPT` reads the schema first
+abbrev pub reached_of_run : Content → RunArgs → List (List ℕ)
+reached_of_run held args =
+    args.schema ∷ reached_of_rules args (reading_of (contents held args.schema))
+
 -- words that are not taken reach no file
 abbrev pub reached_of_asked : Content → Option Asked → List (List ℕ)
 reached_of_asked held None = []
 reached_of_asked held (Some (asked.Root args)) = reached_of_root held args
 reached_of_asked held (Some (asked.Verify args)) = args.file ∷ []
+reached_of_asked held (Some (asked.Run args)) = reached_of_run held args
 
-abbrev pub reached : Content → List (List ℕ) → List (List ℕ)
-reached held words = reached_of_asked held (taken words)
+-- the files of the words
+abbrev pub reached_first : Content → List (List ℕ) → List (List ℕ)
+reached_first held words = reached_of_asked held (taken words)
+
+-- the files that the statements of a script read
+abbrev pub reached_of_task : PairOf → Content → Task → List (List ℕ)
+reached_of_task pair_of held (says line) = []
+reached_of_task pair_of held (roots t bytes) = []
+reached_of_task pair_of held (verifies root lists) = []
+reached_of_task pair_of held (plays type_named most script) =
+    files_reached (rules_of pair_of type_named most)
+    (turns_of_task pair_of [] held (plays type_named most script))
+
+abbrev pub reached : PairOf → Content → List (List ℕ) → List (List ℕ)
+reached pair_of held words =
+    reached_first held words ++ reached_of_task pair_of held (task_of held words)

@@ -1,11 +1,15 @@
 -- What the answers of the private calls stand for.
-use Rattle.std.specs.Prelude.{◌≡◌, ℕ, ◌<◌, ◌≤◌, ◌^◌, List, length, false, Option, None, Result, Ok, Err, ⊤}
+use Rattle.std.specs.Prelude.{◌≡◌, ℕ, ◌<◌, ◌≤◌, ◌^◌, List, length, Bool, false, Option, None, Result, Ok, Err, ⊤}
+use Rattle.ssz_outside.specs.Content.{Content}
 use Rattle.ssz_outside.specs.Outcome.{Rose}
-use Rattle.ssz_schema.specs.Unfolding.{type_of}
+use Rattle.ssz_proof.specs.Calculation.{PairOf}
+use Rattle.ssz_schema.specs.Unfolding.{known_in, type_of}
 use Rattle.ssz_schema_json.specs.Schema.{HasTypes, NamedTypes}
 use Rattle.ssz_bytes.specs.declared.fault.Fault.{Fault}
 use Rattle.ssz_value.specs.Faults.{why}
 use Rattle.ssz_tool.specs.Jobs as job
+use Rattle.ssz_tool.specs.Reached.{reached_of_task}
+use Rattle.ssz_tool.specs.Runs.{job_of_task, pairs_of_task, turns_of_task}
 use Rattle.ssz_tool.specs.declared.job.Loaded.{Loaded}
 use Rattle.ssz_tool.specs.declared.job.Loaded.TheVariants as loaded
 use Rattle.ssz_tool.specs.declared.job.Reading.{Reading}
@@ -45,12 +49,19 @@ abbrev pub task_view : Task → job.Task
 task_view (task.Says line) = job.says line
 task_view (task.Root schema id bytes) = job.roots (type_of schema id) bytes.items
 task_view (task.Verify root proof) = job.verifies root.0 proof
+task_view (task.Script schema most script) = job.plays (known_in schema) most script.items
 
--- two tasks that print the same line, whatever hasher there is, and may hash as many pairs
+-- Two tasks that do the same, whatever hasher there is: their jobs, their steps, the files that
+-- these read, and the pairs that they may hash.
 pub record DoesSame (meant made : job.Task) : Type 0 where
-  pub lines : (pair_of : List ℕ → List ℕ → List ℕ) → job.line_of pair_of meant
-      ≡ job.line_of pair_of made
-  pub pairs : job.pairs_of_task meant ≡ job.pairs_of_task made
+  pub jobs : (pair_of : PairOf) (numbers : List ℕ) (held : Content) (reads : Bool)
+      → job_of_task pair_of numbers held reads meant ≡ job_of_task pair_of numbers held reads made
+  pub turns : (pair_of : PairOf) (numbers : List ℕ) (held : Content)
+      → turns_of_task pair_of numbers held meant ≡ turns_of_task pair_of numbers held made
+  pub reached : (pair_of : PairOf) (held : Content)
+      → reached_of_task pair_of held meant ≡ reached_of_task pair_of held made
+  pub pairs : (pair_of : PairOf) (held : Content)
+      → pairs_of_task pair_of held meant ≡ pairs_of_task pair_of held made
 
 -- the bytes of a value are few enough, of a type of the schema, and have no fault
 pub record IsFaultless (trees : ℕ) (id : ℕ) (fault : Option Fault) (count : ℕ) : Type 0 where
@@ -64,3 +75,4 @@ IsReady (task.Root schema id bytes) =
     IsFaultless (length schema.trees) id (why (type_of schema id) 0 bytes.items)
     (length bytes.items)
 IsReady (task.Verify root proof) = ⊤
+IsReady (task.Script schema most script) = ⊤

@@ -1,17 +1,18 @@
 // From the files to what is left to do.
-ghost use Rattle.std.specs.Prelude.{◌≡◌, ◌≢◌, ◌<◌, ◌≤◌, ◌^◌, ℕ, List, Err, length, Some, None, IfOk, IsSome, false, is_none};
+ghost use Rattle.std.specs.Prelude.{◌≡◌, ◌≢◌, ◌<◌, ◌≤◌, ◌^◌, ℕ, List, Err, length, Some, None, IfOk, IsSome, true, false, is_none};
 ghost use Rattle.std.specs.List.{AllByRecursion};
 ghost use Rattle.std.specs.Option.{ForSome};
 ghost use Rattle.ssz_outside.specs.Content.{contents};
 ghost use Rattle.ssz_schema.specs.Unfolding.{type_of, known_in};
 ghost use Rattle.ssz_schema_json.specs.Schema.{schema_of_bytes};
 ghost use Rattle.ssz_value.specs.Faults.{why};
-ghost use Rattle.ssz_tool.specs.Jobs.{reading_of_schema, reading_of, task_of_fault, task_of_bytes, task_of_type, task_of_root, task_of, task_of_asked, is_usage_task};
-ghost use Rattle.ssz_tool.specs.Reached.{reached, reached_of_asked, reached_of_root, reached_of_type};
+ghost use Rattle.ssz_tool.specs.Jobs.{reading_of_schema, reading_of, task_of_fault, task_of_bytes, task_of_type, task_of_root, task_of, task_of_asked, is_script, is_usage_task};
+ghost use Rattle.ssz_tool.specs.Reached.{reached_first, reached_of_asked, reached_of_root, reached_of_type};
 ghost use Rattle.ssz_tool.specs.Tasks.{Loads, IsWithin, CountsStop, StandsFor, IsNoUsage, IsReady, DoesSame, task_view};
-ghost use Rattle.ssz_tool.specs.Words.{files_of, taken, texts};
+ghost use Rattle.ssz_tool.specs.Words.{AreReadable, runs_script, taken, texts};
 
 use crate::line::Line;
+use crate::scripts::task_of_run;
 use crate::verifying::task_of_verify;
 use crate::words::{Asked, read_asked};
 use ssz_chunk::Chunk;
@@ -52,6 +53,8 @@ pub enum Task {
     Root(Schema, TypeId, Vec<u8>),
     /// Whether a proof leads to this root.
     Verify(Chunk, Proof),
+    /// The run of a script over these types, with the most bytes of a value.
+    Script(Schema, u32, Vec<u8>),
 }
 
 /// What a file gives, of at most max bytes.
@@ -91,7 +94,8 @@ fn reading_of_bytes(alloc: Global, bytes: &[u8]) -> Result<Reading, AllocError>
     }
 }
 
-fn read_schema_file<F: Files>(alloc: Global, files: &mut F, name: &str) -> Result<Reading, Stop>
+/// What a schema file gives.
+pub fn read_schema_file<F: Files>(alloc: Global, files: &mut F, name: &str) -> Result<Reading, Stop>
     ensures usage { IfOk result IsNoUsage }
     ensures read { ForSome (F.content files.old) (λ held. IfOk result
         (StandsFor (reading_of (contents held name.now)))) }
@@ -116,6 +120,7 @@ fn task_of_bytes(schema: Schema, id: TypeId, bytes: Vec<u8>) -> Task
     requires short { length bytes.items < 2 ^ 32 }
     ensures value { task_view result ≡ task_of_fault (type_of schema id) bytes.items
         (why (type_of schema id) 0 bytes.items) }
+    ensures script { is_script (task_view result) ≡ false }
     ensures ready { IsReady result }
 {
     match check(&schema, id, &bytes) {
@@ -137,6 +142,7 @@ fn task_of_file<F: Files>(
         ≡ task_view task)) }
     ensures ready { IfOk result IsReady }
     ensures usage { IfOk result (λ task. is_usage_task (task_view task) ≡ false) }
+    ensures script { IfOk result (λ task. is_script (task_view task) ≡ false) }
     ensures fails { F.readable files.old args.now.file → result ≢ Err Stop.Read }
     ensures readable { (other : List ℕ) → F.readable files.old other → F.readable files.new other }
     ensures content { F.content files.new ≡ F.content files.old }
@@ -160,6 +166,7 @@ fn task_of_schema<F: Files>(
         task_of_type held args.now (known_in schema args.now.type_name) ≡ task_view task)) }
     ensures ready { IfOk result IsReady }
     ensures usage { IfOk result (λ task. is_usage_task (task_view task) ≡ false) }
+    ensures script { IfOk result (λ task. is_script (task_view task) ≡ false) }
     ensures fails { F.readable files.old args.now.file → result ≢ Err Stop.Read }
     ensures reached { AllByRecursion (F.readable files.old)
         (reached_of_type args.now (known_in schema args.now.type_name)) → result ≢ Err Stop.Read }
@@ -179,6 +186,7 @@ fn task_of_root<F: Files>(alloc: Global, files: &mut F, args: &RootArgs) -> Resu
         task_of_root held args.now ≡ task_view task)) }
     ensures ready { IfOk result IsReady }
     ensures usage { IfOk result (λ task. is_usage_task (task_view task) ≡ false) }
+    ensures script { IfOk result (λ task. is_script (task_view task) ≡ false) }
     ensures fails { F.readable files.old args.now.schema → F.readable files.old args.now.file
         → result ≢ Err Stop.Read }
     ensures reached { ForSome (F.content files.old) (λ held.
@@ -201,8 +209,9 @@ fn task_of_asked<F: Files>(alloc: Global, files: &mut F, asked: &Asked) -> Resul
         DoesSame (task_of_asked held (Some asked.now)) (task_view task))) }
     ensures ready { IfOk result IsReady }
     ensures usage { IfOk result (λ task. is_usage_task (task_view task) ≡ false) }
-    ensures fails { AllByRecursion (F.readable files.old) (files_of asked.now)
-        → result ≢ Err Stop.Read }
+    ensures fails { AreReadable (F.readable files.old) asked.now → result ≢ Err Stop.Read }
+    ensures scripts { IfOk result (λ task. is_script (task_view task) ≡ true
+        → runs_script (Some asked.now) ≡ true) }
     ensures reached { ForSome (F.content files.old) (λ held.
         AllByRecursion (F.readable files.old) (reached_of_asked held (Some asked.now))
         → result ≢ Err Stop.Read) }
@@ -214,6 +223,7 @@ fn task_of_asked<F: Files>(alloc: Global, files: &mut F, asked: &Asked) -> Resul
     match asked {
         Asked::Root(args) => task_of_root(alloc, files, args),
         Asked::Verify(args) => task_of_verify(alloc, files, args),
+        Asked::Run(args) => task_of_run(alloc, files, args),
     }
 }
 
@@ -226,9 +236,11 @@ pub fn task_of<F: Files>(alloc: Global, files: &mut F, words: &[String]) -> Resu
         ≡ is_none (taken (texts words.now))) }
     ensures taken { result ≡ Err Stop.Read → IsSome (taken (texts words.now)) }
     ensures fails { ForSome (taken (texts words.now)) (λ asked.
-        AllByRecursion (F.readable files.old) (files_of asked) → result ≢ Err Stop.Read) }
+        AreReadable (F.readable files.old) asked → result ≢ Err Stop.Read) }
+    ensures scripts { IfOk result (λ task. is_script (task_view task) ≡ true
+        → runs_script (taken (texts words.now)) ≡ true) }
     ensures reached { ForSome (F.content files.old) (λ held.
-        AllByRecursion (F.readable files.old) (reached held (texts words.now))
+        AllByRecursion (F.readable files.old) (reached_first held (texts words.now))
         → result ≢ Err Stop.Read) }
     ensures readable { (other : List ℕ) → F.readable files.old other → F.readable files.new other }
     ensures content { F.content files.new ≡ F.content files.old }

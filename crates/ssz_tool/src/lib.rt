@@ -1,16 +1,19 @@
 //! The program over files, a sink and a hasher.
 //!
-//! `run` is the top call: the words give a task by reading files (`job`), the task gives a line by
-//! hashing (`top`), and the line is said. Files, hasher and sink never meet in one function. The
-//! main theorem stands on `run`.
+//! `run` is the top call: the words give a task by reading files (`job`, `verifying`, `scripts`),
+//! and the task gives a line by hashing, which is said, or runs a script (`top`). The main theorem
+//! stands on `run`.
 #![tactic(auto)]
 
 mod job;
+mod laws;
 mod line;
+mod scripts;
 mod top;
 mod verifying;
 mod words;
 
+pub use laws::printed_proofs_are_valid;
 pub use line::Line;
 pub use top::run;
 

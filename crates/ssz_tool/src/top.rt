@@ -1,33 +1,38 @@
 // The top call.
-ghost use Rattle.std.specs.Prelude.{◌≡◌, ◌≢◌, ◌≤◌, ◌+◌, ℕ, Bool, Some, IsNone, IsSome, sum_by};
+ghost use Rattle.std.specs.Prelude.{◌≡◌, ◌≢◌, ◌≤◌, ◌+◌, ℕ, List, Bool, false, IsTrue, Some, IsNone, IsSome, sum_by, length};
 ghost use Rattle.std.specs.List.{AllByRecursion};
 ghost use Rattle.std.specs.Option.{ForSome};
 ghost use Rattle.ssz_chunk.specs.Index.{levels};
 ghost use Rattle.ssz_outside.specs.Content.{Content};
 ghost use Rattle.ssz_outside.specs.Outcome.{Rose};
-ghost use Rattle.ssz_outside.specs.Job.{Ends, Finishes, CountsRun, IsThatOrStopped, line_job};
-ghost use Rattle.ssz_proof.specs.Calculation.{calculated, indices_of};
-ghost use Rattle.ssz_proof.specs.Multiproof.{known_of};
-ghost use Rattle.ssz_tool.specs.Jobs.{line_of, line_of_root, pairs_of_task};
-ghost use Rattle.ssz_tool.specs.Lines.{line_text, status_of};
-ghost use Rattle.ssz_tool.specs.Reached.{reached};
-ghost use Rattle.ssz_tool.specs.Runs.{job_of, pairs_allowed};
-ghost use Rattle.ssz_tool.specs.Tasks.{IsReady, task_view};
-ghost use Rattle.ssz_tool.specs.Words.{files_of, taken, texts};
+ghost use Rattle.ssz_outside.specs.Job.{Ends, Finishes, CountsRun, IsThatOrStopped};
+ghost use Rattle.ssz_proof.specs.Calculation.{indices_of};
+ghost use Rattle.ssz_schema.specs.Unfolding.{type_of};
+ghost use Rattle.ssz_tool.specs.Jobs.{is_script, is_usage_task, line_of_proof, line_of_value};
+ghost use Rattle.ssz_tool.specs.Lines.{is_usage, status_of};
+ghost use Rattle.ssz_tool.specs.Reached.{reached, reached_of_task};
+ghost use Rattle.ssz_tool.specs.Runs.{Does, job_of, job_of_line, job_of_task, pairs_allowed, pairs_of_task, turns_of, turns_of_task};
+ghost use Rattle.ssz_tool.specs.Tasks.{IsFaultless, IsReady, task_view};
+ghost use Rattle.ssz_tool.specs.Words.{AreReadable, taken, texts};
+ghost use Rattle.ssz_value.specs.Faults.{why};
+ghost use Rattle.ssz_value.specs.Pairs.{pairs};
+ghost use Rattle.ssz_value.specs.Reading.{value_in};
 
 use crate::job::{Stop, Task, task_of};
 use crate::line::{Line, line_text, status_of};
+use crate::scripts::run_script;
 use ssz_chunk::{Chunk, PairHash, ZeroTable};
 use ssz_outside::{Files, Sink, Status, say_line};
 use ssz_proof::{Proof, calc};
 use ssz_roots::root_of_bytes;
+use ssz_schema::{Schema, TypeId};
 use std::alloc::Global;
 
-fn verdict<H: PairHash>(root: &Chunk, proof: &Proof, hasher: &mut H) -> Line
-    ensures value { result
-        ≡ line_of_root root.now.0 (calculated H.pair_of (known_of proof.now) 1) }
+fn line_of_proof<H: PairHash>(root: &Chunk, proof: &Proof, hasher: &mut H) -> Line
+    ensures value { result ≡ line_of_proof H.pair_of root.now.0 proof.now }
     ensures pairs { H.pairs hasher.new
         ≤ H.pairs hasher.old + sum_by levels (indices_of proof.now.leaves) }
+    ensures usage { is_usage result ≡ false }
 {
     let made = calc(proof, hasher);
     if made == *root {
@@ -37,33 +42,71 @@ fn verdict<H: PairHash>(root: &Chunk, proof: &Proof, hasher: &mut H) -> Line
     }
 }
 
-fn line_of<H: PairHash>(task: &Task, hasher: &mut H) -> Line
-    requires { IsReady task.now }
-    ensures value { result ≡ line_of H.pair_of (task_view task.now) }
-    ensures pairs { H.pairs hasher.new ≤ H.pairs hasher.old + pairs_of_task (task_view task.now) }
+fn line_of_value<H: PairHash>(schema: &Schema, id: TypeId, bytes: &[u8], hasher: &mut H) -> Line
+    requires { IsFaultless (length schema.now.trees) id (why (type_of schema.now id) 0 bytes.now)
+        (length bytes.now) }
+    ensures value { result ≡ line_of_value H.pair_of (type_of schema.now id) bytes.now }
+    ensures pairs { H.pairs hasher.new ≤ H.pairs hasher.old
+        + (126 + pairs (type_of schema.now id) (value_in (type_of schema.now id) bytes.now)) }
 {
-    match task {
-        Task::Says(line) => *line,
-        Task::Root(schema, id, bytes) => {
-            let zeros = ZeroTable::new(hasher);
-            Line::Root(root_of_bytes(schema, *id, bytes, &zeros, hasher))
-        }
-        Task::Verify(root, proof) => verdict(root, proof, hasher),
-    }
+    let zeros = ZeroTable::new(hasher);
+    Line::Root(root_of_bytes(schema, id, bytes, &zeros, hasher))
 }
 
 fn print_line<S: Sink>(alloc: Global, line: &Line, out: &mut S) -> Status
-    ensures ends { (held : Content) (reads : Bool) → Ends result
-        (line_job held reads (line_text line.now) (status_of line.now))
+    ensures ends { (held : Content) (reads : Bool) → Ends result (job_of_line held reads line.now)
         (S.pieces out.old) (S.pieces out.new) (Some held) }
     ensures counts { (gets puts : ℕ) → CountsRun result gets gets puts puts
         (S.faults out.old) (S.faults out.new) }
     ensures status { IsThatOrStopped (status_of line.now) result }
+    ensures read { result ≢ Status.ReadFault }
 {
     let Ok(text) = line_text(alloc, line) else {
         return Status::Memory;
     };
     say_line(text.as_str(), status_of(line), out)
+}
+
+/// Does what is left to do once the files of the words are read.
+fn do_task<F: Files, S: Sink, H: PairHash>(
+    alloc: Global,
+    task: Task,
+    files: &mut F,
+    out: &mut S,
+    hasher: &mut H,
+) -> Status
+    requires { IsReady task }
+    ensures ends { (reads : Bool) → ForSome (F.content files.old) (λ held.
+        Does (λ numbers. job_of_task H.pair_of numbers held reads (task_view task))
+        (λ numbers. turns_of_task H.pair_of numbers held (task_view task)) result
+        (H.pairs hasher.old) (H.pairs hasher.new)
+        (λ job. Ends result job (S.pieces out.old) (S.pieces out.new) (F.content files.new))) }
+    ensures counts { CountsRun result (F.get_faults files.old) (F.get_faults files.new)
+        (F.put_faults files.old) (F.put_faults files.new) (S.faults out.old) (S.faults out.new) }
+    ensures usage { result ≡ Status.Usage → IsTrue (is_usage_task (task_view task)) }
+    ensures says_usage { IsTrue (is_usage_task (task_view task))
+        → IsThatOrStopped Status.Usage result }
+    ensures fails { ((name : List ℕ) → F.readable files.old name) → result ≢ Status.ReadFault }
+    ensures line { is_script (task_view task) ≡ false → result ≢ Status.ReadFault }
+    ensures reached { ForSome (F.content files.old) (λ held. AllByRecursion (F.readable files.old)
+        (reached_of_task H.pair_of held (task_view task)) → result ≢ Status.ReadFault) }
+    ensures pairs { ForSome (F.content files.old) (λ held. H.pairs hasher.new
+        ≤ H.pairs hasher.old + pairs_of_task H.pair_of held (task_view task)) }
+{
+    match task {
+        Task::Says(line) => print_line(alloc, &line, out),
+        Task::Root(schema, id, bytes) => {
+            let line = line_of_value(&schema, id, &bytes, hasher);
+            print_line(alloc, &line, out)
+        }
+        Task::Verify(root, proof) => {
+            let line = line_of_proof(&root, &proof, hasher);
+            print_line(alloc, &line, out)
+        }
+        Task::Script(schema, max, script) => {
+            run_script(alloc, schema, max, script.as_slice(), files, out, hasher)
+        }
+    }
 }
 
 fn run_words<F: Files, S: Sink, H: PairHash>(
@@ -74,26 +117,23 @@ fn run_words<F: Files, S: Sink, H: PairHash>(
     hasher: &mut H,
 ) -> Status
     ensures ends { ForSome (F.content files.old) (λ held.
-        Ends result (job_of H.pair_of (texts words.now) held)
-        (S.pieces out.old) (S.pieces out.new) (F.content files.new)) }
+        Does (job_of H.pair_of (texts words.now) held) (turns_of H.pair_of (texts words.now) held)
+        result (H.pairs hasher.old) (H.pairs hasher.new)
+        (λ job. Ends result job (S.pieces out.old) (S.pieces out.new) (F.content files.new))) }
     ensures counts { CountsRun result (F.get_faults files.old) (F.get_faults files.new)
         (F.put_faults files.old) (F.put_faults files.new) (S.faults out.old) (S.faults out.new) }
     ensures usage { result ≡ Status.Usage → IsNone (taken (texts words.now)) }
     ensures not_taken { IsNone (taken (texts words.now)) → IsThatOrStopped Status.Usage result }
     ensures taken { result ≡ Status.ReadFault → IsSome (taken (texts words.now)) }
     ensures readable { ForSome (taken (texts words.now)) (λ asked.
-        AllByRecursion (F.readable files.old) (files_of asked) → result ≢ Status.ReadFault) }
-    ensures reached { ForSome (F.content files.old) (λ held.
-        AllByRecursion (F.readable files.old) (reached held (texts words.now))
-        → result ≢ Status.ReadFault) }
+        AreReadable (F.readable files.old) asked → result ≢ Status.ReadFault) }
+    ensures reached { ForSome (F.content files.old) (λ held. AllByRecursion (F.readable files.old)
+        (reached H.pair_of held (texts words.now)) → result ≢ Status.ReadFault) }
     ensures pairs { ForSome (F.content files.old) (λ held. H.pairs hasher.new
-        ≤ H.pairs hasher.old + pairs_allowed (texts words.now) held) }
+        ≤ H.pairs hasher.old + pairs_allowed H.pair_of (texts words.now) held) }
 {
     match task_of(alloc, files, words) {
-        Ok(task) => {
-            let line = line_of(&task, hasher);
-            print_line(alloc, &line, out)
-        }
+        Ok(task) => do_task(alloc, task, files, out, hasher),
         Err(Stop::Read) => Status::ReadFault,
         Err(Stop::Memory) => Status::Memory,
     }
@@ -109,19 +149,22 @@ pub fn run<F: Files, S: Sink, H: PairHash>(
 ) -> Status
     // Where the files tell what they hold, no fault is counted and memory is not wanting, the job
     // of the words is done: its text is printed, the files are those after it, its status is
-    // answered.
+    // answered; the numbers that `hashes` prints are counts of the pairs that were hashed.
     ensures main_theorem { ForSome (F.content files.old) (λ held.
         ¬ Rose (F.get_faults files.old) (F.get_faults files.new)
         → ¬ Rose (F.put_faults files.old) (F.put_faults files.new)
         → ¬ Rose (S.faults out.old) (S.faults out.new)
         → result ≢ Status.Memory
-        → Finishes (job_of H.pair_of (texts words.now) held) result
-        (S.pieces out.old) (S.pieces out.new) (F.content files.new)) }
+        → Does (job_of H.pair_of (texts words.now) held) (turns_of H.pair_of (texts words.now) held)
+        result (H.pairs hasher.old) (H.pairs hasher.new)
+        (λ job. Finishes job result (S.pieces out.old) (S.pieces out.new)
+        (F.content files.new))) }
 
     // Whatever ended the run, what is left is of that job.
     ensures ends { ForSome (F.content files.old) (λ held.
-        Ends result (job_of H.pair_of (texts words.now) held)
-        (S.pieces out.old) (S.pieces out.new) (F.content files.new)) }
+        Does (job_of H.pair_of (texts words.now) held) (turns_of H.pair_of (texts words.now) held)
+        result (H.pairs hasher.old) (H.pairs hasher.new)
+        (λ job. Ends result job (S.pieces out.old) (S.pieces out.new) (F.content files.new))) }
 
     // The fault that the status names was counted, and no other: none is passed over.
     ensures counts { CountsRun result (F.get_faults files.old) (F.get_faults files.new)
@@ -133,17 +176,17 @@ pub fn run<F: Files, S: Sink, H: PairHash>(
     ensures taken { result ≡ Status.ReadFault → IsSome (taken (texts words.now)) }
 
     // A read fails only of the files that the job reaches: no other is read. Where it is not told
-    // what the files hold, only of those that the words name.
-    ensures reached { ForSome (F.content files.old) (λ held.
-        AllByRecursion (F.readable files.old) (reached held (texts words.now))
-        → result ≢ Status.ReadFault) }
+    // what the files hold, only of those that the words, or the statements of a script, may name.
+    ensures reached { ForSome (F.content files.old) (λ held. AllByRecursion (F.readable files.old)
+        (reached H.pair_of held (texts words.now)) → result ≢ Status.ReadFault) }
     ensures readable { ForSome (taken (texts words.now)) (λ asked.
-        AllByRecursion (F.readable files.old) (files_of asked) → result ≢ Status.ReadFault) }
+        AreReadable (F.readable files.old) asked → result ≢ Status.ReadFault) }
 
-    // The pairs hashed: of a value its own, beyond the zero table; of a proof those that its leaves
-    // have levels.
+    // The pairs hashed: of a value its own, of a script those of the values that it brings in and
+    // the levels of the paths that it edits, beyond the zero table; of a proof as many as its
+    // leaves have levels.
     ensures pairs { ForSome (F.content files.old) (λ held. H.pairs hasher.new
-        ≤ H.pairs hasher.old + pairs_allowed (texts words.now) held) }
+        ≤ H.pairs hasher.old + pairs_allowed H.pair_of (texts words.now) held) }
 {
     run_words(alloc, words, files, out, hasher)
 }

@@ -2,7 +2,7 @@
 ghost use Rattle.std.specs.Prelude.{◌≡◌, ◌≢◌, ℕ, List, Err, IfOk, false};
 ghost use Rattle.std.specs.Option.{ForSome};
 ghost use Rattle.ssz_proof.specs.Judgement.{multiproof_of};
-ghost use Rattle.ssz_tool.specs.Jobs.{task_of_lists, task_of_verify, is_usage_task};
+ghost use Rattle.ssz_tool.specs.Jobs.{task_of_lists, task_of_verify, is_script, is_usage_task};
 ghost use Rattle.ssz_tool.specs.Tasks.{CountsStop, IsReady, DoesSame, task_view};
 
 use crate::job::{Loaded, Stop, Task, load};
@@ -20,6 +20,7 @@ fn task_of_text(alloc: Global, root: Chunk, text: &[u8]) -> Result<Task, AllocEr
         DoesSame (task_of_lists root.0 (multiproof_of text.now)) (task_view task)) }
     ensures ready { IfOk result IsReady }
     ensures usage { IfOk result (λ task. is_usage_task (task_view task) ≡ false) }
+    ensures script { IfOk result (λ task. is_script (task_view task) ≡ false) }
 {
     match read_proof(alloc, text) {
         Ok(proof) => Ok(Task::Verify(root, proof)),
@@ -38,6 +39,7 @@ pub fn task_of_verify<F: Files>(
         DoesSame (task_of_verify held args.now) (task_view task))) }
     ensures ready { IfOk result IsReady }
     ensures usage { IfOk result (λ task. is_usage_task (task_view task) ≡ false) }
+    ensures script { IfOk result (λ task. is_script (task_view task) ≡ false) }
     ensures fails { F.readable files.old args.now.file → result ≢ Err Stop.Read }
     ensures readable { (other : List ℕ) → F.readable files.old other → F.readable files.new other }
     ensures content { F.content files.new ≡ F.content files.old }

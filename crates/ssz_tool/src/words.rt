@@ -2,7 +2,7 @@
 ghost use Rattle.std.specs.Prelude.{◌≡◌, IfOk, Some};
 ghost use Rattle.ssz_tool.specs.Words.{standing, taken, texts};
 
-use ssz_words::{Command, RootArgs, VerifyArgs, WordsFault, read_words};
+use ssz_words::{Command, RootArgs, RunArgs, VerifyArgs, WordsFault, read_words};
 use std::alloc::{AllocError, Global};
 
 /// A command whose part of the program stands, with its arguments.
@@ -10,6 +10,7 @@ use std::alloc::{AllocError, Global};
 pub enum Asked {
     Root(RootArgs),
     Verify(VerifyArgs),
+    Run(RunArgs),
 }
 
 // Another command joins here.
@@ -19,7 +20,7 @@ fn standing(command: Command) -> Option<Asked>
     match command {
         Command::Root(args) => Some(Asked::Root(args)),
         Command::Verify(args) => Some(Asked::Verify(args)),
-        Command::Run(_) => None,
+        Command::Run(args) => Some(Asked::Run(args)),
         Command::Weave(_) => None,
         Command::Work(_) => None,
     }

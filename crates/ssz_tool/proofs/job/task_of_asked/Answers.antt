@@ -1,5 +1,5 @@
 use Rattle.std.proofs.Common.{◌≡◌}
-use Rattle.ssz_tool.specs.Jobs.{task_of_root}
+use Rattle.ssz_tool.specs.Jobs.{task_of_root, task_of_run}
 use Rattle.ssz_tool.specs.Tasks.{DoesSame, task_view}
 use Rattle.ssz_tool.proofs.Verdicts.{DoesSame-equal, IfOk-weaker}
 use Rattle.ssz_tool.proofs.job.task_of_asked.Goals as goal
@@ -11,3 +11,11 @@ returns-in-Root-clause-read g c = λ held told.
     (λ task. DoesSame (task_of_root held c.in-Root.args) (task_view task))
     (λ task same. DoesSame-equal _ _ same) c.task_of_root.result
     (c.task_of_root.ensures.read held told))
+
+pub returns-in-Run-clause-read : goal.returns-in-Run-clause-read
+returns-in-Run-clause-read g c = λ held told.
+    rw c.in-Run.is
+    (IfOk-weaker (λ task. task_of_run held c.in-Run.args ≡ task_view task)
+    (λ task. DoesSame (task_of_run held c.in-Run.args) (task_view task))
+    (λ task same. DoesSame-equal _ _ same) c.task_of_run.result
+    (c.task_of_run.ensures.read held told))

@@ -1,13 +1,41 @@
-use Rattle.std.proofs.Common.{◌≡◌, Some, sym, ap, is_some, ◌∙◌}
-use Rattle.ssz_tool.specs.Jobs.{line_of, task_of}
+use Rattle.std.proofs.Common.{Err, is_some, subst, ap, ◌∙◌}
+use Rattle.std.specs.List.{AllByRecursion}
+use Rattle.ssz_tool.specs.Jobs.{task_of}
+use Rattle.ssz_tool.specs.Reached.{reached_first}
 use Rattle.ssz_tool.specs.Words.{texts, taken}
+use Rattle.ssz_tool.proofs.Beginnings.{all_back, does_same, fails_first, wants_memory_first, zero_table}
+use Rattle.ssz_tool.proofs.Readings.{AllByRecursion-weaker}
 use Rattle.ssz_tool.proofs.top.run_words.Goals as goal
 
 pub returns-in-Ok-clause-ends : goal.returns-in-Ok-clause-ends
 returns-in-Ok-clause-ends g c = λ held told.
-    let kept : g.F.Files.content c.task_of.new.files ≡ Some held = c.in-Ok.ensures.content ∙ told in
-    let line : line_of g.H.PairHash.pair_of (task_of held (texts c.args.words.now))
-    ≡ c.line_of-line.result =
-    (c.in-Ok.ensures.read held told).lines g.H.PairHash.pair_of
-    ∙ sym c.line_of-line.ensures.value in
-    rw (kept, line) (c.print_line.ensures.ends held (is_some (taken (texts c.args.words.now))))
+    does_same g.H.PairHash.pair_of held (is_some (taken (texts c.args.words.now)))
+    (task_of held (texts c.args.words.now)) _ c.do_task.result
+    (g.H.PairHash.pairs c.args.hasher.now) (g.H.PairHash.pairs c.do_task.new.hasher) _
+    (c.in-Ok.ensures.read held told)
+    (c.do_task.ensures.ends (is_some (taken (texts c.args.words.now))) held
+    (c.in-Ok.ensures.content ∙ told))
+
+pub returns-in-Ok-clause-reached : goal.returns-in-Ok-clause-reached
+returns-in-Ok-clause-reached g c = λ held told all.
+    let behind = all_back (g.F.Files.readable c.args.files.now)
+    (reached_first held (texts c.args.words.now)) _ all in
+    c.do_task.ensures.reached held (c.in-Ok.ensures.content ∙ told)
+    (AllByRecursion-weaker _ _ c.in-Ok.ensures.readable _
+    (subst (AllByRecursion (g.F.Files.readable c.args.files.now))
+    ((c.in-Ok.ensures.read held told).reached g.H.PairHash.pair_of held) behind))
+
+pub returns-in-Err-Read-clause-ends : goal.returns-in-Err-Read-clause-ends
+returns-in-Err-Read-clause-ends g c = λ held told.
+    rw (c.task_of.ensures.content, told) (fails_first g.H.PairHash.pair_of held
+    (is_some (taken (texts c.args.words.now))) (task_of held (texts c.args.words.now))
+    (g.H.PairHash.pairs c.args.hasher.now) (g.H.PairHash.pairs c.args.hasher.now)
+    (g.S.Sink.pieces c.args.out.now) (c.task_of.ensures.taken (c.in-Err-Read.is
+    ∙ ap Err c.in-Err-Read.field-0-is)))
+
+pub returns-in-Err-Memory-clause-ends : goal.returns-in-Err-Memory-clause-ends
+returns-in-Err-Memory-clause-ends g c = λ held told.
+    rw (c.task_of.ensures.content, told) (wants_memory_first g.H.PairHash.pair_of held
+    (is_some (taken (texts c.args.words.now))) (task_of held (texts c.args.words.now))
+    (g.H.PairHash.pairs c.args.hasher.now) _ (g.H.PairHash.pairs c.args.hasher.now)
+    (g.S.Sink.pieces c.args.out.now) (zero_table (g.H.PairHash.pairs c.args.hasher.now)))

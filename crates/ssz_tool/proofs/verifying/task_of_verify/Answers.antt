@@ -1,4 +1,3 @@
-use Rattle.std.proofs.Common.{refl}
 use Rattle.ssz_tool.proofs.Verdicts.{DoesSame-equal, task_of_proof-whole, task_of_proof-too_long}
 use Rattle.ssz_tool.proofs.verifying.task_of_verify.Goals as goal
 

@@ -1,0 +1,266 @@
+-- Commands that print no number for `hashes`, commands that end before their first step, and tasks
+-- that do the same.
+use Rattle.std.proofs.Common.{◌≡◌, ◌≢◌, ℕ, zero, suc, ◌+◌, ◌-◌, ◌≤◌, true, Bool, List, [], ◌∷◌, ◌++◌, Option, Some, None, inl, refl, sym, ap, subst, arith, append-nil}
+use Rattle.std.specs.Prelude.{IsTrue}
+use Rattle.std.specs.List.{AllByRecursion}
+use Rattle.ssz_chunk.specs.Chunk.{CountsUp}
+use Rattle.ssz_outside.specs.Content.{Content}
+use Rattle.ssz_outside.specs.Job.{Job, Ends, IsFinished, StandsAt}
+use Rattle.ssz_outside.specs.Pieces.{Told, told_append}
+use Rattle.ssz_outside.specs.declared.status.Status.{Status}
+use Rattle.ssz_outside.specs.declared.status.Status.TheVariants as status
+use Rattle.ssz_proof.specs.Calculation.{PairOf}
+use Rattle.ssz_schema.specs.Unfolding.{Types, known_in}
+use Rattle.ssz_script.specs.Lines.{statements_in}
+use Rattle.ssz_script.specs.declared.statement.Statement.{Statement}
+use Rattle.ssz_script.specs.declared.statement.Statement.TheVariants.{Hashes}
+use Rattle.ssz_machine.specs.declared.place.Place.{Place}
+use Rattle.ssz_machine.specs.declared.place.Place.TheVariants.{Run, Weave}
+use Rattle.ssz_machine.specs.State.{State, fresh}
+use Rattle.ssz_machine.specs.Rules.{Rules}
+use Rattle.ssz_machine.specs.Machine.{Turn, step, state_of}
+use Rattle.ssz_machine.specs.Plays.{Event, says as speaks, adopts, adopted, all_of, numbers_after, play}
+use Rattle.ssz_machine.specs.Jobs.{script_job, turns_of_script}
+use Rattle.ssz_machine.proofs.Endings.{ends_after_reading}
+use Rattle.ssz_machine.specs.Counts.{number_at}
+use Rattle.ssz_machine.proofs.Ledgers.{ledgers_count_lem}
+use Rattle.ssz_engine.specs.Content.{rules_of as engine_rules}
+use Rattle.ssz_engine.specs.Standing.{StandsFor}
+use Rattle.ssz_engine.specs.Scripts.{EndsRun, EndsScript, HasCounts, IsFresh, Scene}
+use Rattle.ssz_engine.proofs.Reaching.{same_charges}
+use Rattle.ssz_engine.proofs.Replies.{said_number}
+use Rattle.ssz_tool.specs.Jobs.{Task, says, roots, verifies, plays}
+use Rattle.ssz_tool.specs.Reached.{reached_of_task}
+use Rattle.ssz_tool.specs.Runs.{Does, job_of_line, job_of_task, pairs_of_task, rules_of, turns_of_task}
+use Rattle.ssz_tool.specs.Tasks.{DoesSame}
+use Rattle.ssz_tool.specs.declared.line.Line.{Line}
+
+-- no step prints a number
+pub no_counts : (ended : Status) (rise : ℕ) → HasCounts ended [] rise
+no_counts ended rise = record {
+  total = rise;
+  most = omega arith;
+  whole = λ finished. refl;
+  counts = record {
+    bounded = λ i n said. absurd (none i n said);
+    rising = λ i j n m few said later. absurd (none i n said);
+    begins = λ i n said nothing. absurd (none i n said);
+    stays = λ i j n m few said later nothing. absurd (none i n said);
+    ends = λ i n said nothing. absurd (none i n said);
+  };
+}
+  where
+    none : (i n : ℕ) → number_at [] i ≡ Some n → ⊥
+    none i n said = let differ : None ≡ Some n = said in cc
+
+-- a count that goes up by the pairs of the zero table
+pub zero_table : (first : ℕ) → CountsUp 126 first (first + 126)
+zero_table first = record { rises = omega arith; at_most = omega arith; exact = λ few. refl }
+
+-- so a job of one line is done for no numbers
+pub line_does : (held : Content) (reads : Bool) (line : Line) (ended : Status) (first last : ℕ)
+    (old new : Told) → Ends ended (job_of_line held reads line) old new (Some held)
+    → Does (λ numbers. job_of_line held reads line) (λ numbers. []) ended first last
+    (λ job. Ends ended job old new (Some held))
+line_does held reads line ended first last old new ends = record {
+  numbers = [];
+  left = ends;
+  base = first + 126;
+  zeros = zero_table first;
+  counts = no_counts ended (last - (first + 126));
+}
+
+-- and so is one of a line that is the same
+pub line_does_as : (held : Content) (reads : Bool) (line wanted : Line) (ended : Status)
+    (first last : ℕ) (old new : Told) → line ≡ wanted
+    → Ends ended (job_of_line held reads line) old new (Some held)
+    → Does (λ numbers. job_of_line held reads wanted) (λ numbers. []) ended first last
+    (λ job. Ends ended job old new (Some held))
+line_does_as held reads line wanted ended first last old new is ends =
+    line_does held reads wanted ended first last old new
+    (subst (λ (l : Line). Ends ended (job_of_line held reads l) old new (Some held)) is ends)
+
+told_nothing : (told : Told) → told ≡ told_append told []
+told_nothing None = refl
+told_nothing (Some pieces) = ap Some (sym (append-nil pieces))
+
+-- before its first step a job has printed nothing, and the files are as they were
+pub stands_first : (pair_of : PairOf) (numbers : List ℕ) (held : Content) (reads : Bool)
+    (task : Task) (told : Told)
+    → StandsAt ((job_of_task pair_of numbers held reads task).at 0) told told (Some held)
+stands_first pair_of numbers held reads (says line) told =
+    record { printed = told_nothing told; held = refl }
+stands_first pair_of numbers held reads (roots t bytes) told =
+    record { printed = told_nothing told; held = refl }
+stands_first pair_of numbers held reads (verifies root lists) told =
+    record { printed = told_nothing told; held = refl }
+stands_first pair_of numbers held reads (plays type_named most script) told =
+    record { printed = told_nothing told; held = refl }
+
+reads_first : (pair_of : PairOf) (numbers : List ℕ) (held : Content) (reads : Bool) (task : Task)
+    → reads ≡ true → IsTrue ((job_of_task pair_of numbers held reads task).reads 0)
+reads_first pair_of numbers held reads (says line) is = is
+reads_first pair_of numbers held reads (roots t bytes) is = is
+reads_first pair_of numbers held reads (verifies root lists) is = is
+reads_first pair_of numbers held reads (plays type_named most script) is = refl
+
+-- where no numbers are given, each that is printed is 0
+no_number : (place : Place) (statement : Option Statement) → numbers_after place statement [] ≡ []
+no_number Run (Some Hashes) = refl
+no_number Run other = search
+no_number Weave other = refl
+
+zero_numbers : (rules : Rules) (place : Place) (state : State) (events : List Event) (i n : ℕ)
+    → number_at (play rules place [] state events) i ≡ Some n → n ≡ 0
+zero_numbers rules place state [] i n said = let differ : None ≡ Some n = said in cc
+zero_numbers rules place state (adopts writer ∷ events) i n said =
+    zero_numbers rules place (adopted writer state) events i n said
+zero_numbers rules place state (speaks writer line ∷ events) zero n said =
+    said_number rules place 0 state writer line n said
+zero_numbers rules place state (speaks writer line ∷ events) (suc i) n said =
+    let turn = step rules place 0 state writer line in
+    zero_numbers rules place (state_of turn) events i n
+    (subst (λ numbers. number_at (play rules place numbers (state_of turn) events) i ≡ Some n)
+    (no_number place line.1) said)
+
+-- and so they are counts where nothing was hashed yet
+zero_counts : (rules : Rules) (state : State) (script : List ℕ) (ended : Status) (rise : ℕ)
+    → ¬ IsFinished ended → HasCounts ended (turns_of_script rules [] state script) rise
+zero_counts rules state script ended rise stopped = record {
+  total = 0;
+  most = omega arith;
+  whole = λ finished. absurd (stopped finished);
+  counts = ledgers_count_lem (turns_of_script rules [] state script) (λ i. 0) (λ i. 0) (record {
+    begins = refl;
+    rises = λ i turn found. omega arith;
+    stays = λ i turn found hashes. refl;
+    paid = λ i turn found. omega arith;
+    said = zero_numbers rules Run state (all_of 0 (statements_in script));
+  });
+}
+
+first_counts : (pair_of : PairOf) (held : Content) (task : Task) (ended : Status) (rise : ℕ)
+    → ¬ IsFinished ended → HasCounts ended (turns_of_task pair_of [] held task) rise
+first_counts pair_of held (says line) ended rise stopped = no_counts ended rise
+first_counts pair_of held (roots t bytes) ended rise stopped = no_counts ended rise
+first_counts pair_of held (verifies root lists) ended rise stopped = no_counts ended rise
+first_counts pair_of held (plays type_named most script) ended rise stopped =
+    zero_counts (rules_of pair_of type_named most) (fresh held) script ended rise stopped
+
+-- A job that a fault or want of memory ends before its first step.
+module _ (pair_of : PairOf) (held : Content) (reads : Bool) (task : Task) (first base last : ℕ)
+    (told : Told) where
+  abbrev job : List ℕ → Job
+  job numbers = job_of_task pair_of numbers held reads task
+
+  abbrev turns : List ℕ → List Turn
+  turns numbers = turns_of_task pair_of numbers held task
+
+  begun : (ended : Status) → ¬ IsFinished ended → CountsUp 126 first base
+      → Ends ended (job []) told told (Some held)
+      → Does job turns ended first last (λ job. Ends ended job told told (Some held))
+  begun ended stopped zeros ends = record {
+    numbers = [];
+    left = ends;
+    base = base;
+    zeros = zeros;
+    counts = first_counts pair_of held task ended (last - base) stopped;
+  }
+
+  pub wants_memory_first : CountsUp 126 first base
+      → Does job turns status.Memory first last
+      (λ job. Ends status.Memory job told told (Some held))
+  wants_memory_first zeros =
+      begun status.Memory (λ finished. finished) zeros
+      (0, inl (omega arith, stands_first pair_of [] held reads task told))
+
+pub fails_first : (pair_of : PairOf) (held : Content) (reads : Bool) (task : Task)
+    (first last : ℕ) (told : Told) → reads ≡ true
+    → Does (λ numbers. job_of_task pair_of numbers held reads task)
+    (λ numbers. turns_of_task pair_of numbers held task) status.ReadFault first last
+    (λ job. Ends status.ReadFault job told told (Some held))
+fails_first pair_of held reads task first last told is =
+    begun pair_of held reads task first (first + 126) last told status.ReadFault
+    (λ finished. finished) (zero_table first) (
+      0,
+      omega arith,
+      reads_first pair_of [] held reads task is,
+      stands_first pair_of [] held reads task told,
+    )
+
+-- tasks that do the same end in the same way
+pub does_same : (pair_of : PairOf) (held : Content) (reads : Bool) (meant made : Task)
+    (ended : Status) (first last : ℕ) (Left : Job → Type 0) → DoesSame meant made
+    → Does (λ numbers. job_of_task pair_of numbers held reads made)
+    (λ numbers. turns_of_task pair_of numbers held made) ended first last Left
+    → Does (λ numbers. job_of_task pair_of numbers held reads meant)
+    (λ numbers. turns_of_task pair_of numbers held meant) ended first last Left
+does_same pair_of held reads meant made ended first last Left same does = record {
+  numbers = does.numbers;
+  left = subst Left (sym (same.jobs pair_of does.numbers held reads)) does.left;
+  base = does.base;
+  zeros = does.zeros;
+  counts = subst (λ turns. HasCounts ended turns (last - does.base))
+      (sym (same.turns pair_of does.numbers held)) does.counts;
+}
+
+-- the files of the words are read, and those of the statements
+pub all_back : (P : List ℕ → Type 0) (xs ys : List (List ℕ)) → AllByRecursion P (xs ++ ys)
+    → AllByRecursion P ys
+all_back P [] ys all = all
+all_back P (x ∷ xs) ys all = all_back P xs ys all.1
+
+pub all_front : (P : List ℕ → Type 0) (xs ys : List (List ℕ)) → AllByRecursion P (xs ++ ys)
+    → AllByRecursion P xs
+all_front P [] ys all = tt
+all_front P (x ∷ xs) ys all = (all.0, all_front P xs ys all.1)
+
+-- An engine that was just started ran a script.
+module _ (pair_of : PairOf) (schema : Types) (most : ℕ) (held : Content) (script : List ℕ)
+    (ended : Status) (before after : Scene) (types : before.engine.types ≡ schema)
+    (limit : before.engine.most ≡ most) (stands : StandsFor before.engine (λ writer. []))
+    (told : before.told ≡ Some held) (new : IsFresh before)
+    (ends : EndsScript pair_of script ended before after) where
+  abbrev rules : Rules
+  rules = rules_of pair_of (known_in schema) most
+
+  same : engine_rules pair_of before.engine ≡ rules
+  same = rw (types, limit) refl
+
+  run : EndsRun rules Run (all_of 0 (statements_in script)) (fresh held) ended before after
+  run = subst (λ (r : Rules). EndsRun r Run (all_of 0 (statements_in script)) (fresh held) ended
+      before after) same (ends (fresh held) stands told)
+
+  -- what it left is of the task's job
+  pub script_does : (reads : Bool) (first : ℕ) → CountsUp 126 first before.hashed
+      → Does (λ numbers. job_of_task pair_of numbers held reads
+      (plays (known_in schema) most script))
+      (λ numbers. turns_of_task pair_of numbers held (plays (known_in schema) most script)) ended
+      first after.hashed (λ job. Ends ended job before.pieces after.pieces after.told)
+  script_does reads first zeros = record {
+    numbers = run.numbers;
+    left = ends_after_reading ended (script_job rules run.numbers (fresh held) script)
+        before.pieces after.pieces after.told run.ends;
+    base = before.hashed;
+    zeros = zeros;
+    counts = run.counts new;
+  }
+
+  -- what it hashed is at most its charges, whatever numbers it printed
+  pub script_pairs : (first : ℕ) → CountsUp 126 first before.hashed → after.hashed ≤ first
+      + pairs_of_task pair_of held (plays (known_in schema) most script)
+  script_pairs first zeros =
+      let charged = same_charges rules Run (all_of 0 (statements_in script)) (fresh held)
+      run.numbers [] in
+      omega (arith, run.paid, new.left, zeros.at_most, charged)
+
+  -- and a read failed only of a file that its statements read
+  pub script_reached : AllByRecursion before.readable
+      (reached_of_task pair_of held (plays (known_in schema) most script))
+      → ended ≢ status.ReadFault
+  script_reached all = run.reached [] all
+
+pub all_readable : (P : List ℕ → Type 0) → ((name : List ℕ) → P name) → (names : List (List ℕ))
+    → AllByRecursion P names
+all_readable P each [] = tt
+all_readable P each (name ∷ names) = (each name, all_readable P each names)

@@ -1,0 +1,37 @@
+-- What `verify` says of a proof that a script printed.
+use Rattle.std.proofs.Common.{ℕ, ◌≡◌, List, refl, ap, ◌∙◌}
+use Rattle.std.proofs.lemmas.Slice.Eq.{bytes_eq-Decides}
+use Rattle.ssz_proof.specs.Calculation.{PairOf, calculated}
+use Rattle.ssz_proof.specs.Multiproof.{known_of}
+use Rattle.ssz_script.specs.declared.reply.Reply.{Reply}
+use Rattle.ssz_script.specs.declared.reply.Reply.TheVariants.{Proof}
+use Rattle.ssz_value.specs.Trees.{hash_tree_root}
+use Rattle.ssz_machine.specs.Rules.{Effect}
+use Rattle.ssz_machine.specs.Asking.{prove}
+use Rattle.ssz_machine.specs.Proofs.{LeadsTo}
+use Rattle.ssz_machine.proofs.Proving.{printed_proofs_lead_lem}
+use Rattle.ssz_tool.specs.Jobs.{line_of_root, task_of_lists}
+use Rattle.ssz_tool.specs.PrintedProofs.{IsValidFor, PrintedProofsAreValid}
+use Rattle.ssz_tool.specs.Runs.{job_of_line, job_of_task}
+use Rattle.ssz_tool.specs.declared.line.Line.TheVariants as line
+use Rattle.ssz_tool.proofs.Verdicts.{task_of_proof-whole, IfOk-weaker}
+
+same_root : (root made : List ℕ) → made ≡ root → line_of_root root made ≡ line.Valid
+same_root root made same = rw ((bytes_eq-Decides made root).1 same) refl
+
+valid : (pair_of : PairOf) (root : List ℕ) (reply : Reply) → LeadsTo pair_of root reply
+    → IsValidFor pair_of root reply
+valid pair_of root (Proof text) (lists, says, leads) = λ short numbers held reads.
+    ap (job_of_task pair_of numbers held reads)
+    (task_of_proof-whole root text text (refl, short) ∙ ap (task_of_lists root) says)
+    ∙ ap (job_of_line held reads)
+    (same_root root (calculated pair_of (known_of lists) 1) leads)
+valid pair_of root reply leads = absurd leads
+
+pub printed_proofs_are_valid_lem : PrintedProofsAreValid
+printed_proofs_are_valid_lem rules format versions v indices version makes some are found sound =
+    let root = hash_tree_root rules.pair_of version.type version.value in
+    IfOk-weaker (λ (e : Effect). LeadsTo rules.pair_of root e.reply)
+    (λ e. IsValidFor rules.pair_of root e.reply) (λ e. valid rules.pair_of root e.reply)
+    (prove rules versions v indices)
+    (printed_proofs_lead_lem rules format versions v indices version makes some are found sound)

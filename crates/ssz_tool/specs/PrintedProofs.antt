@@ -1,0 +1,36 @@
+-- What `verify` says of a proof that a script printed.
+use Rattle.std.specs.Prelude.{ℕ, ◌≡◌, ◌≢◌, ◌≤◌, ◌^◌, Bool, List, [], Some, IfOk, length}
+use Rattle.std.specs.List.{AllByRecursion}
+use Rattle.ssz_line.specs.declared.index.Index.{Index}
+use Rattle.ssz_outside.specs.Content.{Content}
+use Rattle.ssz_proof.specs.Calculation.{PairOf}
+use Rattle.ssz_schema.specs.declared.format.Format.{Format}
+use Rattle.ssz_script.specs.declared.reply.Reply.{Reply}
+use Rattle.ssz_script.specs.declared.reply.Reply.TheVariants.{Proof}
+use Rattle.ssz_value.specs.Trees.{hash_tree_root}
+use Rattle.ssz_machine.specs.State.{Name, Version, Versions, version_of}
+use Rattle.ssz_machine.specs.Rules.{Rules}
+use Rattle.ssz_machine.specs.Asking.{prove}
+use Rattle.ssz_machine.specs.Proofs.{MakesChunks, IsIndex, IsSound}
+use Rattle.ssz_tool.specs.Jobs.{task_of_proof}
+use Rattle.ssz_tool.specs.Runs.{job_of_line, job_of_task}
+use Rattle.ssz_tool.specs.declared.line.Line.TheVariants as line
+
+-- as a file of at most 2 ^ 26 bytes the reply makes `verify` print `valid` for the root
+abbrev pub IsValidFor : PairOf → List ℕ → Reply → Type 0
+IsValidFor pair_of root (Proof text) =
+    length text ≤ 2 ^ 26 → (numbers : List ℕ) (held : Content) (reads : Bool)
+    → job_of_task pair_of numbers held reads (task_of_proof root text)
+    ≡ job_of_line held reads line.Valid
+IsValidFor pair_of root other = ⊥
+
+-- The reply to an accepted `prove` makes it so for the hash_tree_root of the version, for a legal type
+-- and a value that fits, whatever function makes chunks of chunks.
+abbrev pub PrintedProofsAreValid : Type 0
+PrintedProofsAreValid =
+    (rules : Rules) (format : Format) (versions : Versions) (v : Name) (indices : List Index)
+    (version : Version)
+    → MakesChunks rules.pair_of → indices ≢ [] → AllByRecursion IsIndex indices
+    → version_of v versions ≡ Some version → IsSound format version
+    → IfOk (prove rules versions v indices) (λ effect.
+    IsValidFor rules.pair_of (hash_tree_root rules.pair_of version.type version.value) effect.reply)

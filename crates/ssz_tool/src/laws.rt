@@ -1,0 +1,7 @@
+ghost use Rattle.ssz_tool.specs.PrintedProofs.{PrintedProofsAreValid};
+
+/// The reply to an accepted `prove`, as a file, makes `verify` print `valid` for the
+/// hash_tree_root of the version, where the file has at most 2^26 bytes.
+pub fn printed_proofs_are_valid()
+    ensures { PrintedProofsAreValid }
+{}
