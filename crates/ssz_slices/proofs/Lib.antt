@@ -1,0 +1,15 @@
+pub mod Spans
+pub mod Leading
+pub mod Elements
+pub mod FieldParts
+pub mod UnionParts
+pub mod BitParts
+pub mod Leads
+pub mod Along
+pub mod HeadSums
+pub mod Readings
+pub mod Stretches
+pub mod FieldSteps
+pub mod PlaceLaw
+pub mod NamedFields
+pub mod InnerParts

@@ -1,0 +1,198 @@
+ghost use Rattle.std.specs.Prelude.{◌≡◌, ◌<◌, ◌^◌, [], ◌∷◌, length, IfOk, IfSome, Option, option_map};
+ghost use Rattle.ssz_schema.specs.declared.path.PathStep.TheVariants.{Field, Index, Option as Chosen};
+ghost use Rattle.ssz_schema.specs.Unfolding.{type_of};
+ghost use Rattle.ssz_value.specs.Encoding.{enc};
+ghost use Rattle.ssz_value.specs.Laws.{Encodes};
+ghost use Rattle.ssz_slices.specs.Part.{opened, reached, bytes_at, len_of, selector_of, uint_of, boolean_of};
+
+use super::held::Held;
+use super::reading::{boolean_in, len_in, selector_in, uint_in};
+use super::steps::{field_part, moved, step_from};
+use ssz_bytes::Fault;
+use ssz_codec::check;
+use ssz_schema::{PathStep, Schema, TypeId};
+use ssz_value::PathFault;
+use std::marker::Model;
+
+/// A part of a value, in bytes that encode the whole.
+///
+/// A contract sees it as the type and the value of the part, the input, and where the part's
+/// encoding stands in it.
+#[derive(Drop)]
+pub struct Slice<'s, 'b> {
+    schema: &'s Schema,
+    id: TypeId,
+    input: &'b [u8],
+    held: Held,
+}
+
+impl<'s, 'b> Model for Slice<'s, 'b> {
+    ghost use Rattle.ssz_slices.specs.Part.{Part};
+    ghost use Rattle.ssz_slices.specs.Codes.{coded_part};
+
+    ghost Value = { Part };
+
+    ghost coded = { coded_part };
+
+    ghost use Rattle.ssz_slices.specs.Inside.{part_of, IsSlice};
+
+    ghost view = { part_of };
+
+    ghost invariant = { IsSlice };
+}
+
+impl<'s, 'b> Slice<'s, 'b> {
+    /// The whole value of the type that the bytes encode, or the first fault of the bytes
+    /// (simple-serialize.md, Deserialization).
+    ///
+    /// Conditions: the type is one of the schema, and there are fewer than 2^32 bytes.
+    pub fn new(schema: &'s Schema, id: TypeId, bytes: &'b [u8]) -> Result<Slice<'s, 'b>, Fault>
+        requires known { id < length schema.now.trees }
+        requires short { length bytes.now < 2 ^ 32 }
+        ensures exact { result ≡ opened (type_of schema.now id) bytes.now }
+        ensures encodes { IfOk result (λ part. Encodes part.form part.value bytes.now) }
+    {
+        // A type of a schema is legal, so that bytes without a fault tell their value.
+        let _legal = schema.ty(id);
+        match check(schema, id, bytes) {
+            Some(fault) => Err(fault),
+            None => Ok(Slice {
+                schema,
+                id,
+                input: bytes,
+                held: Held::Bytes(0, bytes.len()),
+            }),
+        }
+    }
+
+    /// The part at the path; at the empty path the same part.
+    ///
+    /// BadPath exactly where the path does not fit the type, whatever the value is. Otherwise
+    /// Absent exactly where an element or bit is not below the length, or an option is not the
+    /// present one.
+    pub fn at(&self, path: &[PathStep]) -> Result<Slice<'s, 'b>, PathFault>
+        ensures { result ≡ reached self.now path.now }
+    {
+        let mut id = self.id;
+        let mut held = Some(self.held);
+        for step in path {
+            let Some(next) = self.schema.step_type(id, step) else {
+                return Err(PathFault::BadPath);
+            };
+            held = step_from(self.schema, id, step, self.input, held);
+            id = next;
+        }
+        match held {
+            Some(held) => Ok(Slice {
+                schema: self.schema,
+                id,
+                input: self.input,
+                held,
+            }),
+            None => Err(PathFault::Absent),
+        }
+    }
+
+    /// The field of this name, or BadPath exactly where there is none.
+    pub fn field(&self, name: &str) -> Result<Slice<'s, 'b>, PathFault>
+        ensures { result ≡ reached self.now (Field name.now ∷ []) }
+    {
+        let Held::Bytes(from, to) = self.held else {
+            return Err(PathFault::BadPath);
+        };
+        match field_part(self.schema, self.id, name.as_bytes(), &self.input[from..to]) {
+            Some(found) => Ok(Slice {
+                schema: self.schema,
+                id: found.0,
+                input: self.input,
+                held: moved(found.1, from),
+            }),
+            None => Err(PathFault::BadPath),
+        }
+    }
+
+    /// The element or bit of this number. BadPath where it is not below the length of a vector or
+    /// bitvector or the limit of a list or bitlist, and for other types; then Absent where it is
+    /// not below the length.
+    pub fn item(&self, index: u64) -> Result<Slice<'s, 'b>, PathFault>
+        ensures { result ≡ reached self.now (Index index ∷ []) }
+    {
+        self.at(&[PathStep::Index(index)])
+    }
+
+    /// The value of a union, where its selector is this one. BadPath where the type has no option
+    /// of this number with a type; then Absent where another one is present.
+    pub fn option(&self, selector: u8) -> Result<Slice<'s, 'b>, PathFault>
+        ensures { result ≡ reached self.now (Chosen selector ∷ []) }
+    {
+        self.at(&[PathStep::Option(selector)])
+    }
+
+    /// The bytes of the part's encoding, lent from the input; of a selector its one byte. None
+    /// exactly for a bit and for a length, which have no place.
+    pub fn bytes(&self) -> Option<&'b [u8]>
+        ensures place { option_map (λ bytes. bytes.now) result
+            ≡ option_map (bytes_at self.now.input) self.now.place }
+        ensures encoding { IfSome result (λ bytes.
+            bytes.now ≡ enc self.now.form self.now.value) }
+    {
+        match self.held {
+            Held::Bytes(from, to) => Some(&self.input[from..to]),
+            Held::Bit(_) | Held::Count(_) => None,
+        }
+    }
+
+    /// The byte of the input at which they begin. None exactly where they are none.
+    pub fn start(&self) -> Option<usize>
+        ensures { result ≡ option_map (λ span. span.0) self.now.place }
+    {
+        match self.held {
+            Held::Bytes(from, _) => Some(from),
+            Held::Bit(_) | Held::Count(_) => None,
+        }
+    }
+
+    /// How many elements or bits it has. None exactly where it is no vector, list, bitvector or
+    /// bitlist.
+    pub fn len(&self) -> Option<u64>
+        ensures { result ≡ len_of self.now.form self.now.value }
+    {
+        match self.held {
+            Held::Bytes(from, to) => len_in(self.schema, self.id, &self.input[from..to]),
+            Held::Bit(_) | Held::Count(_) => None,
+        }
+    }
+
+    /// The number of the present option. None exactly where it is no union.
+    pub fn selector(&self) -> Option<u8>
+        ensures { result ≡ selector_of self.now.form self.now.value }
+    {
+        match self.held {
+            Held::Bytes(from, to) => selector_in(self.schema, self.id, &self.input[from..to]),
+            Held::Bit(_) | Held::Count(_) => None,
+        }
+    }
+
+    /// The number; so of a length and of a selector. None exactly where it is no number of at most
+    /// 128 bits.
+    pub fn uint(&self) -> Option<u128>
+        ensures { result ≡ uint_of self.now.form self.now.value }
+    {
+        match self.held {
+            Held::Bytes(from, to) => uint_in(self.schema, self.id, &self.input[from..to]),
+            Held::Count(n) => Some(u128::from(n)),
+            Held::Bit(_) => None,
+        }
+    }
+
+    /// The truth value; so of a bit. None exactly where it is no boolean and no bit.
+    pub fn boolean(&self) -> Option<bool>
+        ensures { result ≡ boolean_of self.now.form self.now.value }
+    {
+        match self.held {
+            Held::Bytes(from, to) => boolean_in(self.schema, self.id, &self.input[from..to]),
+            Held::Bit(bit) => Some(bit),
+            Held::Count(_) => None,
+        }
+    }
+}
