@@ -1,0 +1,11 @@
+pub mod Paths
+pub mod Suiting
+pub mod Bits
+pub mod Leading
+pub mod Told
+pub mod Reading
+pub mod Values
+pub mod Beside
+pub mod Flat
+pub mod Setting
+pub mod Running
