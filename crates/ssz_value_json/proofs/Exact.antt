@@ -1,0 +1,87 @@
+-- Bytes have no fault exactly where they are the text of a value, and of no two.
+use Rattle.std.proofs.Common.{◌≡◌, ℕ, Bool, true, false, cond, List, Option, Some, None, Ok, Err, refl, sym, ap, ◌∙◌, subst}
+use Rattle.std.specs.Str.{bytes_eq}
+use Rattle.std.proofs.lemmas.Slice.Eq.{bytes_eq-Decides}
+use Rattle.serde_json.specs.Data.{Data}
+use Rattle.ssz_schema.specs.declared.format.Format.{Format}
+use Rattle.ssz_schema.specs.Types.{SszType}
+use Rattle.ssz_schema.specs.Legal.{IsLegal}
+use Rattle.ssz_schema_json.specs.Schema.{json_of as json_read}
+use Rattle.ssz_schema_json.proofs.Json.{json_of-text}
+use Rattle.ssz_value.specs.Values.{SszValue, Fits}
+use Rattle.ssz_value_json.specs.declared.fault.JsonFault.{JsonFault}
+use Rattle.ssz_value_json.specs.Text.{json, json_of}
+use Rattle.ssz_value_json.specs.Steps.{Walked, bad_spelling}
+use Rattle.ssz_value_json.specs.Walk.{walk}
+use Rattle.ssz_value_json.specs.Faults.{walked_fault, read_fault, why_json}
+use Rattle.ssz_value_json.specs.Laws.{Spells}
+use Rattle.ssz_value_json.proofs.FoundLemmas.{first_ok}
+use Rattle.ssz_value_json.proofs.ReadBack.{reads_back}
+use Rattle.ssz_value_json.proofs.WalkFits.{fit_law}
+use Rattle.ssz_value_json.proofs.WalkBack.{back_law, shallow_back}
+
+pub read_same : (t : SszType) (b : List ℕ) (d : Data) (v : SszValue) (m : ℕ)
+    → json_read b ≡ Some d → walk t 0 d ≡ Ok (v, m) → bytes_eq (json t v) b ≡ true
+    → why_json t b ≡ None
+read_same t b d v m is walked same =
+    ap (read_fault t b) is ∙ ap (walked_fault t b) walked
+    ∙ ap (λ x. cond x None (Some bad_spelling)) same
+
+pub spelled : (t : SszType) (b : List ℕ) (d : Data) (v : SszValue) (m : ℕ)
+    → walk t 0 d ≡ Ok (v, m) → bytes_eq (json t v) b ≡ true → Spells t v b
+spelled t b d v m walked same = record {
+  fits = (fit_law t).fits 0 m d v walked;
+  text = (bytes_eq-Decides (json t v) b).0 same;
+}
+
+-- ---- the law
+
+same_text : (b : List ℕ) → bytes_eq b b ≡ true
+same_text b = (bytes_eq-Decides b b).1 refl
+
+text_read : (format : Format) (t : SszType) (v : SszValue) → IsLegal format t → Fits t v
+    → json_read (json t v) ≡ Some (json_of t v)
+text_read format t v legal fit =
+    let back = shallow_back format t v legal fit in
+    json_of-text (json t v) (json_of t v) back.utf8 (reads_back (json_of t v) back)
+
+pub spelled_faultless : (format : Format) (t : SszType) (b : List ℕ) (v : SszValue)
+    → IsLegal format t → Spells t v b → why_json t b ≡ None
+spelled_faultless format t b v legal h =
+    let walked = (back_law format t legal).walked v h.fits 0 in
+    subst (λ (c : List ℕ). why_json t c ≡ None) h.text
+    (read_same t (json t v) (json_of t v) v walked.0 (text_read format t v legal h.fits) walked.1
+    (same_text (json t v)))
+
+if_same : (x : Bool) (f : JsonFault) → cond x None (Some f) ≡ None → x ≡ true
+if_same true f e = refl
+if_same false f e = absurd (cc)
+
+walked_spelled : (t : SszType) (b : List ℕ) (d : Data) (r : Walked SszValue) → walk t 0 d ≡ r
+    → walked_fault t b r ≡ None → (v : SszValue) × Spells t v b
+walked_spelled t b d (Ok p) is e =
+    (p.0, spelled t b d p.0 p.1 is (if_same (bytes_eq (json t p.0) b) bad_spelling e))
+walked_spelled t b d (Err f) is e = absurd (cc)
+
+read_spelled : (t : SszType) (b : List ℕ) (o : Option Data) → read_fault t b o ≡ None
+    → (v : SszValue) × Spells t v b
+read_spelled t b None e = absurd (cc)
+read_spelled t b (Some d) e = walked_spelled t b d (walk t 0 d) refl e
+
+pub faultless_spelled : (t : SszType) (b : List ℕ) → why_json t b ≡ None
+    → (v : SszValue) × Spells t v b
+faultless_spelled t b e = read_spelled t b (json_read b) e
+
+some_same : (d e : Data) (o : Option Data) → o ≡ Some d → o ≡ Some e → d ≡ e
+some_same d e o is other = cc
+
+pub one_value : (format : Format) (t : SszType) (b : List ℕ) (v w : SszValue) → IsLegal format t
+    → Spells t v b → Spells t w b → v ≡ w
+one_value format t b v w legal h k =
+    let law = back_law format t legal in
+    let first = text_read format t v legal h.fits in
+    let second = ap json_read (h.text ∙ sym k.text) ∙ text_read format t w legal k.fits in
+    let same = some_same (json_of t v) (json_of t w) (json_read (json t v)) first second in
+    let one = law.walked v h.fits 0 in
+    let two = law.walked w k.fits 0 in
+    first_ok v w one.0 two.0 (walk t 0 (json_of t v)) one.1 (ap (walk t 0) same ∙ two.1)
