@@ -1,26 +1,17 @@
 -- Indices at and below others, and what is known above none.
 use Rattle.std.proofs.Common.{◌≡◌, ◌≢◌, ℕ, zero, suc, ◌+◌, ◌*◌, ◌/◌, ◌%◌, ◌^◌, ◌<◌, true, List, ◌++◌, sym, ap, subst, ◌∙◌, Option, is_some, arith, inl, inr}
 use Rattle.std.proofs.lemmas.Bool.{cases_eq, false≢true}
-use Rattle.std.proofs.lemmas.Nat.{shr-shr}
 use Rattle.ssz_chunk.specs.Index.{levels}
 use Rattle.ssz_gindex.specs.Helpers.{is_within}
 use Rattle.ssz_gindex.specs.Laws.{contains}
 use Rattle.ssz_gindex.proofs.HelperLists.{contains-helpers}
 use Rattle.ssz_gindex.proofs.Walking.{contains_is, helper_is}
-use Rattle.ssz_gindex.proofs.Within.{below_from, within_from, within_parent, on_paths_from}
+use Rattle.ssz_gindex.proofs.Within.{below_from, within_parent, on_paths_from}
 use Rattle.ssz_proof.specs.Calculation.{Known, indices_of, chunk_at}
 use Rattle.ssz_proof.specs.Multiproof.{IsOrdered}
 use Rattle.ssz_proof.proofs.KnownChunks.{chunk_at-append, if_some, some_or_none}
 use Rattle.ssz_proof.proofs.Within.{child_within}
 use Rattle.ssz_clash.proofs.Leaves.{some-known}
-
-pub within_trans : (a b c : ℕ) → is_within a b ≡ true → is_within b c ≡ true
-    → is_within a c ≡ true
-within_trans a b c upper lower =
-    let one = below_from a b upper in
-    let two = below_from b c lower in
-    within_from a c (two.n + one.n) (omega (arith, one.levels, two.levels))
-    (sym (shr-shr c two.n one.n) ∙ ap (λ (k : ℕ). k / 2 ^ one.n) two.high ∙ one.high)
 
 -- what is properly below an index is so below all above that
 pub apart_above : (a b c : ℕ) → is_within a b ≡ true → is_within b c ≡ true → b ≢ c → a ≢ c

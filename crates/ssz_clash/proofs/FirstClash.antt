@@ -3,13 +3,13 @@ use Rattle.std.proofs.Common.{◌≡◌, ℕ, ◌+◌, ◌*◌, ◌<◌, true, L
 use Rattle.std.specs.Prelude.{MatchOption}
 use Rattle.ssz_chunk.specs.declared.Chunk.{Chunk}
 use Rattle.ssz_gindex.specs.Helpers.{is_within}
-use Rattle.ssz_gindex.proofs.Within.{within_self}
+use Rattle.ssz_gindex.proofs.Within.{within_self, within_trans}
 use Rattle.ssz_proof.specs.Calculation.{PairOf, calculated, chunk_at}
 use Rattle.ssz_proof.specs.Multiproof.{Multiproof, known_of, IsOrdered}
 use Rattle.ssz_clash.specs.declared.walk.Pairs.{Pairs}
 use Rattle.ssz_clash.specs.Clashes.{IsAbove, IsClash, pair_at, bytes_of}
 use Rattle.ssz_clash.specs.Walks.{AreClashing, IsFirstBelow, IsFirstWithin, pick}
-use Rattle.ssz_clash.proofs.Below.{same_index, to_left, to_right, where_below, below_left, below_right, within_trans, apart_above, known-above-none}
+use Rattle.ssz_clash.proofs.Below.{same_index, to_left, to_right, where_below, below_left, below_right, apart_above, known-above-none}
 
 abbrev chunk_from : List ℕ → Chunk
 chunk_from bytes = record { 0 = bytes }

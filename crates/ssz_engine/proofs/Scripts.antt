@@ -26,7 +26,7 @@ use Rattle.ssz_engine.specs.Points.{Comes, Course, Goes, IsCutShort, Pays, finis
 use Rattle.ssz_engine.proofs.Paying.{pays_counts, pays_total}
 use Rattle.ssz_engine.proofs.Reaching.{same_files}
 
-told_append-none : (told : Told) → told ≡ told_append told []
+pub told_append-none : (told : Told) → told ≡ told_append told []
 told_append-none None = refl
 told_append-none (Some taken) = ap Some (sym (append-nil taken))
 

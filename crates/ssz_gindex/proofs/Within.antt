@@ -58,6 +58,15 @@ pub within_self : (g : ℕ) → is_within g g ≡ true
 within_self g =
     let whole : g / 2 ^ 0 ≡ g = omega arith in within_from g g 0 (omega arith) whole
 
+-- what is within an index that is within another is within that
+pub within_trans : (a b c : ℕ) → is_within a b ≡ true → is_within b c ≡ true
+    → is_within a c ≡ true
+within_trans a b c upper lower =
+    let one = below_from a b upper in
+    let two = below_from b c lower in
+    within_from a c (two.n + one.n) (omega (arith, one.levels, two.levels))
+    (sym (shr-shr c two.n one.n) ∙ ap (λ (k : ℕ). k / 2 ^ one.n) two.high ∙ one.high)
+
 -- An index on the paths, and one of those that it is on the path to.
 pub record IsAbove (indices : List ℕ) (g : ℕ) : Type 0 where
   pub index : ℕ

@@ -11,16 +11,8 @@ use Rattle.ssz_gindex.proofs.HelperLists.{contains-helpers}
 use Rattle.ssz_gindex.proofs.HelperNodes.{half_sibling}
 use Rattle.ssz_gindex.proofs.Walking.{contains_is}
 use Rattle.ssz_proof.proofs.Within.{child_levels}
-use Rattle.ssz_gindex.proofs.Within.{below_from, within_from, within_halves, IsAbove, above_from, on_paths_from}
+use Rattle.ssz_gindex.proofs.Within.{below_from, within_halves, within_trans, IsAbove, above_from, on_paths_from}
 use Rattle.ssz_partial.proofs.Beside.{AreBeside, AllBeside}
-
--- an index within one that is within a
-within-trans : (a b c : ℕ) → is_within a b ≡ true → is_within b c ≡ true → is_within a c ≡ true
-within-trans a b c e f =
-    let upper = below_from a b e in
-    let lower = below_from b c f in
-    within_from a c (lower.n + upper.n) (omega (arith, upper.levels, lower.levels))
-    (sym (shr-shr c lower.n upper.n) ∙ ap (λ k. k / 2 ^ upper.n) lower.high ∙ upper.high)
 
 levels_of_half : (g : ℕ) → 2 ≤ g → levels g ≡ levels (g / 2) + 1
 levels_of_half g large =
@@ -89,7 +81,7 @@ module _ (leaves : List ℕ) (all : AllByRecursion (λ i. 0 < i) leaves)
       let ne : i ≢ h =
       λ same. true≢false (sym e ∙ ap₂ is_within same (sym same) ∙ is.off i member) in
       let up = above_sibling i h (positive leaves i all member) is.large e ne in
-      let on = within-trans i (sibling h) is.leaf.index up.within is.leaf.within in
+      let on = within_trans i (sibling h) is.leaf.index up.within is.leaf.within in
       elim (cases_eq i is.leaf.index) [
         | inl same ↦ (let below = below_from (sibling h) is.leaf.index is.leaf.within in omega (
           arith,
@@ -111,7 +103,7 @@ module _ (leaves : List ℕ) (all : AllByRecursion (λ i. 0 < i) leaves)
   helper_helper h k is other ne = false_from_ne_true (is_within h k) (λ e.
       let positive : 0 < h = (let large = is.large in omega arith) in
       let up = above_sibling h k positive other.large e ne in
-      let on = within-trans h (sibling k) other.leaf.index up.within other.leaf.within in
+      let on = within_trans h (sibling k) other.leaf.index up.within other.leaf.within in
       true≢false (sym on ∙ is.off other.leaf.index other.leaf.among))
 
 -- flat indices are beside one another

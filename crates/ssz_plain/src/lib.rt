@@ -7,8 +7,8 @@
 //! moved in, and an edit costs the steps of its path.
 //!
 //! A call goes down the path by `step_lead`, which tells of one step the type of the part and where
-//! it lies. `reading` lends what lies there; `changing` goes down the same way and makes the edit of
-//! `making` at the end.
+//! it lies. `reading` lends what lies there; `changing` goes down the same way and makes the edit
+//! of `making` at the end.
 #![tactic(auto)]
 
 mod changing;

@@ -1,6 +1,6 @@
 -- Commands that print no number for `hashes`, commands that end before their first step, and tasks
 -- that do the same.
-use Rattle.std.proofs.Common.{◌≡◌, ◌≢◌, ℕ, zero, suc, ◌+◌, ◌-◌, ◌≤◌, true, Bool, List, [], ◌∷◌, ◌++◌, Option, Some, None, inl, refl, sym, ap, subst, arith, append-nil}
+use Rattle.std.proofs.Common.{◌≡◌, ◌≢◌, ℕ, zero, suc, ◌+◌, ◌-◌, ◌≤◌, true, Bool, List, [], ◌∷◌, ◌++◌, Option, Some, None, inl, refl, sym, ap, subst, arith}
 use Rattle.std.specs.Prelude.{IsTrue}
 use Rattle.std.specs.List.{AllByRecursion}
 use Rattle.ssz_chunk.specs.Chunk.{CountsUp}
@@ -29,6 +29,7 @@ use Rattle.ssz_engine.specs.Standing.{StandsFor}
 use Rattle.ssz_engine.specs.Scripts.{EndsRun, EndsScript, HasCounts, IsFresh, Scene}
 use Rattle.ssz_engine.proofs.Reaching.{same_charges}
 use Rattle.ssz_engine.proofs.Replies.{said_number}
+use Rattle.ssz_engine.proofs.Scripts.{told_append-none}
 use Rattle.ssz_tool.specs.Jobs.{Task, says, roots, verifies, plays}
 use Rattle.ssz_tool.specs.Reached.{reached_of_task}
 use Rattle.ssz_tool.specs.Runs.{Does, job_of_line, job_of_task, pairs_of_task, rules_of, turns_of_task}
@@ -80,22 +81,18 @@ line_does_as held reads line wanted ended first last old new is ends =
     line_does held reads wanted ended first last old new
     (subst (λ (l : Line). Ends ended (job_of_line held reads l) old new (Some held)) is ends)
 
-told_nothing : (told : Told) → told ≡ told_append told []
-told_nothing None = refl
-told_nothing (Some pieces) = ap Some (sym (append-nil pieces))
-
 -- before its first step a job has printed nothing, and the files are as they were
 pub stands_first : (pair_of : PairOf) (numbers : List ℕ) (held : Content) (reads : Bool)
     (task : Task) (told : Told)
     → StandsAt ((job_of_task pair_of numbers held reads task).at 0) told told (Some held)
 stands_first pair_of numbers held reads (says line) told =
-    record { printed = told_nothing told; held = refl }
+    record { printed = told_append-none told; held = refl }
 stands_first pair_of numbers held reads (roots t bytes) told =
-    record { printed = told_nothing told; held = refl }
+    record { printed = told_append-none told; held = refl }
 stands_first pair_of numbers held reads (verifies root lists) told =
-    record { printed = told_nothing told; held = refl }
+    record { printed = told_append-none told; held = refl }
 stands_first pair_of numbers held reads (plays type_named most script) told =
-    record { printed = told_nothing told; held = refl }
+    record { printed = told_append-none told; held = refl }
 
 reads_first : (pair_of : PairOf) (numbers : List ℕ) (held : Content) (reads : Bool) (task : Task)
     → reads ≡ true → IsTrue ((job_of_task pair_of numbers held reads task).reads 0)
@@ -209,11 +206,6 @@ pub all_back : (P : List ℕ → Type 0) (xs ys : List (List ℕ)) → AllByRecu
     → AllByRecursion P ys
 all_back P [] ys all = all
 all_back P (x ∷ xs) ys all = all_back P xs ys all.1
-
-pub all_front : (P : List ℕ → Type 0) (xs ys : List (List ℕ)) → AllByRecursion P (xs ++ ys)
-    → AllByRecursion P xs
-all_front P [] ys all = tt
-all_front P (x ∷ xs) ys all = (all.0, all_front P xs ys all.1)
 
 -- An engine that was just started ran a script.
 module _ (pair_of : PairOf) (schema : Types) (most : ℕ) (held : Content) (script : List ℕ)

@@ -1,7 +1,6 @@
 -- What a schema file and a value file give, by their length, and the types of a schema by their
 -- names.
-use Rattle.std.proofs.Common.{◌≡◌, ℕ, ◌<◌, ◌≤◌, ◌^◌, List, [], ◌∷◌, length, refl}
-use Rattle.std.specs.List.{AllByRecursion}
+use Rattle.std.proofs.Common.{◌≡◌, ℕ, ◌<◌, ◌≤◌, ◌^◌, List, length, refl}
 use Rattle.std.proofs.lemmas.Bool.{lt-ltb, le-ltb}
 use Rattle.ssz_outside.specs.Content.{Content}
 use Rattle.ssz_schema.specs.Types.{SszType}
@@ -49,10 +48,3 @@ pub reached_of_reading-accepted : (args : RootArgs) (meant : Reading) (schema : 
     → reached_of_reading args meant ≡ reached_of_type args (known_in schema args.type_name)
 reached_of_reading-accepted args meant schema names is has =
     rw (is, has.types args.type_name) refl
-
--- what is so of each of the names is so in a weaker sense
-pub AllByRecursion-weaker : (P Q : List ℕ → Type 0) → ((name : List ℕ) → P name → Q name)
-    → (names : List (List ℕ)) → AllByRecursion P names → AllByRecursion Q names
-AllByRecursion-weaker P Q weaker [] all = all
-AllByRecursion-weaker P Q weaker (name ∷ names) all =
-    (weaker name all.0, AllByRecursion-weaker P Q weaker names all.1)

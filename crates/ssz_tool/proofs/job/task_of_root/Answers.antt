@@ -1,5 +1,6 @@
 use Rattle.std.proofs.Common.{◌∙◌}
-use Rattle.ssz_tool.proofs.Readings.{task_of_reading-accepted, reached_of_reading-accepted, AllByRecursion-weaker}
+use Rattle.ssz_engine.proofs.Reaching.{all_names}
+use Rattle.ssz_tool.proofs.Readings.{task_of_reading-accepted, reached_of_reading-accepted}
 use Rattle.ssz_tool.proofs.job.task_of_root.Goals as goal
 
 pub returns-in-Ok-Accepted-clause-read : goal.returns-in-Ok-Accepted-clause-read
@@ -16,5 +17,5 @@ returns-in-Ok-Accepted-clause-reached g c = λ held told readable.
     (c.in-Ok-Accepted.ensures.read held told) in
     let value = rw (reached_of_reading-accepted c.args.args.now _ c.in-Ok-Accepted.schema read.0
     read.1 read.2) at readable.1 in
-    c.task_of_schema.ensures.reached (AllByRecursion-weaker _ _ c.in-Ok-Accepted.ensures.readable _
+    c.task_of_schema.ensures.reached (all_names _ _ c.in-Ok-Accepted.ensures.readable _
     value)

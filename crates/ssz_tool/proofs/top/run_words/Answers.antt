@@ -4,7 +4,7 @@ use Rattle.ssz_tool.specs.Jobs.{task_of}
 use Rattle.ssz_tool.specs.Reached.{reached_first}
 use Rattle.ssz_tool.specs.Words.{texts, taken}
 use Rattle.ssz_tool.proofs.Beginnings.{all_back, does_same, fails_first, wants_memory_first, zero_table}
-use Rattle.ssz_tool.proofs.Readings.{AllByRecursion-weaker}
+use Rattle.ssz_engine.proofs.Reaching.{all_names}
 use Rattle.ssz_tool.proofs.top.run_words.Goals as goal
 
 pub returns-in-Ok-clause-ends : goal.returns-in-Ok-clause-ends
@@ -21,7 +21,7 @@ returns-in-Ok-clause-reached g c = λ held told all.
     let behind = all_back (g.F.Files.readable c.args.files.now)
     (reached_first held (texts c.args.words.now)) _ all in
     c.do_task.ensures.reached held (c.in-Ok.ensures.content ∙ told)
-    (AllByRecursion-weaker _ _ c.in-Ok.ensures.readable _
+    (all_names _ _ c.in-Ok.ensures.readable _
     (subst (AllByRecursion (g.F.Files.readable c.args.files.now))
     ((c.in-Ok.ensures.read held told).reached g.H.PairHash.pair_of held) behind))
 
