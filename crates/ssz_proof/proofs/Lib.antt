@@ -4,6 +4,7 @@ pub mod HelperIndices
 pub mod Calculating
 pub mod Levels
 pub mod Searching
+pub mod Located
 pub mod Descending
 pub mod TextSteps
 pub mod ReadingSteps

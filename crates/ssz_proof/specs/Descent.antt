@@ -1,6 +1,6 @@
 -- The calculation of a root, as it goes down from it: for contracts of private functions.
-use Rattle.std.specs.Prelude.{ℕ, ◌+◌, ◌-◌, ◌<◌, ◌||◌, if◌then◌else◌, is_some, List, [], ◌∷◌, ◌++◌, IsTrue}
-use Rattle.std.specs.List.{AllByRecursion}
+use Rattle.std.specs.Prelude.{ℕ, ◌≡◌, ◌+◌, ◌-◌, ◌<◌, ◌||◌, if◌then◌else◌, is_some, Option, Some, None, List, [], ◌∷◌, ◌++◌, length, IsTrue}
+use Rattle.std.specs.List.{AllByRecursion, HoldsAt}
 use Rattle.ssz_chunk.specs.Index.{levels}
 use Rattle.ssz_gindex.specs.Helpers.{is_within, is_on_paths}
 use Rattle.ssz_proof.specs.Calculation.{Known, indices_of, chunk_at}
@@ -27,3 +27,8 @@ IsAscending indices = InOrder (λ one later. one < later) indices
 
 abbrev pub IsDescending : List ℕ → Type 0
 IsDescending indices = InOrder (λ one later. later < one) indices
+
+-- where a search for an index ends: at the place of an entry that has it, or no entry has it
+abbrev pub IsPlaceOf : ℕ → Known → Option ℕ → Type 0
+IsPlaceOf g known (Some i) = (i < length known) × HoldsAt (λ entry. entry.index ≡ g) known i
+IsPlaceOf g known None = AllByRecursion (λ index. index ≡ g → ⊥) (indices_of known)

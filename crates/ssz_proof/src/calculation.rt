@@ -1,10 +1,11 @@
-ghost use Rattle.std.specs.Prelude.{◌≡◌, ℕ, ◌+◌, ◌++◌, ◌<◌, ◌≤◌, ◌↔◌, ◌∷◌, [], IsTrue, MatchOption, option_map, sum_by};
+ghost use Rattle.std.specs.Prelude.{◌≡◌, ℕ, ◌+◌, ◌++◌, ◌<◌, ◌≤◌, ◌↔◌, IsTrue, option_map, sum_by};
 ghost use Rattle.ssz_chunk.specs.Index.{levels};
 ghost use Rattle.ssz_proof.specs.Calculation.{calculated, chunk_at, indices_of};
 ghost use Rattle.ssz_proof.specs.Multiproof.{IsOrdered, known_of};
 ghost use Rattle.ssz_proof.specs.Descent.{IsAscending, IsDescending, IsReached, levels_below};
 
 use crate::entry::Entry;
+use crate::places::{ascending_place, descending_place};
 use crate::proof::Proof;
 use ssz_chunk::{Chunk, PairHash};
 
@@ -60,30 +61,13 @@ pub(crate) fn chunk_of(leaves: &[Entry], nodes: &[Entry], index: u128) -> Option
     find_descending(nodes, index)
 }
 
-// The entry in the middle, those before it and those behind it.
-fn split_middle(entries: &[Entry]) -> Option<(&[Entry], &Entry, &[Entry])>
-    ensures { MatchOption result (entries.now ≡ [])
-        (λ parts. entries.now ≡ parts.0.now ++ parts.1.now ∷ parts.2.now) }
-{
-    let (before, rest) = entries.split_at(entries.len() / 2);
-    let (entry, behind) = rest.split_first()?;
-    Some((before, entry, behind))
-}
-
 // The chunk at an index, of entries in ascending order.
 fn find(entries: &[Entry], index: u128) -> Option<Chunk>
     requires { IsAscending (indices_of entries.now) }
     ensures { option_map (λ chunk. chunk.0) result ≡ chunk_at entries.now index }
 {
-    let mut rest = entries;
-    while let Some((before, entry, behind)) = split_middle(rest) {
-        let at = entry.index.get();
-        if index == at {
-            return Some(entry.chunk);
-        }
-        rest = if index < at { before } else { behind };
-    }
-    None
+    let place = ascending_place(entries, index)?;
+    Some(entries[place].chunk)
 }
 
 // The chunk at an index, of entries in descending order.
@@ -91,13 +75,6 @@ fn find_descending(entries: &[Entry], index: u128) -> Option<Chunk>
     requires { IsDescending (indices_of entries.now) }
     ensures { option_map (λ chunk. chunk.0) result ≡ chunk_at entries.now index }
 {
-    let mut rest = entries;
-    while let Some((before, entry, behind)) = split_middle(rest) {
-        let at = entry.index.get();
-        if index == at {
-            return Some(entry.chunk);
-        }
-        rest = if at < index { before } else { behind };
-    }
-    None
+    let place = descending_place(entries, index)?;
+    Some(entries[place].chunk)
 }

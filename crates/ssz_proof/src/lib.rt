@@ -10,6 +10,7 @@ mod calculation;
 mod entry;
 mod fault;
 mod laws;
+mod places;
 mod proof;
 mod reading;
 #[cfg(test)]

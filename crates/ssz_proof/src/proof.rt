@@ -3,11 +3,13 @@ ghost use Rattle.std.specs.List.{AllByRecursion};
 ghost use Rattle.ssz_proof.specs.Calculation.{indices_of, chunk_at};
 ghost use Rattle.ssz_proof.specs.Multiproof.{AreComplete, AscendFrom, known_of};
 ghost use Rattle.ssz_proof.specs.Changes.{with_chunk, proof_with};
+ghost use Rattle.ssz_proof.specs.Descent.{IsAscending, IsDescending};
 ghost use Rattle.std.specs.List.Sorted.{IsPermutation, IsNonDecreasingBy};
 
 use crate::calculation::chunk_of;
 use crate::entry::Entry;
 use crate::fault::ProofFault;
+use crate::places::{ascending_place, descending_place};
 use ssz_chunk::Chunk;
 use ssz_gindex::{Gindex, are_helpers};
 use std::alloc::{AllocError, Global};
@@ -103,8 +105,8 @@ impl Proof {
     pub fn put(&mut self, index: Gindex, chunk: Chunk)
         ensures { self.new ≡ proof_with self.old index chunk }
     {
-        put_chunk(&mut self.leaves, index, chunk);
-        put_chunk(&mut self.nodes, index, chunk);
+        put_ascending(&mut self.leaves, index, chunk);
+        put_descending(&mut self.nodes, index, chunk);
     }
 
     /// The chunks that are proved, in ascending order of index.
@@ -124,14 +126,23 @@ impl Proof {
     }
 }
 
-// Puts the chunk into the entry at the index.
-fn put_chunk(entries: &mut Vec<Entry>, index: Gindex, chunk: Chunk)
+// Puts the chunk into the entry at the index, of entries in ascending order.
+fn put_ascending(entries: &mut Vec<Entry>, index: Gindex, chunk: Chunk)
+    requires { IsAscending (indices_of entries.old.items) }
     ensures { entries.new.items ≡ with_chunk entries.old.items index chunk }
 {
-    for entry in entries.iter_mut() {
-        if entry.index == index {
-            entry.chunk = chunk;
-        }
+    if let Some(place) = ascending_place(entries, index.get()) {
+        entries[place].chunk = chunk;
+    }
+}
+
+// Puts the chunk into the entry at the index, of entries in descending order.
+fn put_descending(entries: &mut Vec<Entry>, index: Gindex, chunk: Chunk)
+    requires { IsDescending (indices_of entries.old.items) }
+    ensures { entries.new.items ≡ with_chunk entries.old.items index chunk }
+{
+    if let Some(place) = descending_place(entries, index.get()) {
+        entries[place].chunk = chunk;
     }
 }
 

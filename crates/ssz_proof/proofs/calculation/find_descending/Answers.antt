@@ -1,30 +1,15 @@
-use Rattle.std.proofs.Common.{◌≡◌, ◌<◌, sym, ◌∙◌, arith}
-use Rattle.ssz_proof.proofs.Searching.{found, goes_before, goes_behind, more-apart, more-joins}
+use Rattle.std.proofs.Common.{◌<◌, sym, ap, ◌∙◌}
+use Rattle.std.specs.Prelude.{option_map}
+use Rattle.ssz_proof.proofs.Searching.{chunk_at-none, more-apart}
+use Rattle.ssz_proof.proofs.Located.{chunk_there}
 use Rattle.ssz_proof.proofs.calculation.find_descending.Goals as goal
 
-pub returns-then-index-at : goal.returns-then-index-at
-returns-then-index-at c =
-    let is : c.args.index ≡ c.in-Some.entry.now.index =
-    c.if-index-at.true ∙ c.get-at.ensures.number in
-    sym (c.loop-before.invariant.same
-    ∙ found (λ one later. later < one) more-apart more-joins
-    c.loop-before.rest.now c.in-Some.before.now
-    c.in-Some.entry.now c.in-Some.behind.now c.args.index c.in-Some.ensures
-    c.loop-before.invariant.order is)
+pub returns-in_err-place : goal.returns-in_err-place
+returns-in_err-place c =
+    ap (option_map (λ chunk. chunk.0)) c.from_residual.ensures
+    ∙ sym (chunk_at-none c.args.entries.now c.args.index c.in_err-place.ensures)
 
-pub loop-before-preserved-then-at-index : goal.loop-before-preserved-then-at-index
-loop-before-preserved-then-at-index c =
-    let next = goes_before (λ one later. later < one) more-apart more-joins
-    c.loop-before.rest.now c.in-Some.before.now
-    c.in-Some.entry.now c.in-Some.behind.now c.args.index c.in-Some.ensures
-    c.loop-before.invariant.order (omega (arith, c.if-at-index.true, c.get-at.ensures.number)) in
-    record { same = c.loop-before.invariant.same ∙ next.0; order = next.1 }
-
-pub loop-before-preserved : goal.loop-before-preserved
-loop-before-preserved c =
-    let next = goes_behind (λ one later. later < one) more-apart more-joins
-    c.loop-before.rest.now c.in-Some.before.now
-    c.in-Some.entry.now c.in-Some.behind.now c.args.index c.in-Some.ensures
-    c.loop-before.invariant.order
-    (omega (arith, c.if-index-at.false, c.if-at-index.false, c.get-at.ensures.number)) in
-    record { same = c.loop-before.invariant.same ∙ next.0; order = next.1 }
+pub returns : goal.returns
+returns c =
+    sym (chunk_there (λ one later. later < one) more-apart c.args.entries.now c.args.index
+    c.in_ok-place.place c.index-entries-place.result c.requires c.in_ok-place.ensures)
