@@ -9,6 +9,8 @@ each other text is told by hand from the rules of docs/formats.md.
 import json
 import os
 
+from reading_rows import bit_bytes, encoded, fixed_size, form, joined, width
+
 FOLDER = os.path.join(os.path.dirname(os.path.abspath(__file__)), "..", "crates", "json_rows")
 
 # A type is a name ("boolean", "uint8", ..), or a tuple: ("container", [(name, type), ..]),
@@ -49,73 +51,6 @@ TYPES = {
     "Wides": ("list", "uint256", 2),
     "Deep": nested(31, "boolean"),
 }
-
-
-def width(t):
-    """The bytes of a basic type, or None."""
-    if t == "boolean":
-        return 1
-    return int(t[4:]) // 8 if isinstance(t, str) else None
-
-
-def form(t):
-    """The type as the schema file writes it."""
-    if isinstance(t, str):
-        return t
-    kind, rest = t[0], t[1:]
-    if kind == "container":
-        return {kind: [[name, form(part)] for name, part in rest[0]]}
-    if kind == "union":
-        return {kind: [None if part is None else form(part) for part in rest[0]]}
-    return {kind: [form(rest[0]), rest[1]] if kind in ("vector", "list") else rest[0]}
-
-
-def fixed_size(t):
-    if isinstance(t, str):
-        return width(t)
-    kind = t[0]
-    if kind == "container":
-        sizes = [fixed_size(part) for _, part in t[1]]
-        return None if None in sizes else sum(sizes)
-    if kind == "vector":
-        size = fixed_size(t[1])
-        return None if size is None else size * t[2]
-    return (t[1] + 7) // 8 if kind == "bitvector" else None
-
-
-def joined(types, values):
-    parts = [encoded(t, v) for t, v in zip(types, values)]
-    fixed = [fixed_size(t) is not None for t in types]
-    offset = sum(len(part) if is_fixed else 4 for part, is_fixed in zip(parts, fixed))
-    heads, bodies = b"", b""
-    for part, is_fixed in zip(parts, fixed):
-        if is_fixed:
-            heads += part
-        else:
-            heads += offset.to_bytes(4, "little")
-            bodies += part
-            offset += len(part)
-    return heads + bodies
-
-
-def bit_bytes(bits):
-    number = sum(bit << i for i, bit in enumerate(bits))
-    return number.to_bytes((len(bits) + 7) // 8, "little")
-
-
-def encoded(t, v):
-    if isinstance(t, str):
-        return int(v).to_bytes(width(t), "little")
-    kind = t[0]
-    if kind == "container":
-        return joined([part for _, part in t[1]], v)
-    if kind in ("vector", "list"):
-        return joined([t[1]] * len(v), v)
-    if kind == "bitvector":
-        return bit_bytes(v)
-    if kind == "bitlist":
-        return bit_bytes(v + [1])
-    return bytes([v[0]]) + (b"" if v[1] is None else encoded(t[1][v[0]], v[1]))
 
 
 def shown(t, v):

@@ -11,6 +11,9 @@ import hashlib
 import json
 import os
 
+from reading_rows import chunks, depth, form, full, mixed, steps_of, width
+from slices_rows import step_type
+
 CRATE = os.path.join(os.path.dirname(os.path.abspath(__file__)), "..", "crates", "partial_rows")
 MOST = 2 ** 62
 
@@ -42,25 +45,6 @@ TYPES = {
 }
 
 
-def width(t):
-    """The bytes of a basic type, or None."""
-    if t == "boolean":
-        return 1
-    return int(t[4:]) // 8 if isinstance(t, str) else None
-
-
-def form(t):
-    """The type as the schema file writes it."""
-    if isinstance(t, str):
-        return t
-    kind, rest = t[0], t[1:]
-    if kind == "container":
-        return {kind: [[name, form(part)] for name, part in rest[0]]}
-    if kind == "union":
-        return {kind: [None if part is None else form(part) for part in rest[0]]}
-    return {kind: [form(rest[0]), rest[1]] if kind in ("vector", "list") else rest[0]}
-
-
 # Merkleization: a tree is a leaf's bytes, a pair, or the depth of a zero tree.
 
 ZEROS = [bytes(32)]
@@ -78,23 +62,6 @@ def root(tree):
 
 def basic(t, v):
     return int(v).to_bytes(width(t), "little")
-
-
-def chunks(data):
-    return [data[i:i + 32].ljust(32, b"\0") for i in range(0, len(data), 32)]
-
-
-def depth(count):
-    return max(0, (count - 1).bit_length())
-
-
-def full(levels, leaves):
-    if not leaves:
-        return levels
-    if levels == 0:
-        return leaves[0]
-    half = 2 ** (levels - 1)
-    return (full(levels - 1, leaves[:half]), full(levels - 1, leaves[half:]))
 
 
 def bit_chunks(bits):
@@ -117,10 +84,6 @@ def elements(t, vs):
     return chunks(b"".join(basic(t, v) for v in vs))
 
 
-def mixed(node, number):
-    return (node, number.to_bytes(32, "little"))
-
-
 def tree(t, v):
     if isinstance(t, str):
         return chunks(basic(t, v))[0]
@@ -138,26 +101,6 @@ def tree(t, v):
 
 
 # Generalized indices.
-
-def step_type(t, step):
-    """The type of the part, or None where the step does not fit."""
-    if isinstance(t, str):
-        return None
-    if t[0] == "container":
-        return dict(t[1]).get(step)
-    if step == "#len":
-        return "uint64" if t[0] in ("list", "bitlist") else None
-    if step == "#sel":
-        return "uint8" if t[0] == "union" else None
-    if step.startswith("#"):
-        k = int(step[1:])
-        return t[1][k] if t[0] == "union" and k < len(t[1]) else None
-    if t[0] == "union" or not step.isdigit():
-        return None
-    if t[0] in ("bitvector", "bitlist"):
-        return "boolean" if int(step) < t[1] else None
-    return t[1] if int(step) < t[2] else None
-
 
 def step_index(k, t, step):
     """The index of the part's node, and where in it the part lies: the bytes from one on, or a bit."""
@@ -192,10 +135,6 @@ def helper_indices(leaves):
 
 class Refused(Exception):
     pass
-
-
-def steps_of(path):
-    return path.strip("/").split("/") if path != "/" else []
 
 
 class Block:

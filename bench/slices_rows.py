@@ -10,6 +10,8 @@ lengths of encodings: of the fixed parts of all, and of the variable parts befor
 import json
 import os
 
+from reading_rows import bit_bytes, form, option, steps_of
+
 CRATE = os.path.join(os.path.dirname(os.path.abspath(__file__)), "..", "crates", "slices_rows")
 MOST = 2 ** 62
 
@@ -47,29 +49,12 @@ TYPES = {
 }
 
 
-def form(t):
-    """The type as the schema file writes it."""
-    if isinstance(t, str):
-        return t
-    kind, rest = t[0], t[1:]
-    if kind == "container":
-        return {kind: [[name, form(part)] for name, part in rest[0]]}
-    if kind == "union":
-        return {kind: [None if part is None else form(part) for part in rest[0]]}
-    return {kind: [form(rest[0]), rest[1]] if kind in ("vector", "list") else rest[0]}
-
-
 def is_fixed(t):
     if isinstance(t, str) or t[0] == "bitvector":
         return True
     if t[0] == "container":
         return all(is_fixed(field) for _, field in t[1])
     return t[0] == "vector" and is_fixed(t[1])
-
-
-def bit_bytes(bits):
-    number = sum(bit << i for i, bit in enumerate(bits))
-    return number.to_bytes((len(bits) + 7) // 8, "little")
 
 
 def types_of(t, v):
@@ -146,10 +131,6 @@ def step_part(t, v, start, step):
     return v[i], start + part_starts(types, parts)[i]
 
 
-def steps_of(path):
-    return path.strip("/").split("/") if path != "/" else []
-
-
 def stepped(t, v, path):
     """Step by step: the first step that does not lead on says why."""
     start = 0
@@ -172,10 +153,6 @@ def at(t, v, path):
         if part is None:
             return "BadPath"
     return stepped(t, v, path)
-
-
-def option(value):
-    return "None" if value is None else "Some(%s)" % value
 
 
 def part_text(t, v, start):
@@ -283,4 +260,5 @@ def main():
     rows.write()
 
 
-main()
+if __name__ == "__main__":
+    main()
