@@ -1,10 +1,10 @@
 //! Prints the status and the text of `ssz_tool::run` for the scripts of scripts.txt, over files in
 //! memory in which an absent name holds no bytes.
 //!
-//! A line `=== HASHER SCHEMA` begins a script. What is to be printed was computed by a program in Python
-//! that knows whole values alone and was written from the standard's text. The scripts are the
-//! worked examples of the documents, and scripts of statements drawn at random, most of them
-//! accepted, over types of every form.
+//! A line `=== HASHER SCHEMA` begins a script. What is to be printed was computed by
+//! bench/run_rows.py, a machine that knows whole values alone and was written from the standard's
+//! text. The scripts are the worked examples of the documents, and scripts of statements drawn at
+//! random, most of them accepted, over types of every form.
 #![tactic(auto)]
 
 use anyhow::{Context, Result, bail};

@@ -24,8 +24,8 @@ IsValidFor pair_of root (Proof text) =
     ≡ job_of_line held reads line.Valid
 IsValidFor pair_of root other = ⊥
 
--- The reply to an accepted `prove` makes it so for the hash_tree_root of the version, for a legal type
--- and a value that fits, whatever function makes chunks of chunks.
+-- The reply to an accepted `prove` makes it so for the hash_tree_root of the version, for a legal
+-- type and a value that fits, whatever function makes chunks of chunks.
 abbrev pub PrintedProofsAreValid : Type 0
 PrintedProofsAreValid =
     (rules : Rules) (format : Format) (versions : Versions) (v : Name) (indices : List Index)
