@@ -15,6 +15,7 @@ use Rattle.ssz_words.specs.Values.{is_digit_below, number_at, order_value, root_
 use Rattle.ssz_words.specs.Words.{named_args}
 use Rattle.ssz_words.specs.declared.commands.Command.{Command}
 use Rattle.ssz_words.specs.declared.commands.Command.TheVariants.{Root, Run, Weave, Verify, Work}
+use Rattle.ssz_words.specs.declared.commands.Command.TheVariants.{Part, Partial, Clash}
 
 pub root_args_are : (rows : List Row) (schema type_name file : Text) (n : ℕ)
     → first_of (codes "schema") rows ≡ Some schema → first_of (codes "type") rows ≡ Some type_name
@@ -37,6 +38,35 @@ pub work_args_are : (rows : List Row) (schema type_name : Text) (seed edits : �
     → named_args (codes "work") rows
     ≡ Some (Work (record { schema = schema; type_name = type_name; seed = seed; edits = edits }))
 work_args_are rows schema type_name seed edits a b c d = rw (a, b, c, d) refl
+
+pub part_args_are : (rows : List Row) (schema type_name file path : Text) (n : ℕ)
+    → first_of (codes "schema") rows ≡ Some schema → first_of (codes "type") rows ≡ Some type_name
+    → first_of (codes "file") rows ≡ Some file → first_of (codes "path") rows ≡ Some path
+    → number_at 32 (codes "max-bytes") rows ≡ Some n
+    → named_args (codes "part") rows ≡ Some (Part (record {
+      schema = schema;
+      type_name = type_name;
+      file = file;
+      path = path;
+      max_bytes = n;
+    }))
+part_args_are rows schema type_name file path n a b c d e = rw (a, b, c, d, e) refl
+
+pub partial_args_are : (rows : List Row) (schema type_name proof script : Text)
+    → first_of (codes "schema") rows ≡ Some schema → first_of (codes "type") rows ≡ Some type_name
+    → first_of (codes "proof") rows ≡ Some proof → first_of (codes "script") rows ≡ Some script
+    → named_args (codes "partial") rows ≡ Some (Partial (record {
+      schema = schema;
+      type_name = type_name;
+      proof = proof;
+      script = script;
+    }))
+partial_args_are rows schema type_name proof script a b c d = rw (a, b, c, d) refl
+
+pub clash_args_are : (rows : List Row) (first second : Text)
+    → first_of (codes "first") rows ≡ Some first → first_of (codes "second") rows ≡ Some second
+    → named_args (codes "clash") rows ≡ Some (Clash (record { first = first; second = second }))
+clash_args_are rows first second a b = rw (a, b) refl
 
 pub verify_args_are : (rows : List Row) (text file : Text)
     → first_of (codes "root") rows ≡ Some text → first_of (codes "file") rows ≡ Some file

@@ -16,7 +16,8 @@ use Rattle.clap.specs.declared.builder.value_parser.ValueParser.TheVariants.{Sig
 use Rattle.clap.proofs.CallerReads.{signed_reads}
 use Rattle.clap.proofs.ValueTestLemmas.{accepts-Accepts}
 use Rattle.ssz_words.specs.CommandSet.{max_bytes_option, program_shape, root_command, run_command}
-use Rattle.ssz_words.specs.CommandSet.{verify_command, weave_command, work_command}
+use Rattle.ssz_words.specs.CommandSet.{verify_command, weave_command, work_command, part_command}
+use Rattle.ssz_words.specs.CommandSet.{partial_command, clash_command}
 use Rattle.ssz_words.specs.Laws.{KeepsRules}
 use Rattle.ssz_words.specs.Limits.{IsWithinLimits}
 use Rattle.ssz_words.specs.Values.{number_at, number_below, order_value, root_value}
@@ -26,7 +27,8 @@ use Rattle.ssz_words.specs.declared.commands.Command.TheVariants.{Verify, Weave}
 use Rattle.ssz_words.proofs.ArgsLemmas.{made_from, made_keeps, order_value-IsOrder}
 use Rattle.ssz_words.proofs.ArgsLemmas.{order_value-below, root_args_are, root_value-IsRoot}
 use Rattle.ssz_words.proofs.ArgsLemmas.{run_args_are, verify_args_are, weave_args_are}
-use Rattle.ssz_words.proofs.ArgsLemmas.{work_args_are}
+use Rattle.ssz_words.proofs.ArgsLemmas.{work_args_are, part_args_are, partial_args_are}
+use Rattle.ssz_words.proofs.ArgsLemmas.{clash_args_are}
 use Rattle.ssz_words.proofs.GetterLemmas.{IsWidth, number_reads}
 use Rattle.ssz_words.proofs.PresentLemmas.{HasValue, all_present}
 
@@ -122,6 +124,35 @@ work_asks rows all =
     let edits_are : number_at 32 (codes "edits") rows ≡ Some n.0 = rw edits.one n.1 in
     always_asks (codes "work") rows _
     (work_args_are rows _ _ s.0 n.0 schema.first type_name.first seed_is edits_are) refl refl n.2
+
+part_asks : (rows : List Row) → HasValues part_command rows → HasAnswer (codes "part") rows
+part_asks rows all =
+    let schema = all.0 (inl refl) in
+    let type_name = all.1.0 (inl refl) in
+    let file = all.1.1.0 (inl refl) in
+    let path = all.1.1.1.0 (inl refl) in
+    let n = max_bytes_read rows (all.1.1.1.1.0 (inr refl)) in
+    always_asks (codes "part") rows _
+    (part_args_are rows _ _ _ _ n.0 schema.first type_name.first file.first path.first n.1)
+    refl refl tt
+
+partial_asks : (rows : List Row) → HasValues partial_command rows
+    → HasAnswer (codes "partial") rows
+partial_asks rows all =
+    let schema = all.0 (inl refl) in
+    let type_name = all.1.0 (inl refl) in
+    let proof = all.1.1.0 (inl refl) in
+    let script = all.1.1.1.0 (inl refl) in
+    always_asks (codes "partial") rows _
+    (partial_args_are rows _ _ _ _ schema.first type_name.first proof.first script.first)
+    refl refl tt
+
+clash_asks : (rows : List Row) → HasValues clash_command rows → HasAnswer (codes "clash") rows
+clash_asks rows all =
+    let first = all.0 (inl refl) in
+    let second = all.1.0 (inl refl) in
+    always_asks (codes "clash") rows _ (clash_args_are rows _ _ first.first second.first)
+    refl refl tt
 
 verify_asks_by : (rows : List Row) (text file : Text) → first_of (codes "root") rows ≡ Some text
     → first_of (codes "file") rows ≡ Some file → HasAnswer (codes "verify") rows
@@ -250,4 +281,37 @@ work_answers words none = work_asks _ (all_present (built_command work_command) 
       (record { least = omega arith; action = inl refl; own = refl }, tt),
     ),
   ),
+) (λ x. refl) [] words none)
+
+pub part_answers : Answers (built_command part_command)
+part_answers words none = part_asks _ (all_present (built_command part_command) (
+  record { least = omega arith; action = inl refl; own = refl },
+  (
+    record { least = omega arith; action = inl refl; own = refl },
+    (
+      record { least = omega arith; action = inl refl; own = refl },
+      (
+        record { least = omega arith; action = inl refl; own = refl },
+        (record { least = omega arith; action = inl refl; own = refl }, tt),
+      ),
+    ),
+  ),
+) (λ x. refl) [] words none)
+
+pub partial_answers : Answers (built_command partial_command)
+partial_answers words none = partial_asks _ (all_present (built_command partial_command) (
+  record { least = omega arith; action = inl refl; own = refl },
+  (
+    record { least = omega arith; action = inl refl; own = refl },
+    (
+      record { least = omega arith; action = inl refl; own = refl },
+      (record { least = omega arith; action = inl refl; own = refl }, tt),
+    ),
+  ),
+) (λ x. refl) [] words none)
+
+pub clash_answers : Answers (built_command clash_command)
+clash_answers words none = clash_asks _ (all_present (built_command clash_command) (
+  record { least = omega arith; action = inl refl; own = refl },
+  (record { least = omega arith; action = inl refl; own = refl }, tt),
 ) (λ x. refl) [] words none)

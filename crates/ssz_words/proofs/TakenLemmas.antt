@@ -21,6 +21,7 @@ use Rattle.ssz_words.specs.Words.{command_of, named_args}
 use Rattle.ssz_words.specs.declared.commands.Command.{Command}
 use Rattle.ssz_words.proofs.CommandLemmas.{Answers, HasAnswer, root_answers, run_answers}
 use Rattle.ssz_words.proofs.CommandLemmas.{verify_answers, weave_answers, work_answers}
+use Rattle.ssz_words.proofs.CommandLemmas.{part_answers, partial_answers, clash_answers}
 use Rattle.ssz_words.proofs.FoundLemmas.{found_with_fault, found_without_fault}
 use Rattle.ssz_words.proofs.ReadRows.{find_in, or_else-both}
 
@@ -31,7 +32,13 @@ built_program = built (record { top = program_shape; subs = commands })
 all_answer : AllByRecursion Answers built_program.subs
 all_answer = (
   root_answers,
-  (run_answers, (weave_answers, (verify_answers, (work_answers, tt)))),
+  (
+    run_answers,
+    (
+      weave_answers,
+      (verify_answers, (work_answers, (part_answers, (partial_answers, (clash_answers, tt))))),
+    ),
+  ),
 )
 
 -- the command that a parse enters has an answer

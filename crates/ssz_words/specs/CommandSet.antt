@@ -67,6 +67,23 @@ work_command = command_with (codes "work")
     ∷ number (codes "seed") (Unsigned 0 (2 ^ 64 - 1))
     ∷ number (codes "edits") (Signed (pos 0) (pos 1000000)) ∷ [])
 
+-- `part SCHEMA TYPE FILE PATH`
+abbrev pub part_command : Shape
+part_command = command_with (codes "part")
+    (positional (codes "schema") ∷ positional (codes "type") ∷ positional (codes "file")
+    ∷ positional (codes "path") ∷ max_bytes_option ∷ [])
+
+-- `partial SCHEMA TYPE PROOF SCRIPT`
+abbrev pub partial_command : Shape
+partial_command = command_with (codes "partial")
+    (positional (codes "schema") ∷ positional (codes "type") ∷ positional (codes "proof")
+    ∷ positional (codes "script") ∷ [])
+
+-- `clash FILE FILE`
+abbrev pub clash_command : Shape
+clash_command = command_with (codes "clash")
+    (positional (codes "first") ∷ positional (codes "second") ∷ [])
+
 -- the program itself, which has to be given a command, and gives no help
 abbrev pub program_shape : Shape
 program_shape = record (new_shape (codes "ssz")) {
@@ -76,9 +93,14 @@ program_shape = record (new_shape (codes "ssz")) {
   disable_help_subcommand = true;
 }
 
+-- it before it has commands
+abbrev pub bare_program : App
+bare_program = record { top = record program_shape { is_leaf = true }; subs = [] }
+
 -- the commands that it has
 abbrev pub commands : List Shape
-commands = root_command ∷ run_command ∷ weave_command ∷ verify_command ∷ work_command ∷ []
+commands = root_command ∷ run_command ∷ weave_command ∷ verify_command ∷ work_command
+    ∷ part_command ∷ partial_command ∷ clash_command ∷ []
 
 unfoldable pub program : App
 program = record { top = program_shape; subs = commands }

@@ -7,7 +7,8 @@ use Rattle.hex.specs.Hex.{is_hex_digit}
 use Rattle.ssz_words.specs.CommandSet.{program}
 use Rattle.ssz_words.specs.Values.{is_digit_below, root_value, without_mark}
 use Rattle.ssz_words.specs.Words.{command_of}
-use Rattle.ssz_words.specs.declared.commands.Command.TheVariants.{Root, Run, Verify}
+use Rattle.ssz_words.specs.declared.commands.Command.TheVariants.{Root, Run, Verify, Part, Partial}
+use Rattle.ssz_words.specs.declared.commands.Command.TheVariants.{Clash}
 
 -- one or more decimal digits, each below n
 abbrev pub IsOrder : ℕ → Text → Type 0
@@ -62,3 +63,27 @@ pub record TakesPlainWords : Type 0 where
       → is_plain text ≡ true → is_plain file ≡ true → root_value text ≡ Some bytes
       → command_of (program ∷ codes "verify" ∷ text ∷ file ∷ [])
       ≡ Some (Verify (record { root = bytes; file = file }))
+  pub part : (program schema type_name file path : Text)
+      → is_plain schema ≡ true → is_plain type_name ≡ true → is_plain file ≡ true
+      → is_plain path ≡ true
+      → command_of (program ∷ codes "part" ∷ schema ∷ type_name ∷ file ∷ path ∷ [])
+      ≡ Some (Part (record {
+        schema = schema;
+        type_name = type_name;
+        file = file;
+        path = path;
+        max_bytes = 2 ^ 28;
+      }))
+  pub partial : (program schema type_name proof script : Text)
+      → is_plain schema ≡ true → is_plain type_name ≡ true → is_plain proof ≡ true
+      → is_plain script ≡ true
+      → command_of (program ∷ codes "partial" ∷ schema ∷ type_name ∷ proof ∷ script ∷ [])
+      ≡ Some (Partial (record {
+        schema = schema;
+        type_name = type_name;
+        proof = proof;
+        script = script;
+      }))
+  pub clash : (program first second : Text) → is_plain first ≡ true → is_plain second ≡ true
+      → command_of (program ∷ codes "clash" ∷ first ∷ second ∷ [])
+      ≡ Some (Clash (record { first = first; second = second }))

@@ -2,6 +2,7 @@
 use Rattle.std.specs.Prelude.{◌<◌, ◌≤◌, ⊤, ℕ, List, length, All}
 use Rattle.ssz_words.specs.declared.commands.Command.{Command}
 use Rattle.ssz_words.specs.declared.commands.Command.TheVariants.{Root, Run, Weave, Verify, Work}
+use Rattle.ssz_words.specs.declared.commands.Command.TheVariants.{Part, Partial, Clash}
 
 -- one to ten scripts, and one or more turns, each of a writer that has one of the scripts
 abbrev pub IsWeaveOf : List (List ℕ) → List ℕ → Type 0
@@ -15,3 +16,6 @@ IsWithinLimits (Run args) = ⊤
 IsWithinLimits (Weave args) = IsWeaveOf args.scripts args.order
 IsWithinLimits (Verify args) = ⊤
 IsWithinLimits (Work args) = args.edits ≤ 1000000
+IsWithinLimits (Part args) = ⊤
+IsWithinLimits (Partial args) = ⊤
+IsWithinLimits (Clash args) = ⊤

@@ -8,6 +8,7 @@ use Rattle.ssz_words.specs.Reading.{◌>>=◌, some_if}
 use Rattle.ssz_words.specs.Values.{number_at, order_value, root_value}
 use Rattle.ssz_words.specs.declared.commands.Command.{Command}
 use Rattle.ssz_words.specs.declared.commands.Command.TheVariants.{Root, Run, Weave, Verify, Work}
+use Rattle.ssz_words.specs.declared.commands.Command.TheVariants.{Part, Partial, Clash}
 
 -- `root SCHEMA TYPE FILE`, by what was found for its arguments
 abbrev pub root_args : List Row → Option Command
@@ -65,6 +66,43 @@ work_args rows = do
   edits ← number_at 32 (codes "edits") rows
   Some (Work (record { schema = schema; type_name = type_name; seed = seed; edits = edits }))
 
+-- `part SCHEMA TYPE FILE PATH`
+abbrev pub part_args : List Row → Option Command
+part_args rows = do
+  schema ← first_of (codes "schema") rows
+  type_name ← first_of (codes "type") rows
+  file ← first_of (codes "file") rows
+  path ← first_of (codes "path") rows
+  max_bytes ← number_at 32 (codes "max-bytes") rows
+  Some (Part (record {
+    schema = schema;
+    type_name = type_name;
+    file = file;
+    path = path;
+    max_bytes = max_bytes;
+  }))
+
+-- `partial SCHEMA TYPE PROOF SCRIPT`
+abbrev pub partial_args : List Row → Option Command
+partial_args rows = do
+  schema ← first_of (codes "schema") rows
+  type_name ← first_of (codes "type") rows
+  proof ← first_of (codes "proof") rows
+  script ← first_of (codes "script") rows
+  Some (Partial (record {
+    schema = schema;
+    type_name = type_name;
+    proof = proof;
+    script = script;
+  }))
+
+-- `clash FILE FILE`
+abbrev pub clash_args : List Row → Option Command
+clash_args rows = do
+  first ← first_of (codes "first") rows
+  second ← first_of (codes "second") rows
+  Some (Clash (record { first = first; second = second }))
+
 -- the command of this name
 abbrev pub named_args : Text → List Row → Option Command
 named_args name rows =
@@ -73,6 +111,9 @@ named_args name rows =
     else if bytes_eq name (codes "weave") then weave_args rows
     else if bytes_eq name (codes "verify") then verify_args rows
     else if bytes_eq name (codes "work") then work_args rows
+    else if bytes_eq name (codes "part") then part_args rows
+    else if bytes_eq name (codes "partial") then partial_args rows
+    else if bytes_eq name (codes "clash") then clash_args rows
     else None
 
 -- the command that `clap` enters and what it finds there, where it finds no fault in the words

@@ -2,6 +2,8 @@
 ghost use Rattle.std.specs.Prelude.{◌≡◌, IfOk, false, pos};
 ghost use Rattle.clap.specs.Words.{app_of, rule_of};
 ghost use Rattle.ssz_words.specs.CommandSet.{IsLocal, max_bytes_option, number, positional};
+ghost use Rattle.ssz_words.specs.CommandSet.{bare_program, clash_command, part_command};
+ghost use Rattle.ssz_words.specs.CommandSet.{partial_command};
 ghost use Rattle.ssz_words.specs.CommandSet.{positionals, program, root_command, run_command};
 ghost use Rattle.ssz_words.specs.CommandSet.{verify_command, weave_command, work_command};
 
@@ -89,17 +91,56 @@ fn work_command<'a>(alloc: Global) -> Result<Command<'a>, AllocError>
         .arg(number(alloc, "edits", edits))
 }
 
-/// The program with its commands.
-pub(crate) fn program<'a>(alloc: Global) -> Result<Command<'a>, AllocError>
-    ensures { IfOk result (λ c. app_of c ≡ program) }
+fn part_command<'a>(alloc: Global) -> Result<Command<'a>, AllocError>
+    ensures { IfOk result (IsLocal part_command) }
+{
+    Command::new(alloc, "part")
+        .arg(positional(alloc, "schema"))?
+        .arg(positional(alloc, "type"))?
+        .arg(positional(alloc, "file"))?
+        .arg(positional(alloc, "path"))?
+        .arg(max_bytes_option(alloc))
+}
+
+fn partial_command<'a>(alloc: Global) -> Result<Command<'a>, AllocError>
+    ensures { IfOk result (IsLocal partial_command) }
+{
+    Command::new(alloc, "partial")
+        .arg(positional(alloc, "schema"))?
+        .arg(positional(alloc, "type"))?
+        .arg(positional(alloc, "proof"))?
+        .arg(positional(alloc, "script"))
+}
+
+fn clash_command<'a>(alloc: Global) -> Result<Command<'a>, AllocError>
+    ensures { IfOk result (IsLocal clash_command) }
+{
+    Command::new(alloc, "clash")
+        .arg(positional(alloc, "first"))?
+        .arg(positional(alloc, "second"))
+}
+
+// The program before it has commands.
+fn bare_program<'a>(alloc: Global) -> Command<'a>
+    ensures { app_of result ≡ bare_program }
 {
     Command::new(alloc, "ssz")
         .subcommand_required(true)
         .disable_help_flag(true)
         .disable_help_subcommand(true)
+}
+
+/// The program with its commands.
+pub(crate) fn program<'a>(alloc: Global) -> Result<Command<'a>, AllocError>
+    ensures { IfOk result (λ c. app_of c ≡ program) }
+{
+    bare_program(alloc)
         .subcommand(root_command(alloc)?)?
         .subcommand(run_command(alloc)?)?
         .subcommand(weave_command(alloc)?)?
         .subcommand(verify_command(alloc)?)?
-        .subcommand(work_command(alloc)?)
+        .subcommand(work_command(alloc)?)?
+        .subcommand(part_command(alloc)?)?
+        .subcommand(partial_command(alloc)?)?
+        .subcommand(clash_command(alloc)?)
 }

@@ -1,5 +1,5 @@
 //! What a command line can ask for.
-use crate::names::{FileName, FileNames, Order, TypeName};
+use crate::names::{FileName, FileNames, Order, PathText, TypeName};
 
 /// What the program is asked to do.
 #[derive(Debug, Drop)]
@@ -14,6 +14,12 @@ pub enum Command {
     Verify(VerifyArgs),
     /// Make a value and edit it.
     Work(WorkArgs),
+    /// Print the encoding of a part of the value in a file.
+    Part(PartArgs),
+    /// Run a script over the nodes that a proof knows.
+    Partial(PartialArgs),
+    /// Print two pairs of chunks with one hash, by two proofs.
+    Clash(ClashArgs),
 }
 
 /// `root SCHEMA TYPE FILE`
@@ -76,4 +82,41 @@ pub struct WorkArgs {
     pub seed: u64,
     /// How many edits are made, at most 1000000.
     pub edits: u32,
+}
+
+/// `part SCHEMA TYPE FILE PATH`
+#[derive(Debug, Drop)]
+pub struct PartArgs {
+    /// The file of the schema.
+    pub schema: FileName,
+    /// The type of the value.
+    pub type_name: TypeName,
+    /// The file of the value's encoding.
+    pub file: FileName,
+    /// Where the part is in the value.
+    pub path: PathText,
+    /// How many bytes the encoding, and that of the part, may have.
+    pub max_bytes: u32,
+}
+
+/// `partial SCHEMA TYPE PROOF SCRIPT`
+#[derive(Debug, Drop)]
+pub struct PartialArgs {
+    /// The file of the schema.
+    pub schema: FileName,
+    /// The type of the value whose nodes the proof knows.
+    pub type_name: TypeName,
+    /// The file of the proof.
+    pub proof: FileName,
+    /// The file of the script.
+    pub script: FileName,
+}
+
+/// `clash FILE FILE`
+#[derive(Debug, Drop)]
+pub struct ClashArgs {
+    /// The file of the first proof.
+    pub first: FileName,
+    /// The file of the second proof.
+    pub second: FileName,
 }

@@ -8,8 +8,8 @@ pub fn takes_exactly()
     ensures { TakesExactly }
 {}
 
-/// Words after the name of `root`, `run` or `verify` of which none begins with a hyphen are its
-/// arguments in order, and the limit of bytes is then 2^28.
+/// Words after the name of `root`, `run`, `verify`, `part`, `partial` or `clash` of which none
+/// begins with a hyphen are its arguments in order, and the limit of bytes is then 2^28.
 pub fn takes_plain_words()
     ensures { TakesPlainWords }
 {}

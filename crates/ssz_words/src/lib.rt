@@ -16,8 +16,10 @@ mod reading;
 mod tests;
 mod values;
 
-pub use commands::{Command, RootArgs, RunArgs, VerifyArgs, WeaveArgs, WorkArgs};
+pub use commands::{
+    ClashArgs, Command, PartArgs, PartialArgs, RootArgs, RunArgs, VerifyArgs, WeaveArgs, WorkArgs,
+};
 pub use faults::WordsFault;
 pub use laws::{takes_exactly, takes_plain_words};
-pub use names::{FileName, FileNames, Order, TypeName};
+pub use names::{FileName, FileNames, Order, PathText, TypeName};
 pub use reading::read_words;

@@ -93,6 +93,37 @@ impl TypeName {
     }
 }
 
+/// A text that is to be a path into a value, seen as its bytes. Whether it is one is for the reader
+/// of paths to say.
+#[derive(Debug, Drop)]
+pub struct PathText {
+    text: String,
+}
+
+impl Model for PathText {
+    ghost use Rattle.std.specs.Prelude.{List, ℕ, string_bytes};
+
+    ghost Value = { List ℕ };
+
+    ghost view = { λ a. string_bytes a.text };
+}
+
+impl PathText {
+    /// The text as it stands.
+    pub fn new(text: String) -> Self
+        ensures { result ≡ string_bytes text }
+    {
+        PathText { text }
+    }
+
+    /// The text as it stands.
+    pub fn as_str(&self) -> &str
+        ensures { result.now ≡ self.now }
+    {
+        self.text.as_str()
+    }
+}
+
 /// In which order writers take turns: their numbers, seen as a list.
 #[derive(Debug, Drop)]
 pub struct Order {

@@ -4,14 +4,18 @@ ghost use Rattle.clap.specs.Words.{subcommand_rows_of};
 ghost use Rattle.ssz_words.specs.Limits.{IsWithinLimits};
 ghost use Rattle.ssz_words.specs.Reading.{Reads};
 ghost use Rattle.ssz_words.specs.Values.{rows_in};
-ghost use Rattle.ssz_words.specs.Words.{command_of, found_in, named_args, root_args, run_args};
-ghost use Rattle.ssz_words.specs.Words.{verify_args, weave_args, work_args};
+ghost use Rattle.ssz_words.specs.Words.{clash_args, command_of, found_in, named_args, part_args};
+ghost use Rattle.ssz_words.specs.Words.{partial_args, root_args, run_args, verify_args};
+ghost use Rattle.ssz_words.specs.Words.{weave_args, work_args};
 
 use crate::command_set::program;
-use crate::commands::{Command, RootArgs, RunArgs, VerifyArgs, WeaveArgs, WorkArgs};
+use crate::commands::{
+    ClashArgs, Command, PartArgs, PartialArgs, RootArgs, RunArgs, VerifyArgs, WeaveArgs, WorkArgs,
+};
 use crate::faults::WordsFault;
 use crate::values::{
-    file_at, file_names, number_at, read_order, read_root, seed_at, type_at, word_at, words_at,
+    file_at, file_names, number_at, path_at, read_order, read_root, seed_at, type_at, word_at,
+    words_at,
 };
 use clap::ArgMatches;
 use clap::error::ErrorKind;
@@ -68,6 +72,9 @@ fn named_command(alloc: Global, name: &str, found: &ArgMatches<'_>) -> Result<Co
         "weave" => weave_command(alloc, found),
         "verify" => verify_command(alloc, found),
         "work" => work_command(alloc, found),
+        "part" => part_command(alloc, found),
+        "partial" => partial_command(alloc, found),
+        "clash" => clash_command(alloc, found),
         _ => Err(WordsFault::NotTaken),
     }
 }
@@ -131,5 +138,37 @@ fn work_command(alloc: Global, found: &ArgMatches<'_>) -> Result<Command, WordsF
         type_name: type_at(alloc, found, "type")?,
         seed: seed_at(found, "seed")?,
         edits: number_at(found, "edits")?,
+    }))
+}
+
+fn part_command(alloc: Global, found: &ArgMatches<'_>) -> Result<Command, WordsFault>
+    ensures { Reads result (part_args (rows_in found.now)) }
+{
+    Ok(Command::Part(PartArgs {
+        schema: file_at(alloc, found, "schema")?,
+        type_name: type_at(alloc, found, "type")?,
+        file: file_at(alloc, found, "file")?,
+        path: path_at(alloc, found, "path")?,
+        max_bytes: number_at(found, "max-bytes")?,
+    }))
+}
+
+fn partial_command(alloc: Global, found: &ArgMatches<'_>) -> Result<Command, WordsFault>
+    ensures { Reads result (partial_args (rows_in found.now)) }
+{
+    Ok(Command::Partial(PartialArgs {
+        schema: file_at(alloc, found, "schema")?,
+        type_name: type_at(alloc, found, "type")?,
+        proof: file_at(alloc, found, "proof")?,
+        script: file_at(alloc, found, "script")?,
+    }))
+}
+
+fn clash_command(alloc: Global, found: &ArgMatches<'_>) -> Result<Command, WordsFault>
+    ensures { Reads result (clash_args (rows_in found.now)) }
+{
+    Ok(Command::Clash(ClashArgs {
+        first: file_at(alloc, found, "first")?,
+        second: file_at(alloc, found, "second")?,
     }))
 }

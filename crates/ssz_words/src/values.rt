@@ -5,7 +5,7 @@ ghost use Rattle.ssz_words.specs.Reading.{Reads, ReadsBy};
 ghost use Rattle.ssz_words.specs.Values.{number_at, order_value, root_value, rows_in};
 
 use crate::faults::WordsFault;
-use crate::names::{FileName, FileNames, Order, TypeName};
+use crate::names::{FileName, FileNames, Order, PathText, TypeName};
 use clap::ArgMatches;
 use hex::FromHex;
 use std::alloc::{AllocError, Global};
@@ -32,6 +32,18 @@ pub(crate) fn type_at(
 {
     let word = word_at(found, id)?;
     Ok(TypeName::new(String::from_str(alloc, word)?))
+}
+
+/// The text that an argument has, which is to be a path.
+pub(crate) fn path_at(
+    alloc: Global,
+    found: &ArgMatches<'_>,
+    id: &str,
+) -> Result<PathText, WordsFault>
+    ensures { Reads result (first_of id.now (rows_in found.now)) }
+{
+    let word = word_at(found, id)?;
+    Ok(PathText::new(String::from_str(alloc, word)?))
 }
 
 /// The number of 32 bits that an argument has.

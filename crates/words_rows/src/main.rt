@@ -2,7 +2,9 @@
 //!
 //! A row is the words after the program's name, each parted from the next by one space. Its line is
 //! the command with its words in their order, `--max-bytes` last and as a number, or `not taken`.
-//! The wanted lines were read off `clap` 4.0.32 of crates.io, with this command set.
+//! The wanted lines were read off `clap` 4.0.32 of crates.io, with this command set; those of
+//! `part`, `partial` and `clash` were written by hand, each by a line of another command with words
+//! of the same kind.
 #![tactic(auto)]
 
 mod shown;

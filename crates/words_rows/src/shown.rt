@@ -1,6 +1,8 @@
 // A command as one line.
 use anyhow::Result;
-use ssz_words::{Command, RootArgs, RunArgs, VerifyArgs, WeaveArgs, WorkArgs};
+use ssz_words::{
+    ClashArgs, Command, PartArgs, PartialArgs, RootArgs, RunArgs, VerifyArgs, WeaveArgs, WorkArgs,
+};
 
 /// Prints the line of a command.
 pub fn print_command(rt: &HostRuntime, command: &Command) -> Result<()> {
@@ -10,6 +12,9 @@ pub fn print_command(rt: &HostRuntime, command: &Command) -> Result<()> {
         Command::Weave(args) => print_weave(rt, args),
         Command::Verify(args) => print_verify(rt, args),
         Command::Work(args) => print_work(rt, args),
+        Command::Part(args) => print_part(rt, args),
+        Command::Partial(args) => print_partial(rt, args),
+        Command::Clash(args) => print_clash(rt, args),
     }
 }
 
@@ -55,5 +60,28 @@ fn print_verify(rt: &HostRuntime, args: &VerifyArgs) -> Result<()> {
 fn print_work(rt: &HostRuntime, args: &WorkArgs) -> Result<()> {
     let (schema, type_name) = (args.schema.as_str(), args.type_name.as_str());
     println!(rt; "work {schema} {type_name} {} {}", args.seed, args.edits)?;
+    Ok(())
+}
+
+fn print_part(rt: &HostRuntime, args: &PartArgs) -> Result<()> {
+    let (schema, type_name) = (args.schema.as_str(), args.type_name.as_str());
+    let (file, path) = (args.file.as_str(), args.path.as_str());
+    println!(rt;
+        "part {schema} {type_name} {file} {path} {}",
+        args.max_bytes
+    )?;
+    Ok(())
+}
+
+fn print_partial(rt: &HostRuntime, args: &PartialArgs) -> Result<()> {
+    let (schema, type_name) = (args.schema.as_str(), args.type_name.as_str());
+    let (proof, script) = (args.proof.as_str(), args.script.as_str());
+    println!(rt; "partial {schema} {type_name} {proof} {script}")?;
+    Ok(())
+}
+
+fn print_clash(rt: &HostRuntime, args: &ClashArgs) -> Result<()> {
+    let (first, second) = (args.first.as_str(), args.second.as_str());
+    println!(rt; "clash {first} {second}")?;
     Ok(())
 }
