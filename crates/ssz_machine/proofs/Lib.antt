@@ -18,3 +18,7 @@ pub mod Ledgers
 pub mod Turns
 pub mod Working
 pub mod BrokenOff
+pub mod Marks
+pub mod OwnLines
+pub mod IsolatedLines
+pub mod NoNumbers

@@ -1,6 +1,6 @@
 ghost use Rattle.ssz_machine.specs.Changes.{LinesLeaveOthers, RefusedDoNothing, StatementsChangeTheirEntry};
 ghost use Rattle.ssz_machine.specs.Counts.{LedgersCount};
-ghost use Rattle.ssz_machine.specs.Isolation.{WritersAreIsolated, WritersAreIsolatedSoFar};
+ghost use Rattle.ssz_machine.specs.Isolation.{LinesAreIsolated, WritersAreIsolated, WritersAreIsolatedSoFar};
 ghost use Rattle.ssz_machine.specs.Numbers.{NumbersChangeNothing};
 ghost use Rattle.ssz_machine.specs.OneLine.{AllScriptsPrintLines, PrintedLinesAreLines, ScriptsAreNamed};
 ghost use Rattle.ssz_machine.specs.Proofs.{PrintedProofsLead};
@@ -30,6 +30,13 @@ pub fn writers_are_isolated()
 /// And wherever a weave breaks off, each writer was told a front of that.
 pub fn writers_are_isolated_so_far()
     ensures { WritersAreIsolatedSoFar }
+{}
+
+/// Of the lines that a weave of at most 255 scripts prints, those with the mark of a script's writer
+/// are the lines that this script prints where it is played alone from the base's versions; wherever
+/// the weave breaks off, a front of them.
+pub fn lines_are_isolated()
+    ensures { LinesAreIsolated }
 {}
 
 /// The numbers that `hashes` prints change no other reply, and not the state.
