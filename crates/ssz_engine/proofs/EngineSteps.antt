@@ -1,26 +1,30 @@
 -- What a step of the engine does, as a line of a run.
 use Rattle.std.proofs.Common.{ℕ, ◌+◌, ◌-◌, ◌≤◌, ◌≡◌, Bool, true, false, List, [], Option, Some, None, refl, sym, ap, ◌∙◌, subst}
-use Rattle.std.specs.Prelude.{Result, Ok, Err, IfOk, IfErr, is_some, ◌≢◌}
+use Rattle.std.specs.Prelude.{Result, Ok, Err, IfOk, IfErr, OnErr, is_some, ◌≢◌}
 use Rattle.std.specs.List.{AllByRecursion}
 use Rattle.ssz_arena.specs.Content.{unhashed}
 use Rattle.ssz_outside.specs.Content.{Content as Files}
 use Rattle.ssz_proof.specs.Calculation.{PairOf}
 use Rattle.ssz_script.specs.declared.statement.Statement.{Statement}
 use Rattle.ssz_script.specs.declared.statement.Statement.TheVariants.{Load}
+use Rattle.ssz_versions.specs.Content.{Entries, held_at}
 use Rattle.ssz_machine.specs.declared.place.Place.{Place}
 use Rattle.ssz_machine.specs.State.{Name, State, Versions}
 use Rattle.ssz_machine.specs.Rules.{Row, Rules}
 use Rattle.ssz_machine.specs.Machine.{Turn, step, state_of, charge_of, is_refused_row, reads}
+use Rattle.ssz_machine.specs.Changes.{Touch, nothing, puts, takes}
 use Rattle.ssz_machine.specs.Counts.{asks_root, hashes_row}
 use Rattle.ssz_engine.specs.Content.{rules_of}
 use Rattle.ssz_engine.specs.Outside.{Holds}
-use Rattle.ssz_engine.specs.Steps.{DoesStep, Leaves, SavesPart, Stops, file_read, is_refusal, turn_at}
+use Rattle.ssz_engine.specs.Steps.{DoesStep, Leaves, SavesPart, Stops, TouchesWhere, file_read, is_refusal, turn_at}
 use Rattle.ssz_engine.specs.Scripts.{Scene, file_named, name_before}
-use Rattle.ssz_engine.specs.Lines.{DoesLine}
+use Rattle.ssz_engine.specs.Lines.{DoesLine, LeavesOthers}
 use Rattle.ssz_engine.specs.declared.outcome.Outcome.{Outcome}
 use Rattle.ssz_engine.specs.declared.outcome.Outcome.TheVariants.{Accepted, Refused}
 use Rattle.ssz_engine.specs.declared.fault.EngineFault.{EngineFault}
 use Rattle.ssz_engine.specs.declared.fault.EngineFault.TheVariants.{Read, Write, Memory}
+use Rattle.ssz_engine.proofs.Entries.{held_at-with, held_at-without}
+use Rattle.ssz_engine.proofs.Keys.{other_writer}
 use Rattle.ssz_engine.proofs.Replies.{said_number}
 
 not-both : false ≡ true → ⊥
@@ -161,3 +165,27 @@ reads_named readable statement result none some all = by (file_read statement) r
         → result ≢ Err Read
     by None is all = none is
     by (Some name) is all = some name is all.0
+
+-- a step of one writer leaves what the others hold
+touched : (writer : ℕ) (made : Outcome) (touch : Touch) (old new : Entries)
+    → TouchesWhere made touch writer old new → LeavesOthers writer old new
+touched writer Accepted nothing old new is other name apart =
+    ap (λ es. held_at es other name) is
+touched writer Accepted (puts v) old new is other name apart =
+    ap (λ es. held_at es other name) is.1
+    ∙ held_at-with old writer v is.0 other name
+    ∙ rw (other_writer other writer name v apart) refl
+touched writer Accepted (takes v) old new is other name apart =
+    ap (λ es. held_at es other name) is
+    ∙ held_at-without old writer v other name
+    ∙ rw (other_writer other writer name v apart) refl
+touched writer Refused touch old new is other name apart = ap (λ es. held_at es other name) is
+
+pub step_leaves_others : (writer : ℕ) (result : Result Outcome EngineFault) (touch : Touch)
+    (old new : Entries) (P : Type 0)
+    → IfOk result (λ made. TouchesWhere made touch writer old new)
+    → OnErr result ((new ≡ old) × P) → LeavesOthers writer old new
+step_leaves_others writer (Ok made) touch old new P ok err other name apart =
+    touched writer made touch old new ok other name apart
+step_leaves_others writer (Err fault) touch old new P ok err other name apart =
+    ap (λ es. held_at es other name) err.0

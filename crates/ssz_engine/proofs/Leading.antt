@@ -21,7 +21,7 @@ abbrev pub StaysReadable : Scene → Scene → Type 0
 StaysReadable before mid = (name : Name) → before.readable name → mid.readable name
 
 -- a run that was cut short from the middle on was so from before
-earlier : (place : Place) (course : Course) (ended : Status) (before mid after : Scene)
+pub earlier : (place : Place) (course : Course) (ended : Status) (before mid after : Scene)
     → StaysReadable before mid → IsCutShort place course ended mid after
     → IsCutShort place course ended before after
 earlier place course ended before mid after readable cut = record {

@@ -27,3 +27,8 @@ pub mod LineSteps
 pub mod EngineSteps
 pub mod Leading
 pub mod Scripts
+pub mod Going
+pub mod NamedFiles
+pub mod TakenOver
+pub mod Weaving
+pub mod Isolating

@@ -19,7 +19,7 @@ all_names P Q more [] all = tt
 all_names P Q more (name ∷ names) all = (more name all.0, all_names P Q more names all.1)
 
 -- of the names behind one that may be there
-behind : (P : Name → Type 0) (o : Option Name) (names : List Name)
+pub behind : (P : Name → Type 0) (o : Option Name) (names : List Name)
     → AllByRecursion P (name_before o names) → AllByRecursion P names
 behind P None names all = all
 behind P (Some name) names all = all.1

@@ -44,7 +44,7 @@ finished_no_fault false e = cc
 
 module _ (pair_of : PairOf) (place : Place) (events : List Event) (before after : Scene)
     (first : State) where
-  abbrev course : Course
+  abbrev pub course : Course
   course = record {
     rules = rules_of pair_of before.engine;
     events = events;
@@ -56,7 +56,7 @@ module _ (pair_of : PairOf) (place : Place) (events : List Event) (before after 
   }
 
   -- at the start all its lines are left
-  start : StandsFor before.engine first.versions → before.told ≡ Some first.files
+  pub start : StandsFor before.engine first.versions → before.told ≡ Some first.files
       → Comes pair_of place course (events ++ []) false before
   start versions files =
       subst (λ (left : List Event). Comes pair_of place course left false before)
@@ -76,7 +76,7 @@ module _ (pair_of : PairOf) (place : Place) (events : List Event) (before after 
       })
 
   -- all were done
-  run_done : (refused : Bool) → Comes pair_of place course [] refused after
+  pub run_done : (refused : Bool) → Comes pair_of place course [] refused after
       → EndsRun course.rules place events first (finished refused) before after
   run_done refused c =
       let u = c.at.under in
@@ -113,7 +113,7 @@ module _ (pair_of : PairOf) (place : Place) (events : List Event) (before after 
       }
 
   -- or the run ended before
-  run_stopped : (ended : Status) → IsCutShort place course ended before after
+  pub run_stopped : (ended : Status) → IsCutShort place course ended before after
       → EndsRun course.rules place events first ended before after
   run_stopped ended cut =
       let turns = turns_of place course cut.numbers in

@@ -10,3 +10,4 @@ pub mod Outside
 pub mod Scripts
 pub mod Points
 pub mod Lines
+pub mod Weaves

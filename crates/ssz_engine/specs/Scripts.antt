@@ -37,6 +37,10 @@ abbrev pub files_named : List Line → List Name
 files_named [] = []
 files_named (line ∷ lines) = name_before (file_named line.1) (files_named lines)
 
+-- each of them can be read
+abbrev pub AreNamedReadable : (Name → Type 0) → List Line → Type 0
+AreNamedReadable readable lines = AllByRecursion readable (files_named lines)
+
 -- the file that a step reads: one that is refused before reads none
 abbrev pub file_reached : Rules → Turn → Option Name
 file_reached rules turn = if reads_file rules turn then file_named turn.line.1 else None
@@ -55,6 +59,15 @@ pub record Scene : Type 1 where
   pub told : Option Files
   pub readable : Name → Type 0
   pub pieces : Told
+
+abbrev pub scene : Content → ℕ → Option Files → (Name → Type 0) → Told → Scene
+scene engine hashed told readable pieces = record {
+  engine = engine;
+  hashed = hashed;
+  told = told;
+  readable = readable;
+  pieces = pieces;
+}
 
 -- as behind `start`: nothing is left to be hashed, and `hashes` prints 0
 pub record IsFresh (scene : Scene) : Type 0 where

@@ -8,9 +8,10 @@
 //! whatever versions of the plain machine the entries stand for, the decision is the machine's row.
 //!
 //! A script is done line by line (`run_script`): each line's reply is made in memory and printed in
-//! one piece.
+//! one piece. Scripts of several writers take turns over the same arena (`weave`).
 #![tactic(auto)]
 
+mod adopting;
 mod asking;
 mod carrying;
 mod counting;
@@ -28,6 +29,8 @@ mod proving;
 mod refusals;
 mod run;
 mod shown;
+mod turns;
+mod weave;
 
 pub use engine::Engine;
 pub use fault::EngineFault;

@@ -6,9 +6,8 @@ ghost use Rattle.ssz_outside.specs.Job.{IsFinished};
 ghost use Rattle.ssz_outside.specs.Pieces.{Told};
 ghost use Rattle.ssz_script.specs.Texts.{reply_line};
 ghost use Rattle.ssz_script.specs.declared.reply.TheConstants.Reply.{SYNTAX};
-ghost use Rattle.ssz_machine.specs.Plays.{says};
-ghost use Rattle.ssz_machine.specs.declared.place.Place.TheVariants.{Run};
-ghost use Rattle.ssz_engine.specs.Lines.{CountsPrint, DoesLine, Prints, ended_by};
+ghost use Rattle.ssz_machine.specs.Plays.{front, mark, says};
+ghost use Rattle.ssz_engine.specs.Lines.{CountsPrint, DoesLine, LeavesOthers, Prints, ended_by};
 ghost use Rattle.ssz_engine.specs.Outside.{CountsReads, CountsWrites};
 ghost use Rattle.ssz_engine.specs.Points.{Counts, Goes};
 ghost use Rattle.ssz_engine.specs.Scripts.{files_named};
@@ -22,6 +21,32 @@ use ssz_machine::Place;
 use ssz_outside::{Files, PutFault, Sink, Status};
 use ssz_script::{Reply, ScriptStatement, Statement, reply_text};
 use ssz_versions::Writer;
+use std::alloc::AllocError;
+
+/// The writer of the script that a weave begins with.
+pub(crate) const BASE: Writer = Writer(255);
+
+// Appends the mark of a writer's lines in a weave.
+fn push_mark(writer: Writer, out: &mut Vec<u8>) -> Result<(), AllocError>
+    ensures { OnOk result (out.new.items ≡ out.old.items ++ mark writer.0) }
+{
+    if writer == BASE {
+        return out.extend_from_slice(b"base: ");
+    }
+    let number = writer.0.to_string(*out.allocator())?;
+    out.extend_from_slice(number.as_bytes())?;
+    out.extend_from_slice(b": ")
+}
+
+// Appends what stands before a reply to a writer.
+fn push_front(place: Place, writer: Writer, out: &mut Vec<u8>) -> Result<(), AllocError>
+    ensures { OnOk result (out.new.items ≡ out.old.items ++ front place writer.0) }
+{
+    match place {
+        Place::Run => Ok(()),
+        Place::Weave => push_mark(writer, out),
+    }
+}
 
 // Whether there are fewer than 2^32 bytes.
 fn are_few(bytes: &[u8]) -> bool
@@ -59,10 +84,12 @@ fn refuse(line: u64, out: &mut Vec<u8>) -> Result<Outcome, EngineFault>
     Ok(Outcome::Refused)
 }
 
-// Does what a line says, as writer 0, and appends the line of the reply. A literal of 2^32 bytes or
+// Does what a line of a writer says, and appends the line of the reply. A literal of 2^32 bytes or
 // more is want of memory.
 fn reply_to<F: Files, H: PairHash>(
     engine: &mut Engine<H>,
+    place: Place,
+    writer: Writer,
     line: &ScriptStatement,
     files: &mut F,
     hasher: &mut H,
@@ -71,8 +98,8 @@ fn reply_to<F: Files, H: PairHash>(
     ensures keeps { Keeps engine.old engine.new }
     ensures rises { H.pairs hasher.old ≤ H.pairs hasher.new }
     ensures hashed { H.pairs hasher.new ≤ H.pairs hasher.old + unhashed engine.old.arena }
-    ensures does { (was is : Told) → DoesLine H.pair_of Run 0 (line.now.line, line.now.statement)
-        result
+    ensures does { (was is : Told) → DoesLine H.pair_of place writer.0
+        (line.now.line, line.now.statement) result
         (record {
           engine = engine.old;
           hashed = H.pairs hasher.old;
@@ -88,6 +115,7 @@ fn reply_to<F: Files, H: PairHash>(
           pieces = is;
         })
         out.old.items out.new.items }
+    ensures others { LeavesOthers writer.0 engine.old.entries engine.new.entries }
     ensures fails { AllByRecursion (F.readable files.old)
         (files_named ((line.now.line, line.now.statement) ∷ [])) → result ≢ Err EngineFault.Read }
     ensures readable { (other : List ℕ) → F.readable files.old other → F.readable files.new other }
@@ -100,15 +128,7 @@ fn reply_to<F: Files, H: PairHash>(
     if !is_short(statement) {
         return Err(EngineFault::Memory);
     }
-    engine.step(
-        Writer(0),
-        Place::Run,
-        line.line,
-        statement,
-        files,
-        hasher,
-        out,
-    )
+    engine.step(writer, place, line.line, statement, files, hasher, out)
 }
 
 // The status of a run that a line ended.
@@ -146,9 +166,11 @@ fn is_refusal(made: Outcome) -> bool
     }
 }
 
-/// Does a line as writer 0 and prints its reply. `refused` becomes true where the line is refused.
+/// Does a line of a writer and prints its reply. `refused` becomes true where the line is refused.
 pub(crate) fn run_line<F: Files, S: Sink, H: PairHash>(
     engine: &mut Engine<H>,
+    place: Place,
+    writer: Writer,
     line: &ScriptStatement,
     files: &mut F,
     out: &mut S,
@@ -157,8 +179,8 @@ pub(crate) fn run_line<F: Files, S: Sink, H: PairHash>(
 ) -> Result<(), Status>
     ensures keeps { Keeps engine.old engine.new }
     ensures rises { H.pairs hasher.old ≤ H.pairs hasher.new }
-    ensures goes { Goes H.pair_of Run (says 0 (line.now.line, line.now.statement) ∷ []) result
-        refused.old refused.new
+    ensures goes { Goes H.pair_of place (says writer.0 (line.now.line, line.now.statement) ∷ [])
+        result refused.old refused.new
         (record {
           engine = engine.old;
           hashed = H.pairs hasher.old;
@@ -173,6 +195,7 @@ pub(crate) fn run_line<F: Files, S: Sink, H: PairHash>(
           readable = F.readable files.new;
           pieces = S.pieces out.new;
         }) }
+    ensures others { LeavesOthers writer.0 engine.old.entries engine.new.entries }
     ensures counts { Counts result (F.get_faults files.old) (F.get_faults files.new)
         (F.put_faults files.old) (F.put_faults files.new) (S.faults out.old) (S.faults out.new) }
     ensures stops { IfErr result (λ ended. ¬ IsFinished ended) }
@@ -181,7 +204,10 @@ pub(crate) fn run_line<F: Files, S: Sink, H: PairHash>(
     ensures readable { (other : List ℕ) → F.readable files.old other → F.readable files.new other }
 {
     let mut text = Vec::new(engine.alloc);
-    match reply_to(engine, line, files, hasher, &mut text) {
+    if push_front(place, writer, &mut text).is_err() {
+        return Err(Status::Memory);
+    }
+    match reply_to(engine, place, writer, line, files, hasher, &mut text) {
         Ok(made) => {
             *refused = is_refusal(made) | *refused;
             print(text.as_slice(), out)

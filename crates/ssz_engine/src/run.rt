@@ -4,7 +4,7 @@ ghost use Rattle.std.specs.List.{AllByRecursion};
 ghost use Rattle.ssz_outside.specs.Job.{CountsRun, IsFinished};
 ghost use Rattle.ssz_script.specs.Lines.{statements_in};
 ghost use Rattle.ssz_machine.specs.Plays.{all_of};
-ghost use Rattle.ssz_machine.specs.declared.place.Place.TheVariants.{Run};
+ghost use Rattle.ssz_engine.specs.Lines.{LeavesOthers};
 ghost use Rattle.ssz_engine.specs.Points.{Counts, Goes, finished};
 ghost use Rattle.ssz_engine.specs.Scripts.{EndsScript, files_named};
 ghost use Rattle.ssz_engine.specs.Steps.{Keeps};
@@ -12,12 +12,16 @@ ghost use Rattle.ssz_engine.specs.Steps.{Keeps};
 use super::engine::Engine;
 use super::line::run_line;
 use ssz_chunk::PairHash;
+use ssz_machine::Place;
 use ssz_outside::{Files, Sink, Status};
 use ssz_script::Statements;
+use ssz_versions::Writer;
 
-// Does all lines that are left of a script, as writer 0.
-fn run_lines<F: Files, S: Sink, H: PairHash>(
+/// Does all lines that are left of a writer's script.
+pub(crate) fn run_lines<F: Files, S: Sink, H: PairHash>(
     engine: &mut Engine<H>,
+    place: Place,
+    writer: Writer,
     lines: &mut Statements<'_>,
     files: &mut F,
     out: &mut S,
@@ -26,7 +30,7 @@ fn run_lines<F: Files, S: Sink, H: PairHash>(
 ) -> Result<(), Status>
     ensures keeps { Keeps engine.old engine.new }
     ensures rises { H.pairs hasher.old ≤ H.pairs hasher.new }
-    ensures goes { Goes H.pair_of Run (all_of 0 lines.old) result refused.old refused.new
+    ensures goes { Goes H.pair_of place (all_of writer.0 lines.old) result refused.old refused.new
         (record {
           engine = engine.old;
           hashed = H.pairs hasher.old;
@@ -41,6 +45,7 @@ fn run_lines<F: Files, S: Sink, H: PairHash>(
           readable = F.readable files.new;
           pieces = S.pieces out.new;
         }) }
+    ensures others { LeavesOthers writer.0 engine.old.entries engine.new.entries }
     ensures counts { Counts result (F.get_faults files.old) (F.get_faults files.new)
         (F.put_faults files.old) (F.put_faults files.new) (S.faults out.old) (S.faults out.new) }
     ensures stops { IfErr result (λ ended. ¬ IsFinished ended) }
@@ -53,7 +58,7 @@ fn run_lines<F: Files, S: Sink, H: PairHash>(
             Err(_) => return Err(Status::Memory),
             Ok(None) => return Ok(()),
             Ok(Some(line)) => {
-                let ran = run_line(engine, &line, files, out, hasher, refused);
+                let ran = run_line(engine, place, writer, &line, files, out, hasher, refused);
                 drop(line);
                 ran?;
             }
@@ -61,8 +66,8 @@ fn run_lines<F: Files, S: Sink, H: PairHash>(
     }
 }
 
-// The status of a run that no fault ended.
-fn status_after(refused: bool) -> Status
+/// The status of a run that no fault ended.
+pub(crate) fn status_after(refused: bool) -> Status
     ensures { result ≡ finished refused }
 {
     if refused {
@@ -121,7 +126,16 @@ impl<H: PairHash> Engine<H> {
     {
         let mut lines = Statements::new(script);
         let mut refused = false;
-        match run_lines(self, &mut lines, files, out, hasher, &mut refused) {
+        match run_lines(
+            self,
+            Place::Run,
+            Writer(0),
+            &mut lines,
+            files,
+            out,
+            hasher,
+            &mut refused,
+        ) {
             Ok(()) => status_after(refused),
             Err(ended) => ended,
         }

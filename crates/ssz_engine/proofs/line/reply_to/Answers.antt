@@ -1,9 +1,9 @@
 use Rattle.std.proofs.Common.{Option, sym, ap, subst}
 use Rattle.ssz_script.specs.declared.statement.Statement.{Statement}
-use Rattle.ssz_machine.specs.declared.place.Place.TheVariants.{Run}
 use Rattle.ssz_engine.specs.Lines.{DoesLine}
 use Rattle.ssz_engine.specs.Scripts.{Scene}
-use Rattle.ssz_engine.proofs.EngineSteps.{same_counts, step_does}
+use Rattle.ssz_machine.specs.Changes.{touch}
+use Rattle.ssz_engine.proofs.EngineSteps.{same_counts, step_does, step_leaves_others}
 use Rattle.ssz_engine.proofs.line.reply_to.Goals as goal
 
 pub returns-clause-does : goal.returns-clause-does
@@ -24,10 +24,17 @@ returns-clause-does g c = λ was is.
       pieces = is;
     } in
     let step = c.step.ensures in
-    subst (λ (statement : Option Statement). DoesLine g.H.PairHash.pair_of Run 0
-    (c.args.line.now.line, statement) c.step.result before after c.args.out.now.items
+    subst (λ (statement : Option Statement). DoesLine g.H.PairHash.pair_of c.args.place
+    c.args.writer.0 (c.args.line.now.line, statement) c.step.result before after c.args.out.now.items
     c.step.new.out.items) (sym c.in-Some.is)
-    (step_does g.H.PairHash.pair_of Run 0 c.args.line.now.line c.in-Some.statement before after
+    (step_does g.H.PairHash.pair_of c.args.place c.args.writer.0 c.args.line.now.line
+    c.in-Some.statement before after
     c.args.out.now.items c.step.new.out.items c.step.result step.ok step.stops step.told step.rises
     (λ asks. ap pairs (step.still asks))
     (same_counts pairs c.args.hasher.now c.step.new.hasher c.step.result step.refused) step.fails)
+
+pub returns-clause-others : goal.returns-clause-others
+returns-clause-others g c =
+    step_leaves_others c.args.writer.0 c.step.result (touch c.in-Some.statement)
+    c.args.engine.now.entries c.step.new.self.entries _ c.step.ensures.entries
+    c.step.ensures.err

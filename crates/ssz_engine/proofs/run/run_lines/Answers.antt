@@ -6,7 +6,6 @@ use Rattle.ssz_script.specs.declared.statements.ScriptStatement.{ScriptStatement
 use Rattle.ssz_script.specs.Next.{IsNext}
 use Rattle.ssz_machine.specs.Machine.{Line}
 use Rattle.ssz_machine.specs.Plays.{all_of, says}
-use Rattle.ssz_machine.specs.declared.place.Place.TheVariants.{Run}
 use Rattle.ssz_engine.specs.Points.{Goes}
 use Rattle.ssz_engine.specs.Scripts.{Scene}
 use Rattle.ssz_engine.proofs.Leading.{keeps_on, leads_memory, leads_on, leads_stops}
@@ -15,7 +14,7 @@ use Rattle.ssz_engine.proofs.run.run_lines.Goals as goal
 
 pub returns-in-Err-clause-goes : goal.returns-in-Err-clause-goes
 returns-in-Err-clause-goes g c =
-    leads_memory g.H.PairHash.pair_of Run (all_of 0 c.args.lines.now) (all_of 0 c.loop-line.lines)
+    leads_memory g.H.PairHash.pair_of c.args.place (all_of c.args.writer.0 c.args.lines.now) (all_of c.args.writer.0 c.loop-line.lines)
     c.args.refused.now c.loop-line.refused _ _ c.loop-line.invariant.leads
     c.loop-line.invariant.readable
 
@@ -51,9 +50,12 @@ loop-line-preserved g c =
     record {
       keeps = keeps_on so_far.keeps ran.keeps;
       rises = omega (arith, so_far.rises, ran.rises);
-      leads = leads_on g.H.PairHash.pair_of Run (all_of 0 c.args.lines.now) 0 c.loop-line.lines
+      leads = leads_on g.H.PairHash.pair_of c.args.place (all_of c.args.writer.0 c.args.lines.now)
+          c.args.writer.0 c.loop-line.lines
           c.next.new.self line c.args.refused.now c.loop-line.refused c.run_line-ran.new.refused
           before mid after so_far.leads taken ran.goes;
+      others = λ other name apart.
+          ran.others other name apart ∙ so_far.others other name apart;
       readable = λ other is. ran.readable other (so_far.readable other is);
       named = λ all. named_behind mid.readable after.readable ran.readable line c.loop-line.lines
           c.next.new.self taken (so_far.named all);
@@ -90,15 +92,15 @@ returns-in_err-ran-in-Ok-Some-clause-goes g c =
     IsNext next c.loop-line.lines c.next.new.self) c.in-Ok-Some.field-0-is
     c.in-Ok-Some.ensures.ok in
     let exit = err_from_is_err_and c.from_residual.result c.from_residual.ensures.1 in
-    let these = all_of 0 c.args.lines.now in
-    let done : Goes g.H.PairHash.pair_of Run (says 0 line ∷ []) (Err exit.0) c.loop-line.refused
+    let these = all_of c.args.writer.0 c.args.lines.now in
+    let done : Goes g.H.PairHash.pair_of c.args.place (says c.args.writer.0 line ∷ []) (Err exit.0) c.loop-line.refused
     c.run_line-ran.new.refused mid after =
-    subst (λ (ended : Status). Goes g.H.PairHash.pair_of Run (says 0 line ∷ []) (Err ended)
+    subst (λ (ended : Status). Goes g.H.PairHash.pair_of c.args.place (says c.args.writer.0 line ∷ []) (Err ended)
     c.loop-line.refused c.run_line-ran.new.refused mid after) (sym exit.2)
     c.in_err-ran-in-Ok-Some.ensures.goes in
-    subst (λ (r : Result (Unit {0}) Status). Goes g.H.PairHash.pair_of Run these r
+    subst (λ (r : Result (Unit {0}) Status). Goes g.H.PairHash.pair_of c.args.place these r
     c.args.refused.now c.run_line-ran.new.refused before after) (sym exit.1)
-    (leads_stops g.H.PairHash.pair_of Run these 0 c.loop-line.lines c.next.new.self line
+    (leads_stops g.H.PairHash.pair_of c.args.place these c.args.writer.0 c.loop-line.lines c.next.new.self line
     c.args.refused.now c.loop-line.refused c.run_line-ran.new.refused before mid after
     c.loop-line.invariant.leads taken exit.0 done c.loop-line.invariant.readable)
 

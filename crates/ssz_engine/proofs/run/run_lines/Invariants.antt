@@ -1,7 +1,7 @@
 use Rattle.std.proofs.Common.{◌≡◌, ◌≤◌, ℕ, List, length}
 use Rattle.std.specs.List.{AllByRecursion}
 use Rattle.ssz_machine.specs.Plays.{all_of}
-use Rattle.ssz_machine.specs.declared.place.Place.TheVariants.{Run}
+use Rattle.ssz_engine.specs.Lines.{LeavesOthers}
 use Rattle.ssz_engine.specs.Points.{LeadsTo}
 use Rattle.ssz_engine.specs.Scripts.{files_named}
 use Rattle.ssz_engine.specs.Steps.{Keeps}
@@ -12,8 +12,8 @@ abbrev pub invariant-loop-line : goal.invariant-loop-line
 invariant-loop-line g l = record {
   keeps : Keeps l.fn.engine l.engine;
   rises : g.H.PairHash.pairs l.fn.hasher ≤ g.H.PairHash.pairs l.hasher;
-  leads : LeadsTo g.H.PairHash.pair_of Run (all_of 0 l.fn.lines) (all_of 0 l.lines) l.fn.refused
-      l.refused
+  leads : LeadsTo g.H.PairHash.pair_of l.fn.place (all_of l.fn.writer.0 l.fn.lines)
+      (all_of l.fn.writer.0 l.lines) l.fn.refused l.refused
       (record {
         engine = l.fn.engine;
         hashed = g.H.PairHash.pairs l.fn.hasher;
@@ -28,6 +28,7 @@ invariant-loop-line g l = record {
         readable = g.F.Files.readable l.files;
         pieces = g.S.Sink.pieces l.out;
       });
+  others : LeavesOthers l.fn.writer.0 l.fn.engine.entries l.engine.entries;
   readable : (other : List ℕ) → g.F.Files.readable l.fn.files other
       → g.F.Files.readable l.files other;
   named : AllByRecursion (g.F.Files.readable l.fn.files) (files_named l.fn.lines)

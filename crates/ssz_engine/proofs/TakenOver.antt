@@ -1,0 +1,197 @@
+-- Writers that take over what the base's writer holds.
+use Rattle.std.proofs.Common.{ℕ, zero, suc, ◌+◌, ◌<◌, ◌≤◌, ◌≡◌, ◌≢◌, ◌==◌, Bool, true, false, cond, List, [], ◌∷◌, ◌++◌, length, Option, Some, refl, sym, ap, ◌∙◌, subst, arith}
+use Rattle.std.specs.Prelude.{nat_lt}
+use Rattle.std.proofs.lemmas.Bool.Decides.{nat_tests, Decides-eqb}
+use Rattle.ssz_schema.specs.Unfolding.{Types}
+use Rattle.ssz_arena.specs.Content.{Content as Nodes, unhashed}
+use Rattle.ssz_outside.specs.Content.{Content as Files}
+use Rattle.ssz_outside.specs.Pieces.{Told}
+use Rattle.ssz_proof.specs.Calculation.{PairOf}
+use Rattle.ssz_versions.specs.Content.{Entries, Held, held_at}
+use Rattle.ssz_versions.specs.Outcomes.{Adopts}
+use Rattle.ssz_machine.specs.declared.place.Place.TheVariants.{Weave}
+use Rattle.ssz_machine.specs.State.{Name, State, Versions, version_of}
+use Rattle.ssz_machine.specs.Rules.{Rules}
+use Rattle.ssz_machine.specs.Machine.{Line, Turn}
+use Rattle.ssz_machine.specs.Plays.{Event, adopted, adoptions, base_writer}
+use Rattle.ssz_machine.specs.Runs.{IsUnderWay}
+use Rattle.ssz_machine.proofs.UnderWay.{under_way_adopts}
+use Rattle.ssz_engine.specs.Content.{Content, SameNodes, rules_of}
+use Rattle.ssz_engine.specs.Standing.{Match, StandsFor, StandsForVersions}
+use Rattle.ssz_engine.specs.Scripts.{scene}
+use Rattle.ssz_engine.specs.Points.{Comes, Course, Pays}
+use Rattle.ssz_engine.specs.Weaves.{AdoptsAll, HoldsNone}
+
+-- the next writer holds nothing yet
+pub next_holds_none : (count : ℕ) (old new : Entries) → AdoptsAll count old new
+    → HoldsNone old count → HoldsNone new count
+next_holds_none count old new adopts none name =
+    let apart : nat_lt count count ≡ false = grind (arith, nat_tests) in
+    adopts count name ∙ rw apart (none name)
+
+-- one writer more takes over what the base's holds
+pub adopts_more : (count : ℕ) (old mid new : Entries) → count < base_writer
+    → AdoptsAll count old mid → Adopts mid new base_writer count → AdoptsAll (count + 1) old new
+adopts_more count old mid new few so_far adopts writer name =
+    adopts writer name
+    ∙ (elim (writer == count) as (λ b. (writer == count) ≡ b
+    → cond b (held_at mid base_writer name) (held_at mid writer name)
+    ≡ cond (nat_lt writer (count + 1)) (held_at old base_writer name)
+    (held_at old writer name)) [
+      | true ↦ λ is.
+          let mine : nat_lt writer (count + 1) ≡ true = here is in
+          rw mine (so_far base_writer name ∙ rw base_stays refl)
+      | false ↦ λ apart.
+          let same : nat_lt writer (count + 1) ≡ nat_lt writer count = beside apart in
+          rw same (so_far writer name)
+    ] refl)
+  where
+    base_stays : nat_lt base_writer count ≡ false
+    base_stays = grind (arith, nat_tests)
+
+    here : (writer == count) ≡ true → nat_lt writer (count + 1) ≡ true
+    here is = grind (arith, nat_tests)
+
+    beside : (writer == count) ≡ false → nat_lt writer (count + 1) ≡ nat_lt writer count
+    beside apart = grind (arith, nat_tests)
+
+pub adopts_none : (entries : Entries) → AdoptsAll 0 entries entries
+adopts_none entries writer name =
+    let none : nat_lt writer 0 ≡ false = grind (arith, nat_tests) in rw none refl
+
+-- The machine's state after the adoptions of some scripts.
+
+abbrev after_all : ℕ → List (List Line) → State → State
+after_all n [] state = state
+after_all n (script ∷ scripts) state = after_all (n + 1) scripts (adopted n state)
+
+same_side : (b : Bool) (versions : Versions) → cond b versions versions ≡ versions
+same_side true versions = refl
+same_side false versions = refl
+
+unlike : (w n : ℕ) → w ≢ n → (w == n) ≡ false
+unlike w n apart = grind (arith, nat_tests, Decides-eqb)
+
+after_before : (n w : ℕ) (scripts : List (List Line)) (state : State) → w < n
+    → (after_all n scripts state).versions w ≡ state.versions w
+after_before n w [] state less = refl
+after_before n w (script ∷ scripts) state less =
+    let apart : (w == n) ≡ false = grind (arith, nat_tests) in
+    after_before (n + 1) w scripts (adopted n state) (omega arith) ∙ rw apart refl
+
+after_behind : (n w : ℕ) (scripts : List (List Line)) (state : State) → n + length scripts ≤ w
+    → (after_all n scripts state).versions w ≡ state.versions w
+after_behind n w [] state more = refl
+after_behind n w (script ∷ scripts) state more =
+    let apart : (w == n) ≡ false = grind (arith, nat_tests) in
+    after_behind (n + 1) w scripts (adopted n state) (omega arith) ∙ rw apart refl
+
+after_within : (n w k : ℕ) (scripts : List (List Line)) (state : State) → w ≡ n + k
+    → k < length scripts
+    → (after_all n scripts state).versions w ≡ state.versions base_writer
+after_within n w k [] state is known = absurd (omega arith)
+after_within n w zero (script ∷ scripts) state is known =
+    let same : (w == n) ≡ true = grind (arith, nat_tests) in
+    after_before (n + 1) w scripts (adopted n state) (omega arith) ∙ rw same refl
+after_within n w (suc k) (script ∷ scripts) state is known =
+    after_within (n + 1) w k scripts (adopted n state) (omega arith) (omega arith)
+    ∙ same_side (base_writer == n) (state.versions base_writer)
+
+after_files : (n : ℕ) (scripts : List (List Line)) (state : State)
+    → (after_all n scripts state).files ≡ state.files
+after_files n [] state = refl
+after_files n (script ∷ scripts) state = after_files (n + 1) scripts (adopted n state)
+
+-- the entries of one writer stand for what those of another stood for
+taken_over : (types : Types) (arena : Nodes) (old new : Entries) (from to : ℕ)
+    (versions : Versions) → ((name : Name) → held_at new to name ≡ held_at old from name)
+    → StandsForVersions types arena old from versions
+    → StandsForVersions types arena new to versions
+taken_over types arena old new from to versions same stand = record {
+  sorted = stand.sorted;
+  each = λ name. subst (λ (held : Option Held).
+      Match types arena held (version_of name versions)) (sym (same name)) (stand.each name);
+}
+
+module _ (scripts : List (List Line)) (state : State) (old new : Content)
+    (few : length scripts ≤ base_writer) (nodes : SameNodes old new)
+    (adopts : AdoptsAll (length scripts) old.entries new.entries)
+    (stands : StandsFor old state.versions) where
+  over_same_nodes : (from to : ℕ)
+      → ((name : Name) → held_at new.entries to name ≡ held_at old.entries from name)
+      → StandsForVersions new.types new.arena new.entries to (state.versions from)
+  over_same_nodes from to same =
+      subst (λ (types : Types). StandsForVersions types new.arena new.entries to
+      (state.versions from)) (sym nodes.types)
+      (subst (λ (arena : Nodes). StandsForVersions old.types arena new.entries to
+      (state.versions from)) (sym nodes.arena)
+      (taken_over old.types old.arena old.entries new.entries from to (state.versions from) same
+      (stands.each from)))
+
+  pub stands_adopted : StandsFor new (after_all 0 scripts state).versions
+  stands_adopted = record {
+    each = λ writer.
+        (elim (nat_lt writer (length scripts)) as (λ b. nat_lt writer (length scripts) ≡ b
+        → StandsForVersions new.types new.arena new.entries writer
+        ((after_all 0 scripts state).versions writer)) [
+          | true ↦ λ known.
+              let within : writer < length scripts = below writer known in
+              subst (λ (versions : Versions).
+              StandsForVersions new.types new.arena new.entries writer versions)
+              (sym (after_within 0 writer writer scripts state (omega arith) within))
+              (over_same_nodes base_writer writer
+              (λ name. adopts writer name ∙ rw known refl))
+          | false ↦ λ known.
+              let behind : length scripts ≤ writer = above writer known in
+              subst (λ (versions : Versions).
+              StandsForVersions new.types new.arena new.entries writer versions)
+              (sym (after_behind 0 writer scripts state (omega arith)))
+              (over_same_nodes writer writer (λ name. adopts writer name ∙ rw known refl))
+        ] refl);
+  }
+    where
+      below : (writer : ℕ) → nat_lt writer (length scripts) ≡ true → writer < length scripts
+      below writer known = grind (arith, nat_tests)
+
+      above : (writer : ℕ) → nat_lt writer (length scripts) ≡ false → length scripts ≤ writer
+      above writer known = grind (arith, nat_tests)
+
+under_way_all_adopt : (rules : Rules) (events : List Event) (first : State) (done : List Turn)
+    (n : ℕ) (scripts : List (List Line)) (state : State) (left : List Event)
+    → IsUnderWay rules Weave events first done state (adoptions n scripts ++ left)
+    → IsUnderWay rules Weave events first done (after_all n scripts state) left
+under_way_all_adopt rules events first done n [] state left u = u
+under_way_all_adopt rules events first done n (script ∷ scripts) state left u =
+    under_way_all_adopt rules events first done (n + 1) scripts (adopted n state) left
+    (under_way_adopts rules Weave events first done state n (adoptions (n + 1) scripts ++ left) u)
+
+-- the adoptions of a run were done
+pub comes_adopted : (pair_of : PairOf) (course : Course) (scripts : List (List Line))
+    (left : List Event) (refused : Bool) (old new : Content) (hashed : ℕ) (told : Option Files)
+    (readable : Name → Type 0) (pieces : Told)
+    → length scripts ≤ base_writer → SameNodes old new
+    → AdoptsAll (length scripts) old.entries new.entries
+    → Comes pair_of Weave course (adoptions 0 scripts ++ left) refused
+    (scene old hashed told readable pieces)
+    → Comes pair_of Weave course left refused (scene new hashed told readable pieces)
+comes_adopted pair_of course scripts left refused old new hashed told readable pieces few nodes
+    adopts c = record {
+      done = c.done;
+      state = after_all 0 scripts c.state;
+      at = record {
+        under = under_way_all_adopt course.rules course.events course.first c.done 0 scripts c.state
+            left c.at.under;
+        rules = (λ i. record {
+          type_named = (rules_of pair_of (record old { types = nodes.types i })).type_named;
+          max_bytes = nodes.most i;
+          pair_of = pair_of;
+        }) ∙ c.at.rules;
+        base = nodes.base ∙ c.at.base;
+        versions = stands_adopted scripts c.state old new few nodes adopts c.at.versions;
+        files = c.at.files ∙ ap Some (sym (after_files 0 scripts c.state));
+        printed = c.at.printed;
+        answer = c.at.answer;
+        pays = subst (λ (arena : Nodes). Pays course.base c.done
+            course.hashed course.left hashed (unhashed arena)) (sym nodes.arena) c.at.pays;
+      };
+    }

@@ -1,0 +1,178 @@
+// Scripts of several writers that take turns.
+ghost use Rattle.std.specs.Prelude.{◌≡◌, ◌≢◌, ◌≤◌, ◌<◌, ◌∷◌, ◌++◌, ℕ, List, All, length, map, Err, IfOk, IfErr};
+ghost use Rattle.std.specs.List.{AllByRecursion};
+ghost use Rattle.ssz_outside.specs.Job.{CountsRun, IsFinished};
+ghost use Rattle.ssz_script.specs.Lines.{statements_in};
+ghost use Rattle.ssz_machine.specs.Machine.{Line};
+ghost use Rattle.ssz_machine.specs.Plays.{adoptions, all_of, base_writer, weaving};
+ghost use Rattle.ssz_machine.specs.declared.place.Place.TheVariants.{Weave};
+ghost use Rattle.ssz_engine.specs.Points.{Counts, Goes};
+ghost use Rattle.ssz_engine.specs.Scripts.{AreNamedReadable, scene};
+ghost use Rattle.ssz_engine.specs.Steps.{Keeps};
+ghost use Rattle.ssz_engine.specs.Weaves.{EndsWeave, HoldsNone, IsolatesWriters};
+
+use super::adopting::adopt_all;
+use super::engine::Engine;
+use super::line::BASE;
+use super::run::{run_lines, status_after};
+use super::turns::run_woven;
+use ssz_bytes::ByteRun;
+use ssz_chunk::PairHash;
+use ssz_machine::Place;
+use ssz_outside::{Files, Sink, Status};
+use ssz_script::Statements;
+use std::alloc::{AllocError, Global};
+
+// The statements of each script, from its first line on.
+fn statements_of<'a>(
+    alloc: Global,
+    scripts: &'a [ByteRun],
+) -> Result<Vec<Statements<'a>>, AllocError>
+    ensures { IfOk result (λ lines. lines.items ≡ map statements_in scripts.now) }
+{
+    let mut lines = Vec::new(alloc);
+    for script in scripts {
+        lines.push(Statements::new(script.as_slice()))?;
+    }
+    Ok(lines)
+}
+
+// Runs the base, and gives the writers of so many scripts its versions.
+fn run_base<F: Files, S: Sink, H: PairHash>(
+    engine: &mut Engine<H>,
+    base: &[u8],
+    count: usize,
+    files: &mut F,
+    out: &mut S,
+    hasher: &mut H,
+    refused: &mut bool,
+) -> Result<(), Status>
+    requires few { count ≤ base_writer }
+    requires none { (writer : ℕ) → writer < count → HoldsNone engine.old.entries writer }
+    ensures keeps { Keeps engine.old engine.new }
+    ensures rises { H.pairs hasher.old ≤ H.pairs hasher.new }
+    ensures goes { (scripts : List (List Line)) → length scripts ≡ count
+        → Goes H.pair_of Weave (all_of base_writer (statements_in base.now) ++ adoptions 0 scripts)
+        result refused.old refused.new
+        (scene engine.old (H.pairs hasher.old) (F.content files.old) (F.readable files.old)
+        (S.pieces out.old))
+        (scene engine.new (H.pairs hasher.new) (F.content files.new) (F.readable files.new)
+        (S.pieces out.new)) }
+    ensures counts { Counts result (F.get_faults files.old) (F.get_faults files.new)
+        (F.put_faults files.old) (F.put_faults files.new) (S.faults out.old) (S.faults out.new) }
+    ensures stops { IfErr result (λ ended. ¬ IsFinished ended) }
+    ensures fails { AreNamedReadable (F.readable files.old) (statements_in base.now)
+        → result ≢ Err Status.ReadFault }
+    ensures readable { (other : List ℕ) → F.readable files.old other → F.readable files.new other }
+{
+    let mut lines = Statements::new(base);
+    let weave = Place::Weave;
+    run_lines(engine, weave, BASE, &mut lines, files, out, hasher, refused)?;
+    match adopt_all(engine, count) {
+        Ok(()) => Ok(()),
+        Err(_) => Err(Status::Memory),
+    }
+}
+
+// Runs the base, and then the scripts in turns.
+fn run_weave<F: Files, S: Sink, H: PairHash>(
+    engine: &mut Engine<H>,
+    base: &[u8],
+    order: &[u8],
+    scripts: &[ByteRun],
+    files: &mut F,
+    out: &mut S,
+    hasher: &mut H,
+    refused: &mut bool,
+) -> Result<(), Status>
+    requires few { length scripts.now ≤ base_writer }
+    requires known { All (λ writer. writer < length scripts.now) order.now }
+    requires none { (writer : ℕ) → writer < length scripts.now
+        → HoldsNone engine.old.entries writer }
+    ensures keeps { Keeps engine.old engine.new }
+    ensures rises { H.pairs hasher.old ≤ H.pairs hasher.new }
+    ensures goes { Goes H.pair_of Weave
+        (weaving (statements_in base.now) order.now (map statements_in scripts.now)) result
+        refused.old refused.new
+        (scene engine.old (H.pairs hasher.old) (F.content files.old) (F.readable files.old)
+        (S.pieces out.old))
+        (scene engine.new (H.pairs hasher.new) (F.content files.new) (F.readable files.new)
+        (S.pieces out.new)) }
+    ensures counts { Counts result (F.get_faults files.old) (F.get_faults files.new)
+        (F.put_faults files.old) (F.put_faults files.new) (S.faults out.old) (S.faults out.new) }
+    ensures stops { IfErr result (λ ended. ¬ IsFinished ended) }
+    ensures fails { AllByRecursion (AreNamedReadable (F.readable files.old))
+        (map statements_in (base.now ∷ scripts.now)) → result ≢ Err Status.ReadFault }
+    ensures readable { (other : List ℕ) → F.readable files.old other → F.readable files.new other }
+{
+    let Ok(mut lines) = statements_of(engine.alloc, scripts) else {
+        return Err(Status::Memory);
+    };
+    run_base(engine, base, lines.len(), files, out, hasher, refused)?;
+    run_woven(engine, order, &mut lines, files, out, hasher, refused)
+}
+
+impl<H: PairHash> Engine<H> {
+    /// Runs a base as writer 255, and then scripts in turns, the script at place w as writer w. Each
+    /// of these writers first takes over the base's versions. Then each number of the order runs the
+    /// next line of that writer, or nothing where it has none left, and what is left then runs
+    /// writer by writer. A line's reply is printed in one piece, behind the mark of its writer.
+    /// Lines are numbered in each script by itself; `save` and `hashes` are refused.
+    ///
+    /// There are at most 255 scripts, the order has numbers below their number, and none of their
+    /// writers has a version yet.
+    ///
+    /// Answers Accepted or Refused, the latter where a line was refused; ReadFault, WriteFault and
+    /// Memory where a fault or want of memory ended the run, with no line done behind it. A literal
+    /// of 2^32 bytes or more is want of memory.
+    pub fn weave<F: Files, S: Sink>(
+        &mut self,
+        base: &[u8],
+        order: &[u8],
+        scripts: &[ByteRun],
+        files: &mut F,
+        out: &mut S,
+        hasher: &mut H,
+    ) -> Status
+        requires few { length scripts.now ≤ base_writer }
+        requires known { All (λ writer. writer < length scripts.now) order.now }
+        requires none { (writer : ℕ) → writer < length scripts.now
+            → HoldsNone self.old.entries writer }
+        ensures keeps { Keeps self.old self.new }
+        // Whatever state of the machine the engine stood for, where the files tell what they hold,
+        // the run ended as the weave's job does.
+        ensures ends { EndsWeave H.pair_of base.now order.now scripts.now result
+            (scene self.old (H.pairs hasher.old) (F.content files.old) (F.readable files.old)
+            (S.pieces out.old))
+            (scene self.new (H.pairs hasher.new) (F.content files.new) (F.readable files.new)
+            (S.pieces out.new)) }
+        // Of what the sink was given, the lines with the mark of a script's writer are those that
+        // its script prints alone, from the base's versions and with no other writer there: a front
+        // of them, and all where no fault or want of memory ended the run.
+        ensures isolated { IsolatesWriters H.pair_of base.now scripts.now result
+            (scene self.old (H.pairs hasher.old) (F.content files.old) (F.readable files.old)
+            (S.pieces out.old))
+            (scene self.new (H.pairs hasher.new) (F.content files.new) (F.readable files.new)
+            (S.pieces out.new)) }
+        // The fault that the status names was counted, and no other: none is passed over.
+        ensures counts { CountsRun result (F.get_faults files.old) (F.get_faults files.new)
+            (F.put_faults files.old) (F.put_faults files.new) (S.faults out.old)
+            (S.faults out.new) }
+        ensures rises { H.pairs hasher.old ≤ H.pairs hasher.new }
+        ensures readable { (other : List ℕ) → F.readable files.old other
+            → F.readable files.new other }
+        // It answers none of these two.
+        ensures usage { result ≢ Status.Usage }
+        ensures schema { result ≢ Status.SchemaFault }
+        // Also where it is not told what the files hold, a read fails only of a file that the base
+        // or a script names for reading.
+        ensures fails { AllByRecursion (AreNamedReadable (F.readable files.old))
+            (map statements_in (base.now ∷ scripts.now)) → result ≢ Status.ReadFault }
+    {
+        let mut refused = false;
+        match run_weave(self, base, order, scripts, files, out, hasher, &mut refused) {
+            Ok(()) => status_after(refused),
+            Err(ended) => ended,
+        }
+    }
+}
