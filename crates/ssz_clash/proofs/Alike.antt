@@ -106,7 +106,7 @@ module _ (pair_of : PairOf) (one other : Multiproof) (none : (h : ℕ)
           omega (arith, pow-suc 2 n)
 
 -- a leaf is what is calculated there
-leaf-is : (pair_of : PairOf) (proof : Multiproof) → IsOrdered proof → (g : ℕ) (chunk : List ℕ)
+pub leaf-is : (pair_of : PairOf) (proof : Multiproof) → IsOrdered proof → (g : ℕ) (chunk : List ℕ)
     → chunk_at proof.leaves g ≡ Some chunk → chunk ≡ calculated pair_of (known_of proof) g
 leaf-is pair_of proof ordered g chunk is =
     known_is proof.leaves proof.nodes ordered pair_of g chunk

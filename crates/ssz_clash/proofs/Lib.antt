@@ -4,3 +4,7 @@ pub mod Walking
 pub mod FirstClash
 pub mod Alike
 pub mod Showing
+pub mod Preorder
+pub mod Searching
+pub mod ComesTo
+pub mod Given

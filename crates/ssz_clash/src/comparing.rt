@@ -1,7 +1,8 @@
-ghost use Rattle.std.specs.Prelude.{◌+◌, ◌*◌, ◌≤◌, sum_by};
+ghost use Rattle.std.specs.Prelude.{◌≡◌, ◌+◌, ◌*◌, ◌≤◌, sum_by};
 ghost use Rattle.ssz_chunk.specs.Index.{levels};
 ghost use Rattle.ssz_proof.specs.Calculation.{indices_of};
 ghost use Rattle.ssz_clash.specs.Clashes.{ComesTo};
+ghost use Rattle.ssz_clash.specs.Compared.{compared};
 
 use crate::fault::ClashFault;
 use crate::finding::Clash;
@@ -24,6 +25,7 @@ pub fn clash<H: PairHash>(
     second: &Proof,
     hasher: &mut H,
 ) -> Result<Clash, ClashFault>
+    ensures exact { result ≡ compared H.pair_of first.now second.now }
     ensures comes { ComesTo H.pair_of first.now second.now result }
     ensures rises { H.pairs hasher.old ≤ H.pairs hasher.new }
     ensures pairs { H.pairs hasher.new

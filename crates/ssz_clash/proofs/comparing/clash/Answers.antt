@@ -10,6 +10,7 @@ use Rattle.ssz_proof.proofs.Levels.{levels_below-all}
 use Rattle.ssz_clash.specs.Clashes.{AreUnlike}
 use Rattle.ssz_clash.specs.Walks.{IsFirstBelow, IsFirstWithin}
 use Rattle.ssz_clash.proofs.Alike.{leaves-alike}
+use Rattle.ssz_clash.proofs.ComesTo.{comes-compared}
 use Rattle.ssz_clash.proofs.Leaves.{places-same, same-indices, same-known, true-from_not}
 use Rattle.ssz_clash.proofs.Showing.{none-below-root, shown-below-root}
 use Rattle.ssz_clash.proofs.comparing.clash.Goals as goal
@@ -153,3 +154,23 @@ returns-clause-pairs g c =
     let at_root : levels_below c.root.result indices ≡ levels_below 1 indices =
     ap (λ (k : ℕ). levels_below k indices) c.root.ensures in
     omega (arith, c.walk-walked.ensures.pairs, levels_below-all 1 indices)
+
+pub returns-then-not-same_places-clause-exact : goal.returns-then-not-same_places-clause-exact
+returns-then-not-same_places-clause-exact g c = sym (comes-compared g.H.PairHash.pair_of
+    c.args.first.now c.args.second.now c.leaves.ensures.ordered c.leaves-2.ensures.ordered _
+    (returns-then-not-same_places-clause-comes g c))
+
+pub returns-then-ne-clause-exact : goal.returns-then-ne-clause-exact
+returns-then-ne-clause-exact g c = sym (comes-compared g.H.PairHash.pair_of
+    c.args.first.now c.args.second.now c.leaves.ensures.ordered c.leaves-2.ensures.ordered _
+    (returns-then-ne-clause-comes g c))
+
+pub returns-then-same_entries-clause-exact : goal.returns-then-same_entries-clause-exact
+returns-then-same_entries-clause-exact g c = sym (comes-compared g.H.PairHash.pair_of
+    c.args.first.now c.args.second.now c.leaves.ensures.ordered c.leaves-2.ensures.ordered _
+    (returns-then-same_entries-clause-comes g c))
+
+pub returns-clause-exact : goal.returns-clause-exact
+returns-clause-exact g c = sym (comes-compared g.H.PairHash.pair_of
+    c.args.first.now c.args.second.now c.leaves.ensures.ordered c.leaves-2.ensures.ordered _
+    (returns-clause-comes g c))
