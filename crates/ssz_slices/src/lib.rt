@@ -9,6 +9,7 @@
 //! defines by sums of lengths. No call takes memory.
 #![tactic(auto)]
 
+mod encoding;
 mod held;
 mod law;
 mod ranges;
@@ -16,5 +17,6 @@ mod reading;
 mod slice;
 mod steps;
 
+pub use encoding::Encoding;
 pub use law::places_hold_encodings;
 pub use slice::Slice;

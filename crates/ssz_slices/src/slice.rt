@@ -3,8 +3,10 @@ ghost use Rattle.ssz_schema.specs.declared.path.PathStep.TheVariants.{Field, Ind
 ghost use Rattle.ssz_schema.specs.Unfolding.{type_of};
 ghost use Rattle.ssz_value.specs.Encoding.{enc};
 ghost use Rattle.ssz_value.specs.Laws.{Encodes};
+ghost use Rattle.ssz_slices.specs.Written.{written};
 ghost use Rattle.ssz_slices.specs.Part.{opened, reached, bytes_at, len_of, selector_of, uint_of, boolean_of};
 
+use super::encoding::{Encoding, bit_encoding, length_encoding};
 use super::held::Held;
 use super::reading::{boolean_in, len_in, selector_in, uint_in};
 use super::steps::{field_part, moved, step_from};
@@ -139,6 +141,18 @@ impl<'s, 'b> Slice<'s, 'b> {
         match self.held {
             Held::Bytes(from, to) => Some(&self.input[from..to]),
             Held::Bit(_) | Held::Count(_) => None,
+        }
+    }
+
+    /// The encoding of the part: its bytes of the input, and those of a bit or a length, which have
+    /// none there, made.
+    pub fn encoding(&self) -> Encoding<'b>
+        ensures { written result ≡ enc self.now.form self.now.value }
+    {
+        match self.held {
+            Held::Bytes(from, to) => Encoding::Lent(&self.input[from..to]),
+            Held::Bit(bit) => bit_encoding(bit),
+            Held::Count(count) => length_encoding(count),
         }
     }
 
