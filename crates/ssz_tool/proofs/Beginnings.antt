@@ -1,12 +1,12 @@
 -- Commands that print no number for `hashes`, commands that end before their first step, and tasks
 -- that do the same.
-use Rattle.std.proofs.Common.{◌≡◌, ◌≢◌, ℕ, zero, suc, ◌+◌, ◌-◌, ◌≤◌, true, Bool, List, [], ◌∷◌, ◌++◌, Option, Some, None, inl, refl, sym, ap, subst, arith}
+use Rattle.std.proofs.Common.{◌≡◌, ◌≢◌, ℕ, zero, suc, ◌+◌, ◌-◌, ◌≤◌, true, Bool, List, [], ◌∷◌, ◌++◌, Option, Some, None, inl, refl, sym, subst, arith}
 use Rattle.std.specs.Prelude.{IsTrue}
 use Rattle.std.specs.List.{AllByRecursion}
 use Rattle.ssz_chunk.specs.Chunk.{CountsUp}
 use Rattle.ssz_outside.specs.Content.{Content}
 use Rattle.ssz_outside.specs.Job.{Job, Ends, IsFinished, StandsAt}
-use Rattle.ssz_outside.specs.Pieces.{Told, told_append}
+use Rattle.ssz_outside.specs.Pieces.{Told}
 use Rattle.ssz_outside.specs.declared.status.Status.{Status}
 use Rattle.ssz_outside.specs.declared.status.Status.TheVariants as status
 use Rattle.ssz_proof.specs.Calculation.{PairOf}
@@ -30,10 +30,10 @@ use Rattle.ssz_engine.specs.Scripts.{EndsRun, EndsScript, HasCounts, IsFresh, Sc
 use Rattle.ssz_engine.proofs.Reaching.{same_charges}
 use Rattle.ssz_engine.proofs.Replies.{said_number}
 use Rattle.ssz_engine.proofs.Scripts.{told_append-none}
-use Rattle.ssz_tool.specs.Jobs.{Task, says, roots, verifies, plays}
 use Rattle.ssz_tool.specs.Reached.{reached_of_task}
-use Rattle.ssz_tool.specs.Runs.{Does, job_of_line, job_of_task, pairs_of_task, rules_of, turns_of_task}
+use Rattle.ssz_tool.specs.Runs.{Does, job_of_line, job_of_print, job_of_task, pairs_of_task, rules_of, turns_of_task}
 use Rattle.ssz_tool.specs.Tasks.{DoesSame}
+use Rattle.ssz_tool.specs.ToDo.{Printed, printed, Task, says, prints, plays}
 use Rattle.ssz_tool.specs.declared.line.Line.{Line}
 
 -- no step prints a number
@@ -59,11 +59,11 @@ pub zero_table : (first : ℕ) → CountsUp 126 first (first + 126)
 zero_table first = record { rises = omega arith; at_most = omega arith; exact = λ few. refl }
 
 -- so a job of one line is done for no numbers
-pub line_does : (held : Content) (reads : Bool) (line : Line) (ended : Status) (first last : ℕ)
-    (old new : Told) → Ends ended (job_of_line held reads line) old new (Some held)
-    → Does (λ numbers. job_of_line held reads line) (λ numbers. []) ended first last
+pub line_does : (held : Content) (reads : Bool) (made : Printed) (ended : Status) (first last : ℕ)
+    (old new : Told) → Ends ended (job_of_print held reads made) old new (Some held)
+    → Does (λ numbers. job_of_print held reads made) (λ numbers. []) ended first last
     (λ job. Ends ended job old new (Some held))
-line_does held reads line ended first last old new ends = record {
+line_does held reads made ended first last old new ends = record {
   numbers = [];
   left = ends;
   base = first + 126;
@@ -78,7 +78,7 @@ pub line_does_as : (held : Content) (reads : Bool) (line wanted : Line) (ended :
     → Does (λ numbers. job_of_line held reads wanted) (λ numbers. []) ended first last
     (λ job. Ends ended job old new (Some held))
 line_does_as held reads line wanted ended first last old new is ends =
-    line_does held reads wanted ended first last old new
+    line_does held reads (printed wanted) ended first last old new
     (subst (λ (l : Line). Ends ended (job_of_line held reads l) old new (Some held)) is ends)
 
 -- before its first step a job has printed nothing, and the files are as they were
@@ -87,9 +87,7 @@ pub stands_first : (pair_of : PairOf) (numbers : List ℕ) (held : Content) (rea
     → StandsAt ((job_of_task pair_of numbers held reads task).at 0) told told (Some held)
 stands_first pair_of numbers held reads (says line) told =
     record { printed = told_append-none told; held = refl }
-stands_first pair_of numbers held reads (roots t bytes) told =
-    record { printed = told_append-none told; held = refl }
-stands_first pair_of numbers held reads (verifies root lists) told =
+stands_first pair_of numbers held reads (prints made most) told =
     record { printed = told_append-none told; held = refl }
 stands_first pair_of numbers held reads (plays type_named most script) told =
     record { printed = told_append-none told; held = refl }
@@ -97,8 +95,7 @@ stands_first pair_of numbers held reads (plays type_named most script) told =
 reads_first : (pair_of : PairOf) (numbers : List ℕ) (held : Content) (reads : Bool) (task : Task)
     → reads ≡ true → IsTrue ((job_of_task pair_of numbers held reads task).reads 0)
 reads_first pair_of numbers held reads (says line) is = is
-reads_first pair_of numbers held reads (roots t bytes) is = is
-reads_first pair_of numbers held reads (verifies root lists) is = is
+reads_first pair_of numbers held reads (prints made most) is = is
 reads_first pair_of numbers held reads (plays type_named most script) is = refl
 
 -- where no numbers are given, each that is printed is 0
@@ -139,8 +136,7 @@ zero_counts rules state script ended rise stopped = record {
 first_counts : (pair_of : PairOf) (held : Content) (task : Task) (ended : Status) (rise : ℕ)
     → ¬ IsFinished ended → HasCounts ended (turns_of_task pair_of [] held task) rise
 first_counts pair_of held (says line) ended rise stopped = no_counts ended rise
-first_counts pair_of held (roots t bytes) ended rise stopped = no_counts ended rise
-first_counts pair_of held (verifies root lists) ended rise stopped = no_counts ended rise
+first_counts pair_of held (prints made most) ended rise stopped = no_counts ended rise
 first_counts pair_of held (plays type_named most script) ended rise stopped =
     zero_counts (rules_of pair_of type_named most) (fresh held) script ended rise stopped
 

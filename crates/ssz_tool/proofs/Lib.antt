@@ -4,3 +4,4 @@ pub mod Verdicts
 pub mod Playing
 pub mod Beginnings
 pub mod PrintedProofs
+pub mod Encodings

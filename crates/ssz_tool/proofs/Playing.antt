@@ -7,8 +7,10 @@ use Rattle.ssz_schema.specs.Types.{SszType}
 use Rattle.ssz_schema.specs.Unfolding.{Types, known_in}
 use Rattle.ssz_schema_json.specs.Schema.{HasTypes, NamedTypes}
 use Rattle.ssz_words.specs.declared.commands.RunArgs.{RunArgs}
-use Rattle.ssz_tool.specs.Jobs.{Reading, accepted, says, plays, task_of_rules, task_of_script}
+use Rattle.ssz_tool.specs.Jobs.{task_of_rules, task_of_script}
 use Rattle.ssz_tool.specs.Reached.{reached_of_rules}
+use Rattle.ssz_tool.specs.Readings.{Reading, accepted}
+use Rattle.ssz_tool.specs.ToDo.{says, plays}
 use Rattle.ssz_tool.specs.declared.line.Line.TheVariants as line
 
 -- a script that is not too long is run

@@ -10,11 +10,12 @@ use Rattle.ssz_machine.specs.Rules.{Effect}
 use Rattle.ssz_machine.specs.Asking.{prove}
 use Rattle.ssz_machine.specs.Proofs.{LeadsTo}
 use Rattle.ssz_machine.proofs.Proving.{printed_proofs_lead_lem}
-use Rattle.ssz_tool.specs.Jobs.{line_of_root, task_of_lists}
+use Rattle.ssz_tool.specs.Jobs.{task_of_lists}
 use Rattle.ssz_tool.specs.PrintedProofs.{IsValidFor, PrintedProofsAreValid}
 use Rattle.ssz_tool.specs.Runs.{job_of_line, job_of_task}
+use Rattle.ssz_tool.specs.ToDo.{line_of_root}
 use Rattle.ssz_tool.specs.declared.line.Line.TheVariants as line
-use Rattle.ssz_tool.proofs.Verdicts.{task_of_proof-whole, IfOk-weaker}
+use Rattle.ssz_tool.proofs.Verdicts.{proof_in-whole, IfOk-weaker}
 
 same_root : (root made : List ℕ) → made ≡ root → line_of_root root made ≡ line.Valid
 same_root root made same = rw ((bytes_eq-Decides made root).1 same) refl
@@ -22,8 +23,8 @@ same_root root made same = rw ((bytes_eq-Decides made root).1 same) refl
 valid : (pair_of : PairOf) (root : List ℕ) (reply : Reply) → LeadsTo pair_of root reply
     → IsValidFor pair_of root reply
 valid pair_of root (Proof text) (lists, says, leads) = λ short numbers held reads.
-    ap (job_of_task pair_of numbers held reads)
-    (task_of_proof-whole root text text (refl, short) ∙ ap (task_of_lists root) says)
+    ap (λ o. job_of_task pair_of numbers held reads (task_of_lists root o))
+    (proof_in-whole text text (refl, short) ∙ says)
     ∙ ap (job_of_line held reads)
     (same_root root (calculated pair_of (known_of lists) 1) leads)
 valid pair_of root reply leads = absurd leads

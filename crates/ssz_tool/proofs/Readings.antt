@@ -8,8 +8,10 @@ use Rattle.ssz_schema.specs.Unfolding.{Types, known_in}
 use Rattle.ssz_schema_json.specs.Schema.{HasTypes, NamedTypes, schema_of_bytes}
 use Rattle.ssz_value.specs.Faults.{why}
 use Rattle.ssz_words.specs.declared.commands.RootArgs.{RootArgs}
-use Rattle.ssz_tool.specs.Jobs.{Reading, accepted, refused, reading_of, reading_of_schema, says, task_of_bytes, task_of_fault, task_of_type, task_of_reading}
+use Rattle.ssz_tool.specs.Jobs.{task_of_bytes, task_of_fault, task_of_type, task_of_reading}
 use Rattle.ssz_tool.specs.Reached.{reached_of_reading, reached_of_type}
+use Rattle.ssz_tool.specs.Readings.{Reading, accepted, refused, reading_of, reading_of_schema}
+use Rattle.ssz_tool.specs.ToDo.{says}
 use Rattle.ssz_tool.specs.declared.line.Line.TheVariants as line
 
 -- a schema file that is not too long gives what its bytes read as

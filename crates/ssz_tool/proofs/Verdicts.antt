@@ -1,14 +1,15 @@
--- What a proof file gives, by its length and its text.
-use Rattle.std.proofs.Common.{◌≡◌, ℕ, ◌<◌, ◌≤◌, ◌^◌, List, length, refl, sym, ap, Result, Ok, Err}
+-- What a proof file gives, by its length and its text, and tasks that do the same.
+use Rattle.std.proofs.Common.{◌≡◌, ℕ, ◌*◌, ◌<◌, ◌≤◌, ◌^◌, List, length, refl, sym, ap, ◌∙◌, Option, Some, None, Result, Ok, Err}
 use Rattle.std.specs.Prelude.{IfOk}
 use Rattle.std.proofs.lemmas.Bool.{lt-ltb, le-ltb}
-use Rattle.ssz_proof.specs.Multiproof.{Multiproof}
-use Rattle.ssz_proof.specs.Text.{IsReadAs, IsRefused}
+use Rattle.ssz_clash.proofs.Given.{compared-given}
+use Rattle.ssz_proof.specs.Multiproof.{Multiproof, IsProofOf}
 use Rattle.ssz_proof.specs.Judgement.{multiproof_of}
 use Rattle.ssz_proof.proofs.Judged.{multiproof_of-read, multiproof_of-refused, calculated-given, levels-given}
-use Rattle.ssz_tool.specs.Jobs.{Task, says, verifies, line_of_root, task_of_lists, task_of_proof}
+use Rattle.ssz_tool.specs.Readings.{proof_in}
 use Rattle.ssz_tool.specs.Runs.{job_of_line}
-use Rattle.ssz_tool.specs.Tasks.{DoesSame}
+use Rattle.ssz_tool.specs.Tasks.{DoesSame, IsProofIn, IsProofOfText}
+use Rattle.ssz_tool.specs.ToDo.{Task, verifies, compares, line_of_root}
 use Rattle.ssz_tool.specs.declared.line.Line.TheVariants as line
 
 pub DoesSame-equal : (meant made : Task) → meant ≡ made → DoesSame meant made
@@ -19,34 +20,54 @@ DoesSame-equal meant made same = rw same (record {
   pairs = λ pair_of held. refl;
 })
 
--- a proof that was read leads where the lists of its text lead
-pub DoesSame-read : (root text : List ℕ) (proof : Multiproof) → IsReadAs text proof
-    → DoesSame (task_of_lists root (multiproof_of text)) (verifies root proof)
-DoesSame-read root text proof is =
-    rw (multiproof_of-read text proof is) (record {
-      jobs = λ pair_of numbers held reads.
-          ap (λ made. job_of_line held reads (line_of_root root made))
-          (calculated-given pair_of is.lists proof is.is 1);
-      turns = λ pair_of numbers held. refl;
-      reached = λ pair_of held. refl;
-      pairs = λ pair_of held. sym (levels-given is.lists proof is.is);
-    })
-
-pub DoesSame-refused : (root text : List ℕ) → IsRefused text
-    → DoesSame (task_of_lists root (multiproof_of text)) (says line.BadProof)
-DoesSame-refused root text refused =
-    rw (multiproof_of-refused text refused) (DoesSame-equal _ _ refl)
+-- ---- proof files
 
 -- a proof file that is not too long gives what its text says
-pub task_of_proof-whole : (root held bytes : List ℕ) → (held ≡ bytes) × (length bytes ≤ 2 ^ 26)
-    → task_of_proof root held ≡ task_of_lists root (multiproof_of bytes)
-unfolding task_of_proof
-task_of_proof-whole root held bytes is = rw (is.0, le-ltb (2 ^ 26) (length bytes) is.1) refl
+pub proof_in-whole : (held bytes : List ℕ) → (held ≡ bytes) × (length bytes ≤ 2 ^ 26)
+    → proof_in held ≡ multiproof_of bytes
+unfolding proof_in
+proof_in-whole held bytes is = rw (is.0, le-ltb (2 ^ 26) (length bytes) is.1) refl
 
-pub task_of_proof-too_long : (root held : List ℕ) → 2 ^ 26 < length held
-    → task_of_proof root held ≡ says line.BadProof
-unfolding task_of_proof
-task_of_proof-too_long root held long = rw (lt-ltb (2 ^ 26) (length held) long) refl
+pub proof_in-too_long : (held : List ℕ) → 2 ^ 26 < length held → proof_in held ≡ None
+unfolding proof_in
+proof_in-too_long held long = rw (lt-ltb (2 ^ 26) (length held) long) refl
+
+-- so it gives the proof that was read from it
+pub IsProofIn-text : (held text : List ℕ) → (held ≡ text) × (length text ≤ 2 ^ 26)
+    → (result : Option Multiproof) → IsProofOfText text result → IsProofIn held result
+IsProofIn-text held text is None refused =
+    proof_in-whole held text is ∙ multiproof_of-refused text refused
+IsProofIn-text held text is (Some proof) read = (
+  read.lists,
+  proof_in-whole held text is ∙ multiproof_of-read text proof read,
+  read.is,
+)
+
+-- ---- tasks over proofs
+
+-- a proof leads where the lists lead that it is made of
+pub verifies-given : (root : List ℕ) (lists proof : Multiproof) → IsProofOf lists proof
+    → DoesSame (verifies root lists) (verifies root proof)
+verifies-given root lists proof is = record {
+  jobs = λ pair_of numbers held reads.
+      ap (λ made. job_of_line held reads (line_of_root root made))
+      (calculated-given pair_of lists proof is 1);
+  turns = λ pair_of numbers held. refl;
+  reached = λ pair_of held. refl;
+  pairs = λ pair_of held. sym (levels-given lists proof is);
+}
+
+-- and two proofs come to what the lists come to that they are made of
+pub compares-given : (lists one others other : Multiproof) → IsProofOf lists one
+    → IsProofOf others other → DoesSame (compares lists others) (compares one other)
+compares-given lists one others other is also = record {
+  jobs = λ pair_of numbers held reads.
+      ap (λ result. job_of_line held reads (line.Compared result))
+      (compared-given pair_of lists one others other is also);
+  turns = λ pair_of numbers held. refl;
+  reached = λ pair_of held. refl;
+  pairs = λ pair_of held. ap (λ n. 2 * n) (sym (levels-given lists one is));
+}
 
 -- what is so of each value is so of the one that is there
 pub IfOk-weaker : {T E : Type 0} (P Q : T → Type 0) → ((x : T) → P x → Q x) → (result : Result T E)

@@ -1,6 +1,11 @@
 -- The texts of the printed lines, and their statuses (this project's).
-use Rattle.std.specs.Prelude.{ℕ, List, [], ◌∷◌, ◌++◌, Bool, true, false, codes, decimal}
+use Rattle.std.specs.Prelude.{ℕ, List, [], ◌∷◌, ◌++◌, Bool, true, false, codes, decimal, Result, Ok, Err}
 use Rattle.hex.specs.Hex.{encode_lower}
+use Rattle.ssz_chunk.specs.declared.Chunk.{Chunk}
+use Rattle.ssz_clash.specs.declared.finding.Clash.{Clash}
+use Rattle.ssz_clash.specs.declared.finding.Clash.TheVariants.{Same, Unlike}
+use Rattle.ssz_clash.specs.declared.fault.ClashFault.{ClashFault}
+use Rattle.ssz_clash.specs.declared.fault.ClashFault.TheVariants.{OtherIndices, OtherRoot}
 use Rattle.ssz_outside.specs.declared.status.Status.{Status}
 use Rattle.ssz_outside.specs.declared.status.Status.TheVariants as status
 use Rattle.ssz_schema.specs.FaultCodes.{code_of}
@@ -31,11 +36,31 @@ root_text chunk = ended (codes "root 0x" ++ encode_lower chunk)
 abbrev pub unlike_text : List ℕ → List ℕ
 unlike_text chunk = ended (codes "unlike 0x" ++ encode_lower chunk)
 
+-- the line of an encoding
+abbrev pub bytes_text : List ℕ → List ℕ
+bytes_text bytes = ended (codes "bytes 0x" ++ encode_lower bytes)
+
+-- a space and a chunk
+abbrev pub chunk_word : Chunk → List ℕ
+chunk_word chunk = codes " 0x" ++ encode_lower chunk.0
+
+-- the line of what two proofs come to: of a clash its index, and the pairs below it of the first
+-- proof and of the second
+abbrev pub comparison_text : Result Clash ClashFault → List ℕ
+comparison_text (Ok Same) = ended (codes "same")
+comparison_text (Ok (Unlike index first second)) =
+    codes "clash " ++ (decimal index ++ (chunk_word first.0 ++ (chunk_word first.1
+    ++ (chunk_word second.0 ++ ended (chunk_word second.1)))))
+comparison_text (Err OtherIndices) = ended (codes "otherindices")
+comparison_text (Err (OtherRoot a b)) =
+    codes "otherroot" ++ (chunk_word a ++ ended (chunk_word b))
+
 -- the line that says how the program is used
 abbrev pub usage_text : List ℕ
 usage_text =
     codes "usage: ssz root SCHEMA TYPE FILE | run SCHEMA SCRIPT | weave SCHEMA BASE ORDER SCRIPT.."
-    ++ ended (codes " | verify ROOT FILE | work SCHEMA TYPE SEED EDITS")
+    ++ (codes " | verify ROOT FILE | work SCHEMA TYPE SEED EDITS | part SCHEMA TYPE FILE PATH"
+    ++ ended (codes " | partial SCHEMA TYPE PROOF SCRIPT | clash FILE FILE"))
 
 abbrev pub line_text : Line → List ℕ
 line_text line.Usage = usage_text
@@ -50,6 +75,16 @@ line_text (line.Root chunk) = root_text chunk.0
 line_text line.BadProof = ended (codes "badproof")
 line_text line.Valid = ended (codes "valid")
 line_text (line.Unlike chunk) = unlike_text chunk.0
+line_text line.BadPath = ended (codes "refused 0 5 BadPath")
+line_text line.Absent = ended (codes "refused 0 6 Absent")
+line_text line.FirstBadProof = ended (codes "badproof 1")
+line_text line.SecondBadProof = ended (codes "badproof 2")
+line_text (line.Compared result) = comparison_text result
+
+-- what two proofs come to is accepted where they can be compared
+abbrev pub comparison_status : Result Clash ClashFault → Status
+comparison_status (Ok clash) = status.Accepted
+comparison_status (Err fault) = status.Refused
 
 -- the status after a line was printed
 abbrev pub status_of : Line → Status
@@ -65,6 +100,11 @@ status_of (line.Root chunk) = status.Accepted
 status_of line.BadProof = status.Refused
 status_of line.Valid = status.Accepted
 status_of (line.Unlike chunk) = status.Refused
+status_of line.BadPath = status.Refused
+status_of line.Absent = status.Refused
+status_of line.FirstBadProof = status.Refused
+status_of line.SecondBadProof = status.Refused
+status_of (line.Compared result) = comparison_status result
 
 -- whether a line says how the program is used
 abbrev pub is_usage : Line → Bool

@@ -9,8 +9,12 @@ use Rattle.ssz_proof.specs.Calculation.{PairOf}
 use Rattle.ssz_words.specs.declared.commands.RootArgs.{RootArgs}
 use Rattle.ssz_words.specs.declared.commands.RunArgs.{RunArgs}
 use Rattle.ssz_engine.specs.Scripts.{files_reached}
-use Rattle.ssz_tool.specs.Jobs.{Reading, accepted, refused, reading_of, Task, says, roots, verifies, plays, task_of}
+use Rattle.ssz_tool.specs.Clashes.{reached_of_clash}
+use Rattle.ssz_tool.specs.Jobs.{task_of}
+use Rattle.ssz_tool.specs.Parts.{reached_of_part}
+use Rattle.ssz_tool.specs.Readings.{Reading, accepted, refused, reading_of}
 use Rattle.ssz_tool.specs.Runs.{rules_of, turns_of_task}
+use Rattle.ssz_tool.specs.ToDo.{Task, says, prints, plays}
 use Rattle.ssz_tool.specs.Words.{taken}
 use Rattle.ssz_tool.specs.declared.words.Asked.{Asked}
 use Rattle.ssz_tool.specs.declared.words.Asked.TheVariants as asked
@@ -47,6 +51,8 @@ reached_of_asked held None = []
 reached_of_asked held (Some (asked.Root args)) = reached_of_root held args
 reached_of_asked held (Some (asked.Verify args)) = args.file ∷ []
 reached_of_asked held (Some (asked.Run args)) = reached_of_run held args
+reached_of_asked held (Some (asked.Part args path)) = reached_of_part held args path
+reached_of_asked held (Some (asked.Clash args)) = reached_of_clash held args
 
 -- the files of the words
 abbrev pub reached_first : Content → List (List ℕ) → List (List ℕ)
@@ -55,8 +61,7 @@ reached_first held words = reached_of_asked held (taken words)
 -- the files that the statements of a script read
 abbrev pub reached_of_task : PairOf → Content → Task → List (List ℕ)
 reached_of_task pair_of held (says line) = []
-reached_of_task pair_of held (roots t bytes) = []
-reached_of_task pair_of held (verifies root lists) = []
+reached_of_task pair_of held (prints made most) = []
 reached_of_task pair_of held (plays type_named most script) =
     files_reached (rules_of pair_of type_named most)
     (turns_of_task pair_of [] held (plays type_named most script))

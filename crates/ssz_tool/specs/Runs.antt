@@ -1,22 +1,19 @@
 -- The job of the program's words, and the pairs that it may hash.
-use Rattle.std.specs.Prelude.{ℕ, ◌+◌, ◌-◌, List, [], Bool, is_some, Option, sum_by}
+use Rattle.std.specs.Prelude.{ℕ, ◌+◌, ◌-◌, List, [], Bool, is_some, Option}
 use Rattle.ssz_chunk.specs.Chunk.{CountsUp}
-use Rattle.ssz_chunk.specs.Index.{levels}
 use Rattle.ssz_outside.specs.Content.{Content}
 use Rattle.ssz_outside.specs.Job.{Job, line_job}
 use Rattle.ssz_outside.specs.declared.status.Status.{Status}
-use Rattle.ssz_proof.specs.Calculation.{PairOf, indices_of}
+use Rattle.ssz_proof.specs.Calculation.{PairOf}
 use Rattle.ssz_schema.specs.Types.{SszType}
-use Rattle.ssz_value.specs.Pairs.{pairs}
-use Rattle.ssz_value.specs.Reading.{value_in}
 use Rattle.ssz_machine.specs.State.{fresh}
 use Rattle.ssz_machine.specs.Rules.{Rules}
 use Rattle.ssz_machine.specs.Machine.{Turn}
 use Rattle.ssz_machine.specs.Plays.{charges}
 use Rattle.ssz_machine.specs.Jobs.{after_reading, script_job, turns_of_script}
 use Rattle.ssz_engine.specs.Scripts.{HasCounts}
-use Rattle.ssz_tool.specs.Jobs.{Task, says, roots, verifies, plays, task_of, line_of_value, line_of_proof}
-use Rattle.ssz_tool.specs.Lines.{line_text, status_of}
+use Rattle.ssz_tool.specs.Jobs.{task_of}
+use Rattle.ssz_tool.specs.ToDo.{Printed, printed, Task, says, prints, plays}
 use Rattle.ssz_tool.specs.Words.{taken}
 use Rattle.ssz_tool.specs.declared.line.Line.{Line}
 
@@ -25,18 +22,18 @@ abbrev pub rules_of : PairOf → (List ℕ → Option SszType) → ℕ → Rules
 rules_of pair_of type_named most =
     record { type_named = type_named; max_bytes = most; pair_of = pair_of }
 
--- the job that prints a line, after it has read files or not
+-- the job that prints a text, after it has read files or not
+abbrev pub job_of_print : Content → Bool → Printed → Job
+job_of_print held reads made = line_job held reads made.text made.status
+
 abbrev pub job_of_line : Content → Bool → Line → Job
-job_of_line held reads line = line_job held reads (line_text line) (status_of line)
+job_of_line held reads line = job_of_print held reads (printed line)
 
 -- The job of a task, where `hashes` prints these numbers: the files of a script's words are read
 -- before its first statement.
 abbrev pub job_of_task : PairOf → List ℕ → Content → Bool → Task → Job
 job_of_task pair_of numbers held reads (says line) = job_of_line held reads line
-job_of_task pair_of numbers held reads (roots t bytes) =
-    job_of_line held reads (line_of_value pair_of t bytes)
-job_of_task pair_of numbers held reads (verifies root lists) =
-    job_of_line held reads (line_of_proof pair_of root lists)
+job_of_task pair_of numbers held reads (prints made most) = job_of_print held reads (made pair_of)
 job_of_task pair_of numbers held reads (plays type_named most script) =
     after_reading (script_job (rules_of pair_of type_named most) numbers (fresh held) script)
 
@@ -48,8 +45,7 @@ job_of pair_of words held numbers =
 -- the steps of a task's script
 abbrev pub turns_of_task : PairOf → List ℕ → Content → Task → List Turn
 turns_of_task pair_of numbers held (says line) = []
-turns_of_task pair_of numbers held (roots t bytes) = []
-turns_of_task pair_of numbers held (verifies root lists) = []
+turns_of_task pair_of numbers held (prints made most) = []
 turns_of_task pair_of numbers held (plays type_named most script) =
     turns_of_script (rules_of pair_of type_named most) numbers (fresh held) script
 
@@ -57,12 +53,11 @@ turns_of_task pair_of numbers held (plays type_named most script) =
 abbrev pub turns_of : PairOf → List (List ℕ) → Content → List ℕ → List Turn
 turns_of pair_of words held numbers = turns_of_task pair_of numbers held (task_of held words)
 
--- How many pairs a task may hash: 126 for the zero table, and those of the value, or the charges of
--- the statements; of a multiproof the levels of its leaves together.
+-- How many pairs a task may hash: of a script 126 for the zero table, and the charges of the
+-- statements.
 abbrev pub pairs_of_task : PairOf → Content → Task → ℕ
 pairs_of_task pair_of held (says line) = 0
-pairs_of_task pair_of held (roots t bytes) = 126 + pairs t (value_in t bytes)
-pairs_of_task pair_of held (verifies root lists) = sum_by levels (indices_of lists.leaves)
+pairs_of_task pair_of held (prints made most) = most
 pairs_of_task pair_of held (plays type_named most script) =
     126 + charges (turns_of_task pair_of [] held (plays type_named most script))
 

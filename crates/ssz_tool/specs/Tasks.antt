@@ -1,15 +1,19 @@
 -- What the answers of the private calls stand for.
-use Rattle.std.specs.Prelude.{◌≡◌, ℕ, ◌<◌, ◌≤◌, ◌^◌, List, length, Bool, false, Option, None, Result, Ok, Err, ⊤}
+use Rattle.std.specs.Prelude.{◌≡◌, ℕ, ◌<◌, ◌≤◌, ◌^◌, List, length, Bool, false, Option, Some, None, Result, Ok, Err, ⊤, string_bytes}
 use Rattle.ssz_outside.specs.Content.{Content}
 use Rattle.ssz_outside.specs.Outcome.{Rose}
+use Rattle.ssz_outside.specs.declared.status.Status.TheVariants as status
 use Rattle.ssz_proof.specs.Calculation.{PairOf}
+use Rattle.ssz_proof.specs.Multiproof.{Multiproof, IsProofOf}
+use Rattle.ssz_proof.specs.Text.{IsReadAs, IsRefused}
 use Rattle.ssz_schema.specs.Unfolding.{known_in, type_of}
 use Rattle.ssz_schema_json.specs.Schema.{HasTypes, NamedTypes}
 use Rattle.ssz_bytes.specs.declared.fault.Fault.{Fault}
 use Rattle.ssz_value.specs.Faults.{why}
-use Rattle.ssz_tool.specs.Jobs as job
 use Rattle.ssz_tool.specs.Reached.{reached_of_task}
+use Rattle.ssz_tool.specs.Readings as given
 use Rattle.ssz_tool.specs.Runs.{job_of_task, pairs_of_task, turns_of_task}
+use Rattle.ssz_tool.specs.ToDo as job
 use Rattle.ssz_tool.specs.declared.job.Loaded.{Loaded}
 use Rattle.ssz_tool.specs.declared.job.Loaded.TheVariants as loaded
 use Rattle.ssz_tool.specs.declared.job.Reading.{Reading}
@@ -36,19 +40,33 @@ CountsStop (Err stop.Read) before now = Rose before now
 CountsStop (Err stop.Memory) before now = now ≡ before
 
 -- what a schema file gave is what it was to give
-abbrev pub StandsFor : job.Reading → Reading → Type 0
+abbrev pub StandsFor : given.Reading → Reading → Type 0
 StandsFor meant (reading.Accepted schema) =
-    (names : NamedTypes) × (meant ≡ job.accepted names) × HasTypes schema names
-StandsFor meant (reading.Refused line) = meant ≡ job.refused line
+    (names : NamedTypes) × (meant ≡ given.accepted names) × HasTypes schema names
+StandsFor meant (reading.Refused line) = meant ≡ given.refused line
 
 abbrev pub IsNoUsage : Reading → Type 0
 IsNoUsage (reading.Accepted schema) = ⊤
-IsNoUsage (reading.Refused line) = job.is_usage_reading (job.refused line) ≡ false
+IsNoUsage (reading.Refused line) = given.is_usage_reading (given.refused line) ≡ false
+
+-- the proof that a text says, or none where it says none
+abbrev pub IsProofOfText : List ℕ → Option Multiproof → Type 0
+IsProofOfText text None = IsRefused text
+IsProofOfText text (Some proof) = IsReadAs text proof
+
+-- the proof of the lists that a file says, or none where it says none
+abbrev pub IsProofIn : List ℕ → Option Multiproof → Type 0
+IsProofIn bytes None = given.proof_in bytes ≡ None
+IsProofIn bytes (Some proof) =
+    (lists : Multiproof) × (given.proof_in bytes ≡ Some lists) × IsProofOf lists proof
 
 abbrev pub task_view : Task → job.Task
 task_view (task.Says line) = job.says line
+task_view (task.Text text) = job.prints (λ pair_of.
+    record { text = string_bytes text; status = status.Accepted }) 0
 task_view (task.Root schema id bytes) = job.roots (type_of schema id) bytes.items
 task_view (task.Verify root proof) = job.verifies root.0 proof
+task_view (task.Clash one other) = job.compares one other
 task_view (task.Script schema most script) = job.plays (known_in schema) most script.items
 
 -- Two tasks that do the same, whatever hasher there is: their jobs, their steps, the files that
@@ -71,8 +89,10 @@ pub record IsFaultless (trees : ℕ) (id : ℕ) (fault : Option Fault) (count : 
 
 abbrev pub IsReady : Task → Type 0
 IsReady (task.Says line) = ⊤
+IsReady (task.Text text) = ⊤
 IsReady (task.Root schema id bytes) =
     IsFaultless (length schema.trees) id (why (type_of schema id) 0 bytes.items)
     (length bytes.items)
 IsReady (task.Verify root proof) = ⊤
+IsReady (task.Clash one other) = ⊤
 IsReady (task.Script schema most script) = ⊤

@@ -6,12 +6,16 @@ ghost use Rattle.ssz_outside.specs.Content.{contents};
 ghost use Rattle.ssz_schema.specs.Unfolding.{type_of, known_in};
 ghost use Rattle.ssz_schema_json.specs.Schema.{schema_of_bytes};
 ghost use Rattle.ssz_value.specs.Faults.{why};
-ghost use Rattle.ssz_tool.specs.Jobs.{reading_of_schema, reading_of, task_of_fault, task_of_bytes, task_of_type, task_of_root, task_of, task_of_asked, is_script, is_usage_task};
+ghost use Rattle.ssz_tool.specs.Jobs.{task_of_fault, task_of_bytes, task_of_type, task_of_root, task_of, task_of_asked};
+ghost use Rattle.ssz_tool.specs.Readings.{reading_of_schema, reading_of};
 ghost use Rattle.ssz_tool.specs.Reached.{reached_first, reached_of_asked, reached_of_root, reached_of_type};
 ghost use Rattle.ssz_tool.specs.Tasks.{Loads, IsWithin, CountsStop, StandsFor, IsNoUsage, IsReady, DoesSame, task_view};
+ghost use Rattle.ssz_tool.specs.ToDo.{is_script, is_usage_task};
 ghost use Rattle.ssz_tool.specs.Words.{AreReadable, runs_script, taken, texts};
 
+use crate::clashes::task_of_clash;
 use crate::line::Line;
+use crate::parts::task_of_part;
 use crate::scripts::task_of_run;
 use crate::verifying::task_of_verify;
 use crate::words::{Asked, read_asked};
@@ -49,10 +53,14 @@ pub enum Reading {
 #[derive(Drop)]
 pub enum Task {
     Says(Line),
+    /// A line to print, after which the program ends as accepted.
+    Text(String),
     /// The root of the value of a type that these bytes encode.
     Root(Schema, TypeId, Vec<u8>),
     /// Whether a proof leads to this root.
     Verify(Chunk, Proof),
+    /// What two proofs come to.
+    Clash(Proof, Proof),
     /// The run of a script over these types, with the most bytes of a value.
     Script(Schema, u32, Vec<u8>),
 }
@@ -224,6 +232,8 @@ fn task_of_asked<F: Files>(alloc: Global, files: &mut F, asked: &Asked) -> Resul
         Asked::Root(args) => task_of_root(alloc, files, args),
         Asked::Verify(args) => task_of_verify(alloc, files, args),
         Asked::Run(args) => task_of_run(alloc, files, args),
+        Asked::Part(args, path) => task_of_part(alloc, files, args, path.as_slice()),
+        Asked::Clash(args) => task_of_clash(alloc, files, args),
     }
 }
 

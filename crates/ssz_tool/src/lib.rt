@@ -1,13 +1,16 @@
 //! The program over files, a sink and a hasher.
 //!
-//! `run` is the top call: the words give a task by reading files (`job`, `verifying`, `scripts`),
-//! and the task gives a line by hashing, which is said, or runs a script (`top`). The main theorem
-//! stands on `run`.
+//! `run` is the top call: the words give a task by reading files (`job`, and a file for each
+//! further command), and the task gives a line, which is said, or runs a script (`top`). The main
+//! theorem stands on `run`.
 #![tactic(auto)]
 
+mod clashes;
 mod job;
 mod laws;
 mod line;
+mod parts;
+mod proof_file;
 mod scripts;
 mod top;
 mod verifying;

@@ -1,10 +1,14 @@
 // The lines that the program prints, and its statuses.
-ghost use Rattle.std.specs.Prelude.{◌≡◌, ◌↔◌, IsTrue, IfOk, string_bytes};
+ghost use Rattle.std.specs.Prelude.{◌≡◌, ◌↔◌, IsTrue, IfOk, Ok, Err, string_bytes};
+ghost use Rattle.ssz_clash.specs.declared.finding.Clash.TheVariants.{Unlike};
+ghost use Rattle.ssz_clash.specs.declared.fault.ClashFault.TheVariants.{OtherRoot};
 ghost use Rattle.ssz_outside.specs.Job.{IsFinished};
-ghost use Rattle.ssz_tool.specs.Lines.{definition_text, fault_text, root_text, unlike_text, line_text, status_of, is_usage};
+ghost use Rattle.ssz_tool.specs.Lines.{bytes_text, comparison_status, comparison_text, definition_text, fault_text, root_text, unlike_text, line_text, status_of, is_usage};
 
 use ssz_bytes::Fault;
 use ssz_chunk::Chunk;
+use ssz_clash::{Clash, ClashFault};
+use ssz_gindex::Gindex;
 use ssz_outside::Status;
 use ssz_schema::SchemaFault;
 use std::alloc::{AllocError, Global};
@@ -36,6 +40,16 @@ pub enum Line {
     Valid,
     /// The root that the proof leads to, which is another.
     Unlike(Chunk),
+    /// The path does not fit the type.
+    BadPath,
+    /// The part is not there in the value.
+    Absent,
+    /// The first of two files is no proof, or longer than 2^26 bytes.
+    FirstBadProof,
+    /// The second is none.
+    SecondBadProof,
+    /// What two proofs come to.
+    Compared(Result<Clash, ClashFault>),
 }
 
 /// The text of a line, with its line feed.
@@ -55,11 +69,17 @@ pub fn line_text(alloc: Global, line: &Line) -> Result<String, AllocError>
         Line::BadProof => String::from_str(alloc, "badproof\n"),
         Line::Valid => String::from_str(alloc, "valid\n"),
         Line::Unlike(chunk) => unlike_text(alloc, chunk),
+        Line::BadPath => String::from_str(alloc, "refused 0 5 BadPath\n"),
+        Line::Absent => String::from_str(alloc, "refused 0 6 Absent\n"),
+        Line::FirstBadProof => String::from_str(alloc, "badproof 1\n"),
+        Line::SecondBadProof => String::from_str(alloc, "badproof 2\n"),
+        Line::Compared(found) => comparison_text(alloc, found),
     }
 }
 
 const USAGE: &str = "usage: ssz root SCHEMA TYPE FILE | run SCHEMA SCRIPT \
-    | weave SCHEMA BASE ORDER SCRIPT.. | verify ROOT FILE | work SCHEMA TYPE SEED EDITS\n";
+    | weave SCHEMA BASE ORDER SCRIPT.. | verify ROOT FILE | work SCHEMA TYPE SEED EDITS \
+    | part SCHEMA TYPE FILE PATH | partial SCHEMA TYPE PROOF SCRIPT | clash FILE FILE\n";
 
 fn definition_text(alloc: Global, number: usize, fault: SchemaFault) -> Result<String, AllocError>
     ensures { IfOk result (λ text. string_bytes text ≡ definition_text number fault) }
@@ -92,6 +112,60 @@ fn unlike_text(alloc: Global, chunk: &Chunk) -> Result<String, AllocError>
     format!(in alloc; "unlike 0x{digits}\n")
 }
 
+/// The line of an encoding, with its line feed.
+pub fn bytes_text(alloc: Global, bytes: &[u8]) -> Result<String, AllocError>
+    ensures { IfOk result (λ text. string_bytes text ≡ bytes_text bytes.now) }
+{
+    let digits = hex::encode(alloc, bytes)?;
+    let digits = digits.as_str();
+    format!(in alloc; "bytes 0x{digits}\n")
+}
+
+fn comparison_text(alloc: Global, found: &Result<Clash, ClashFault>) -> Result<String, AllocError>
+    ensures { IfOk result (λ text. string_bytes text ≡ comparison_text found.now) }
+{
+    match found {
+        Ok(Clash::Same) => String::from_str(alloc, "same\n"),
+        Ok(
+            Clash::Unlike {
+                index,
+                first,
+                second,
+            },
+        ) => clash_text(alloc, *index, first, second),
+        Err(ClashFault::OtherIndices) => String::from_str(alloc, "otherindices\n"),
+        Err(ClashFault::OtherRoot(a, b)) => other_root_text(alloc, a, b),
+    }
+}
+
+fn clash_text(
+    alloc: Global,
+    index: Gindex,
+    first: &(Chunk, Chunk),
+    second: &(Chunk, Chunk),
+) -> Result<String, AllocError>
+    ensures { IfOk result (λ text. string_bytes text
+        ≡ comparison_text (Ok (Unlike index first.now second.now))) }
+{
+    let index = index.get();
+    let a = hex::encode(alloc, first.0.0.as_slice())?;
+    let b = hex::encode(alloc, first.1.0.as_slice())?;
+    let c = hex::encode(alloc, second.0.0.as_slice())?;
+    let d = hex::encode(alloc, second.1.0.as_slice())?;
+    let (a, b, c, d) = (a.as_str(), b.as_str(), c.as_str(), d.as_str());
+    format!(in alloc; "clash {index} 0x{a} 0x{b} 0x{c} 0x{d}\n")
+}
+
+fn other_root_text(alloc: Global, a: &Chunk, b: &Chunk) -> Result<String, AllocError>
+    ensures { IfOk result (λ text. string_bytes text
+        ≡ comparison_text (Err (OtherRoot a.now b.now))) }
+{
+    let a = hex::encode(alloc, a.0.as_slice())?;
+    let b = hex::encode(alloc, b.0.as_slice())?;
+    let (a, b) = (a.as_str(), b.as_str());
+    format!(in alloc; "otherroot 0x{a} 0x{b}\n")
+}
+
 /// The status after a line was printed.
 pub fn status_of(line: &Line) -> Status
     ensures value { result ≡ status_of line.now }
@@ -103,9 +177,13 @@ pub fn status_of(line: &Line) -> Status
         Line::SchemaTooLong | Line::NotJson | Line::Shape | Line::Definition(_, _) => {
             Status::SchemaFault
         }
-        Line::NoType | Line::TooLong | Line::Invalid(_) | Line::BadProof | Line::Unlike(_) => {
+        Line::NoType | Line::TooLong | Line::Invalid(_) | Line::BadPath | Line::Absent => {
             Status::Refused
         }
-        Line::Root(_) | Line::Valid => Status::Accepted,
+        Line::BadProof | Line::FirstBadProof | Line::SecondBadProof | Line::Unlike(_) => {
+            Status::Refused
+        }
+        Line::Compared(Err(_)) => Status::Refused,
+        Line::Root(_) | Line::Valid | Line::Compared(Ok(_)) => Status::Accepted,
     }
 }

@@ -5,10 +5,11 @@ ghost use Rattle.std.specs.Option.{ForSome};
 ghost use Rattle.ssz_outside.specs.Content.{contents};
 ghost use Rattle.ssz_outside.specs.Job.{Ends, CountsRun};
 ghost use Rattle.ssz_schema.specs.Unfolding.{known_in};
-ghost use Rattle.ssz_tool.specs.Jobs.{is_usage_task, plays, task_of_run, task_of_script};
+ghost use Rattle.ssz_tool.specs.Jobs.{task_of_run, task_of_script};
 ghost use Rattle.ssz_tool.specs.Reached.{reached_of_run, reached_of_task};
 ghost use Rattle.ssz_tool.specs.Runs.{Does, job_of_task, pairs_of_task, turns_of_task};
 ghost use Rattle.ssz_tool.specs.Tasks.{CountsStop, IsReady, task_view};
+ghost use Rattle.ssz_tool.specs.ToDo.{is_usage_task, plays};
 
 use crate::job::{Loaded, Reading, Stop, Task, load, read_schema_file};
 use crate::line::Line;

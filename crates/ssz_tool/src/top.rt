@@ -8,11 +8,11 @@ ghost use Rattle.ssz_outside.specs.Outcome.{Rose};
 ghost use Rattle.ssz_outside.specs.Job.{Ends, Finishes, CountsRun, IsThatOrStopped};
 ghost use Rattle.ssz_proof.specs.Calculation.{indices_of};
 ghost use Rattle.ssz_schema.specs.Unfolding.{type_of};
-ghost use Rattle.ssz_tool.specs.Jobs.{is_script, is_usage_task, line_of_proof, line_of_value};
 ghost use Rattle.ssz_tool.specs.Lines.{is_usage, status_of};
 ghost use Rattle.ssz_tool.specs.Reached.{reached, reached_of_task};
 ghost use Rattle.ssz_tool.specs.Runs.{Does, job_of, job_of_line, job_of_task, pairs_allowed, pairs_of_task, turns_of, turns_of_task};
 ghost use Rattle.ssz_tool.specs.Tasks.{IsFaultless, IsReady, task_view};
+ghost use Rattle.ssz_tool.specs.ToDo.{is_script, is_usage_task, line_of_proof, line_of_value};
 ghost use Rattle.ssz_tool.specs.Words.{AreReadable, taken, texts};
 ghost use Rattle.ssz_value.specs.Faults.{why};
 ghost use Rattle.ssz_value.specs.Pairs.{pairs};
@@ -22,6 +22,7 @@ use crate::job::{Stop, Task, task_of};
 use crate::line::{Line, line_text, status_of};
 use crate::scripts::run_script;
 use ssz_chunk::{Chunk, PairHash, ZeroTable};
+use ssz_clash::clash;
 use ssz_outside::{Files, Sink, Status, say_line};
 use ssz_proof::{Proof, calc};
 use ssz_roots::root_of_bytes;
@@ -95,12 +96,17 @@ fn do_task<F: Files, S: Sink, H: PairHash>(
 {
     match task {
         Task::Says(line) => print_line(alloc, &line, out),
+        Task::Text(text) => say_line(text.as_str(), Status::Accepted, out),
         Task::Root(schema, id, bytes) => {
             let line = line_of_value(&schema, id, &bytes, hasher);
             print_line(alloc, &line, out)
         }
         Task::Verify(root, proof) => {
             let line = line_of_proof(&root, &proof, hasher);
+            print_line(alloc, &line, out)
+        }
+        Task::Clash(one, other) => {
+            let line = Line::Compared(clash(&one, &other, hasher));
             print_line(alloc, &line, out)
         }
         Task::Script(schema, max, script) => {

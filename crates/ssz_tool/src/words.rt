@@ -1,8 +1,12 @@
 // The words that the program takes.
 ghost use Rattle.std.specs.Prelude.{◌≡◌, IfOk, Some};
-ghost use Rattle.ssz_tool.specs.Words.{standing, taken, texts};
+ghost use Rattle.ssz_tool.specs.Words.{part_asked, standing, taken, texts};
 
-use ssz_words::{Command, RootArgs, RunArgs, VerifyArgs, WordsFault, read_words};
+use ssz_line::{LineFault, read_path};
+use ssz_schema::Steps;
+use ssz_words::{
+    ClashArgs, Command, PartArgs, RootArgs, RunArgs, VerifyArgs, WordsFault, read_words,
+};
 use std::alloc::{AllocError, Global};
 
 /// A command whose part of the program stands, with its arguments.
@@ -11,18 +15,33 @@ pub enum Asked {
     Root(RootArgs),
     Verify(VerifyArgs),
     Run(RunArgs),
+    /// With the path that the last word spells.
+    Part(PartArgs, Steps),
+    Clash(ClashArgs),
+}
+
+// Words of `part` are taken where the last one is a path.
+fn part_asked(alloc: Global, args: PartArgs) -> Result<Option<Asked>, AllocError>
+    ensures { IfOk result (λ asked. asked ≡ part_asked args) }
+{
+    match read_path(alloc, args.path.as_str().as_bytes()) {
+        Ok(path) => Ok(Some(Asked::Part(args, path))),
+        Err(LineFault::Syntax) => Ok(None),
+        Err(LineFault::Memory) => Err(AllocError),
+    }
 }
 
 // Another command joins here.
-fn standing(command: Command) -> Option<Asked>
-    ensures { result ≡ standing (Some command) }
+fn standing(alloc: Global, command: Command) -> Result<Option<Asked>, AllocError>
+    ensures { IfOk result (λ asked. asked ≡ standing (Some command)) }
 {
     match command {
-        Command::Root(args) => Some(Asked::Root(args)),
-        Command::Verify(args) => Some(Asked::Verify(args)),
-        Command::Run(args) => Some(Asked::Run(args)),
-        Command::Weave(_) => None,
-        Command::Work(_) => None,
+        Command::Root(args) => Ok(Some(Asked::Root(args))),
+        Command::Verify(args) => Ok(Some(Asked::Verify(args))),
+        Command::Run(args) => Ok(Some(Asked::Run(args))),
+        Command::Part(args) => part_asked(alloc, args),
+        Command::Clash(args) => Ok(Some(Asked::Clash(args))),
+        Command::Weave(_) | Command::Work(_) | Command::Partial(_) => Ok(None),
     }
 }
 
@@ -31,7 +50,7 @@ pub fn read_asked(alloc: Global, words: &[String]) -> Result<Option<Asked>, Allo
     ensures { IfOk result (λ asked. asked ≡ taken (texts words.now)) }
 {
     match read_words(alloc, words) {
-        Ok(command) => Ok(standing(command)),
+        Ok(command) => standing(alloc, command),
         Err(WordsFault::NotTaken) => Ok(None),
         Err(WordsFault::Memory) => Err(AllocError),
     }

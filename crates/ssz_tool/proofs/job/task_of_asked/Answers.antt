@@ -1,5 +1,6 @@
-use Rattle.std.proofs.Common.{◌≡◌}
+use Rattle.std.proofs.Common.{◌≡◌, sym}
 use Rattle.ssz_tool.specs.Jobs.{task_of_root, task_of_run}
+use Rattle.ssz_tool.specs.Parts.{task_of_part}
 use Rattle.ssz_tool.specs.Tasks.{DoesSame, task_view}
 use Rattle.ssz_tool.proofs.Verdicts.{DoesSame-equal, IfOk-weaker}
 use Rattle.ssz_tool.proofs.job.task_of_asked.Goals as goal
@@ -19,3 +20,11 @@ returns-in-Run-clause-read g c = λ held told.
     (λ task. DoesSame (task_of_run held c.in-Run.args) (task_view task))
     (λ task same. DoesSame-equal _ _ same) c.task_of_run.result
     (c.task_of_run.ensures.read held told))
+
+pub returns-in-Part-clause-read : goal.returns-in-Part-clause-read
+returns-in-Part-clause-read g c = λ held told.
+    rw (c.in-Part.is, sym c.as_slice.ensures)
+    (IfOk-weaker (λ task. task_of_part held c.in-Part.args c.as_slice.result.now ≡ task_view task)
+    (λ task. DoesSame (task_of_part held c.in-Part.args c.as_slice.result.now) (task_view task))
+    (λ task same. DoesSame-equal _ _ same) c.task_of_part.result
+    (c.task_of_part.ensures.read held told))

@@ -1,5 +1,5 @@
 use Rattle.ssz_schema.specs.Unfolding.{known_in}
-use Rattle.ssz_tool.specs.Jobs.{plays}
+use Rattle.ssz_tool.specs.ToDo.{plays}
 use Rattle.ssz_tool.proofs.Beginnings.{all_readable, script_does, script_pairs, script_reached, wants_memory_first, zero_table}
 use Rattle.ssz_tool.proofs.scripts.run_script.Goals as goal
 

@@ -1,15 +1,26 @@
 use Rattle.std.proofs.Common.{sym, ap, ◌∙◌}
+use Rattle.ssz_clash.specs.Compared.{compared}
+use Rattle.ssz_outside.specs.declared.status.Status.TheVariants.{Accepted}
 use Rattle.ssz_schema.specs.Unfolding.{type_of}
-use Rattle.ssz_tool.specs.Jobs.{line_of_value}
+use Rattle.ssz_tool.specs.ToDo.{line_of_value, printed}
+use Rattle.ssz_tool.specs.declared.line.Line.TheVariants.{Compared}
 use Rattle.ssz_tool.proofs.Beginnings.{line_does, line_does_as}
 use Rattle.ssz_tool.proofs.top.do_task.Goals as goal
 
 pub returns-in-Says-clause-ends : goal.returns-in-Says-clause-ends
 returns-in-Says-clause-ends g c = λ reads held told.
-    rw (told, c.in-Says.is) (line_does held reads c.in-Says.line c.print_line.result
+    rw (told, c.in-Says.is) (line_does held reads (printed c.in-Says.line) c.print_line.result
     (g.H.PairHash.pairs c.args.hasher.now) (g.H.PairHash.pairs c.args.hasher.now)
     (g.S.Sink.pieces c.args.out.now) (g.S.Sink.pieces c.print_line.new.out)
     (c.print_line.ensures.ends held reads))
+
+pub returns-in-Text-clause-ends : goal.returns-in-Text-clause-ends
+returns-in-Text-clause-ends g c = λ reads held told.
+    rw (told, c.in-Text.is, sym c.as_str.ensures.value) (line_does held reads
+    (record { text = c.as_str.result.now; status = Accepted }) c.say_line.result
+    (g.H.PairHash.pairs c.args.hasher.now) (g.H.PairHash.pairs c.args.hasher.now)
+    (g.S.Sink.pieces c.args.out.now) (g.S.Sink.pieces c.say_line.new.out)
+    (c.say_line.ensures.ends held reads))
 
 pub returns-in-Root-clause-ends : goal.returns-in-Root-clause-ends
 returns-in-Root-clause-ends g c = λ reads held told.
@@ -25,10 +36,19 @@ returns-in-Root-clause-ends g c = λ reads held told.
 pub returns-in-Verify-clause-ends : goal.returns-in-Verify-clause-ends
 returns-in-Verify-clause-ends g c = λ reads held told.
     rw (told, c.in-Verify.is, sym c.line_of_proof-line.ensures.value)
-    (line_does held reads c.line_of_proof-line.result c.print_line-in-Verify.result
+    (line_does held reads (printed c.line_of_proof-line.result) c.print_line-in-Verify.result
     (g.H.PairHash.pairs c.args.hasher.now) (g.H.PairHash.pairs c.line_of_proof-line.new.hasher)
     (g.S.Sink.pieces c.args.out.now) (g.S.Sink.pieces c.print_line-in-Verify.new.out)
     (c.print_line-in-Verify.ensures.ends held reads))
+
+pub returns-in-Clash-clause-ends : goal.returns-in-Clash-clause-ends
+returns-in-Clash-clause-ends g c = λ reads held told.
+    rw (told, c.in-Clash.is) (line_does_as held reads (Compared c.clash.result)
+    (Compared (compared g.H.PairHash.pair_of c.in-Clash.one c.in-Clash.other))
+    c.print_line-in-Clash.result
+    (g.H.PairHash.pairs c.args.hasher.now) (g.H.PairHash.pairs c.clash.new.hasher)
+    (g.S.Sink.pieces c.args.out.now) (g.S.Sink.pieces c.print_line-in-Clash.new.out)
+    (ap Compared c.clash.ensures.exact) (c.print_line-in-Clash.ensures.ends held reads))
 
 pub returns-in-Script-clause-ends : goal.returns-in-Script-clause-ends
 returns-in-Script-clause-ends g c = λ reads held told.

@@ -1,11 +1,12 @@
-use Rattle.std.proofs.Common.{sym, ◌∙◌}
+use Rattle.std.proofs.Common.{sym}
 use Rattle.ssz_tool.proofs.Taken.{taken-command, taken-none}
 use Rattle.ssz_tool.specs.Words.{texts}
 use Rattle.ssz_tool.proofs.words.read_asked.Goals as goal
 
 pub returns-in-Ok : goal.returns-in-Ok
-returns-in-Ok c = c.standing.ensures ∙ sym (taken-command (texts c.args.words.now)
-    c.in-Ok.command c.in-Ok.ensures.exact)
+returns-in-Ok c =
+    rw (taken-command (texts c.args.words.now) c.in-Ok.command c.in-Ok.ensures.exact)
+    c.standing.ensures
 
 pub returns-in-Err-NotTaken : goal.returns-in-Err-NotTaken
 returns-in-Err-NotTaken c = sym (taken-none (texts c.args.words.now)

@@ -1,0 +1,128 @@
+-- The encoding of a part, by what slices answer.
+use Rattle.std.proofs.Common.{◌≡◌, ℕ, ◌<◌, ◌≤◌, List, length, refl, sym, ap, ◌∙◌, Option, Some, None, Ok, Err}
+use Rattle.std.specs.Result.{result_map_both}
+use Rattle.std.proofs.lemmas.Bool.{lt-ltb, le-ltb}
+use Rattle.ssz_bytes.specs.declared.fault.Fault.{Fault}
+use Rattle.ssz_schema.specs.Paths.{Path, path_type}
+use Rattle.ssz_schema.specs.Types.{SszType}
+use Rattle.ssz_slices.specs.Part.{Part, opened, reached, whole, with_value}
+use Rattle.ssz_value.specs.Encoding.{enc}
+use Rattle.ssz_value.specs.Faults.{why}
+use Rattle.ssz_value.specs.Parts.{or_absent, part, part_or_fault}
+use Rattle.ssz_value.specs.Reading.{value_in}
+use Rattle.ssz_value.specs.Values.{SszValue}
+use Rattle.ssz_value.specs.declared.path_fault.PathFault.{PathFault}
+use Rattle.ssz_value.specs.declared.path_fault.PathFault.TheVariants.{Absent}
+use Rattle.ssz_tool.specs.Parts.{Forms, encoding_in, encoding_within}
+use Rattle.ssz_tool.specs.declared.line.Line.TheVariants as line
+
+-- the whole of bytes that has been opened
+opened-is : (t : SszType) (b : List ℕ) (found : Part) → Ok found ≡ opened t b
+    → (why t 0 b ≡ None) × (found ≡ whole t b)
+opened-is t b found is = by (why t 0 b) refl
+  where
+    by : (o : Option Fault) → why t 0 b ≡ o → (why t 0 b ≡ None) × (found ≡ whole t b)
+    by None none =
+        let at : Ok found ≡ Ok (whole t b) = is ∙ rw none refl in
+        let same : found ≡ whole t b = cc in
+        (none, same)
+    by (Some fault) some =
+        let at : Ok found ≡ Err fault = is ∙ rw some refl in
+        cc
+
+-- what is found at a path that fits
+pub record IsFound (t : SszType) (b : List ℕ) (path : Path) (form : SszType) (found : Part)
+    : Type 0 where
+  pub value : part t (value_in t b) path ≡ Some found.value
+  pub form_is : found.form ≡ form
+
+module _ (t : SszType) (b : List ℕ) (path : Path) (form : SszType)
+    (fits : path_type t path ≡ Some form) where
+  -- that the path fits is tested first
+  reached-by : (o : Option SszValue) → part t (value_in t b) path ≡ o
+      → reached (whole t b) path
+      ≡ result_map_both (with_value (whole t b) path) (λ fault. fault) (or_absent o)
+  reached-by o is =
+      let fitting : part_or_fault t (value_in t b) path ≡ or_absent (part t (value_in t b) path) =
+      rw fits refl in
+      ap (λ r. result_map_both (with_value (whole t b) path) (λ fault. fault) r)
+      (fitting ∙ ap or_absent is)
+
+  present : (found : Part) → Ok found ≡ reached (whole t b) path → IsFound t b path form found
+  present found is = by (part t (value_in t b) path) refl
+    where
+      by : (o : Option SszValue) → part t (value_in t b) path ≡ o → IsFound t b path form found
+      by None none =
+          let at : Ok found ≡ Err Absent = is ∙ reached-by None none in
+          cc
+      by (Some w) some =
+          let at : Ok found ≡ Ok (with_value (whole t b) path w) =
+          is ∙ reached-by (Some w) some in
+          let same : found ≡ with_value (whole t b) path w = cc in
+          record {
+            value = some ∙ ap (λ (p : Part). Some p.value) (sym same);
+            form_is = ap (λ (p : Part). p.form) same ∙ rw fits refl;
+          }
+
+  absent : (fault : PathFault) → Err fault ≡ reached (whole t b) path
+      → part t (value_in t b) path ≡ None
+  absent fault is = by (part t (value_in t b) path) refl
+    where
+      by : (o : Option SszValue) → part t (value_in t b) path ≡ o
+          → part t (value_in t b) path ≡ None
+      by None none = none
+      by (Some w) some =
+          let at : Err fault ≡ Ok (with_value (whole t b) path w) =
+          is ∙ reached-by (Some w) some in
+          cc
+
+-- a file that is too long
+pub encoding_in-too_long : (most : ℕ) (forms : Forms) (path : Path) (held : List ℕ)
+    → most < length held → encoding_in most forms path held ≡ Err line.TooLong
+unfolding encoding_in
+encoding_in-too_long most forms path held long = rw (lt-ltb most (length held) long) refl
+
+-- Below, the file is not.
+
+pub encoding_in-fault : (most : ℕ) (forms : Forms) (path : Path) (b : List ℕ) (fault : Fault)
+    → length b ≤ most → Err fault ≡ opened forms.whole b
+    → encoding_in most forms path b ≡ Err (line.Invalid fault)
+unfolding encoding_in
+encoding_in-fault most forms path b fault short is = by (why forms.whole 0 b) refl
+  where
+    by : (o : Option Fault) → why forms.whole 0 b ≡ o
+        → encoding_in most forms path b ≡ Err (line.Invalid fault)
+    by None none =
+        let at : Err fault ≡ Ok (whole forms.whole b) = is ∙ rw none refl in
+        cc
+    by (Some other) some =
+        let at : Err fault ≡ Err other = is ∙ rw some refl in
+        let same : other ≡ fault = cc in
+        rw (le-ltb most (length b) short, some, same) refl
+
+pub encoding_in-absent : (most : ℕ) (forms : Forms) (path : Path) (b : List ℕ) (found : Part)
+    (fault : PathFault) → length b ≤ most → path_type forms.whole path ≡ Some forms.part
+    → Ok found ≡ opened forms.whole b → Err fault ≡ reached found path
+    → encoding_in most forms path b ≡ Err line.Absent
+unfolding encoding_in
+encoding_in-absent most forms path b found fault short fits is none =
+    let whole_is = opened-is forms.whole b found is in
+    let gone = absent forms.whole b path forms.part fits fault
+    (none ∙ ap (λ (p : Part). reached p path) whole_is.1) in
+    rw (le-ltb most (length b) short, whole_is.0, gone) refl
+
+pub encoding_in-part : (most : ℕ) (forms : Forms) (path : Path) (b : List ℕ) (found there : Part)
+    → length b ≤ most → path_type forms.whole path ≡ Some forms.part
+    → Ok found ≡ opened forms.whole b → Ok there ≡ reached found path
+    → encoding_in most forms path b ≡ encoding_within most (enc there.form there.value)
+unfolding encoding_in
+encoding_in-part most forms path b found there short fits is at =
+    let whole_is = opened-is forms.whole b found is in
+    let present_is = present forms.whole b path forms.part fits there
+    (at ∙ ap (λ (p : Part). reached p path) whole_is.1) in
+    rw (
+      le-ltb most (length b) short,
+      whole_is.0,
+      present_is.value,
+      present_is.form_is,
+    ) refl
