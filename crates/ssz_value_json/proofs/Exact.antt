@@ -13,7 +13,7 @@ use Rattle.ssz_value_json.specs.declared.fault.JsonFault.{JsonFault}
 use Rattle.ssz_value_json.specs.Text.{json, json_of}
 use Rattle.ssz_value_json.specs.Steps.{Walked, bad_spelling}
 use Rattle.ssz_value_json.specs.Walk.{walk}
-use Rattle.ssz_value_json.specs.Faults.{walked_fault, read_fault, why_json}
+use Rattle.ssz_value_json.specs.Faults.{walked_fault, read_fault, why_json, value_read, value_spelled, walked_value}
 use Rattle.ssz_value_json.specs.Laws.{Spells}
 use Rattle.ssz_value_json.proofs.FoundLemmas.{first_ok}
 use Rattle.ssz_value_json.proofs.ReadBack.{reads_back}
@@ -58,18 +58,19 @@ if_same true f e = refl
 if_same false f e = absurd (cc)
 
 walked_spelled : (t : SszType) (b : List ℕ) (d : Data) (r : Walked SszValue) → walk t 0 d ≡ r
-    → walked_fault t b r ≡ None → (v : SszValue) × Spells t v b
+    → walked_fault t b r ≡ None → Spells t (walked_value r) b
 walked_spelled t b d (Ok p) is e =
-    (p.0, spelled t b d p.0 p.1 is (if_same (bytes_eq (json t p.0) b) bad_spelling e))
+    spelled t b d p.0 p.1 is (if_same (bytes_eq (json t p.0) b) bad_spelling e)
 walked_spelled t b d (Err f) is e = absurd (cc)
 
 read_spelled : (t : SszType) (b : List ℕ) (o : Option Data) → read_fault t b o ≡ None
-    → (v : SszValue) × Spells t v b
+    → Spells t (value_read t o) b
 read_spelled t b None e = absurd (cc)
 read_spelled t b (Some d) e = walked_spelled t b d (walk t 0 d) refl e
 
+-- bytes without a fault are the text of the value that they are read as
 pub faultless_spelled : (t : SszType) (b : List ℕ) → why_json t b ≡ None
-    → (v : SszValue) × Spells t v b
+    → Spells t (value_spelled t b) b
 faultless_spelled t b e = read_spelled t b (json_read b) e
 
 some_same : (d e : Data) (o : Option Data) → o ≡ Some d → o ≡ Some e → d ≡ e
@@ -85,3 +86,9 @@ one_value format t b v w legal h k =
     let one = law.walked v h.fits 0 in
     let two = law.walked w k.fits 0 in
     first_ok v w one.0 two.0 (walk t 0 (json_of t v)) one.1 (ap (walk t 0) same ∙ two.1)
+
+-- so a value whose text they are is that value
+pub spelled_is : (format : Format) (t : SszType) (b : List ℕ) (v : SszValue) → IsLegal format t
+    → why_json t b ≡ None → Spells t v b → value_spelled t b ≡ v
+spelled_is format t b v legal none h =
+    one_value format t b (value_spelled t b) v legal (faultless_spelled t b none) h

@@ -19,3 +19,4 @@ pub mod BackContainers
 pub mod BackUnions
 pub mod WalkBack
 pub mod Exact
+pub mod OneLine

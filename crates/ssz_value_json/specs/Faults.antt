@@ -1,10 +1,11 @@
--- The first fault of bytes that are to be the JSON text of a value.
-use Rattle.std.specs.Prelude.{ℕ, if◌then◌else◌, List, Option, Some, None, Ok, Err}
+-- The first fault of bytes that are to be the JSON text of a value, and the value of those that
+-- have none.
+use Rattle.std.specs.Prelude.{ℕ, false, if◌then◌else◌, List, Option, Some, None, Ok, Err}
 use Rattle.std.specs.Str.{bytes_eq}
 use Rattle.serde_json.specs.Data.{Data}
 use Rattle.ssz_schema.specs.Types.{SszType}
 use Rattle.ssz_schema_json.specs.Schema.{json_of as json_read}
-use Rattle.ssz_value.specs.Values.{SszValue}
+use Rattle.ssz_value.specs.Values.{SszValue, truth}
 use Rattle.ssz_value_json.specs.declared.fault.JsonFault.{JsonFault}
 use Rattle.ssz_value_json.specs.Steps.{not_json, bad_spelling, Walked}
 use Rattle.ssz_value_json.specs.Text.{json}
@@ -23,3 +24,17 @@ read_fault t b (Some d) = walked_fault t b (walk t 0 d)
 -- the first fault
 abbrev pub why_json : SszType → List ℕ → Option JsonFault
 why_json t b = read_fault t b (json_read b)
+
+-- the value that a walk comes to; where it comes to a fault, any
+abbrev pub walked_value : Walked SszValue → SszValue
+walked_value (Ok p) = p.0
+walked_value (Err f) = truth false
+
+-- of what is read
+abbrev pub value_read : SszType → Option Data → SszValue
+value_read t None = truth false
+value_read t (Some d) = walked_value (walk t 0 d)
+
+-- the value whose text the bytes are, where they have no fault
+abbrev pub value_spelled : SszType → List ℕ → SszValue
+value_spelled t b = value_read t (json_read b)

@@ -17,6 +17,6 @@ mod strings;
 mod writing;
 
 pub use fault::{JsonFault, JsonRead, JsonWrite};
-pub use law::texts_are_exact;
+pub use law::{texts_are_exact, texts_are_one_line};
 pub use reading::read_json;
 pub use writing::write_json;
