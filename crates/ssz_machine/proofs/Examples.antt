@@ -1,5 +1,5 @@
 -- Scripts and what they print, from text to text, by computing.
-use Rattle.std.specs.Prelude.{ℕ, ◌≡◌, ◌++◌, true, false, List, [], ◌∷◌, map, replicate, refl, codes, Some}
+use Rattle.std.specs.Prelude.{ℕ, ◌≡◌, ◌++◌, true, false, List, [], ◌∷◌, map, replicate, refl, codes, Some, None}
 use Rattle.std.specs.List.{concat}
 use Rattle.std.specs.Fmt.{digits as decimal_digits}
 use Rattle.hex.specs.Hex.{encode_with, decode_pairs}
@@ -15,6 +15,9 @@ use Rattle.ssz_schema.specs.Types.{SszType, uint, container, list, bitlist, unio
 use Rattle.ssz_schema.specs.Sizes.{exponent, depth_of}
 use Rattle.ssz_schema.specs.Lookup.{lookup_name}
 use Rattle.ssz_script.specs.Grammar.{alone, one, two, three, three_or_four, one_and_more}
+use Rattle.ssz_value.specs.Values.{chosen, number}
+use Rattle.ssz_value_json.specs.Faults.{why_json, value_spelled}
+use Rattle.ssz_value_json.proofs.OneLine.{text_computes}
 use Rattle.ssz_machine.specs.declared.place.Place.TheVariants.{Run, Weave}
 use Rattle.ssz_machine.specs.State.{Name, fresh}
 use Rattle.ssz_machine.specs.Rules.{Rules}
@@ -25,7 +28,7 @@ use Rattle.ssz_machine.specs.Work.{work_of, work_lines}
 
 -- what computes where a script runs
 texts_compute : ℕ
-unfolding decimal_digits encode_with decode_pairs
+unfolding decimal_digits encode_with decode_pairs text_computes
 texts_compute = 0
 
 grammar_computes : ℕ
@@ -98,9 +101,8 @@ empty_script held = refl
 
 -- statements that are still to come
 pub statements_to_come : (held : Content)
-    → run types_P held (codes "new V P\nupgrade V W P\njson V /\nloadjson W P f\ncompact\nlist\n")
-    ≡ codes "ok\nrefused 2 1 Syntax\nrefused 3 1 Syntax\nrefused 4 1 Syntax\n"
-    ++ codes "refused 5 1 Syntax\nlist V\n"
+    → run types_P held (codes "new V P\nupgrade V W P\ncompact\nlist\n")
+    ≡ codes "ok\nrefused 2 1 Syntax\nrefused 3 1 Syntax\nlist V\n"
 unfolding computes
 statements_to_come held = refl
 
@@ -220,6 +222,44 @@ pub file_is_loaded : (held : Content)
 unfolding computes
 file_is_loaded held is = rw is refl
 
+-- the JSON texts of a value and of its parts
+pub json_texts : (held : Content)
+    → run types_M held
+    (codes "lit V M 0xaabb060000000102\njson V /\njson V /b\njson V /b/1\njson V /b/#len\n"
+    ++ codes "json V /b/2\njson V /b/4\njson W /\n")
+    ≡ codes "ok\njson {\"a\":\"48042\",\"b\":\"0x0102\"}\njson \"0x0102\"\njson \"2\"\njson \"2\"\n"
+    ++ codes "refused 6 6 Absent\nrefused 7 5 BadPath\nrefused 8 3 NoVersion\n"
+unfolding computes
+json_texts held = refl
+
+-- of an option chosen, and of None
+pub json_options : (held : Content)
+    → run ((codes "U", type_U) ∷ []) held
+    (codes "new V U\njson V /\nchoose V / 1 0x0500000000000000\njson V /\njson V /#sel\n")
+    ≡ codes "ok\njson [0,null]\nok\njson [1,\"5\"]\njson \"1\"\n"
+unfolding computes
+json_options held = refl
+
+-- the value that a file's text spells
+pub json_is_loaded : (held : Content)
+    → contents held (codes "f") ≡ codes "[1,\"5\"]"
+    → why_json type_U (codes "[1,\"5\"]") ≡ None
+    → value_spelled type_U (codes "[1,\"5\"]") ≡ chosen 1 (number 5)
+    → run ((codes "U", type_U) ∷ []) held
+    (codes "loadjson V U f\nbytes V /\nloadjson V U f\nloadjson V X f\n")
+    ≡ codes "ok\nbytes 0x010500000000000000\nrefused 3 4 NameTaken\nrefused 4 2 NoType\n"
+unfolding computes
+json_is_loaded held text none is = rw (text, none, is) refl
+
+-- the first fault of a file's text
+pub json_is_refused : (held : Content)
+    → contents held (codes "f") ≡ codes "[2,null]"
+    → why_json type_U (codes "[2,null]") ≡ Some (record { code = 7; number = 0 })
+    → run ((codes "U", type_U) ∷ []) held (codes "loadjson V U f\nlist\n")
+    ≡ codes "refused 1 18 BadJson J7 0\nlist\n"
+unfolding computes
+json_is_refused held text is = rw (text, is) refl
+
 -- two scripts, one after the other
 pub two_in_order : (held : Content)
     → weave types_P held (codes "new S P\n") (0 ∷ 0 ∷ 1 ∷ 1 ∷ [])
@@ -324,6 +364,15 @@ pub charges_of_sets : (held : Content)
     ≡ 1 ∷ 1 ∷ 0 ∷ 0 ∷ []
 unfolding computes
 charges_of_sets held = refl
+
+pub charges_of_texts : (held : Content)
+    → contents held (codes "f") ≡ codes "[1,\"5\"]"
+    → why_json type_U (codes "[1,\"5\"]") ≡ None
+    → value_spelled type_U (codes "[1,\"5\"]") ≡ chosen 1 (number 5)
+    → charges ((codes "U", type_U) ∷ []) held (codes "loadjson V U f\njson V /\njson V /#1\n")
+    ≡ 1 ∷ 0 ∷ 0 ∷ []
+unfolding computes
+charges_of_texts held text none is = rw (text, none, is) refl
 
 pub charges_of_lists : (held : Content)
     → charges ((codes "T", list (uint W64) 8) ∷ []) held

@@ -9,6 +9,7 @@ pub mod TreeChunks
 pub mod Proving
 pub mod Examples
 pub mod ProofLines
+pub mod JsonLines
 pub mod PrintedLines
 pub mod ScriptNames
 pub mod ScriptLines

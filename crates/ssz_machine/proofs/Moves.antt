@@ -111,8 +111,12 @@ row_changes rules place number view (Drop v) = search (given, drop_changes) dept
 row_changes rules place number view (SaveInto v file) =
     search (given, passed, save_changes) depth 12
 row_changes rules place number view (Upgrade v w t) = record { is = tt }
-row_changes rules place number view (Json v path) = record { is = tt }
-row_changes rules place number view (LoadJson v t x) = record { is = tt }
+row_changes rules place number view (Json v path) =
+    let is : Asks (Json v path) = record { entry = refl; files = refl } in
+    search (given, passed, told_changes, is) depth 12
+row_changes rules place number view (LoadJson v t x) =
+    let is : Puts (LoadJson v t x) v = record { entry = refl; files = refl } in
+    search (given, passed, made_changes, is) depth 12
 row_changes rules place number view Compact = record { is = tt }
 
 pub statements_change_their_entry_lem : StatementsChangeTheirEntry

@@ -14,13 +14,13 @@ use Rattle.ssz_schema.specs.Types.{SszType}
 use Rattle.ssz_script.specs.OneLine.{is_line, FitsLine}
 use Rattle.ssz_script.proofs.OneLineLemmas.{both, replies_are_lines_lem}
 use Rattle.ssz_script.specs.declared.reply.Reply.{Reply}
-use Rattle.ssz_script.specs.declared.reply.Reply.TheVariants.{Done, Proof}
+use Rattle.ssz_script.specs.declared.reply.Reply.TheVariants.{Done, Proof, Json as JsonText}
 use Rattle.ssz_script.specs.declared.statement.Statement.{Statement}
 use Rattle.ssz_script.specs.declared.statement.Statement.TheVariants.{New, Lit, Load, Fork, Drop, List as ListNames, Set, Append, Pop, Choose, Root, Bytes, Len, Save as SaveInto, Gindex, Prove, Hashes, Upgrade, Json, LoadJson, Compact}
 use Rattle.ssz_value.specs.Values.{SszValue}
 use Rattle.ssz_machine.specs.declared.place.Place.{Place}
 use Rattle.ssz_machine.specs.State.{Name, Version, Versions, View, State, view_of, with_version, without_version}
-use Rattle.ssz_machine.specs.Rules.{Rules, Refusal, coded, bad_bytes, Effect, Row, refusal_reply, makes, says}
+use Rattle.ssz_machine.specs.Rules.{Rules, Refusal, coded, bad_bytes, bad_json, Effect, Row, refusal_reply, makes, says}
 use Rattle.ssz_machine.specs.Making.{names_of}
 use Rattle.ssz_machine.specs.Machine.{Line, effect, said, step, reply_in, state_in, state_of}
 use Rattle.ssz_machine.specs.Plays.{says as says_line, adopts, adopted, base_writer, next_number, numbers_after, front, shown}
@@ -28,7 +28,9 @@ use Rattle.ssz_machine.specs.Changes.{IsChange, Changes, Touch, puts, takes, not
 use Rattle.ssz_machine.specs.OneLine.{AreNamed, PutsName, IsNamed, IsNamedLine, PrintedLinesAreLines}
 use Rattle.ssz_machine.proofs.Rowwise.{Does, given, passed, edited}
 use Rattle.ssz_machine.proofs.Moves.{statements_change_their_entry_lem}
+use Rattle.ssz_value_json.specs.Text.{json}
 use Rattle.ssz_machine.proofs.ProofLines.{proof_is_line, is_line-behind, plain_front}
+use Rattle.ssz_machine.proofs.JsonLines.{json_no_feed}
 
 -- the reply of an accepted row fits a line
 abbrev Fitting : Effect → Type 0
@@ -48,6 +50,10 @@ fits_done versions = record { is = tt }
 fits_proof : (versions : Versions) (proof : Multiproof)
     → Does Fitting (says versions (Proof (text_of proof)))
 fits_proof versions proof = record { is = proof_is_line proof }
+
+fits_json : (versions : Versions) (type : SszType) (value : SszValue)
+    → Does Fitting (says versions (JsonText (json type value)))
+fits_json versions type value = record { is = json_no_feed type value }
 
 module _ (rules : Rules) where
   replies_fit : (place : Place) (number : ℕ) (view : View) → AreNamed view.versions
@@ -76,14 +82,17 @@ module _ (rules : Rules) where
       search (given, passed, fits_proof) depth 12
   replies_fit place number view named Hashes = search (passed, fits_told) depth 12
   replies_fit place number view named (Upgrade v w t) = record { is = tt }
-  replies_fit place number view named (Json v path) = record { is = tt }
-  replies_fit place number view named (LoadJson v t x) = record { is = tt }
+  replies_fit place number view named (Json v path) =
+      search (given, passed, fits_json) depth 12
+  replies_fit place number view named (LoadJson v t x) =
+      search (given, passed, fits_made) depth 12
   replies_fit place number view named Compact = record { is = tt }
 
   -- a refusal fits a line
   refusal_fits : (line : ℕ) (refusal : Refusal) → FitsLine (refusal_reply line refusal)
   refusal_fits line (coded code) = tt
   refusal_fits line (bad_bytes fault) = tt
+  refusal_fits line (bad_json fault) = tt
 
   row_fits : (line : ℕ) (row : Row) → IfOk row Fitting → FitsLine (reply_in line row)
   row_fits line (Ok e) is = is

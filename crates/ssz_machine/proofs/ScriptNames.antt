@@ -190,7 +190,8 @@ all_named = (
                     (
                       two_named Json name path (λ w v x y read other. tt),
                       (
-                        three_named LoadJson name name file (λ w v x y z read other. tt),
+                        three_named LoadJson name name file
+                            (λ w v x y z read other. is_name-read w x read),
                         (alone_named Compact tt, tt),
                       ),
                     ),

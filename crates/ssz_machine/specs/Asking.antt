@@ -16,11 +16,12 @@ use Rattle.ssz_proof.specs.declared.entry.Entry.{Entry}
 use Rattle.ssz_schema.specs.Types.{SszType, vector, list, bitvector, bitlist}
 use Rattle.ssz_schema.specs.Paths.{Path, path_type}
 use Rattle.ssz_schema.specs.Indices.{generalized_index}
-use Rattle.ssz_script.specs.declared.reply.Reply.TheVariants.{Done, Root, Bytes, Len, Gindex, Proof, Hashes}
+use Rattle.ssz_script.specs.declared.reply.Reply.TheVariants.{Done, Root, Bytes, Len, Gindex, Proof, Hashes, Json}
 use Rattle.ssz_script.specs.declared.reply.TheConstants.Reply.{NO_TYPE, NO_VERSION, BAD_PATH, ABSENT, NOT_THAT, TOO_LONG, NO_NODE, NESTED, NOT_HERE}
 use Rattle.ssz_value.specs.Encoding.{enc}
 use Rattle.ssz_value.specs.Parts.{part}
 use Rattle.ssz_value.specs.Trees.{tree, hash_tree_root}
+use Rattle.ssz_value_json.specs.Text.{json}
 use Rattle.ssz_machine.specs.declared.place.Place.{Place}
 use Rattle.ssz_machine.specs.declared.place.Place.TheVariants.{Run, Weave}
 use Rattle.ssz_machine.specs.State.{Name, Versions, version_of}
@@ -52,6 +53,15 @@ bytes rules versions v path = do
   value ← need ABSENT (part version.type version.value path)
   refuse TOO_LONG (nat_lt rules.max_bytes (length (enc type value)))
   says versions (Bytes (enc type value))
+
+-- `json V P`: the JSON text of the part at P
+abbrev pub json_row : Rules → Versions → Name → Path → Row
+json_row rules versions v path = do
+  version ← need NO_VERSION (version_of v versions)
+  type ← need BAD_PATH (path_type version.type path)
+  value ← need ABSENT (part version.type version.value path)
+  refuse TOO_LONG (nat_lt rules.max_bytes (length (json type value)))
+  says versions (Json (json type value))
 
 -- `len V P`: how many elements or bits the part at P has
 abbrev pub len : Versions → Name → Path → Row

@@ -2,7 +2,7 @@
 use Rattle.std.specs.Prelude.{ℕ, ◌≡◌, ◌≢◌, true, Option, None, IsSomeAnd, IfOk}
 use Rattle.ssz_outside.specs.Job.{Save}
 use Rattle.ssz_script.specs.declared.statement.Statement.{Statement}
-use Rattle.ssz_script.specs.declared.statement.Statement.TheVariants.{New, Lit, Load, Fork, Drop, Set, Append, Pop, Choose, Save as SaveInto}
+use Rattle.ssz_script.specs.declared.statement.Statement.TheVariants.{New, Lit, Load, LoadJson, Fork, Drop, Set, Append, Pop, Choose, Save as SaveInto}
 use Rattle.ssz_machine.specs.declared.place.Place.{Place}
 use Rattle.ssz_machine.specs.State.{Name, Version, Versions, View, State, with_version, without_version}
 use Rattle.ssz_machine.specs.Rules.{Rules, Effect}
@@ -20,6 +20,7 @@ abbrev pub touch : Statement → Touch
 touch (New v t) = puts v
 touch (Lit v t literal) = puts v
 touch (Load v t file) = puts v
+touch (LoadJson v t file) = puts v
 touch (Fork v w) = puts w
 touch (Drop v) = takes v
 touch (Set v path literal) = puts v

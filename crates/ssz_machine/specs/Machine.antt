@@ -9,9 +9,9 @@ use Rattle.ssz_script.specs.declared.reply.TheConstants.Reply.{SYNTAX}
 use Rattle.ssz_machine.specs.declared.place.Place.{Place}
 use Rattle.ssz_machine.specs.State.{Name, Versions, View, State, has_version, view_of, with_view}
 use Rattle.ssz_machine.specs.Rules.{Rules, coded, Row, refusal_reply}
-use Rattle.ssz_machine.specs.Making.{new, lit, load, fork, drop, list}
+use Rattle.ssz_machine.specs.Making.{new, lit, load, loadjson, fork, drop, list}
 use Rattle.ssz_machine.specs.Editing.{set, append, pop, choose}
-use Rattle.ssz_machine.specs.Asking.{root_row, bytes, len, save, gindex, prove, hashes}
+use Rattle.ssz_machine.specs.Asking.{root_row, bytes, json_row, len, save, gindex, prove, hashes}
 
 -- What a statement does to what its writer sees. The number is the one that `hashes` prints.
 abbrev pub effect : Rules → Place → ℕ → View → Statement → Row
@@ -33,10 +33,11 @@ effect rules place number view (SaveInto v file) = save rules place view.version
 effect rules place number view (Gindex t path) = gindex rules view.versions t path
 effect rules place number view (Prove v indices) = prove rules view.versions v indices
 effect rules place number view Hashes = hashes place number view.versions
+effect rules place number view (Json v path) = json_row rules view.versions v path
+effect rules place number view (LoadJson v t file) =
+    loadjson rules view.versions v t (contents view.files file)
 -- these are still to come
 effect rules place number view (Upgrade v w t) = Err (coded SYNTAX)
-effect rules place number view (Json v path) = Err (coded SYNTAX)
-effect rules place number view (LoadJson v t file) = Err (coded SYNTAX)
 effect rules place number view Compact = Err (coded SYNTAX)
 
 -- a line that is not of the grammar is refused
@@ -115,6 +116,7 @@ can_load rules versions v t = is_some (rules.type_named t) && not (has_version v
 
 abbrev pub reads : Rules → Versions → Option Statement → Bool
 reads rules versions (Some (Load v t file)) = can_load rules versions v t
+reads rules versions (Some (LoadJson v t file)) = can_load rules versions v t
 reads rules versions other = false
 
 abbrev pub reads_file : Rules → Turn → Bool

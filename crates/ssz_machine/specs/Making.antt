@@ -9,8 +9,13 @@ use Rattle.ssz_value.specs.Defaults.{default_of}
 use Rattle.ssz_value.specs.Faults.{why}
 use Rattle.ssz_value.specs.Reading.{value_in}
 use Rattle.ssz_value.specs.Pairs.{pairs}
+use Rattle.ssz_value_json.specs.Faults.{why_json, value_spelled}
 use Rattle.ssz_machine.specs.State.{Name, Versions, version_of, has_version, without_version}
-use Rattle.ssz_machine.specs.Rules.{Rules, Outcome, ◌>>=◌, ◌>>◌, need, refuse, faultless, Row, says, makes}
+use Rattle.ssz_machine.specs.Rules.{Rules, Outcome, ◌>>=◌, ◌>>◌, need, refuse, faultless, well_spelled, Row, says, makes}
+
+-- a name holds a value that is brought in, at the charge of its pairs
+abbrev pub brings : Versions → Name → SszType → SszValue → Row
+brings versions v type value = makes versions v type value (pairs type value)
 
 -- the value of a type that the bytes encode
 abbrev pub decoded : SszType → List ℕ → Outcome SszValue
@@ -23,7 +28,7 @@ abbrev pub new : Rules → Versions → Name → Name → Row
 new rules versions v t = do
   type ← need NO_TYPE (rules.type_named t)
   refuse NAME_TAKEN (has_version v versions)
-  makes versions v type (default_of type) (pairs type (default_of type))
+  brings versions v type (default_of type)
 
 -- `lit V T LIT`: V is the value of T that the literal encodes
 abbrev pub lit : Rules → Versions → Name → Name → List ℕ → Row
@@ -31,7 +36,7 @@ lit rules versions v t literal = do
   type ← need NO_TYPE (rules.type_named t)
   refuse NAME_TAKEN (has_version v versions)
   value ← decoded type literal
-  makes versions v type value (pairs type value)
+  brings versions v type value
 
 -- `load V T FILE`: V is the value of T that the file's bytes encode
 abbrev pub load : Rules → Versions → Name → Name → List ℕ → Row
@@ -40,7 +45,22 @@ load rules versions v t bytes = do
   refuse NAME_TAKEN (has_version v versions)
   refuse TOO_LONG (nat_lt rules.max_bytes (length bytes))
   value ← decoded type bytes
-  makes versions v type value (pairs type value)
+  brings versions v type value
+
+-- the value of a type whose JSON text the bytes are
+abbrev pub spelled : SszType → List ℕ → Outcome SszValue
+spelled type bytes = do
+  well_spelled (why_json type bytes)
+  Ok (value_spelled type bytes)
+
+-- `loadjson V T FILE`: V is the value of T whose JSON text the file's bytes are
+abbrev pub loadjson : Rules → Versions → Name → Name → List ℕ → Row
+loadjson rules versions v t bytes = do
+  type ← need NO_TYPE (rules.type_named t)
+  refuse NAME_TAKEN (has_version v versions)
+  refuse TOO_LONG (nat_lt rules.max_bytes (length bytes))
+  value ← spelled type bytes
+  brings versions v type value
 
 -- `fork V W`: W is the value of V
 abbrev pub fork : Versions → Name → Name → Row

@@ -5,11 +5,12 @@ use Rattle.ssz_proof.specs.Calculation.{PairOf}
 use Rattle.ssz_schema.specs.Types.{SszType}
 use Rattle.ssz_bytes.specs.declared.fault.Fault.{Fault}
 use Rattle.ssz_script.specs.declared.reply.Reply.{Reply}
-use Rattle.ssz_script.specs.declared.reply.Reply.TheVariants.{Done, Refused}
+use Rattle.ssz_script.specs.declared.reply.Reply.TheVariants.{Done, Refused, BadJson}
 use Rattle.ssz_script.specs.declared.reply.TheConstants.Reply.{BAD_LITERAL}
 use Rattle.ssz_value.specs.Values.{SszValue}
 use Rattle.ssz_value.specs.declared.edit_fault.EditFault.{EditFault}
 use Rattle.ssz_value.specs.declared.edit_fault.EditFault.TheVariants as edit_fault
+use Rattle.ssz_value_json.specs.declared.fault.JsonFault.{JsonFault}
 use Rattle.ssz_script.specs.declared.reply.TheConstants.Reply as code
 use Rattle.ssz_machine.specs.State.{Name, Versions, with_version}
 
@@ -20,15 +21,17 @@ pub record Rules : Type 0 where
   pub max_bytes : ℕ
   pub pair_of : PairOf
 
--- why a statement is refused: a code alone, or the first fault of bytes
+-- why a statement is refused: a code alone, or the first fault of bytes, or of a JSON text
 pub data Refusal : Type 0 where
   coded : ℕ → Refusal
   bad_bytes : Fault → Refusal
+  bad_json : JsonFault → Refusal
 
 -- the reply to a statement of this line that is refused
 abbrev pub refusal_reply : ℕ → Refusal → Reply
 refusal_reply line (coded code) = Refused line code None
 refusal_reply line (bad_bytes fault) = Refused line BAD_LITERAL (Some fault)
+refusal_reply line (bad_json fault) = BadJson line fault.code fault.number
 
 -- something, or the first refusal
 abbrev pub Outcome : Type 0 → Type 0
@@ -59,6 +62,11 @@ refuse code test = if test then Err (coded code) else Ok tt
 abbrev pub faultless : Option Fault → Outcome (Unit {0})
 faultless None = Ok tt
 faultless (Some fault) = Err (bad_bytes fault)
+
+-- refused where the JSON text has a fault
+abbrev pub well_spelled : Option JsonFault → Outcome (Unit {0})
+well_spelled None = Ok tt
+well_spelled (Some fault) = Err (bad_json fault)
 
 abbrev pub code_of : EditFault → ℕ
 code_of edit_fault.BadPath = code.BAD_PATH
