@@ -4,13 +4,15 @@ use Rattle.std.proofs.lemmas.Bool.{false≢true, lt-ltb, ltb-true}
 use Rattle.std.proofs.lemmas.List.{length-replicate}
 use Rattle.std.specs.Prelude.{nat_lt, replicate, unwrap_or, IfSome, IsSomeAnd, []}
 use Rattle.ssz_outside.specs.Content.{Content as Files, bytes_of, contents}
-use Rattle.ssz_script.specs.declared.reply.TheConstants.Reply.{NO_TYPE, NAME_TAKEN}
+use Rattle.ssz_script.specs.declared.reply.TheConstants.Reply.{NO_TYPE, NAME_TAKEN, TOO_LONG}
 use Rattle.ssz_schema.specs.Types.{SszType}
 use Rattle.ssz_schema.specs.Unfolding.{Types, type_of}
 use Rattle.ssz_value.specs.Values.{SszValue, Fits}
 use Rattle.ssz_value.specs.Faults.{why}
 use Rattle.ssz_value.specs.Reading.{value_in}
 use Rattle.ssz_value.specs.Pairs.{pairs}
+use Rattle.ssz_value_json.specs.declared.fault.JsonFault.{JsonFault}
+use Rattle.ssz_value_json.specs.Faults.{why_json, value_spelled}
 use Rattle.ssz_arena.specs.declared.node.NodeId.{NodeId}
 use Rattle.ssz_arena.specs.Content.{Content as Nodes, unhashed, KeepsNodes}
 use Rattle.ssz_tree.specs.Added.{Adds, IsPart}
@@ -21,13 +23,15 @@ use Rattle.std.specs.FinMap.{get-empty}
 use Rattle.ssz_versions.specs.Keys.{key_cmp}
 use Rattle.ssz_versions.specs.Content.{Entries, Held, held_at}
 use Rattle.ssz_machine.specs.State.{Name, Version, Versions, has_version}
-use Rattle.ssz_machine.specs.Rules.{Rules, Row, ◌>>=◌, ◌>>◌, coded, need, refuse, faultless, makes}
+use Rattle.ssz_machine.specs.Rules.{Rules, Row, ◌>>=◌, ◌>>◌, coded, bad_json, need, refuse, faultless, well_spelled, makes}
 use Rattle.ssz_machine.specs.Machine.{charge_in}
 use Rattle.ssz_machine.specs.Changes.{Touch, puts}
 use Rattle.ssz_engine.specs.Content.{Content, rules_of}
-use Rattle.ssz_engine.specs.Decisions.{AnswersWith, Comes, IsFree, IsTaken, LoadsWith, ReadsAs, brought}
+use Rattle.ssz_engine.specs.Decisions.{AnswersWith, Comes, IsFree, IsTaken, LoadsWith, ReadsAs, brought, brought_as, load_row}
 use Rattle.ssz_engine.specs.declared.decision.Decision.{Decision}
-use Rattle.ssz_engine.specs.declared.decision.Decision.TheVariants.{Made, Refused}
+use Rattle.ssz_engine.specs.declared.decision.Decision.TheVariants.{BadJson, Made, Refused}
+use Rattle.ssz_engine.specs.declared.form.Form.{Form}
+use Rattle.ssz_engine.specs.declared.form.Form.TheVariants.{Encoding, Json}
 use Rattle.ssz_engine.specs.Standing.{IsVersion, Match, StandsForWriter, AreVersions}
 use Rattle.ssz_engine.proofs.Standing.{version-kept}
 
@@ -120,6 +124,23 @@ brought-row versions v t bytes e =
     ap (λ f. (faultless f >> Ok (value_in t bytes))
     >>= (λ value. makes versions v t value (pairs t value))) e
 
+-- the row of a text that has no fault
+pub json-row : (versions : Versions) (v : Name) (t : SszType) (text : List ℕ)
+    → why_json t text ≡ None
+    → brought_as Json versions v t text
+    ≡ makes versions v t (value_spelled t text) (pairs t (value_spelled t text))
+json-row versions v t text e =
+    ap (λ f. (well_spelled f >> Ok (value_spelled t text))
+    >>= (λ value. makes versions v t value (pairs t value))) e
+
+-- and of one that has
+pub bad-json-row : (versions : Versions) (v : Name) (t : SszType) (text : List ℕ)
+    (fault : JsonFault) → why_json t text ≡ Some fault
+    → brought_as Json versions v t text ≡ Err (bad_json fault)
+bad-json-row versions v t text fault e =
+    ap (λ f. (well_spelled f >> Ok (value_spelled t text))
+    >>= (λ value. makes versions v t value (pairs t value))) e
+
 -- the tests of a type's name and of a version's, and what comes behind them
 abbrev pub guarded : Rules → Versions → Name → Name → (SszType → Row) → Row
 guarded rules versions v t rest = need NO_TYPE (rules.type_named t)
@@ -190,6 +211,26 @@ refused-answers pair_of row touch writer engine code is = λ count. record {
   comes = is;
   spends = λ versions stand. omega arith;
 }
+
+-- a text that has a fault
+pub bad-json-answers : (pair_of : PairOf) (row : Rules → Versions → Row) (touch : Touch)
+    (writer : ℕ) (engine : Content) (fault : JsonFault)
+    → ((versions : Versions) → row (rules_of pair_of engine) versions ≡ Err (bad_json fault))
+    → AnswersWith pair_of row touch writer engine engine (BadJson fault)
+bad-json-answers pair_of row touch writer engine fault is = λ count. record {
+  can = tt;
+  of = tt;
+  comes = λ versions stand. is versions;
+  spends = λ versions stand. omega arith;
+}
+
+-- the row of a load: the tests of the names, and then the value
+pub load-is : (form : Form) (rules : Rules) (versions : Versions) (v t : Name) (bytes : List ℕ)
+    → load_row form rules versions v t bytes
+    ≡ guarded rules versions v t (λ type. refuse TOO_LONG (nat_lt rules.max_bytes (length bytes))
+    >> brought_as form versions v type bytes)
+load-is Encoding rules versions v t bytes = refl
+load-is Json rules versions v t bytes = refl
 
 -- no entries, no versions
 pub are-none : (types : Types) (arena : Nodes) (entries : Entries) → entries ≡ finite.empty

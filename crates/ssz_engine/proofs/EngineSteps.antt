@@ -6,7 +6,7 @@ use Rattle.ssz_arena.specs.Content.{unhashed}
 use Rattle.ssz_outside.specs.Content.{Content as Files}
 use Rattle.ssz_proof.specs.Calculation.{PairOf}
 use Rattle.ssz_script.specs.declared.statement.Statement.{Statement}
-use Rattle.ssz_script.specs.declared.statement.Statement.TheVariants.{Load}
+use Rattle.ssz_script.specs.declared.statement.Statement.TheVariants.{Load, LoadJson}
 use Rattle.ssz_versions.specs.Content.{Entries, held_at}
 use Rattle.ssz_machine.specs.declared.place.Place.{Place}
 use Rattle.ssz_machine.specs.State.{Name, State, Versions}
@@ -56,6 +56,7 @@ record Names (statement : Statement) : Type 0 where
 names : (rules : Rules) (versions : Versions) (statement : Statement)
     → reads rules versions (Some statement) ≡ true → Names statement
 names rules versions (Load v t file) is = record { name = file; named = refl }
+names rules versions (LoadJson v t file) is = record { name = file; named = refl }
 names rules versions other is = absurd (not-both is)
 
 module _ (pair_of : PairOf) (place : Place) (writer line : ℕ) (statement : Statement)

@@ -36,6 +36,8 @@ forked (decision.Made name id node) v w writer line first mid new Accepted told_
 forked (decision.BadBytes f) v w writer line first mid new done told_old told_new out_old out_new
     same
     makes out = absurd makes
+forked (decision.BadJson f) v w writer line first mid new done told_old told_new out_old out_new
+    same makes out = absurd makes
 forked (decision.Said r) v w writer line first mid new done told_old told_new out_old out_new same
     makes out = absurd makes
 forked (decision.Edited n node) v w writer line first mid new done told_old told_new out_old

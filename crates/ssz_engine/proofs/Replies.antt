@@ -3,13 +3,13 @@ use Rattle.std.proofs.Common.{ℕ, ◌≡◌, List, Option, Some, None}
 use Rattle.std.specs.Prelude.{Ok, Err, IfOk}
 use Rattle.ssz_chunk.specs.declared.Chunk.{Chunk}
 use Rattle.ssz_schema.specs.Types.{SszType}
-use Rattle.ssz_script.specs.declared.reply.Reply.TheVariants.{Done, List as Listed, Root as RootIs, Bytes as BytesAre, Len as LenIs, Gindex as GindexIs, Proof as ProofIs, Hashes as Hashed}
+use Rattle.ssz_script.specs.declared.reply.Reply.TheVariants.{Done, List as Listed, Root as RootIs, Bytes as BytesAre, Len as LenIs, Gindex as GindexIs, Proof as ProofIs, Hashes as Hashed, Json as JsonIs}
 use Rattle.ssz_script.specs.declared.statement.Statement.{Statement}
-use Rattle.ssz_script.specs.declared.statement.Statement.TheVariants.{New, Lit, Load, Fork, Drop, List as ListNames, Set, Append, Pop, Choose, Root, Bytes, Len, Save, Gindex, Prove, Hashes}
+use Rattle.ssz_script.specs.declared.statement.Statement.TheVariants.{New, Lit, Load, Fork, Drop, List as ListNames, Set, Append, Pop, Choose, Root, Bytes, Len, Save, Gindex, Prove, Hashes, Json, LoadJson}
 use Rattle.ssz_value.specs.Values.{SszValue}
 use Rattle.ssz_machine.specs.declared.place.Place.{Place}
 use Rattle.ssz_machine.specs.State.{Name, Versions, State, View, view_of}
-use Rattle.ssz_machine.specs.Rules.{Rules, Effect, Row, Refusal, coded, bad_bytes, makes, says}
+use Rattle.ssz_machine.specs.Rules.{Rules, Effect, Row, Refusal, coded, bad_bytes, bad_json, makes, says}
 use Rattle.ssz_machine.specs.Machine.{Line, effect, step, reply_in, reply_of, said}
 use Rattle.ssz_machine.specs.Counts.{number_said}
 use Rattle.ssz_machine.proofs.Rowwise.{Does, given, passed, edited}
@@ -36,6 +36,10 @@ root_says versions chunk = record { is = λ n says. cc }
 bytes_say : {number : ℕ} (versions : Versions) (bytes : List ℕ)
     → Does (Says number) (says versions (BytesAre bytes))
 bytes_say versions bytes = record { is = λ n says. cc }
+
+json_says : {number : ℕ} (versions : Versions) (text : List ℕ)
+    → Does (Says number) (says versions (JsonIs text))
+json_says versions text = record { is = λ n says. cc }
 
 len_says : {number : ℕ} (versions : Versions) (count : ℕ)
     → Does (Says number) (says versions (LenIs count))
@@ -88,6 +92,8 @@ row_says rules place number view (Save v file) = search (given, passed, save_say
 row_says rules place number view (Gindex t path) = search (given, gindex_says) depth 12
 row_says rules place number view (Prove v indices) = search (given, passed, proof_says) depth 12
 row_says rules place number view Hashes = search (passed, hashes_say) depth 12
+row_says rules place number view (Json v path) = search (given, passed, json_says) depth 12
+row_says rules place number view (LoadJson v t x) = search (given, passed, made_says) depth 12
 row_says rules place number view other = refused_says _
 
 by_row : (number line : ℕ) (row : Row) → IfOk row (Says number) → (n : ℕ)
@@ -95,6 +101,7 @@ by_row : (number line : ℕ) (row : Row) → IfOk row (Says number) → (n : ℕ
 by_row number line (Ok effect) is n says = is n says
 by_row number line (Err (coded code)) is n says = cc
 by_row number line (Err (bad_bytes fault)) is n says = cc
+by_row number line (Err (bad_json fault)) is n says = cc
 
 by_line : (rules : Rules) (place : Place) (number line : ℕ) (view : View)
     (statement : Option Statement) (n : ℕ)

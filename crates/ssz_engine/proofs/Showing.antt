@@ -1,6 +1,6 @@
--- Encodings that are shown.
+-- Parts that are shown as texts.
 use Rattle.std.proofs.Common.{◌≡◌, ◌≤◌, ◌<◌, ◌∙◌, ℕ, Bool, true, false, List, [], Option, Some, None, Ok, Err, length, refl, sym, ap, subst}
-use Rattle.std.specs.Prelude.{nat_lt}
+use Rattle.std.specs.Prelude.{nat_lt, IsSomeAnd}
 use Rattle.std.proofs.lemmas.Option.{same_Some}
 use Rattle.ssz_chunk.specs.Tree.{Tree}
 use Rattle.ssz_chunk.specs.Index.{at}
@@ -11,6 +11,7 @@ use Rattle.ssz_schema.specs.Legal.{IsLegal}
 use Rattle.ssz_schema.specs.Paths.{Path, path_type}
 use Rattle.ssz_schema.specs.Unfolding.{Types, type_of}
 use Rattle.ssz_value.specs.Encoding.{enc}
+use Rattle.ssz_value_json.specs.Text.{json}
 use Rattle.ssz_value.specs.Parts.{part}
 use Rattle.ssz_value.specs.Values.{SszValue, Fits}
 use Rattle.ssz_value.specs.declared.path_fault.PathFault.{PathFault}
@@ -20,19 +21,20 @@ use Rattle.ssz_arena.specs.Content.{Content as Nodes, tree_of}
 use Rattle.ssz_gindex.proofs.HelperNodes.{some_from}
 use Rattle.ssz_places.specs.PlaceLaws.{IsTreeOf}
 use Rattle.ssz_places.specs.Spots.{HasPart}
+use Rattle.ssz_places.proofs.Lying.{law_of_spots}
 use Rattle.ssz_places.proofs.Theorems.{law_of_places}
 use Rattle.ssz_walk.specs.declared.place.Place.{Place}
 use Rattle.ssz_walk.specs.Found.{IsFound, IsLost, spot_of}
-use Rattle.ssz_script.specs.declared.reply.Reply.TheVariants.{Bytes, Done}
+use Rattle.ssz_script.specs.declared.reply.Reply.TheVariants.{Bytes, Done, Json}
 use Rattle.ssz_script.specs.declared.reply.TheConstants.Reply.{NO_VERSION, BAD_PATH, ABSENT, TOO_LONG}
 use Rattle.ssz_versions.specs.Content.{Held, held_at}
 use Rattle.ssz_machine.specs.declared.place.Place.TheVariants.{Run}
 use Rattle.ssz_machine.specs.State.{Name, Version, Versions, version_of}
 use Rattle.ssz_machine.specs.Rules.{Rules, Outcome, Row, ◌>>=◌, ◌>>◌, coded, need, refuse, says}
-use Rattle.ssz_machine.specs.Asking.{bytes, save}
+use Rattle.ssz_machine.specs.Asking.{bytes, json_row, save}
 use Rattle.ssz_engine.specs.Content.{Content}
-use Rattle.ssz_engine.specs.Standing.{IsVersion, Match}
-use Rattle.ssz_engine.specs.Shown.{path_code, shown, Shows}
+use Rattle.ssz_engine.specs.Standing.{AreVersions, IsVersion, Match}
+use Rattle.ssz_engine.specs.Shown.{HasPartAt, HasValue, LeadsToPart, TextOf, path_code, shown, Shows}
 use Rattle.ssz_engine.proofs.Entries.{some_held}
 use Rattle.ssz_engine.proofs.Brought.{below-true, free-there, not-below}
 
@@ -64,12 +66,6 @@ pub tree-stands : (types : Types) (arena : Nodes) (held : Held) (version : Versi
 tree-stands types arena held version is =
     subst (λ (t : SszType). IsTreeOf t version.value (tree_of arena held.1)) (sym is.type)
     (record { fits = is.fits; is = is.tree })
-
--- what is shown of a value
-abbrev pub seen : ℕ → SszType → SszValue → Path → Outcome (List ℕ)
-seen most t x path = need BAD_PATH (path_type t path)
-    >>= (λ type. need ABSENT (part t x path)
-    >>= (λ value. refuse TOO_LONG (nat_lt most (length (enc type value))) >> Ok (enc type value)))
 
 -- the part at a path that leads to a place
 pub record IsThere (t : SszType) (x : SszValue) (path : Path) (u : SszType) (spot : Spot)
@@ -106,111 +102,219 @@ is-there format types arena id node path place x legal found of =
       has = subst (HasPart (spot_of place.spot) u w.0) same n.1.has;
     }
 
--- what is shown of a part that is there
-
-seen-part : (most : ℕ) (t : SszType) (x : SszValue) (path : Path) (u : SszType) (w : SszValue)
-    → path_type t path ≡ Some u → part t x path ≡ Some w
-    → seen most t x path ≡ (refuse TOO_LONG (nat_lt most (length (enc u w))) >> Ok (enc u w))
-seen-part most t x path u w typed there =
-    ap (λ (o : Option SszType). need BAD_PATH o >>= (λ type. need ABSENT (part t x path)
-    >>= (λ value. refuse TOO_LONG (nat_lt most (length (enc type value)))
-    >> Ok (enc type value)))) typed
-    ∙ ap (λ (o : Option SszValue). need ABSENT o
-    >>= (λ value. refuse TOO_LONG (nat_lt most (length (enc u value))) >> Ok (enc u value))) there
-
-pub seen-short : (most : ℕ) (t : SszType) (x : SszValue) (path : Path) (u : SszType) (w : SszValue)
-    (text : List ℕ) → path_type t path ≡ Some u → part t x path ≡ Some w
-    → length (enc u w) ≤ most → text ≡ enc u w → seen most t x path ≡ Ok text
-seen-short most t x path u w text typed there few is =
-    seen-part most t x path u w typed there
-    ∙ ap (λ b. refuse TOO_LONG b >> Ok (enc u w)) (not-below most (length (enc u w)) few)
-    ∙ ap Ok (sym is)
-
-pub seen-long : (most : ℕ) (t : SszType) (x : SszValue) (path : Path) (u : SszType) (w : SszValue)
-    → path_type t path ≡ Some u → part t x path ≡ Some w → most < length (enc u w)
-    → seen most t x path ≡ Err (coded TOO_LONG)
-seen-long most t x path u w typed there long =
-    seen-part most t x path u w typed there
-    ∙ ap (λ b. refuse TOO_LONG b >> Ok (enc u w)) (below-true most (length (enc u w)) long)
-
--- of a path that leads to no part
-pub seen-lost : (most : ℕ) (types : Types) (arena : Nodes) (id : ℕ) (node : NodeId) (path : Path)
-    (fault : PathFault) (x : SszValue) → IsLost types arena id node path fault
-    → IsTreeOf (type_of types id) x (tree_of arena node)
-    → seen most (type_of types id) x path ≡ Err (coded (path_code fault))
-seen-lost most types arena id node path path_fault.BadPath x lost of =
-    ap (λ (o : Option SszType). need BAD_PATH o
-    >>= (λ type. need ABSENT (part (type_of types id) x path)
-    >>= (λ value. refuse TOO_LONG (nat_lt most (length (enc type value)))
-    >> Ok (enc type value)))) lost
-seen-lost most types arena id node path path_fault.Absent x lost of =
-    let typed = some_from (path_type (type_of types id) path) lost.0 in
-    ap (λ (o : Option SszType). need BAD_PATH o
-    >>= (λ type. need ABSENT (part (type_of types id) x path)
-    >>= (λ value. refuse TOO_LONG (nat_lt most (length (enc type value)))
-    >> Ok (enc type value)))) typed.1
-    ∙ ap (λ (o : Option SszValue). need ABSENT o
-    >>= (λ value. refuse TOO_LONG (nat_lt most (length (enc typed.0 value)))
-    >> Ok (enc typed.0 value))) (lost.1 x of)
-
--- what is shown of the value of an entry is shown of the version
-pub shows-held : (engine : Content) (writer : ℕ) (v : Name) (path : Path) (held : Held)
-    (answer : Outcome (List ℕ)) → held_at engine.entries writer v ≡ Some held
-    → ((x : SszValue) → IsTreeOf (type_of engine.types held.0) x (tree_of engine.arena held.1)
-    → seen engine.most (type_of engine.types held.0) x path ≡ answer)
-    → Shows engine writer v path answer
-shows-held engine writer v path held answer there is = λ versions stand.
-    let h = held-there engine.types engine.arena held _ _ there (stand.each v) in
-    ap (λ (o : Option Version). need NO_VERSION o
-    >>= (λ version. seen engine.most version.type version.value path)) h.is
-    ∙ ap (λ t. seen engine.most t h.version.value path) (sym h.stands.type)
-    ∙ is h.version.value (tree-stands engine.types engine.arena held h.version h.stands)
-
--- no entry, no version
-pub shows-none : (engine : Content) (writer : ℕ) (v : Name) (path : Path)
-    → held_at engine.entries writer v ≡ None
-    → Shows engine writer v path (Err (coded NO_VERSION))
-shows-none engine writer v path none = λ versions stand.
-    ap (λ (o : Option Version). need NO_VERSION o
-    >>= (λ version. seen engine.most version.type version.value path))
-    (free-there engine.types engine.arena _ _ none (stand.each v))
-
--- a row that shows it and goes on
-
-after-tests : (most : ℕ) (t : Option SszType) (x : Option SszValue) (next : List ℕ → Row)
-    → (need BAD_PATH t >>= (λ type. need ABSENT x
-    >>= (λ value. refuse TOO_LONG (nat_lt most (length (enc type value)))
-    >> next (enc type value))))
-    ≡ ((need BAD_PATH t >>= (λ type. need ABSENT x
-    >>= (λ value. refuse TOO_LONG (nat_lt most (length (enc type value)))
-    >> Ok (enc type value))))
-    >>= next)
-after-tests most None x next = refl
-after-tests most (Some type) None next = refl
-after-tests most (Some type) (Some value) next =
-    by (nat_lt most (length (enc type value))) (enc type value)
+-- a path that leads to a place leads to the part there of each version, and of one at least
+pub leads-there : (format : Format) (engine : Content) (writer : ℕ) (v : Name) (path : Path)
+    (held : Held) (place : Place)
+    → AreVersions engine.types engine.arena engine.entries
+    → IsLegal format (type_of engine.types held.0)
+    → held_at engine.entries writer v ≡ Some held
+    → IsFound engine.types engine.arena held.0 held.1 path place
+    → LeadsToPart engine writer v path place
+leads-there format engine writer v path held place all legal entry found =
+    let some-there = all.each writer v held entry in
+    let first = has-part some-there.0 some-there.1 in
+    record {
+      known = found.led.known;
+      inside = found.led.inside;
+      lies = law_of_spots (type_of engine.types held.0) path (type_of engine.types place.id)
+          (spot_of place.spot) found.led.type_at found.led.spot_at;
+      some = first.value;
+      there = first.there;
+      each = λ versions stand.
+          let h = held-there engine.types engine.arena held _ _ entry (stand.each v) in
+          subst (λ (o : Option Version).
+          IsSomeAnd o (HasPartAt engine.types engine.arena place path)) (sym h.is)
+          (has-part h.version h.stands);
+    }
   where
-    by : (long : Bool) (text : List ℕ)
-        → (refuse TOO_LONG long >> next text) ≡ ((refuse TOO_LONG long >> Ok text) >>= next)
-    by true text = refl
-    by false text = refl
+    has-part : (version : Version) → IsVersion engine.types engine.arena held version
+        → HasPartAt engine.types engine.arena place path version
+    has-part version stands =
+        let is = is-there format engine.types engine.arena held.0 held.1 path place version.value
+        legal found (tree-stands engine.types engine.arena held version stands) in
+        record {
+          value = is.value;
+          typed = subst
+              (λ (t : SszType). path_type t path ≡ Some (type_of engine.types place.id))
+              stands.type found.led.type_at;
+          is = subst (λ (t : SszType). part t version.value path ≡ Some is.value) stands.type
+              is.is;
+          there = record { fits = is.fits; has = is.has };
+        }
 
-after-version : (most : ℕ) (there : Option Version) (path : Path) (next : List ℕ → Row)
-    → (need NO_VERSION there >>= (λ version. need BAD_PATH (path_type version.type path)
-    >>= (λ type. need ABSENT (part version.type version.value path)
-    >>= (λ value. refuse TOO_LONG (nat_lt most (length (enc type value)))
-    >> next (enc type value)))))
-    ≡ ((need NO_VERSION there >>= (λ version. seen most version.type version.value path)) >>= next)
-after-version most None path next = refl
-after-version most (Some version) path next =
-    after-tests most (path_type version.type path) (part version.type version.value path) next
+module _ (text : TextOf) where
+  -- what is shown of a value
+  abbrev pub seen : ℕ → SszType → SszValue → Path → Outcome (List ℕ)
+  seen most t x path = need BAD_PATH (path_type t path)
+      >>= (λ type. need ABSENT (part t x path)
+      >>= (λ value. refuse TOO_LONG (nat_lt most (length (text type value)))
+      >> Ok (text type value)))
+
+  -- what is shown of a part that is there
+
+  seen-part : (most : ℕ) (t : SszType) (x : SszValue) (path : Path) (u : SszType) (w : SszValue)
+      → path_type t path ≡ Some u → part t x path ≡ Some w
+      → seen most t x path
+      ≡ (refuse TOO_LONG (nat_lt most (length (text u w))) >> Ok (text u w))
+  seen-part most t x path u w typed there =
+      ap (λ (o : Option SszType). need BAD_PATH o >>= (λ type. need ABSENT (part t x path)
+      >>= (λ value. refuse TOO_LONG (nat_lt most (length (text type value)))
+      >> Ok (text type value)))) typed
+      ∙ ap (λ (o : Option SszValue). need ABSENT o
+      >>= (λ value. refuse TOO_LONG (nat_lt most (length (text u value)))
+      >> Ok (text u value))) there
+
+  seen-short : (most : ℕ) (t : SszType) (x : SszValue) (path : Path) (u : SszType) (w : SszValue)
+      (bytes : List ℕ) → path_type t path ≡ Some u → part t x path ≡ Some w
+      → length (text u w) ≤ most → bytes ≡ text u w → seen most t x path ≡ Ok bytes
+  seen-short most t x path u w bytes typed there few is =
+      seen-part most t x path u w typed there
+      ∙ ap (λ b. refuse TOO_LONG b >> Ok (text u w)) (not-below most (length (text u w)) few)
+      ∙ ap Ok (sym is)
+
+  seen-long : (most : ℕ) (t : SszType) (x : SszValue) (path : Path) (u : SszType) (w : SszValue)
+      → path_type t path ≡ Some u → part t x path ≡ Some w → most < length (text u w)
+      → seen most t x path ≡ Err (coded TOO_LONG)
+  seen-long most t x path u w typed there long =
+      seen-part most t x path u w typed there
+      ∙ ap (λ b. refuse TOO_LONG b >> Ok (text u w)) (below-true most (length (text u w)) long)
+
+  -- of a path that leads to no part
+  seen-lost : (most : ℕ) (types : Types) (arena : Nodes) (id : ℕ) (node : NodeId) (path : Path)
+      (fault : PathFault) (x : SszValue) → IsLost types arena id node path fault
+      → IsTreeOf (type_of types id) x (tree_of arena node)
+      → seen most (type_of types id) x path ≡ Err (coded (path_code fault))
+  seen-lost most types arena id node path path_fault.BadPath x lost of =
+      ap (λ (o : Option SszType). need BAD_PATH o
+      >>= (λ type. need ABSENT (part (type_of types id) x path)
+      >>= (λ value. refuse TOO_LONG (nat_lt most (length (text type value)))
+      >> Ok (text type value)))) lost
+  seen-lost most types arena id node path path_fault.Absent x lost of =
+      let typed = some_from (path_type (type_of types id) path) lost.0 in
+      ap (λ (o : Option SszType). need BAD_PATH o
+      >>= (λ type. need ABSENT (part (type_of types id) x path)
+      >>= (λ value. refuse TOO_LONG (nat_lt most (length (text type value)))
+      >> Ok (text type value)))) typed.1
+      ∙ ap (λ (o : Option SszValue). need ABSENT o
+      >>= (λ value. refuse TOO_LONG (nat_lt most (length (text typed.0 value)))
+      >> Ok (text typed.0 value))) (lost.1 x of)
+
+  -- what is shown of the value of an entry is shown of the version
+  shows-held : (engine : Content) (writer : ℕ) (v : Name) (path : Path) (held : Held)
+      (answer : Outcome (List ℕ)) → held_at engine.entries writer v ≡ Some held
+      → ((x : SszValue) → IsTreeOf (type_of engine.types held.0) x (tree_of engine.arena held.1)
+      → seen engine.most (type_of engine.types held.0) x path ≡ answer)
+      → Shows text engine writer v path answer
+  shows-held engine writer v path held answer there is = λ versions stand.
+      let h = held-there engine.types engine.arena held _ _ there (stand.each v) in
+      ap (λ (o : Option Version). need NO_VERSION o
+      >>= (λ version. seen engine.most version.type version.value path)) h.is
+      ∙ ap (λ t. seen engine.most t h.version.value path) (sym h.stands.type)
+      ∙ is h.version.value (tree-stands engine.types engine.arena held h.version h.stands)
+
+  -- of a path that leads to no part
+  pub shows-lost : (engine : Content) (writer : ℕ) (v : Name) (path : Path) (held : Held)
+      (fault : PathFault) → held_at engine.entries writer v ≡ Some held
+      → IsLost engine.types engine.arena held.0 held.1 path fault
+      → Shows text engine writer v path (Err (coded (path_code fault)))
+  shows-lost engine writer v path held fault there lost =
+      shows-held engine writer v path held (Err (coded (path_code fault))) there
+      (λ x of. seen-lost engine.most engine.types engine.arena held.0 held.1 path fault x lost of)
+
+  -- no entry, no version
+  pub shows-none : (engine : Content) (writer : ℕ) (v : Name) (path : Path)
+      → held_at engine.entries writer v ≡ None
+      → Shows text engine writer v path (Err (coded NO_VERSION))
+  shows-none engine writer v path none = λ versions stand.
+      ap (λ (o : Option Version). need NO_VERSION o
+      >>= (λ version. seen engine.most version.type version.value path))
+      (free-there engine.types engine.arena _ _ none (stand.each v))
+
+  -- a part that is there is shown by its text, or is too long
+
+  shows-part : (engine : Content) (writer : ℕ) (v : Name) (path : Path) (place : Place)
+      (answer : Outcome (List ℕ)) → LeadsToPart engine writer v path place
+      → ((version : Version) → (part : HasPartAt engine.types engine.arena place path version)
+      → seen engine.most version.type version.value path ≡ answer)
+      → Shows text engine writer v path answer
+  shows-part engine writer v path place answer leads is = λ versions stand.
+      by (version_of v versions) (leads.each versions stand)
+    where
+      by : (o : Option Version)
+          → IsSomeAnd o (HasPartAt engine.types engine.arena place path)
+          → (need NO_VERSION o
+          >>= (λ version. seen engine.most version.type version.value path)) ≡ answer
+      by None has = absurd has
+      by (Some version) has = is version has
+
+  pub shows-short : (engine : Content) (writer : ℕ) (v : Name) (path : Path) (place : Place)
+      (bytes : List ℕ) → LeadsToPart engine writer v path place
+      → ((value : SszValue) → HasValue engine.types engine.arena place value
+      → (length (text (type_of engine.types place.id) value) ≤ engine.most)
+      × (bytes ≡ text (type_of engine.types place.id) value))
+      → Shows text engine writer v path (Ok bytes)
+  shows-short engine writer v path place bytes leads is =
+      shows-part engine writer v path place (Ok bytes) leads
+      (λ version has. let made = is has.value has.there in
+      seen-short engine.most version.type version.value path (type_of engine.types place.id)
+      has.value bytes has.typed has.is made.0 made.1)
+
+  pub shows-long : (engine : Content) (writer : ℕ) (v : Name) (path : Path) (place : Place)
+      → LeadsToPart engine writer v path place
+      → ((value : SszValue) → HasValue engine.types engine.arena place value
+      → engine.most < length (text (type_of engine.types place.id) value))
+      → Shows text engine writer v path (Err (coded TOO_LONG))
+  shows-long engine writer v path place leads is =
+      shows-part engine writer v path place (Err (coded TOO_LONG)) leads
+      (λ version has. seen-long engine.most version.type version.value path
+      (type_of engine.types place.id) has.value has.typed has.is (is has.value has.there))
+
+  -- a row that shows it and goes on
+
+  after-tests : (most : ℕ) (t : Option SszType) (x : Option SszValue) (next : List ℕ → Row)
+      → (need BAD_PATH t >>= (λ type. need ABSENT x
+      >>= (λ value. refuse TOO_LONG (nat_lt most (length (text type value)))
+      >> next (text type value))))
+      ≡ ((need BAD_PATH t >>= (λ type. need ABSENT x
+      >>= (λ value. refuse TOO_LONG (nat_lt most (length (text type value)))
+      >> Ok (text type value))))
+      >>= next)
+  after-tests most None x next = refl
+  after-tests most (Some type) None next = refl
+  after-tests most (Some type) (Some value) next =
+      by (nat_lt most (length (text type value))) (text type value)
+    where
+      by : (long : Bool) (bytes : List ℕ)
+          → (refuse TOO_LONG long >> next bytes) ≡ ((refuse TOO_LONG long >> Ok bytes) >>= next)
+      by true bytes = refl
+      by false bytes = refl
+
+  after-version : (most : ℕ) (there : Option Version) (path : Path) (next : List ℕ → Row)
+      → (need NO_VERSION there >>= (λ version. need BAD_PATH (path_type version.type path)
+      >>= (λ type. need ABSENT (part version.type version.value path)
+      >>= (λ value. refuse TOO_LONG (nat_lt most (length (text type value)))
+      >> next (text type value)))))
+      ≡ ((need NO_VERSION there
+      >>= (λ version. seen most version.type version.value path)) >>= next)
+  after-version most None path next = refl
+  after-version most (Some version) path next =
+      after-tests most (path_type version.type path) (part version.type version.value path) next
 
 pub bytes-shown : (rules : Rules) (versions : Versions) (v : Name) (path : Path)
-    (answer : Outcome (List ℕ)) → shown rules.max_bytes versions v path ≡ answer
+    (answer : Outcome (List ℕ)) → shown enc rules.max_bytes versions v path ≡ answer
     → bytes rules versions v path ≡ (answer >>= (λ text. says versions (Bytes text)))
 bytes-shown rules versions v path answer is =
-    after-version rules.max_bytes (version_of v versions) path (λ text. says versions (Bytes text))
+    after-version enc rules.max_bytes (version_of v versions) path
+    (λ text. says versions (Bytes text))
     ∙ ap (λ (o : Outcome (List ℕ)). o >>= (λ text. says versions (Bytes text))) is
+
+pub json-shown : (rules : Rules) (versions : Versions) (v : Name) (path : Path)
+    (answer : Outcome (List ℕ)) → shown json rules.max_bytes versions v path ≡ answer
+    → json_row rules versions v path ≡ (answer >>= (λ text. says versions (Json text)))
+json-shown rules versions v path answer is =
+    after-version json rules.max_bytes (version_of v versions) path
+    (λ text. says versions (Json text))
+    ∙ ap (λ (o : Outcome (List ℕ)). o >>= (λ text. says versions (Json text))) is
 
 -- what a run saves into a file
 abbrev pub saves : Versions → Name → List ℕ → Row
@@ -222,8 +326,8 @@ saves versions file text = Ok (record {
 })
 
 pub save-shown : (rules : Rules) (versions : Versions) (v file : Name) (answer : Outcome (List ℕ))
-    → shown rules.max_bytes versions v [] ≡ answer
+    → shown enc rules.max_bytes versions v [] ≡ answer
     → save rules Run versions v file ≡ (answer >>= saves versions file)
 save-shown rules versions v file answer is =
-    after-version rules.max_bytes (version_of v versions) [] (saves versions file)
+    after-version enc rules.max_bytes (version_of v versions) [] (saves versions file)
     ∙ ap (λ (o : Outcome (List ℕ)). o >>= saves versions file) is

@@ -56,6 +56,12 @@ module _ (first mid new : Content) (grows : Grows first mid) (same : SameNodes m
     where
       not-both : Refused ≡ Accepted → ⊥
       not-both e = cc
+  edit-paid (decision.BadJson f) versions row does name was is can of comes out does-put ok there
+      now
+      = absurd (not-both (sym out.outcome ∙ ok))
+    where
+      not-both : Refused ≡ Accepted → ⊥
+      not-both e = cc
   edit-paid (decision.Said r) versions row does name was is can of comes out does-put ok there now
       = absurd (not-both (sym of ∙ does-put))
     where
@@ -145,6 +151,7 @@ module _ (first mid new : Content) (grows : Grows first mid) (same : SameNodes m
     }
     stops (decision.Refused code) Write found fails = absurd fails
     stops (decision.BadBytes fault) Write found fails = absurd fails
+    stops (decision.BadJson fault) Write found fails = absurd fails
     stops (decision.Said reply) Write found fails = absurd fails
     stops (decision.Made name id node) Write found fails = absurd fails
     stops (decision.Edited name node) Write found fails = absurd fails

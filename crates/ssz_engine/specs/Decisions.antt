@@ -4,6 +4,7 @@ use Rattle.ssz_outside.specs.Content.{Content as Files, contents}
 use Rattle.ssz_schema.specs.Types.{SszType}
 use Rattle.ssz_schema.specs.Unfolding.{number_of}
 use Rattle.ssz_value.specs.Pairs.{pairs}
+use Rattle.ssz_value.specs.Values.{SszValue}
 use Rattle.ssz_arena.specs.Content.{todo, unhashed}
 use Rattle.ssz_arena.specs.declared.node.NodeId.{NodeId}
 use Rattle.ssz_proof.specs.Calculation.{PairOf}
@@ -11,14 +12,16 @@ use Rattle.ssz_script.specs.declared.reply.Reply.TheVariants.{Done}
 use Rattle.ssz_script.specs.declared.reply.TheConstants.Reply.{NO_TYPE, NAME_TAKEN}
 use Rattle.ssz_versions.specs.Content.{Held, held_at}
 use Rattle.ssz_machine.specs.State.{Name, Version, Versions, version_of, without_version}
-use Rattle.ssz_machine.specs.Rules.{Rules, Row, ◌>>=◌, coded, bad_bytes, says, makes}
-use Rattle.ssz_machine.specs.Making.{decoded}
+use Rattle.ssz_machine.specs.Rules.{Rules, Outcome, Row, ◌>>=◌, coded, bad_bytes, bad_json, says, makes}
+use Rattle.ssz_machine.specs.Making.{decoded, spelled, load, loadjson}
 use Rattle.ssz_machine.specs.Machine.{charge_in, can_load}
 use Rattle.ssz_machine.specs.Changes.{Touch, nothing, puts, takes}
 use Rattle.ssz_engine.specs.Content.{Content, rules_of}
 use Rattle.ssz_engine.specs.Standing.{IsVersion, IsSomeVersion, StandsForWriter}
 use Rattle.ssz_engine.specs.declared.decision.Decision.{Decision}
 use Rattle.ssz_engine.specs.declared.decision.Decision.TheVariants as decision
+use Rattle.ssz_engine.specs.declared.form.Form.{Form}
+use Rattle.ssz_engine.specs.declared.form.Form.TheVariants.{Encoding, Json}
 
 -- The row makes a version, under a name that is free, for which a type and a node stand.
 pub record Makes (engine : Content) (versions : Versions) (name : Name) (held : Held) (does : Row)
@@ -47,6 +50,8 @@ abbrev pub Comes : Content → Content → ℕ → ℕ → ℕ → Versions → 
 Comes old new before after writer versions row (decision.Refused code) = row ≡ Err (coded code)
 Comes old new before after writer versions row (decision.BadBytes fault) =
     row ≡ Err (bad_bytes fault)
+Comes old new before after writer versions row (decision.BadJson fault) =
+    row ≡ Err (bad_json fault)
 Comes old new before after writer versions row (decision.Said reply) = row ≡ says versions reply
 Comes old new before after writer versions row (decision.Made name id node) =
     Makes new versions name.now (id, node) row
@@ -73,6 +78,7 @@ pub record CanEdit (engine : Content) (writer : ℕ) (name : Name) (node : NodeI
 abbrev pub CanDo : Content → ℕ → Decision → Type 0
 CanDo engine writer (decision.Refused code) = Unit {0}
 CanDo engine writer (decision.BadBytes fault) = Unit {0}
+CanDo engine writer (decision.BadJson fault) = Unit {0}
 CanDo engine writer (decision.Said reply) = Unit {0}
 CanDo engine writer (decision.Made name id node) =
     (held_at engine.entries writer name.now ≡ None)
@@ -85,6 +91,7 @@ CanDo engine writer (decision.Saved name bytes) = Unit {0}
 abbrev pub IsOf : Touch → Decision → Type 0
 IsOf touch (decision.Refused code) = Unit {0}
 IsOf touch (decision.BadBytes fault) = Unit {0}
+IsOf touch (decision.BadJson fault) = Unit {0}
 IsOf touch (decision.Said reply) = touch ≡ nothing
 IsOf touch (decision.Made name id node) = touch ≡ puts name.now
 IsOf touch (decision.Edited name node) = touch ≡ puts name.now
@@ -120,6 +127,21 @@ AnswersOf pair_of row touch writer engine made =
 abbrev pub brought : Versions → Name → SszType → List ℕ → Row
 brought versions v type bytes =
     decoded type bytes >>= (λ value. makes versions v type value (pairs type value))
+
+-- the value of the type that the bytes have in a form
+abbrev pub read_as : Form → SszType → List ℕ → Outcome SszValue
+read_as Encoding type bytes = decoded type bytes
+read_as Json type bytes = spelled type bytes
+
+-- the same of a value in a form
+abbrev pub brought_as : Form → Versions → Name → SszType → List ℕ → Row
+brought_as form versions v type bytes =
+    read_as form type bytes >>= (λ value. makes versions v type value (pairs type value))
+
+-- the row of a statement that loads a value in a form
+abbrev pub load_row : Form → Rules → Versions → Name → Name → List ℕ → Row
+load_row Encoding rules versions v t bytes = load rules versions v t bytes
+load_row Json rules versions v t bytes = loadjson rules versions v t bytes
 
 -- the file has these bytes, where the files tell it
 abbrev pub ReadsAs : Option Files → List ℕ → List ℕ → Type 0

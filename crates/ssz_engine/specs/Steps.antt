@@ -7,7 +7,7 @@ use Rattle.ssz_arena.specs.Content.{KeepsNodes, todo, unhashed}
 use Rattle.ssz_arena.specs.declared.node.NodeId.{NodeId}
 use Rattle.ssz_proof.specs.Calculation.{PairOf}
 use Rattle.ssz_script.specs.declared.statement.Statement.{Statement}
-use Rattle.ssz_script.specs.declared.statement.Statement.TheVariants.{Lit, Load, Fork, Set, Append, Choose}
+use Rattle.ssz_script.specs.declared.statement.Statement.TheVariants.{Lit, Load, LoadJson, Fork, Set, Append, Choose}
 use Rattle.ssz_script.specs.declared.reply.Reply.{Reply}
 use Rattle.ssz_script.specs.declared.reply.Reply.TheVariants as reply
 use Rattle.ssz_script.specs.declared.reply.TheConstants.Reply.{BAD_LITERAL}
@@ -51,6 +51,7 @@ Edits old new writer name node =
 abbrev pub Does : Decision → ℕ → Entries → Entries → Type 0
 Does (decision.Refused code) writer old new = new ≡ old
 Does (decision.BadBytes fault) writer old new = new ≡ old
+Does (decision.BadJson fault) writer old new = new ≡ old
 Does (decision.Said reply) writer old new = new ≡ old
 Does (decision.Made name id node) writer old new =
     new ≡ with_held old writer name.now (id, node)
@@ -62,6 +63,7 @@ Does (decision.Saved name bytes) writer old new = new ≡ old
 abbrev pub reply_to : ℕ → Decision → Reply
 reply_to line (decision.Refused code) = reply.Refused line code None
 reply_to line (decision.BadBytes fault) = reply.Refused line BAD_LITERAL (Some fault)
+reply_to line (decision.BadJson fault) = reply.BadJson line fault.code fault.number
 reply_to line (decision.Said said) = said
 reply_to line (decision.Made name id node) = reply.Done
 reply_to line (decision.Edited name node) = reply.Done
@@ -71,6 +73,7 @@ reply_to line (decision.Saved name bytes) = reply.Done
 abbrev pub outcome_of : Decision → Outcome
 outcome_of (decision.Refused code) = Refused
 outcome_of (decision.BadBytes fault) = Refused
+outcome_of (decision.BadJson fault) = Refused
 outcome_of _ = Accepted
 
 -- what the files then tell
@@ -211,6 +214,7 @@ IsShort _ = Unit {0}
 -- the statement reads this file
 abbrev pub file_read : Statement → Option Name
 file_read (Load v t file) = Some file
+file_read (LoadJson v t file) = Some file
 file_read _ = None
 
 -- what no statement changes: the types, the limit and the base; each node is there, with the same

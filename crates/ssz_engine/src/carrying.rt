@@ -171,6 +171,11 @@ pub(crate) fn carry_out<F: Files, H: PairHash>(
             reply_text(&Reply::Refused { line, code, fault }, out)?;
             Ok(Outcome::Refused)
         }
+        Decision::BadJson(fault) => {
+            let (code, number) = (fault.code, fault.number);
+            reply_text(&Reply::BadJson { line, code, number }, out)?;
+            Ok(Outcome::Refused)
+        }
         Decision::Said(reply) => {
             reply_text(&reply, out)?;
             Ok(Outcome::Accepted)

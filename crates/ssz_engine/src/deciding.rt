@@ -12,9 +12,11 @@ use super::decision::Decision;
 use super::editing::{append, choose, pop, set};
 use super::engine::Engine;
 use super::fault::EngineFault;
-use super::making::{drop, fork, list, lit, load, new};
+use super::form::Form;
+use super::loading::load;
+use super::making::{drop, fork, list, lit, new};
 use super::proving::prove;
-use super::shown::{bytes, save};
+use super::shown::{bytes, json, save};
 use ssz_chunk::PairHash;
 use ssz_machine::Place;
 use ssz_outside::Files;
@@ -53,7 +55,8 @@ pub(crate) fn decide<'a, F: Files, H: PairHash>(
     ensures puts { F.put_faults files.new ≡ F.put_faults files.old }
 {
     match statement {
-        Statement::Load(v, t, file) => load(engine, writer, v, t, file, files),
+        Statement::Load(v, t, file) => { load(engine, writer, v, t, file, Form::Encoding, files) }
+        Statement::LoadJson(v, t, file) => load(engine, writer, v, t, file, Form::Json, files),
         _ => decide_alone(engine, writer, place, statement, hasher),
     }
 }
@@ -90,6 +93,7 @@ fn decide_alone<'a, H: PairHash>(
         Statement::Hashes => Ok(hashes(engine, writer, place, hasher)),
         Statement::Save(v, file) => save(engine, writer, place, v, file),
         Statement::Bytes(v, path) => bytes(engine, writer, v, path.as_slice()),
+        Statement::Json(v, path) => json(engine, writer, v, path.as_slice()),
         Statement::Len(v, path) => Ok(len(engine, writer, v, path.as_slice())),
         Statement::Set(v, path, literal) => {
             set(engine, writer, v, path.as_slice(), literal.as_slice())
@@ -104,9 +108,8 @@ fn decide_alone<'a, H: PairHash>(
         Statement::Prove(v, indices) => prove(engine, writer, v, indices, hasher),
         // No script has these yet.
         Statement::Upgrade(_, _, _) => Ok(Decision::Refused(Reply::SYNTAX)),
-        Statement::Json(_, _) => Ok(Decision::Refused(Reply::SYNTAX)),
-        Statement::LoadJson(_, _, _) => Ok(Decision::Refused(Reply::SYNTAX)),
         Statement::Compact => Ok(Decision::Refused(Reply::SYNTAX)),
         Statement::Load(_, _, _) => unreachable!(),
+        Statement::LoadJson(_, _, _) => unreachable!(),
     }
 }

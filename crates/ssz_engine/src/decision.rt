@@ -2,6 +2,7 @@ use ssz_arena::NodeId;
 use ssz_bytes::Fault;
 use ssz_schema::TypeId;
 use ssz_script::{FileName, Identifier, Reply};
+use ssz_value_json::JsonFault;
 
 /// What a statement comes to.
 #[derive(Debug, Drop)]
@@ -10,6 +11,8 @@ pub(crate) enum Decision<'a> {
     Refused(u8),
     /// Its bytes have a first fault.
     BadBytes(Fault),
+    /// Its JSON text has a first fault.
+    BadJson(JsonFault),
     /// It changes nothing.
     Said(Reply),
     /// A name that is free gets a version.

@@ -56,9 +56,9 @@ impl<H: PairHash> Model for Engine<H> {
 }
 
 impl<H: PairHash> Engine<H> {
-    /// An engine with these types, in which no writer has a version. It takes values and encodings
-    /// of at most `max` bytes from files and prints no longer ones. Hashes the zero trees. After
-    /// want of memory the schema is given up.
+    /// An engine with these types, in which no writer has a version. It takes values from files, as
+    /// encodings or as JSON texts, of at most `max` bytes, and prints and saves no longer ones.
+    /// Hashes the zero trees. After want of memory the schema is given up.
     pub fn start(
         alloc: Global,
         schema: Schema,

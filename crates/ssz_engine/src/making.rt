@@ -1,11 +1,10 @@
-ghost use Rattle.std.specs.Prelude.{◌≡◌, ◌≢◌, ◌<◌, ◌^◌, ℕ, List, None, Err, length, IfOk, IfErr};
+ghost use Rattle.std.specs.Prelude.{◌≡◌, ◌<◌, ◌^◌, None, length, IfOk, IfErr};
 ghost use Rattle.ssz_schema.specs.Unfolding.{type_of};
 ghost use Rattle.ssz_versions.specs.Content.{held_at};
-ghost use Rattle.ssz_machine.specs.Making.{new, lit, load, fork, drop, list};
+ghost use Rattle.ssz_machine.specs.Making.{new, lit, fork, drop, list};
 ghost use Rattle.ssz_machine.specs.Changes.{nothing, puts, takes};
 ghost use Rattle.ssz_engine.specs.Content.{Grows};
-ghost use Rattle.ssz_engine.specs.Decisions.{AnswersOf, AnswersWith, brought, IsFree, IsTaken, LoadsWith, CanLoad};
-ghost use Rattle.ssz_engine.specs.Outside.{CountsReads};
+ghost use Rattle.ssz_engine.specs.Decisions.{AnswersOf, AnswersWith, brought, IsFree, IsTaken};
 ghost use Rattle.ssz_engine.specs.Steps.{MakesFork};
 ghost use Rattle.ssz_script.specs.declared.statement.Statement.TheVariants.{Fork};
 
@@ -15,14 +14,13 @@ use super::fault::EngineFault;
 use ssz_bytes::as_bytes;
 use ssz_chunk::PairHash;
 use ssz_codec::check;
-use ssz_outside::{Files, GetFault, Got};
 use ssz_schema::TypeId;
-use ssz_script::{FileName, Identifier, Reply};
+use ssz_script::{Identifier, Reply};
 use ssz_tree::{build_bytes, build_default};
 use ssz_versions::Writer;
 
-// The type of a name, for a version whose name is free; else the code of the refusal.
-fn free_type<H: PairHash>(
+/// The type of a name, for a version whose name is free; else the code of the refusal.
+pub(crate) fn free_type<H: PairHash>(
     engine: &Engine<H>,
     writer: Writer,
     v: &Identifier,
@@ -85,8 +83,8 @@ pub(crate) fn lit<'a, H: PairHash>(
     bring(engine, writer, v, id, literal)
 }
 
-// A name that is free gets the value of a type that some bytes encode.
-fn bring<'a, H: PairHash>(
+/// A name that is free gets the value of a type that some bytes encode.
+pub(crate) fn bring<'a, H: PairHash>(
     engine: &mut Engine<H>,
     writer: Writer,
     v: &'a Identifier,
@@ -111,41 +109,6 @@ fn bring<'a, H: PairHash>(
             let node = build_bytes(&mut engine.arena, &engine.schema, id, bytes)?;
             Ok(Decision::Made(v, id, node))
         }
-    }
-}
-
-/// `load V T FILE`.
-pub(crate) fn load<'a, F: Files, H: PairHash>(
-    engine: &mut Engine<H>,
-    writer: Writer,
-    v: &'a Identifier,
-    t: &Identifier,
-    file: &FileName,
-    files: &mut F,
-) -> Result<Decision<'a>, EngineFault>
-    ensures grows { Grows engine.old engine.new }
-    ensures answers { IfOk result (LoadsWith H.pair_of (F.content files.old) file.now
-        (λ bytes rules versions. load rules versions v.now t.now bytes) (puts v.now) writer.0
-        engine.old engine.new) }
-    ensures asked { result ≡ Err EngineFault.Read
-        → CanLoad H.pair_of engine.old writer.0 v.now t.now }
-    ensures no_write { result ≢ Err EngineFault.Write }
-    ensures content { F.content files.new ≡ F.content files.old }
-    ensures fails { F.readable files.old file.now → result ≢ Err EngineFault.Read }
-    ensures readable { (other : List ℕ) → F.readable files.old other → F.readable files.new other }
-    ensures gets { CountsReads result (F.get_faults files.old) (F.get_faults files.new) }
-    ensures puts { F.put_faults files.new ≡ F.put_faults files.old }
-{
-    let id = match free_type(engine, writer, v, t) {
-        Ok(id) => id,
-        Err(code) => return Ok(Decision::Refused(code)),
-    };
-    let mut bytes = Vec::new(engine.alloc);
-    match files.get(file.as_str(), &mut bytes, u64::from(engine.max)) {
-        Ok(Got::Whole) => bring(engine, writer, v, id, bytes.as_slice()),
-        Ok(Got::TooLong) => Ok(Decision::Refused(Reply::TOO_LONG)),
-        Err(GetFault::Failed) => Err(EngineFault::Read),
-        Err(GetFault::Memory) => Err(EngineFault::Memory),
     }
 }
 

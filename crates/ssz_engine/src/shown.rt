@@ -1,14 +1,15 @@
-//! Statements that show the encoding of a part.
+//! Statements that show a part as a text: its encoding, or its JSON.
 ghost use Rattle.std.specs.Prelude.{◌≡◌, ◌<◌, Ok, Err, length, IfOk, IfErr};
 ghost use Rattle.ssz_schema.specs.Unfolding.{type_of};
 ghost use Rattle.ssz_value.specs.Values.{SszValue, Fits};
 ghost use Rattle.ssz_value.specs.Encoding.{enc};
+ghost use Rattle.ssz_value_json.specs.Text.{json as json_text};
 ghost use Rattle.ssz_parts.specs.Encoded.{Appends};
 ghost use Rattle.ssz_arena.specs.Content.{IsNodeOf, tree_of};
 ghost use Rattle.ssz_places.specs.Spots.{HasPart, LiesWithin};
 ghost use Rattle.ssz_walk.specs.Found.{spot_of};
 ghost use Rattle.ssz_machine.specs.Rules.{coded};
-ghost use Rattle.ssz_machine.specs.Asking.{bytes, save};
+ghost use Rattle.ssz_machine.specs.Asking.{bytes, json_row, save};
 ghost use Rattle.ssz_machine.specs.Changes.{nothing};
 ghost use Rattle.ssz_engine.specs.Decisions.{AnswersOf};
 ghost use Rattle.ssz_engine.specs.Shown.{Shows};
@@ -16,7 +17,7 @@ ghost use Rattle.ssz_engine.specs.Shown.{Shows};
 use super::decision::Decision;
 use super::engine::Engine;
 use super::fault::EngineFault;
-use super::refusals::code_of_path;
+use super::parts::{part_value, place_of};
 use ssz_arena::Arena;
 use ssz_bytes::ByteRun;
 use ssz_chunk::PairHash;
@@ -24,8 +25,9 @@ use ssz_machine::Place;
 use ssz_reading::{EncodeFault, bit_of, chunk_of, write_encoding};
 use ssz_schema::{PathStep, Schema};
 use ssz_script::{FileName, Identifier, Reply};
+use ssz_value_json::{JsonWrite, write_json};
 use ssz_versions::Writer;
-use ssz_walk::{Place as PartPlace, Spot, find};
+use ssz_walk::{Place as PartPlace, Spot};
 
 // Appends the bytes, unless they are more than max.
 fn append_short(bytes: &[u8], max: u32, out: &mut Vec<u8>) -> Result<(), EncodeFault>
@@ -80,25 +82,54 @@ fn encoded<H: PairHash>(
     path: &[PathStep],
 ) -> Result<Result<Vec<u8>, u8>, EngineFault>
     ensures ok { IfOk result (λ made. IfOk made (λ text.
-        Shows engine.now writer.0 v.now path.now (Ok text.items))) }
+        Shows enc engine.now writer.0 v.now path.now (Ok text.items))) }
     ensures err { IfOk result (λ made. IfErr made (λ code.
-        Shows engine.now writer.0 v.now path.now (Err (coded code)))) }
+        Shows enc engine.now writer.0 v.now path.now (Err (coded code)))) }
     ensures memory { IfErr result (λ fault. fault ≡ EngineFault.Memory) }
 {
-    let Some(held) = engine.versions.get(writer, v.as_name()) else {
-        return Ok(Err(Reply::NO_VERSION));
-    };
-    // By the type it is known where the tree of a value has its parts.
-    let _legal = engine.schema.ty(held.0);
-    let place = match find(&engine.arena, &engine.schema, held.0, held.1, path) {
+    let place = match place_of(engine, writer, v, path) {
         Ok(place) => place,
-        Err(fault) => return Ok(Err(code_of_path(fault))),
+        Err(code) => return Ok(Err(code)),
     };
     let mut text = Vec::new(engine.alloc);
     match append_part(&engine.arena, &engine.schema, &place, engine.max, &mut text) {
         Ok(()) => Ok(Ok(text)),
         Err(EncodeFault::TooLong) => Ok(Err(Reply::TOO_LONG)),
         Err(EncodeFault::Memory) => Err(EngineFault::Memory),
+    }
+}
+
+// The JSON text of the part at the path; else the code of the refusal. The part's value is read
+// from the nodes of the version first.
+fn spelled<H: PairHash>(
+    engine: &Engine<H>,
+    writer: Writer,
+    v: &Identifier,
+    path: &[PathStep],
+) -> Result<Result<Vec<u8>, u8>, EngineFault>
+    ensures ok { IfOk result (λ made. IfOk made (λ text.
+        Shows json_text engine.now writer.0 v.now path.now (Ok text.items))) }
+    ensures err { IfOk result (λ made. IfErr made (λ code.
+        Shows json_text engine.now writer.0 v.now path.now (Err (coded code)))) }
+    ensures memory { IfErr result (λ fault. fault ≡ EngineFault.Memory) }
+{
+    let place = match place_of(engine, writer, v, path) {
+        Ok(place) => place,
+        Err(code) => return Ok(Err(code)),
+    };
+    let value = part_value(engine.alloc, &engine.arena, &engine.schema, &place)?;
+    let mut text = Vec::new(engine.alloc);
+    match write_json(
+        engine.alloc,
+        &engine.schema,
+        place.id,
+        &value,
+        engine.max,
+        &mut text,
+    ) {
+        Ok(()) => Ok(Ok(text)),
+        Err(JsonWrite::TooLong) => Ok(Err(Reply::TOO_LONG)),
+        Err(JsonWrite::Memory) => Err(EngineFault::Memory),
     }
 }
 
@@ -136,6 +167,23 @@ pub(crate) fn bytes<'a, H: PairHash>(
 {
     match encoded(engine, writer, v, path)? {
         Ok(text) => Ok(Decision::Said(Reply::Bytes(ByteRun::from_bytes(text)))),
+        Err(code) => Ok(Decision::Refused(code)),
+    }
+}
+
+/// `json V P`.
+pub(crate) fn json<'a, H: PairHash>(
+    engine: &Engine<H>,
+    writer: Writer,
+    v: &Identifier,
+    path: &[PathStep],
+) -> Result<Decision<'a>, EngineFault>
+    ensures answers { IfOk result (AnswersOf H.pair_of
+        (λ rules versions. json_row rules versions v.now path.now) nothing writer.0 engine.now) }
+    ensures memory { IfErr result (λ fault. fault ≡ EngineFault.Memory) }
+{
+    match spelled(engine, writer, v, path)? {
+        Ok(text) => Ok(Decision::Said(Reply::Json(ByteRun::from_bytes(text)))),
         Err(code) => Ok(Decision::Refused(code)),
     }
 }

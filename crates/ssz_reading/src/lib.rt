@@ -17,7 +17,7 @@ mod places;
 mod reading;
 mod writing;
 
-pub use basics::{bit_of, number_of};
+pub use basics::{Basic, bit_of, number_of};
 pub use measuring::part_len;
 pub use nodes::chunk_of;
 pub use reading::read_value;

@@ -1,4 +1,6 @@
-use Rattle.std.proofs.Common.{◌≡◌, ◌-◌, sym, subst}
+use Rattle.std.proofs.Common.{◌≡◌, ◌-◌, refl, sym, subst}
+use Rattle.ssz_machine.specs.Making.{load, loadjson}
+use Rattle.ssz_machine.specs.Changes.{puts}
 use Rattle.ssz_engine.specs.Steps.{CanAsk}
 use Rattle.ssz_engine.specs.declared.fault.EngineFault.TheVariants.{Read, Write, Memory}
 use Rattle.ssz_engine.proofs.Found.{counts-none, decides-ok, loads-ok, memory-alone}
@@ -43,10 +45,27 @@ returns-in-Load-clause-decides g c =
     loads-ok g.H.PairHash.pair_of c.args.place
     (g.H.PairHash.pairs c.args.hasher.now - c.args.engine.now.base) c.args.writer.0
     c.args.engine.now c.load.new.engine (g.H.PairHash.pairs c.args.hasher.now)
-    (g.F.Files.content c.args.files.now) c.args.statement.now c.in-Load.v c.in-Load.t
-    c.in-Load.file c.load.result c.in-Load.is c.load.ensures.answers
+    (g.F.Files.content c.args.files.now) c.in-Load.file
+    (λ bytes rules versions. load rules versions c.in-Load.v c.in-Load.t bytes)
+    (puts c.in-Load.v) c.args.statement.now _ c.load.result c.in-Load.is (λ files. refl) refl
+    c.load.ensures.answers
 
 pub returns-in-Load-clause-asked : goal.returns-in-Load-clause-asked
 returns-in-Load-clause-asked g c = λ e.
     subst (λ s. CanAsk g.H.PairHash.pair_of c.args.engine.now c.args.writer.0 s) (sym c.in-Load.is)
     (c.load.ensures.asked e)
+
+pub returns-in-LoadJson-clause-decides : goal.returns-in-LoadJson-clause-decides
+returns-in-LoadJson-clause-decides g c =
+    loads-ok g.H.PairHash.pair_of c.args.place
+    (g.H.PairHash.pairs c.args.hasher.now - c.args.engine.now.base) c.args.writer.0
+    c.args.engine.now c.load-in-LoadJson.new.engine (g.H.PairHash.pairs c.args.hasher.now)
+    (g.F.Files.content c.args.files.now) c.in-LoadJson.file
+    (λ bytes rules versions. loadjson rules versions c.in-LoadJson.v c.in-LoadJson.t bytes)
+    (puts c.in-LoadJson.v) c.args.statement.now _ c.load-in-LoadJson.result c.in-LoadJson.is (λ files. refl)
+    refl c.load-in-LoadJson.ensures.answers
+
+pub returns-in-LoadJson-clause-asked : goal.returns-in-LoadJson-clause-asked
+returns-in-LoadJson-clause-asked g c = λ e.
+    subst (λ s. CanAsk g.H.PairHash.pair_of c.args.engine.now c.args.writer.0 s)
+    (sym c.in-LoadJson.is) (c.load-in-LoadJson.ensures.asked e)

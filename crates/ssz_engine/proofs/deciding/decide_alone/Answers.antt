@@ -3,7 +3,7 @@ use Rattle.ssz_outside.specs.Content.{Content as Files}
 use Rattle.ssz_schema.specs.Paths.{Path}
 use Rattle.ssz_machine.specs.Making.{new, lit, list}
 use Rattle.ssz_machine.specs.Editing.{append, choose, pop, set}
-use Rattle.ssz_machine.specs.Asking.{bytes, gindex, len, prove, save}
+use Rattle.ssz_machine.specs.Asking.{bytes, gindex, json_row, len, prove, save}
 use Rattle.ssz_machine.specs.Changes.{nothing, puts}
 use Rattle.ssz_engine.specs.Decisions.{Answers, AnswersWith}
 use Rattle.ssz_engine.specs.declared.decision.Decision.{Decision}
@@ -115,6 +115,21 @@ returns-in-Bytes-clause-decides g c =
     (λ rules versions. bytes rules versions c.in-Bytes.v path) nothing c.args.writer.0
     c.args.engine.now c.args.engine.now))
     c.as_slice-in-Bytes.ensures c.bytes.ensures.answers))
+
+pub returns-in-Json-clause-decides : goal.returns-in-Json-clause-decides
+returns-in-Json-clause-decides g c =
+    alone-ok g.H.PairHash.pair_of c.args.place
+    (g.H.PairHash.pairs c.args.hasher.now - c.args.engine.now.base) c.args.writer.0
+    c.args.engine.now c.args.engine.now (g.H.PairHash.pairs c.args.hasher.now)
+    (g.H.PairHash.pairs c.args.hasher.now) c.args.statement.now _ c.json.result c.in-Json.is
+    (with-ok g.H.PairHash.pair_of
+    (λ rules versions. json_row rules versions c.in-Json.v c.in-Json.path) nothing
+    c.args.writer.0 c.args.engine.now c.args.engine.now (g.H.PairHash.pairs c.args.hasher.now)
+    c.json.result
+    (subst (λ (path : Path). IfOk c.json.result (AnswersWith g.H.PairHash.pair_of
+    (λ rules versions. json_row rules versions c.in-Json.v path) nothing c.args.writer.0
+    c.args.engine.now c.args.engine.now))
+    c.as_slice-in-Json.ensures c.json.ensures.answers))
 
 pub returns-in-Len-clause-decides : goal.returns-in-Len-clause-decides
 returns-in-Len-clause-decides g c =

@@ -3,28 +3,29 @@ use Rattle.std.specs.Prelude.{IfSome, IsSomeAnd}
 use Rattle.ssz_outside.specs.Content.{bytes_of}
 use Rattle.ssz_schema.specs.Unfolding.{type_of}
 use Rattle.ssz_script.specs.declared.reply.TheConstants.Reply.{TOO_LONG}
-use Rattle.ssz_machine.specs.Making.{load}
 use Rattle.ssz_machine.specs.Rules.{◌>>◌, refuse}
 use Rattle.ssz_machine.specs.Changes.{puts}
-use Rattle.ssz_engine.specs.Content.{Content}
-use Rattle.ssz_engine.specs.Decisions.{AnswersWith, LoadsWith, brought}
+use Rattle.ssz_engine.specs.Content.{Content, rules_of}
+use Rattle.ssz_engine.specs.Decisions.{AnswersWith, LoadsWith, brought_as, load_row}
 use Rattle.std.specs.Prelude.{nat_lt}
-use Rattle.ssz_engine.proofs.Brought.{IsLong, answers-same, free-row, loads-any, not-below, refused-answers, taken-row, too-long, whole}
+use Rattle.ssz_engine.proofs.Brought.{IsLong, answers-same, free-row, load-is, loads-any, not-below, refused-answers, taken-row, too-long, whole}
 use Rattle.ssz_engine.proofs.Stepping.{ok-of}
-use Rattle.ssz_engine.proofs.making.load.Goals as goal
+use Rattle.ssz_engine.proofs.loading.load.Goals as goal
 
 pub returns-in-Err-clause-answers : goal.returns-in-Err-clause-answers
 returns-in-Err-clause-answers g c =
     loads-any g.H.PairHash.pair_of (g.F.Files.content c.args.files.now) c.args.file.now
-    (λ bytes rules versions. load rules versions c.args.v.now c.args.t.now bytes)
+    (λ bytes rules versions. load_row c.args.form rules versions c.args.v.now c.args.t.now bytes)
     (puts c.args.v.now) c.args.writer.0 c.args.engine.now c.args.engine.now _
     (λ bytes. refused-answers g.H.PairHash.pair_of
-    (λ rules versions. load rules versions c.args.v.now c.args.t.now bytes)
+    (λ rules versions. load_row c.args.form rules versions c.args.v.now c.args.t.now bytes)
     (puts c.args.v.now) c.args.writer.0 c.args.engine.now c.in-Err.code
-    (λ versions stand. taken-row g.H.PairHash.pair_of c.args.engine.now c.args.writer.0
+    (λ versions stand. load-is c.args.form (rules_of g.H.PairHash.pair_of c.args.engine.now)
+    versions c.args.v.now c.args.t.now bytes
+    ∙ taken-row g.H.PairHash.pair_of c.args.engine.now c.args.writer.0
     c.args.v.now c.args.t.now versions stand c.in-Err.code
     (λ type. refuse TOO_LONG (nat_lt c.args.engine.now.most (length bytes))
-    >> brought versions c.args.v.now type bytes) c.in-Err.ensures.err))
+    >> brought_as c.args.form versions c.args.v.now type bytes) c.in-Err.ensures.err))
 
 pub returns-in-Ok-TooLong-clause-answers : goal.returns-in-Ok-TooLong-clause-answers
 returns-in-Ok-TooLong-clause-answers g c =
@@ -46,13 +47,16 @@ returns-in-Ok-TooLong-clause-answers g c =
       bytes = long.bytes;
       read = long.read;
       answers = refused-answers pair_of
-          (λ rules versions. load rules versions c.args.v.now c.args.t.now long.bytes)
+          (λ rules versions.
+          load_row c.args.form rules versions c.args.v.now c.args.t.now long.bytes)
           (puts c.args.v.now) c.args.writer.0 engine TOO_LONG
-          (λ versions stand. free-row pair_of engine c.args.writer.0 c.args.v.now c.args.t.now
+          (λ versions stand. load-is c.args.form (rules_of pair_of engine) versions c.args.v.now
+          c.args.t.now long.bytes
+          ∙ free-row pair_of engine c.args.writer.0 c.args.v.now c.args.t.now
           versions stand c.in-Ok.id
           (λ type. refuse TOO_LONG (nat_lt engine.most (length long.bytes))
-          >> brought versions c.args.v.now type long.bytes) c.in-Ok.ensures.ok
-          ∙ ap (λ (b : Bool). refuse TOO_LONG b >> brought versions c.args.v.now
+          >> brought_as c.args.form versions c.args.v.now type long.bytes) c.in-Ok.ensures.ok
+          ∙ ap (λ (b : Bool). refuse TOO_LONG b >> brought_as c.args.form versions c.args.v.now
           (type_of engine.types c.in-Ok.id) long.bytes) long.long);
     }
 
@@ -61,11 +65,12 @@ returns-in-Ok-Whole-clause-answers g c =
     let pair_of = g.H.PairHash.pair_of in
     let told = g.F.Files.content c.args.files.now in
     let engine = c.args.engine.now in
-    let new = c.bring.new.engine in
+    let new = c.bring_as.new.engine in
     let bytes = c.as_slice.result.now in
     let v = c.args.v.now in
     let t = c.args.t.now in
     let w = c.args.writer.0 in
+    let form = c.args.form in
     let type = type_of engine.types c.in-Ok.id in
     let most : c.from.result ≡ engine.most
     = c.from.ensures ∙ ap (λ (s : Content). s.most) c.engine.view_is in
@@ -80,19 +85,21 @@ returns-in-Ok-Whole-clause-answers g c =
     c.in-Ok-Whole.field-0-is) in
     let len = c.as_slice.ensures.len in omega arith in
     ok-of
-    (AnswersWith pair_of (λ rules versions. brought versions v type bytes) (puts v) w engine new)
+    (AnswersWith pair_of (λ rules versions. brought_as form versions v type bytes) (puts v) w engine
+    new)
     (LoadsWith pair_of told c.args.file.now
-    (λ bytes rules versions. load rules versions v t bytes) (puts v) w engine new)
-    c.bring.result
+    (λ bytes rules versions. load_row form rules versions v t bytes) (puts v) w engine new)
+    c.bring_as.result
     (λ made answers. record {
       bytes = bytes;
       read = whole told c.args.file.now bytes read;
-      answers = answers-same pair_of (λ rules versions. brought versions v type bytes)
-          (λ rules versions. load rules versions v t bytes) (puts v) w engine new made
-          (λ versions stand. free-row pair_of engine w v t versions stand c.in-Ok.id
+      answers = answers-same pair_of (λ rules versions. brought_as form versions v type bytes)
+          (λ rules versions. load_row form rules versions v t bytes) (puts v) w engine new made
+          (λ versions stand. load-is form (rules_of pair_of engine) versions v t bytes
+          ∙ free-row pair_of engine w v t versions stand c.in-Ok.id
           (λ type. refuse TOO_LONG (nat_lt engine.most (length bytes))
-          >> brought versions v type bytes) c.in-Ok.ensures.ok
-          ∙ ap (λ (b : Bool). refuse TOO_LONG b >> brought versions v type bytes)
+          >> brought_as form versions v type bytes) c.in-Ok.ensures.ok
+          ∙ ap (λ (b : Bool). refuse TOO_LONG b >> brought_as form versions v type bytes)
           (not-below engine.most (length bytes) few)) answers;
     })
-    c.bring.ensures.answers
+    c.bring_as.ensures.answers

@@ -1,0 +1,108 @@
+//! Statements that make a version of the value that a file has.
+ghost use Rattle.std.specs.Prelude.{◌≡◌, ◌≢◌, ◌<◌, ◌^◌, ℕ, List, None, Err, length, IfOk, IfErr};
+ghost use Rattle.ssz_schema.specs.Unfolding.{type_of};
+ghost use Rattle.ssz_versions.specs.Content.{held_at};
+ghost use Rattle.ssz_machine.specs.Changes.{puts};
+ghost use Rattle.ssz_engine.specs.Content.{Grows};
+ghost use Rattle.ssz_engine.specs.Decisions.{AnswersWith, CanLoad, LoadsWith, brought_as, load_row};
+ghost use Rattle.ssz_engine.specs.Outside.{CountsReads};
+
+use super::decision::Decision;
+use super::engine::Engine;
+use super::fault::EngineFault;
+use super::form::Form;
+use super::making::{bring, free_type};
+use ssz_chunk::PairHash;
+use ssz_outside::{Files, GetFault, Got};
+use ssz_schema::TypeId;
+use ssz_script::{FileName, Identifier, Reply};
+use ssz_tree::build;
+use ssz_value_json::{JsonRead, read_json};
+use ssz_versions::Writer;
+
+// A name that is free gets the value of a type whose JSON text some bytes are.
+fn bring_json<'a, H: PairHash>(
+    engine: &mut Engine<H>,
+    v: &'a Identifier,
+    id: TypeId,
+    text: &[u8],
+) -> Result<Decision<'a>, EngineFault>
+    requires { id < length engine.old.types.trees }
+    ensures grows { Grows engine.old engine.new }
+    ensures answers { (writer : ℕ) → held_at engine.old.entries writer v.now ≡ None
+        → IfOk result (AnswersWith H.pair_of
+        (λ rules versions. brought_as Form.Json versions v.now (type_of engine.old.types id)
+        text.now)
+        (puts v.now) writer engine.old engine.new) }
+    ensures memory { IfErr result (λ fault. fault ≡ EngineFault.Memory) }
+{
+    let value = match read_json(engine.alloc, &engine.schema, id, text) {
+        Ok(value) => value,
+        Err(JsonRead::Bad(fault)) => return Ok(Decision::BadJson(fault)),
+        Err(JsonRead::Memory) => return Err(EngineFault::Memory),
+    };
+    // Every type of a schema is legal, so that no other value has this text.
+    let _legal = engine.schema.ty(id);
+    let node = build(&mut engine.arena, &engine.schema, id, &value)?;
+    Ok(Decision::Made(v, id, node))
+}
+
+// A name that is free gets the value that some bytes have in this form.
+fn bring_as<'a, H: PairHash>(
+    engine: &mut Engine<H>,
+    writer: Writer,
+    v: &'a Identifier,
+    id: TypeId,
+    form: Form,
+    bytes: &[u8],
+) -> Result<Decision<'a>, EngineFault>
+    requires known { id < length engine.old.types.trees }
+    requires short { length bytes.now < 2 ^ 32 }
+    requires free { held_at engine.old.entries writer.0 v.now ≡ None }
+    ensures grows { Grows engine.old engine.new }
+    ensures answers { IfOk result (AnswersWith H.pair_of
+        (λ rules versions. brought_as form versions v.now (type_of engine.old.types id) bytes.now)
+        (puts v.now) writer.0 engine.old engine.new) }
+    ensures memory { IfErr result (λ fault. fault ≡ EngineFault.Memory) }
+{
+    match form {
+        Form::Encoding => bring(engine, writer, v, id, bytes),
+        Form::Json => bring_json(engine, v, id, bytes),
+    }
+}
+
+/// `load V T FILE`, or `loadjson V T FILE`.
+pub(crate) fn load<'a, F: Files, H: PairHash>(
+    engine: &mut Engine<H>,
+    writer: Writer,
+    v: &'a Identifier,
+    t: &Identifier,
+    file: &FileName,
+    form: Form,
+    files: &mut F,
+) -> Result<Decision<'a>, EngineFault>
+    ensures grows { Grows engine.old engine.new }
+    ensures answers { IfOk result (LoadsWith H.pair_of (F.content files.old) file.now
+        (λ bytes rules versions. load_row form rules versions v.now t.now bytes) (puts v.now)
+        writer.0 engine.old engine.new) }
+    ensures asked { result ≡ Err EngineFault.Read
+        → CanLoad H.pair_of engine.old writer.0 v.now t.now }
+    ensures no_write { result ≢ Err EngineFault.Write }
+    ensures content { F.content files.new ≡ F.content files.old }
+    ensures fails { F.readable files.old file.now → result ≢ Err EngineFault.Read }
+    ensures readable { (other : List ℕ) → F.readable files.old other → F.readable files.new other }
+    ensures gets { CountsReads result (F.get_faults files.old) (F.get_faults files.new) }
+    ensures puts { F.put_faults files.new ≡ F.put_faults files.old }
+{
+    let id = match free_type(engine, writer, v, t) {
+        Ok(id) => id,
+        Err(code) => return Ok(Decision::Refused(code)),
+    };
+    let mut bytes = Vec::new(engine.alloc);
+    match files.get(file.as_str(), &mut bytes, u64::from(engine.max)) {
+        Ok(Got::Whole) => bring_as(engine, writer, v, id, form, bytes.as_slice()),
+        Ok(Got::TooLong) => Ok(Decision::Refused(Reply::TOO_LONG)),
+        Err(GetFault::Failed) => Err(EngineFault::Read),
+        Err(GetFault::Memory) => Err(EngineFault::Memory),
+    }
+}
