@@ -5,8 +5,9 @@
 
 The rows are scripts. Each reply is computed here from nothing over plain values: encodings, roots
 and edits as in bench/edit_rows.py, indices and multiproofs by merkle-proofs.md over a whole tree of
-every value. First faults of bytes, and the counts that `hashes` prints, are written beside their
-lines by hand, from the rules of the formats.
+every value; JSON texts are what Python's json writes, with sorted keys and no white space. First
+faults of bytes and of texts, and the counts that `hashes` prints, are written beside their lines by
+hand, from the rules of the formats.
 """
 import hashlib
 import json
@@ -40,11 +41,15 @@ TYPES = {
     "Far": list_of(uint(64), 2 ** 40),
     "Bits": ("bitlist", 512),
     "Long": vector(uint(8), 80),
+    "Nine": vector(uint(64), 9),
+    "Three": ("bitvector", 3),
+    "Wides": list_of(uint(256), 2),
     "Wide": WIDE,
 }
 CODES = {
     "Syntax": 1, "NoType": 2, "NoVersion": 3, "NameTaken": 4, "BadPath": 5, "Absent": 6, "NotThat": 7, "Full": 8,
     "Empty": 9, "BadSelector": 10, "BadLiteral": 11, "TooLong": 12, "NoNode": 13, "Nested": 14, "NotHere": 15,
+    "BadJson": 18,
 }
 BUILT_IN = {"uint%d" % bits: uint(bits) for bits in (8, 16, 32, 64, 128, 256)} | {"boolean": BOOL}
 
@@ -225,6 +230,26 @@ def hexed(octets):
     return "0x" + octets.hex()
 
 
+def json_of(t, v):
+    """What stands for a value in JSON, as Python's json takes it."""
+    kind = t[0]
+    if kind == "uint":
+        return str(v) if t[1] < 32 else hexed(encoded(t, v))
+    if kind == "boolean":
+        return bool(v)
+    if kind == "container":
+        return {name: json_of(part, x) for (name, part), x in zip(t[1], v)}
+    if kind in ("bitvector", "bitlist"):
+        return "".join(str(int(bit)) for bit in v)
+    if kind == "union":
+        return [v[0], None if v[1] is None else json_of(t[1][v[0]], v[1])]
+    return hexed(bytes(v)) if t[1] == uint(8) else [json_of(t[1], x) for x in v]
+
+
+def text_of(t, v):
+    return json.dumps(json_of(t, v), sort_keys=True, separators=(",", ":"))
+
+
 class Script:
     """Lines, with the replies that are wanted. A weave has two writers, who say a line in turn."""
 
@@ -333,6 +358,19 @@ class Script:
                 raise Refused("TooLong")
             return "bytes " + hexed(octets)
         self.line("bytes %s %s" % (v, path), reply)
+
+    def json(self, v, path):
+        def reply():
+            text = text_of(*part(*self.held(v), steps(path)))
+            if len(text) > MAX_BYTES:
+                raise Refused("TooLong")
+            return "json " + text
+        self.line("json %s %s" % (v, path), reply)
+
+    def loadjson(self, v, name, value, file):
+        """The file has the text of the value."""
+        assert FILES[file].decode() == text_of(self.type_of(name), value)
+        self.line("loadjson %s %s %s" % (v, name, file), lambda: self.made(v, name, value, self.own()))
 
     def len(self, v, path):
         def reply():
@@ -581,9 +619,116 @@ def lines(script):
     script.none("")
     script.list()
     script.refused("upgrade V W P", "Syntax")
-    script.refused("json V /", "Syntax")
-    script.refused("loadjson V P f", "Syntax")
     script.refused("compact", "Syntax")
+    for text in ("json V", "json V /a /b", "json V a", "loadjson V P", "loadjson V P f g", "loadjson V P f~"):
+        script.refused(text, "Syntax")
+
+
+def texts(script):
+    """JSON texts of values and of parts of every kind."""
+    script.lit("V", "M", [48042, [1, 2]])
+    for path in ("/", "/a", "/b", "/b/1", "/b/2", "/b/4", "/b/2/a", "/b/#len", "/b/#sel", "/c"):
+        script.json("V", path)
+    script.json("Z", "/")
+    script.new("U", "U")
+    for path in ("/", "/#sel", "/#0", "/#1", "/#1/a"):
+        script.json("U", path)
+    script.choose("U", "/", 1, le(5, 8), 5)
+    for path in ("/", "/#sel", "/#1", "/#2"):
+        script.json("U", path)
+    script.lit("T", "Three", [1, 0, 1])
+    for path in ("/", "/0", "/1", "/3"):
+        script.json("T", path)
+    script.new("E", "Eight")
+    script.json("E", "/")
+    script.append("E", "/", le(2 ** 64 - 1, 8), 2 ** 64 - 1)
+    script.append("E", "/", le(0, 8), 0)
+    for path in ("/", "/0", "/1", "/2", "/#len"):
+        script.json("E", path)
+    script.new("X", "Wide")
+    for path in ("/", "/wide", "/flags", "/flags/9", "/marks", "/marks/0", "/marks/#len", "/texts", "/pick", "/truths",
+                 "/truths/0", "/halves", "/halves/19", "/halves/20"):
+        script.json("X", path)
+    script.set("X", "/flags/9", b"\x01", 1)
+    script.json("X", "/flags")
+    script.json("X", "/flags/9")
+    # one bit more than has room in a text
+    for bit in [1, 0, 0] + [0] * 59:
+        script.append("X", "/marks", bytes([bit]), bit)
+    script.json("X", "/marks")
+    script.append("X", "/marks", b"\x01", 1)
+    script.json("X", "/marks")
+    script.json("X", "/marks/62")
+    script.bytes("X", "/marks")
+    script.append("X", "/texts", bytes.fromhex("010006000000"), [1, []])
+    script.append("X", "/texts", bytes.fromhex("0200060000000304"), [2, [3, 4]])
+    for path in ("/texts", "/texts/1", "/texts/1/b/1", "/texts/0/b/1", "/texts/#len"):
+        script.json("X", path)
+    script.choose("X", "/pick", 2, None, [0, []])
+    script.append("X", "/pick/#2/b", b"\x09", 9)
+    for path in ("/pick", "/pick/#2", "/pick/#2/b", "/pick/#2/b/0", "/pick/#1", "/pick/#sel"):
+        script.json("X", path)
+    for bit in (1, 0, 1):
+        script.append("X", "/truths", bytes([bit]), bit)
+    for path in ("/truths", "/truths/2", "/truths/1", "/truths/3"):
+        script.json("X", path)
+    script.set("X", "/halves/17", le(0x1234, 2), 0x1234)
+    script.json("X", "/halves/17")
+    script.json("X", "/halves/16")
+    # a text that is longer than the encoding, and one that is shorter
+    script.json("X", "/wide")
+    script.bytes("X", "/wide")
+    script.new("N", "Nine")
+    script.json("N", "/")
+    script.bytes("N", "/")
+    script.hashes(0)
+    script.root("V")
+    script.json("V", "/")
+    script.hashes(2)
+
+
+def spelled(script):
+    """First faults of texts are those of the formats, by hand."""
+    script.loadjson("V", "M", [48042, [1, 2]], "m")
+    script.bytes("V", "/")
+    script.root("V")
+    script.hashes(2)
+    script.json("V", "/")
+    for file, fault in [
+            ("none", "J1 0"), ("open", "J1 0"), ("array", "J2 0"), ("number", "J2 1"), ("zeros", "J3 1"),
+            ("capitals", "J3 2"), ("great", "J4 1"), ("five", "J5 2"), ("missing", "J6 0"), ("more", "J6 0"),
+            ("order", "J8 0"), ("space", "J8 0"), ("feed", "J8 0"), ("escape", "J8 0"), ("twice", "J8 0")]:
+        script.refused("loadjson W M " + file, "BadJson " + fault)
+    for file, fault in [("none_0", "J2 1"), ("third", "J7 0"), ("m", "J2 0"), ("small", "J4 1")]:
+        script.refused("loadjson W U " + file, "BadJson " + fault)
+    script.loadjson("W", "U", (0, None), "nothing")
+    script.loadjson("X", "U", (1, 5), "chosen")
+    script.bytes("W", "/")
+    script.bytes("X", "/")
+    script.loadjson("T", "Three", [1, 0, 1], "bits")
+    script.bytes("T", "/")
+    script.loadjson("B", "Bits", [1, 0, 1], "bits")
+    script.bytes("B", "/")
+    script.loadjson("O", "boolean", 1, "true")
+    script.bytes("O", "/")
+    # the type before the name, and both before the file is read
+    script.refused("loadjson V Nothing m", "NoType")
+    script.refused("loadjson V M open", "NameTaken")
+    script.refused("loadjson Y Nothing long", "NoType")
+    script.refused("loadjson V M long", "NameTaken")
+    # a text that is too long, one of a value whose encoding would be, and one of the greatest length
+    script.refused("loadjson Y Wides wide", "TooLong")
+    script.loadjson("N", "Nine", [0] * 9, "nine")
+    script.bytes("N", "/")
+    script.json("N", "/")
+    script.root("N")
+    script.loadjson("L", "Bits", [0] * 61 + [1], "longest")
+    script.len("L", "/")
+    script.refused("loadjson Y Bits longer", "TooLong")
+    script.refused("load Y M m", "BadLiteral F4 2")
+    script.set("V", "/a", le(1, 2), 1)
+    script.json("V", "/")
+    script.list()
 
 
 def counts(script):
@@ -625,11 +770,23 @@ def woven(script):
     script.list()
 
 
+TEXTS = {
+    "m": '{"a":"48042","b":"0x0102"}', "open": "{", "array": "[]", "number": '{"a":1,"b":"0x"}',
+    "zeros": '{"a":"01","b":"0x"}', "capitals": '{"a":"1","b":"0x0A"}', "great": '{"a":"65536","b":"0x"}',
+    "five": '{"a":"1","b":"0x0102030405"}', "missing": '{"a":"1"}', "more": '{"a":"1","b":"0x","c":"1"}',
+    "order": '{"b":"0x0102","a":"48042"}', "space": '{"a":"48042", "b":"0x0102"}',
+    "feed": '{"a":"48042","b":"0x0102"}\n', "escape": '{"\\u0061":"48042","b":"0x0102"}',
+    "twice": '{"a":"1","a":"48042","b":"0x0102"}', "none_0": '[0,"0"]', "third": "[2,null]",
+    "small": '[1,"18446744073709551616"]', "nothing": "[0,null]", "chosen": '[1,"5"]', "bits": '"101"', "true": "true",
+    "wide": '["0x%s"]' % ("00" * 32), "nine": json.dumps(["0"] * 9, separators=(",", ":")),
+    "longest": '"%s1"' % ("0" * 61), "longer": '"%s1"' % ("0" * 62),
+}
 FILES = {"short": b"\xaa", "long": bytes(MAX_BYTES + 1), "longs": le(7, 8) + le(8, 8)}
+FILES |= {name: text.encode() for name, text in TEXTS.items()}
 SCRIPTS = [
     ("edits", lists_and_edits, False), ("versions", versions, False), ("shown", shown, False),
     ("indices", indices, False), ("bytes", read_bytes, False), ("lines", lines, False), ("counts", counts, False),
-    ("none", lambda script: None, False), ("woven", woven, True)]
+    ("none", lambda script: None, False), ("texts", texts, False), ("spelled", spelled, False), ("woven", woven, True)]
 
 # How runs of these lines end in which a call fails: the status, what the sink took, what f holds. A
 # put that fails leaves the first half of what it was given.
@@ -647,6 +804,11 @@ ENDINGS = [
     (5, OK + OK + OF_ZERO + "o", bytes(16)),
 ]
 
+# The same where a text is read: no file is read for what is refused before.
+UNREAD = ["new V P", "loadjson V P absent", "loadjson W X absent", "loadjson U U chosen", "loadjson W P absent", "list"]
+BEFORE_READ = OK + "refused 2 4 NameTaken\nrefused 3 2 NoType\n"
+UNREAD_ENDINGS = [(4, BEFORE_READ + OK), (4, BEFORE_READ)]
+
 
 def main():
     wanted = []
@@ -655,6 +817,8 @@ def main():
         types = [[name, plain.form(t)] for name, t in TYPES.items()]
         json.dump({"ssz": 1, "types": types}, out)
         out.write("\n")
+    with open(os.path.join(CRATE, "data", "files.txt"), "w") as out:
+        out.write("".join(name + "\n" for name in FILES))
     for name, octets in FILES.items():
         with open(os.path.join(CRATE, "data", name), "wb") as out:
             out.write(octets)
@@ -673,6 +837,10 @@ def main():
         out.write("".join(line + "\n" for line in FAULTY))
     for status, taken, saved in ENDINGS:
         wanted += ["status %d" % status, taken + "|", "no f" if saved is None else "f " + hexed(saved)]
+    with open(os.path.join(CRATE, "data", "unread.txt"), "w") as out:
+        out.write("".join(line + "\n" for line in UNREAD))
+    for status, taken in UNREAD_ENDINGS:
+        wanted += ["status %d" % status, taken + "|"]
     with open(os.path.join(CRATE, "stdout"), "w") as out:
         out.write("".join(line + "\n" for line in wanted))
 

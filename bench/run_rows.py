@@ -233,6 +233,115 @@ def dec(t, b, s=0):
             p += w
     return out
 
+def json_of(t, v):
+    """What stands for a value in JSON, as Python's json takes it."""
+    k = t[0]
+    if k == 'uint':
+        return str(v) if t[1] < 256 else '0x' + enc(t, v).hex()
+    if k == 'bool':
+        return v
+    if k in ('bitvector', 'bitlist'):
+        return ''.join('01'[b] for b in v)
+    if k == 'container':
+        return {n: json_of(p, x) for (n, p), x in zip(t[1], v)}
+    if k == 'union':
+        return [v[0], None if t[1][v[0]] is None else json_of(t[1][v[0]], v[1])]
+    return '0x' + bytes(v).hex() if t[1] == ('uint', 8) else [json_of(t[1], x) for x in v]
+
+def text_of(t, v):
+    return json.dumps(json_of(t, v), sort_keys=True, separators=(',', ':'))
+
+class Whole(int):
+    """A whole number as serde_json keeps one: not -0, and of 64 bits."""
+
+def number_of(digits):
+    n = int(digits)
+    return float(n) if digits == '-0' or not -2 ** 63 <= n < 2 ** 64 else Whole(n)
+
+def no_number(word):
+    raise ValueError(word)
+
+class J(Exception):
+    pass
+
+def wrong(c, n):
+    raise J((c, n))
+
+def hex_in(d, n):
+    if not re.match('0x([0-9a-f]{2})*\\Z', d):
+        wrong(3, n)
+    return list(bytes.fromhex(d[2:]))
+
+def leaf_in(t, d, n):
+    """The value of a part without parts."""
+    k = t[0]
+    if not isinstance(d, bool if k == 'bool' else str):
+        wrong(2, n)
+    if k == 'bool':
+        return d
+    if k == 'uint' and t[1] < 256:
+        if not NUM.match(d):
+            wrong(3, n)
+        if int(d) >= 2 ** t[1]:
+            wrong(4, n)
+        return int(d)
+    if k == 'uint':
+        b = hex_in(d, n)
+        if len(b) != 32:
+            wrong(5, n)
+        return int.from_bytes(bytes(b), 'little')
+    if k in ('bitvector', 'bitlist') and not re.match('[01]*\\Z', d):
+        wrong(3, n)
+    v = [c == '1' for c in d] if k in ('bitvector', 'bitlist') else hex_in(d, n)
+    if len(v) > t[-1] or (k in ('bitvector', 'vector') and len(v) != t[-1]):
+        wrong(5, n)
+    return v
+
+def walk(t, d, n):
+    """The value of the part numbered n, and the number of the next part."""
+    k = t[0]
+    if k in ('uint', 'bool', 'bitvector', 'bitlist') or (k in ('vector', 'list') and t[1] == ('uint', 8)):
+        return leaf_in(t, d, n), n + 1
+    if k == 'union':
+        if not (isinstance(d, list) and len(d) == 2 and isinstance(d[0], Whole) and 0 <= d[0] < 256):
+            wrong(2, n)
+        if d[0] >= len(t[1]):
+            wrong(7, n)
+        o = t[1][d[0]]
+        if o is None:
+            if d[1] is not None:
+                wrong(2, n + 1)
+            return (int(d[0]), None), n + 2
+        v, m = walk(o, d[1], n + 1)
+        return (int(d[0]), v), m
+    if not isinstance(d, dict if k == 'container' else list):
+        wrong(2, n)
+    if k == 'container':
+        if set(d) != {name for name, _ in t[1]}:
+            wrong(6, n)
+        todo = [(p, d[name]) for name, p in t[1]]
+    else:
+        if len(d) > t[2] or (k == 'vector' and len(d) != t[2]):
+            wrong(5, n)
+        todo = [(t[1], x) for x in d]
+    n += 1
+    out = []
+    for p, x in todo:
+        v, n = walk(p, x, n)
+        out.append(v)
+    return out, n
+
+def spelled(t, b):
+    """The value whose text the bytes are, or the first fault (raises)."""
+    try:
+        d = json.loads(b.decode(), parse_int=number_of, parse_constant=no_number)
+    except ValueError:
+        wrong(1, 0)
+    v, _ = walk(t, d, 0)
+    if text_of(t, v).encode() != b:
+        wrong(8, 0)
+    return v
+
 def sha(a, b):
     return hashlib.sha256(a + b).digest()
 
@@ -405,7 +514,7 @@ class Ref(Exception):
 
 def ref(c, *x):
     raise Ref((c,) + x)
-CODES = {1: 'Syntax', 2: 'NoType', 3: 'NoVersion', 4: 'NameTaken', 5: 'BadPath', 6: 'Absent', 7: 'NotThat', 8: 'Full', 9: 'Empty', 10: 'BadSelector', 11: 'BadLiteral', 12: 'TooLong', 13: 'NoNode', 14: 'Nested', 15: 'NotHere'}
+CODES = {1: 'Syntax', 2: 'NoType', 3: 'NoVersion', 4: 'NameTaken', 5: 'BadPath', 6: 'Absent', 7: 'NotThat', 8: 'Full', 9: 'Empty', 10: 'BadSelector', 11: 'BadLiteral', 12: 'TooLong', 13: 'NoNode', 14: 'Nested', 15: 'NotHere', 18: 'BadJson'}
 
 def get(t, v, p):
     """the part, Absent raises; path fits"""
@@ -451,13 +560,19 @@ def lit(t, b):
     except F as e:
         ref(11, e.args[0])
 
+def lit_json(t, b):
+    try:
+        return spelled(t, b)
+    except J as e:
+        ref(18, e.args[0])
+
 class Machine:
 
     def __init__(s, text, pair=sha, most=268435456):
         s.n = schema(text)
         s.h = Hash(pair)
         s.v = {}
-        s.files = {}
+        s.files = {name: text.encode() for name, text in TEXTS.items()}
         s.most = most
 
     def T(s, w):
@@ -499,14 +614,14 @@ class Machine:
             s.free(a[0])
             s.v[a[0]] = (t, lit(t, hx(a[2])))
             return 'ok'
-        if c == 'load':
+        if c in ('load', 'loadjson'):
             need(n == 3 and nm(a[0]) and nm(a[1]) and fl(a[2]))
             t = s.T(a[1])
             s.free(a[0])
             b = s.files.get(a[2], b'')
             if len(b) > s.most:
                 ref(12)
-            s.v[a[0]] = (t, lit(t, b))
+            s.v[a[0]] = (t, lit(t, b) if c == 'load' else lit_json(t, b))
             return 'ok'
         if c == 'fork':
             need(n == 2 and nm(a[0]) and nm(a[1]))
@@ -574,7 +689,7 @@ class Machine:
             need(n == 1 and nm(a[0]))
             t, v = s.V(a[0])
             return 'root 0x' + s.h.root(tree(t, v)).hex()
-        if c in ('bytes', 'len'):
+        if c in ('bytes', 'json', 'len'):
             need(n == 2 and nm(a[0]) and (path(a[1]) is not None))
             t, v = s.V(a[0])
             p = path(a[1])
@@ -586,10 +701,10 @@ class Machine:
                 if pt[0] not in ('vector', 'list', 'bitvector', 'bitlist'):
                     ref(7)
                 return f'len {len(x)}'
-            b = enc(pt, x)
-            if len(b) > s.most:
+            b = enc(pt, x).hex() if c == 'bytes' else text_of(pt, x)
+            if (len(b) // 2 if c == 'bytes' else len(b)) > s.most:
                 ref(12)
-            return 'bytes 0x' + b.hex()
+            return 'bytes 0x' + b if c == 'bytes' else 'json ' + b
         if c == 'save':
             need(n == 2 and nm(a[0]) and fl(a[1]))
             t, v = s.V(a[0])
@@ -657,7 +772,8 @@ class Machine:
             except Ref as e:
                 c = e.args[0]
                 bad = True
-                out.append(f'refused {i} {c[0]} {CODES[c[0]]}' + (f' F{c[1][0]} {c[1][1]}' if len(c) > 1 else ''))
+                letter = 'J' if c[0] == 18 else 'F'
+                out.append(f'refused {i} {c[0]} {CODES[c[0]]}' + (f' {letter}{c[1][0]} {c[1][1]}' if len(c) > 1 else ''))
         return (out, bad)
 SCHEMA = """{"ssz":1,"types":[
 ["P",{"container":[["a","uint64"],["b","uint64"]]}],
@@ -670,7 +786,7 @@ SCHEMA = """{"ssz":1,"types":[
 ["Long",{"list":["uint64",1099511627776]}],
 ["B512",{"bitlist":512}],
 ["V4",{"vector":["uint32",9]}],
-["BL",{"bitlist":300}],["BV",{"bitvector":10}],
+["BL",{"bitlist":300}],["BV",{"bitvector":10}],["U2",{"union":[null,"uint64"]}],["B3",{"bitvector":3}],
 ["LP",{"list":["P",5]}],["LU",{"list":["U",3]}],["LL",{"list":[{"list":["uint64",7]},3]}],
 ["W",{"container":[["w","uint256"],["x","uint128"],["t","boolean"]]}],
 ["Wide",{"vector":[{"vector":["uint64",4]},65536]}],
@@ -738,6 +854,68 @@ def rpath(t, v, r, stop=0.3):
         p += '/zz'
     return (p or '/', t)
 
+def places(d):
+    """The places of a JSON value: what holds a part, and under which key; not the whole."""
+    keys = d if isinstance(d, dict) else range(len(d)) if isinstance(d, list) else ()
+    out = []
+    for k in keys:
+        out += [(d, k)] + places(d[k])
+    return out
+
+def other(d, r):
+    """Another JSON value, much like this one."""
+    if isinstance(d, list) and d and r.random() < 0.5:
+        return r.choice([d + d[:1], d[:-1], d[::-1]])
+    if isinstance(d, dict) and r.random() < 0.7:
+        return r.choice([{**d, 'zz': '0'}, {k: v for k, v in list(d.items())[1:]}])
+    if isinstance(d, str) and r.random() < 0.7:
+        return r.choice([d + '0', '0' + d, d[:-1], d.upper(), d + ' ', d.replace('0', '2'), '1' + '0' * 39, '-1', ''])
+    return r.choice([None, True, 1, 0, 256, 1.0, '0', '1', '0x', '0x00', '0xAB', '0x' + '00' * 32, '101', [], {}, [0, None]])
+
+def mistold(t, v, r):
+    """A text that is much like that of the value."""
+    d = json.loads(text_of(t, v))
+    x = r.random()
+    if x < 0.7:
+        holder = [d]
+        at, k = r.choice(places(holder))
+        at[k] = other(at[k], r)
+        return json.dumps(holder[0], sort_keys=True, separators=(',', ':'))
+    text = text_of(t, v)
+    if x < 0.8:
+        return r.choice([text + ' ', text[:-1], ' ' + text, text + ',', text.replace('"', "'"), text.replace(',', ', ')])
+    if x < 0.9:
+        return json.dumps(dict(reversed(d.items())) if isinstance(d, dict) else d, separators=(',', ':'))
+    return text.replace('0', '\\u0030', 1)
+
+def drawn_texts():
+    """For each type some texts of its values, and some that are much like them."""
+    names = schema(SCHEMA)
+    out = {}
+    for T in NAMES:
+        r = random.Random(T)
+        for i in range(4):
+            out[f'{T}.{i}'] = text_of(names[T], rand(names[T], r))
+            out[f'{T}.{i}x'] = mistold(names[T], rand(names[T], r), r)
+            out[f'{T}.{i}y'] = mistold(names[T], rand(names[T], r), r)
+    return out
+
+TEXTS = {
+    'json1': '{"a":"48042","b":"0x0102"}',
+    'json2': '{"b":"0x0102","a":"48042"}',
+    'json3': '{"a":"65536","b":"0x"}',
+    'json4': '{"a":"01","b":"0x"}',
+    'json5': '{"a":"1"}',
+    'json6': '{"a":"1","b":"0x0102030405"}',
+    'json7': '{',
+    'none': '[0,null]',
+    'five': '[1,"5"]',
+    'none0': '[0,"0"]',
+    'third': '[2,null]',
+    'bits': '"101"',
+}
+TEXTS |= drawn_texts()
+
 def literal(t, r):
     b = enc(t, rand(t, r))
     x = r.random()
@@ -750,7 +928,7 @@ def literal(t, r):
         b = b[:i] + bytes([b[i] ^ 1 << r.randrange(8)]) + b[i + 1:]
     return '0x' + b.hex()
 
-def script(seed, n):
+def script(seed, n, spells=False):
     r = random.Random(seed)
     m = Machine(SCHEMA)
     lines = []
@@ -758,7 +936,7 @@ def script(seed, n):
     for i in range(1, n + 1):
         vs = sorted(m.v)
         v = r.choice(vs) if vs and r.random() < 0.95 else r.choice('ABCDXYZ')
-        c = r.choice(['new', 'lit', 'fork', 'drop', 'list'] + ['set'] * 6 + ['append'] * 5 + ['pop'] * 3 + ['choose'] * 3 + ['root'] * 4 + ['bytes'] * 3 + ['len'] * 2 + ['gindex'] + ['prove'] * 3 + ['save', 'load', 'frob']) if vs else r.choice(['new', 'lit'])
+        c = r.choice(['new', 'lit', 'fork', 'drop', 'list'] + ['set'] * 6 + ['append'] * 5 + ['pop'] * 3 + ['choose'] * 3 + ['root'] * 4 + ['bytes'] * 3 + ['len'] * 2 + ['gindex'] + ['prove'] * 3 + ['save', 'load', 'frob'] + ['json'] * (12 * spells) + ['loadjson'] * (12 * spells) + ['drop'] * (6 * spells)) if vs else r.choice(['new', 'lit'])
         t, x = m.v.get(v, (('uint', 8), 0))
         if c in ('new', 'lit'):
             T = r.choice(NAMES)
@@ -785,7 +963,15 @@ def script(seed, n):
             for _ in range(r.randint(1, 3)):
                 I.append(str(r.choice([1, 2, 3, 4, 5, 6, 7, 8, 9, 11, 13, r.randrange(64), 0])) if r.random() < 0.3 else rpath(t, x, r, 0.1)[0])
             line = f'prove {v} ' + ' '.join(I)
-        elif c in ('bytes', 'len'):
+        elif c == 'loadjson':
+            T = r.choice(NAMES)
+            near = [name for name in sorted(TEXTS) if name.startswith(T + '.')]
+            file = r.choice([x for x in near if x[-1].isdigit()] if r.random() < 0.5 else near)
+            file = file if r.random() < 0.9 else r.choice(sorted(TEXTS) + ['f0', 'absent'])
+            free = [x for x in 'ABCDEFGH' if x not in m.v]
+            w = r.choice(free) if free and r.random() < 0.8 else r.choice('ABCDE')
+            line = f'loadjson {w} {T} {file}'
+        elif c in ('bytes', 'json', 'len'):
             line = f'{c} {v} {rpath(t, x, r)[0]}'
         elif c == 'set':
             p, q = rpath(t, x, r)
@@ -916,7 +1102,54 @@ len V /
 len V /7
 bytes V /65535/3
 """),
-    ("sha", 'upgrade V W P\njson V /\nloadjson V P f\ncompact\nhashes x\nnew V\nnew 1 P\nset V a 0x\nprove V\nlit V P 0x0\nlit V P 0xzz\nbytes V /a/\nbytes V /01\n\x01\n'),
+    ("xor", """\
+lit V M 0xaabb060000000102
+json V /
+json V /b/#len
+json V /b/1
+json V /b/2
+json V /b/4
+json V /b/2/c
+json W /
+new U U2
+json U /
+choose U / 1 0x0500000000000000
+json U /
+json U /#1
+json U /#sel
+json U /#0
+lit B B3 0x05
+json B /
+json B /1
+"""),
+    ("sha", """\
+loadjson V M json1
+bytes V /
+root V
+loadjson W M json2
+loadjson W M json3
+loadjson W M json4
+loadjson W M json5
+loadjson W M json6
+loadjson W M json7
+loadjson W M absent
+loadjson W U2 none0
+loadjson W U2 third
+loadjson W X none
+loadjson V X json1
+loadjson V U2 json7
+loadjson W U2 none
+bytes W /
+loadjson U U2 five
+bytes U /
+loadjson B B3 bits
+bytes B /
+set V /a 0x0100
+append V /b 0x03
+json V /
+list
+"""),
+    ("sha", 'upgrade V W P\njson V\nloadjson V P\njson V / /\nloadjson V P f g\nloadjson V 1 f\ncompact\nhashes x\nnew V\nnew 1 P\nset V a 0x\nprove V\nlit V P 0x0\nlit V P 0xzz\nbytes V /a/\nbytes V /01\n\x01\n'),
 ]
 # with the numbers of `hashes`, which follow from the pairs of the trees
 COUNTED = [
@@ -947,6 +1180,7 @@ def wanted(hasher, text, numbers=(), types=SCHEMA):
 
 def main():
     drawn = [(random.Random(seed).choice(["sha", "xor"]), script(seed, 60)[0]) for seed in range(40)]
+    drawn += [(random.Random(seed).choice(["sha", "xor"]), script(seed, 60, True)[0]) for seed in range(40, 64)]
     with open(os.path.join(TOP, "examples/ethereum/state.script")) as file:
         state = file.read()
     with open(os.path.join(TOP, "examples/ethereum/deneb.json")) as file:
@@ -957,6 +1191,8 @@ def main():
     for name, text in ("types.json", SCHEMA), ("deneb.json", deneb):
         with open(os.path.join(CRATE, "data", name), "w") as file:
             file.write(text)
+    with open(os.path.join(CRATE, "data", "texts.txt"), "w") as file:
+        file.write("".join(f"{name} {text}\n" for name, text in TEXTS.items()))
     with open(os.path.join(CRATE, "data", "scripts.txt"), "w") as file:
         file.write("".join(f"=== {hasher} {name}\n{text}" for hasher, text, _, name, _ in rows))
     with open(os.path.join(CRATE, "stdout"), "w") as file:

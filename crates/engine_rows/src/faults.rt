@@ -26,8 +26,26 @@ fn print_run(rt: &HostRuntime, failing_files: &[u64], failing_puts: &[u64]) -> R
     Ok(())
 }
 
+// Runs the script of unread.txt, where these calls of the files fail, and prints how it ended and
+// what the sink took.
+fn print_unread(rt: &HostRuntime, failing_files: &[u64]) -> Result<()> {
+    let alloc = rt.alloc();
+    let script = fs::read(rt, "unread.txt")?;
+    let text = fs::read(rt, "chosen")?;
+    let mut files = MemFiles::new(alloc, failing_files)?;
+    files.give("chosen", text.as_slice())?;
+    let mut out = MemSink::new(alloc, &[])?;
+    let mut hasher = XorPair::new();
+    let status = run(rt, script.as_slice(), &mut files, &mut out, &mut hasher)?;
+    let taken = str::from_utf8(out.taken()).ok().context("no text")?;
+    println!(rt; "status {}", status as u8)?;
+    println!(rt; "{taken}|")?;
+    Ok(())
+}
+
 /// Prints the runs: nothing fails; the save, the load; the first to the fourth line. The calls of
-/// files are the save and the load, those of the sink the lines.
+/// files are the save and the load, those of the sink the lines. Then those that read a text: an
+/// absent file, and one that cannot be read.
 pub fn print_faults(rt: &HostRuntime) -> Result<()> {
     print_run(rt, &[], &[])?;
     print_run(rt, &[1], &[])?;
@@ -35,5 +53,6 @@ pub fn print_faults(rt: &HostRuntime) -> Result<()> {
     for line in [1, 2, 3, 4] {
         print_run(rt, &[], &[line])?;
     }
-    Ok(())
+    print_unread(rt, &[])?;
+    print_unread(rt, &[1])
 }

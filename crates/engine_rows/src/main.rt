@@ -19,7 +19,7 @@ use ssz_schema::Schema;
 use ssz_schema_json::read_schema;
 use std::{fs, str};
 
-// The most bytes of an encoding that is read or shown.
+// The most bytes of an encoding or of a JSON text that is read or shown.
 const MAX_BYTES: u32 = 64;
 
 fn schema_of(rt: &HostRuntime) -> Result<Schema> {
@@ -33,7 +33,8 @@ fn schema_of(rt: &HostRuntime) -> Result<Schema> {
 // The files that scripts read.
 fn files_of(rt: &HostRuntime) -> Result<QuietFiles> {
     let mut files = QuietFiles::new(rt.alloc())?;
-    for name in ["short", "long", "longs"] {
+    let names = fs::read_to_string(rt, "files.txt")?;
+    for name in names.as_str().lines() {
         let bytes = fs::read(rt, name)?;
         files.give(name, bytes.as_slice())?;
     }
@@ -104,7 +105,8 @@ fn print_woven<H: PairHash>(rt: &HostRuntime, hasher: &mut H) -> Result<()> {
 
 fn main(rt: HostRuntime) -> Result<()> {
     for name in [
-        "edits", "versions", "shown", "indices", "bytes", "lines", "counts", "none",
+        "edits", "versions", "shown", "indices", "bytes", "lines", "counts", "none", "texts",
+        "spelled",
     ] {
         println!(rt; "{name} sha")?;
         print_run(&rt, name, &mut ShaPair::new())?;

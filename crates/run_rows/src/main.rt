@@ -1,5 +1,5 @@
 //! Prints the status and the text of `ssz_tool::run` for the scripts of scripts.txt, over files in
-//! memory in which an absent name holds no bytes.
+//! memory in which an absent name holds no bytes. The JSON texts of texts.txt are among them.
 //!
 //! A line `=== HASHER SCHEMA` begins a script. What is to be printed was computed by
 //! bench/run_rows.py, a machine that knows whole values alone and was written from the standard's
@@ -22,6 +22,16 @@ fn words_of(alloc: Global) -> Result<Vec<String>, AllocError> {
     Ok(words)
 }
 
+// Gives the files of texts.txt: each line has a name and what the file of this name holds.
+fn give_texts(rt: &HostRuntime, files: &mut QuietFiles) -> Result<()> {
+    let texts = fs::read_to_string(rt, "texts.txt")?;
+    for line in texts.as_str().lines() {
+        let (name, text) = line.split_once(' ').context("a line has two words")?;
+        files.give(name, text.as_bytes())?;
+    }
+    Ok(())
+}
+
 fn print_run<H: PairHash>(
     rt: &HostRuntime,
     schema: &str,
@@ -33,6 +43,7 @@ fn print_run<H: PairHash>(
     let mut files = QuietFiles::new(alloc)?;
     files.give("schema", schema.as_bytes())?;
     files.give("script", script.as_bytes())?;
+    give_texts(rt, &mut files)?;
     let mut out = QuietSink::new(alloc)?;
     let status = run(alloc, &words, &mut files, &mut out, hasher) as u8;
     let Ok(printed) = str::from_utf8(out.taken()) else {
