@@ -6,7 +6,7 @@ use Rattle.std.specs.List.{IsDistinct, AllByRecursion}
 use Rattle.ssz_chunk.specs.declared.Chunk.{Chunk}
 use Rattle.ssz_proof.specs.declared.entry.Entry.{Entry}
 use Rattle.ssz_proof.specs.Calculation.{Known, indices_of}
-use Rattle.ssz_proof.specs.Multiproof.{Multiproof, IsOrdered, AscendFrom}
+use Rattle.ssz_proof.specs.Multiproof.{Multiproof, IsMultiproof, IsOrdered, AscendFrom}
 use Rattle.ssz_proof.specs.Changes.{with_chunk, proof_with}
 
 one_index : (entry : Entry) (chunk : Chunk) (here : Bool)
@@ -26,19 +26,24 @@ some-with : (known : Known) (index : ℕ) (chunk : Chunk) → known ≢ []
 some-with [] index chunk some e = some refl
 some-with (entry ∷ known) index chunk some e = cc
 
+pub multiproof-with : (proof : Multiproof) (index : ℕ) (chunk : Chunk) → IsMultiproof proof
+    → IsMultiproof (proof_with proof index chunk)
+multiproof-with proof index chunk is =
+    let leaves = indices-with proof.leaves index chunk in
+    record {
+      some = some-with proof.leaves index chunk is.some;
+      positive = subst (AllByRecursion (λ i. 0 < i)) (sym leaves) is.positive;
+      distinct = subst (IsDistinct nat_eq) (sym leaves) is.distinct;
+      flat = subst AreFlat (sym leaves) is.flat;
+      complete = indices-with proof.nodes index chunk ∙ is.complete ∙ ap helpers (sym leaves);
+    }
+
 pub ordered-with : (proof : Multiproof) (index : ℕ) (chunk : Chunk) → IsOrdered proof
     → IsOrdered (proof_with proof index chunk)
 ordered-with proof index chunk ordered =
     let leaves = indices-with proof.leaves index chunk in
-    let nodes = indices-with proof.nodes index chunk in
     record {
-      is = record {
-        some = some-with proof.leaves index chunk ordered.is.some;
-        positive = subst (AllByRecursion (λ i. 0 < i)) (sym leaves) ordered.is.positive;
-        distinct = subst (IsDistinct nat_eq) (sym leaves) ordered.is.distinct;
-        flat = subst AreFlat (sym leaves) ordered.is.flat;
-        complete = nodes ∙ ordered.is.complete ∙ ap helpers (sym leaves);
-      };
+      is = multiproof-with proof index chunk ordered.is;
       ascends = subst (AscendFrom 0) (sym leaves) ordered.ascends;
       fits = subst (AllByRecursion (λ i. i < 2 ^ 128)) (sym leaves) ordered.fits;
     }

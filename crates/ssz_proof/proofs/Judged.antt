@@ -188,18 +188,26 @@ calculated_within-same pair_of (suc down) xs ys same index =
       calculated_within-same pair_of down xs ys same (2 * index + 1),
     ) refl
 
+-- what is known of a proof is known of the lists that it was made of
+pub chunk_at-given : (lists proof : Multiproof) → IsProofOf lists proof → (index : ℕ)
+    → chunk_at (known_of lists) index ≡ chunk_at (known_of proof) index
+chunk_at-given lists proof is index =
+    rw (is.nodes)
+    (chunk_at-front lists.leaves proof.leaves lists.nodes index
+    (chunk_at-permutation lists.leaves proof.leaves index is.leaves is.ordered.is.distinct))
+
 -- what is calculated from a proof is calculated from the lists that it was made of
 pub calculated-given : (pair_of : List ℕ → List ℕ → List ℕ) (lists proof : Multiproof)
     → IsProofOf lists proof → (index : ℕ)
     → calculated pair_of (known_of lists) index ≡ calculated pair_of (known_of proof) index
 calculated-given pair_of lists proof is index =
+    let deep : deepest (indices_of (known_of lists)) ≡ deepest (indices_of (known_of proof)) =
     rw (is.nodes)
-    (ap (λ down. calculated_within pair_of down (lists.leaves ++ lists.nodes) index)
     (deepest-permutation (lists.leaves ++ lists.nodes) (proof.leaves ++ lists.nodes)
-    (IsPermutation-append_left lists.nodes lists.leaves proof.leaves is.leaves))
-    ∙ calculated_within-same pair_of _ (lists.leaves ++ lists.nodes) (proof.leaves ++ lists.nodes)
-    (λ at. chunk_at-front lists.leaves proof.leaves lists.nodes at
-    (chunk_at-permutation lists.leaves proof.leaves at is.leaves is.ordered.is.distinct)) index)
+    (IsPermutation-append_left lists.nodes lists.leaves proof.leaves is.leaves)) in
+    ap (λ down. calculated_within pair_of down (known_of lists) index) deep
+    ∙ calculated_within-same pair_of _ (known_of lists) (known_of proof)
+    (chunk_at-given lists proof is) index
 
 -- and their leaves have as many levels
 pub levels-given : (lists proof : Multiproof) → IsProofOf lists proof
