@@ -5,7 +5,6 @@ use Rattle.ssz_schema.specs.Types.{SszType}
 use Rattle.ssz_schema.specs.Paths.{Path}
 use Rattle.ssz_value.specs.Values.{SszValue}
 use Rattle.ssz_value.specs.Trees.{hash_tree_root}
-use Rattle.ssz_value.specs.Parts.{part}
 use Rattle.ssz_value.specs.Edits.{set_at}
 use Rattle.ssz_proof.specs.Calculation.{PairOf, calculated}
 use Rattle.ssz_proof.specs.Multiproof.{Multiproof, known_of}

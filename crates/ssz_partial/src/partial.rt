@@ -1,10 +1,11 @@
-ghost use Rattle.std.specs.Prelude.{◌≡◌, ◌+◌, ◌<◌, ◌≤◌, length, IfOk, sum_by};
+ghost use Rattle.std.specs.Prelude.{◌≡◌, ◌+◌, ◌<◌, ◌≤◌, length, Err, IfOk, IfErr, sum_by};
 ghost use Rattle.ssz_chunk.specs.Index.{levels};
 ghost use Rattle.ssz_schema.specs.Unfolding.{type_of};
 ghost use Rattle.ssz_value.specs.Standing.{value_of};
 ghost use Rattle.ssz_proof.specs.Calculation.{calculated, indices_of};
 ghost use Rattle.ssz_proof.specs.Multiproof.{known_of};
-ghost use Rattle.ssz_partial.specs.Partial.{got, set_to, SetsTo, FitsAt};
+ghost use Rattle.ssz_partial.specs.Partial.{got, settable, set_to, SetsTo, FitsAt};
+ghost use Rattle.ssz_partial.specs.Settable.{IsNeverSettable, IsSettable, IsSettableType};
 
 use super::chunks::{piece, write};
 use super::fault::PartialFault;
@@ -55,8 +56,9 @@ impl Partial {
     /// Condition: the type is one of the schema.
     pub fn get(&self, schema: &Schema, path: &[PathStep]) -> Result<Piece, PartialFault>
         requires { self.now.id < length schema.now.trees }
-        ensures { result
+        ensures value { result
             ≡ got (known_of self.now.proof) (type_of schema.now self.now.id) path.now }
+        ensures few { IfOk result (λ piece. piece.len ≤ 32) }
     {
         let Some(part) = schema.path_type(self.id, path) else {
             return Err(PartialFault::BadPath);
@@ -66,6 +68,39 @@ impl Partial {
         };
         let found = reach(&self.proof, schema, self.id, path)?;
         Ok(piece(size as u8, found.spot, &found.chunk))
+    }
+
+    // The type of a value that is put at the path, as far as the type tells whether one can be.
+    fn type_to_set(&self, schema: &Schema, path: &[PathStep]) -> Result<TypeId, PartialFault>
+        requires { self.now.id < length schema.now.trees }
+        ensures part { IfOk result (IsSettableType schema.now (type_of schema.now self.now.id)
+            path.now) }
+        ensures fault { IfErr result
+            (IsNeverSettable (type_of schema.now self.now.id) path.now) }
+    {
+        let Some(part) = schema.path_type(self.id, path) else {
+            return Err(PartialFault::BadPath);
+        };
+        if schema.basic_size(part).is_none() || ends_mixed_in(path) {
+            return Err(PartialFault::NotThat);
+        }
+        Ok(part)
+    }
+
+    /// The type that a value has to have which is put at the path: that of the basic part, or of a
+    /// bit. Refused exactly where `set` is, whatever the value, with the same fault.
+    ///
+    /// Condition: the type is one of the schema.
+    pub fn settable(&self, schema: &Schema, path: &[PathStep]) -> Result<TypeId, PartialFault>
+        requires { self.now.id < length schema.now.trees }
+        ensures part { IfOk result (IsSettable schema.now (known_of self.now.proof)
+            (type_of schema.now self.now.id) path.now) }
+        ensures fault { IfErr result (λ fault. settable (known_of self.now.proof)
+            (type_of schema.now self.now.id) path.now ≡ Err fault) }
+    {
+        let part = self.type_to_set(schema, path)?;
+        let _there = reach(&self.proof, schema, self.id, path)?;
+        Ok(part)
     }
 
     /// Puts the encoding of the value in the place of that of the basic part, or of the bit, at the
@@ -87,12 +122,7 @@ impl Partial {
         ensures { SetsTo (set_to self.old.proof (type_of schema.now self.old.id) path.now
             (value_of value.now)) self.old self.new result }
     {
-        let Some(part) = schema.path_type(self.id, path) else {
-            return Err(PartialFault::BadPath);
-        };
-        if schema.basic_size(part).is_none() || ends_mixed_in(path) {
-            return Err(PartialFault::NotThat);
-        }
+        let part = self.type_to_set(schema, path)?;
         let found = reach(&self.proof, schema, self.id, path)?;
         let mut chunk = found.chunk;
         write(schema, part, found.spot, value, &mut chunk);
