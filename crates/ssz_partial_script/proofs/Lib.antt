@@ -1,0 +1,7 @@
+mod Ending
+mod Coming
+mod Printing
+mod Literals
+mod Asked
+mod Telling
+mod OneLine

@@ -1,0 +1,4 @@
+pub mod Statements
+pub mod Plays
+pub mod Runs
+pub mod Laws
