@@ -8,6 +8,7 @@ ghost use Rattle.ssz_machine.specs.Counts.{asks_root};
 ghost use Rattle.ssz_engine.specs.Outside.{CountsReads, CountsWrites};
 ghost use Rattle.ssz_engine.specs.Standing.{StandsFor};
 ghost use Rattle.ssz_engine.specs.Steps.{DoesStep, ForksWhere, IsShort, Keeps, Stops, TouchesWhere, file_read};
+ghost use Rattle.ssz_engine.specs.Weaves.{HoldsNone};
 
 use super::carrying::carry_out;
 use super::deciding::decide;
@@ -68,6 +69,7 @@ impl<H: PairHash> Engine<H> {
         ensures types { IfOk result (λ engine. engine.types ≡ schema) }
         ensures most { IfOk result (λ engine. engine.most ≡ max) }
         ensures entries { IfOk result (λ engine. engine.entries ≡ finite.empty) }
+        ensures none { IfOk result (λ engine. (writer : ℕ) → HoldsNone engine.entries writer) }
         ensures stands { IfOk result (λ engine. StandsFor engine (λ writer. [])) }
         ensures base { IfOk result (λ engine. engine.base ≡ H.pairs hasher.new) }
         ensures unhashed { IfOk result (λ engine. unhashed engine.arena ≡ 0) }

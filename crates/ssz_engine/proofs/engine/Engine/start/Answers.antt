@@ -1,4 +1,4 @@
-use Rattle.ssz_engine.proofs.Beginning.{stand-none}
+use Rattle.ssz_engine.proofs.Beginning.{none-held, stand-none}
 use Rattle.ssz_engine.proofs.Brought.{are-none}
 use Rattle.ssz_engine.proofs.engine.Engine.start.Goals as goal
 
@@ -9,3 +9,6 @@ pub returns-clause-stands : goal.returns-clause-stands
 returns-clause-stands g c = record {
   each = λ writer. stand-none _ _ _ writer c.in_ok-versions.ensures;
 }
+
+pub returns-clause-none : goal.returns-clause-none
+returns-clause-none g c = none-held _ c.in_ok-versions.ensures
