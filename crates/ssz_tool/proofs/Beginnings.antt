@@ -33,26 +33,9 @@ use Rattle.ssz_engine.proofs.Scripts.{told_append-none}
 use Rattle.ssz_tool.specs.Reached.{reached_of_task}
 use Rattle.ssz_tool.specs.Runs.{Does, job_of_line, job_of_print, job_of_task, pairs_of_task, rules_of, turns_of_task}
 use Rattle.ssz_tool.specs.Tasks.{DoesSame}
-use Rattle.ssz_tool.specs.ToDo.{Printed, printed, Task, says, prints, plays}
+use Rattle.ssz_tool.specs.ToDo.{Printed, printed, Task, says, prints, plays, weaves}
 use Rattle.ssz_tool.specs.declared.line.Line.{Line}
-
--- no step prints a number
-pub no_counts : (ended : Status) (rise : ℕ) → HasCounts ended [] rise
-no_counts ended rise = record {
-  total = rise;
-  most = omega arith;
-  whole = λ finished. refl;
-  counts = record {
-    bounded = λ i n said. absurd (none i n said);
-    rising = λ i j n m few said later. absurd (none i n said);
-    begins = λ i n said nothing. absurd (none i n said);
-    stays = λ i j n m few said later nothing. absurd (none i n said);
-    ends = λ i n said nothing. absurd (none i n said);
-  };
-}
-  where
-    none : (i n : ℕ) → number_at [] i ≡ Some n → ⊥
-    none i n said = let differ : None ≡ Some n = said in cc
+use Rattle.ssz_tool.proofs.Quiet.{no_counts, weave_counts}
 
 -- a count that goes up by the pairs of the zero table
 pub zero_table : (first : ℕ) → CountsUp 126 first (first + 126)
@@ -91,12 +74,15 @@ stands_first pair_of numbers held reads (prints made most) told =
     record { printed = told_append-none told; held = refl }
 stands_first pair_of numbers held reads (plays type_named most script) told =
     record { printed = told_append-none told; held = refl }
+stands_first pair_of numbers held reads (weaves type_named most base order scripts) told =
+    record { printed = told_append-none told; held = refl }
 
 reads_first : (pair_of : PairOf) (numbers : List ℕ) (held : Content) (reads : Bool) (task : Task)
     → reads ≡ true → IsTrue ((job_of_task pair_of numbers held reads task).reads 0)
 reads_first pair_of numbers held reads (says line) is = is
 reads_first pair_of numbers held reads (prints made most) is = is
 reads_first pair_of numbers held reads (plays type_named most script) is = refl
+reads_first pair_of numbers held reads (weaves type_named most base order scripts) is = refl
 
 -- where no numbers are given, each that is printed is 0
 no_number : (place : Place) (statement : Option Statement) → numbers_after place statement [] ≡ []
@@ -139,6 +125,8 @@ first_counts pair_of held (says line) ended rise stopped = no_counts ended rise
 first_counts pair_of held (prints made most) ended rise stopped = no_counts ended rise
 first_counts pair_of held (plays type_named most script) ended rise stopped =
     zero_counts (rules_of pair_of type_named most) (fresh held) script ended rise stopped
+first_counts pair_of held (weaves type_named most base order scripts) ended rise stopped =
+    weave_counts (rules_of pair_of type_named most) (fresh held) base order scripts ended rise
 
 -- A job that a fault or want of memory ends before its first step.
 module _ (pair_of : PairOf) (held : Content) (reads : Bool) (task : Task) (first base last : ℕ)
@@ -202,6 +190,11 @@ pub all_back : (P : List ℕ → Type 0) (xs ys : List (List ℕ)) → AllByRecu
     → AllByRecursion P ys
 all_back P [] ys all = all
 all_back P (x ∷ xs) ys all = all_back P xs ys all.1
+
+pub all_front : (P : List ℕ → Type 0) (xs ys : List (List ℕ)) → AllByRecursion P (xs ++ ys)
+    → AllByRecursion P xs
+all_front P [] ys all = tt
+all_front P (x ∷ xs) ys all = (all.0, all_front P xs ys all.1)
 
 -- An engine that was just started ran a script.
 module _ (pair_of : PairOf) (schema : Types) (most : ℕ) (held : Content) (script : List ℕ)

@@ -2,6 +2,9 @@ pub mod Readings
 pub mod Taken
 pub mod Verdicts
 pub mod Playing
+pub mod Quiet
 pub mod Beginnings
+pub mod Woven
+pub mod Weaves
 pub mod PrintedProofs
 pub mod Encodings

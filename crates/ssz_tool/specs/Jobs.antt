@@ -14,6 +14,7 @@ use Rattle.ssz_tool.specs.Clashes.{task_of_clash}
 use Rattle.ssz_tool.specs.Parts.{task_of_part}
 use Rattle.ssz_tool.specs.Readings.{Reading, accepted, refused, reading_of, proof_in}
 use Rattle.ssz_tool.specs.ToDo.{Task, says, roots, verifies, plays}
+use Rattle.ssz_tool.specs.Weaves.{task_of_weave}
 use Rattle.ssz_tool.specs.Words.{taken}
 use Rattle.ssz_tool.specs.declared.line.Line.TheVariants as line
 use Rattle.ssz_tool.specs.declared.words.Asked.{Asked}
@@ -73,6 +74,7 @@ task_of_asked held None = says line.Usage
 task_of_asked held (Some (asked.Root args)) = task_of_root held args
 task_of_asked held (Some (asked.Verify args)) = task_of_verify held args
 task_of_asked held (Some (asked.Run args)) = task_of_run held args
+task_of_asked held (Some (asked.Weave args)) = task_of_weave held args
 task_of_asked held (Some (asked.Part args path)) = task_of_part held args path
 task_of_asked held (Some (asked.Clash args)) = task_of_clash held args
 

@@ -14,7 +14,8 @@ use Rattle.ssz_tool.specs.Jobs.{task_of}
 use Rattle.ssz_tool.specs.Parts.{reached_of_part}
 use Rattle.ssz_tool.specs.Readings.{Reading, accepted, refused, reading_of}
 use Rattle.ssz_tool.specs.Runs.{rules_of, turns_of_task}
-use Rattle.ssz_tool.specs.ToDo.{Task, says, prints, plays}
+use Rattle.ssz_tool.specs.ToDo.{Task, says, prints, plays, weaves}
+use Rattle.ssz_tool.specs.Weaves.{reached_of_weave}
 use Rattle.ssz_tool.specs.Words.{taken}
 use Rattle.ssz_tool.specs.declared.words.Asked.{Asked}
 use Rattle.ssz_tool.specs.declared.words.Asked.TheVariants as asked
@@ -51,6 +52,7 @@ reached_of_asked held None = []
 reached_of_asked held (Some (asked.Root args)) = reached_of_root held args
 reached_of_asked held (Some (asked.Verify args)) = args.file ∷ []
 reached_of_asked held (Some (asked.Run args)) = reached_of_run held args
+reached_of_asked held (Some (asked.Weave args)) = reached_of_weave held args
 reached_of_asked held (Some (asked.Part args path)) = reached_of_part held args path
 reached_of_asked held (Some (asked.Clash args)) = reached_of_clash held args
 
@@ -58,13 +60,16 @@ reached_of_asked held (Some (asked.Clash args)) = reached_of_clash held args
 abbrev pub reached_first : Content → List (List ℕ) → List (List ℕ)
 reached_first held words = reached_of_asked held (taken words)
 
--- the files that the statements of a script read
+-- the files that the statements of scripts read
 abbrev pub reached_of_task : PairOf → Content → Task → List (List ℕ)
 reached_of_task pair_of held (says line) = []
 reached_of_task pair_of held (prints made most) = []
 reached_of_task pair_of held (plays type_named most script) =
     files_reached (rules_of pair_of type_named most)
     (turns_of_task pair_of [] held (plays type_named most script))
+reached_of_task pair_of held (weaves type_named most base order scripts) =
+    files_reached (rules_of pair_of type_named most)
+    (turns_of_task pair_of [] held (weaves type_named most base order scripts))
 
 abbrev pub reached : PairOf → Content → List (List ℕ) → List (List ℕ)
 reached pair_of held words =

@@ -10,10 +10,10 @@ use Rattle.ssz_machine.specs.State.{fresh}
 use Rattle.ssz_machine.specs.Rules.{Rules}
 use Rattle.ssz_machine.specs.Machine.{Turn}
 use Rattle.ssz_machine.specs.Plays.{charges}
-use Rattle.ssz_machine.specs.Jobs.{after_reading, script_job, turns_of_script}
+use Rattle.ssz_machine.specs.Jobs.{after_reading, script_job, turns_of_script, turns_of_weave, weave_job}
 use Rattle.ssz_engine.specs.Scripts.{HasCounts}
 use Rattle.ssz_tool.specs.Jobs.{task_of}
-use Rattle.ssz_tool.specs.ToDo.{Printed, printed, Task, says, prints, plays}
+use Rattle.ssz_tool.specs.ToDo.{Printed, printed, Task, says, prints, plays, weaves}
 use Rattle.ssz_tool.specs.Words.{taken}
 use Rattle.ssz_tool.specs.declared.line.Line.{Line}
 
@@ -29,37 +29,43 @@ job_of_print held reads made = line_job held reads made.text made.status
 abbrev pub job_of_line : Content → Bool → Line → Job
 job_of_line held reads line = job_of_print held reads (printed line)
 
--- The job of a task, where `hashes` prints these numbers: the files of a script's words are read
--- before its first statement.
+-- The job of a task, where `hashes` prints these numbers: script files are read before the first
+-- statement.
 abbrev pub job_of_task : PairOf → List ℕ → Content → Bool → Task → Job
 job_of_task pair_of numbers held reads (says line) = job_of_line held reads line
 job_of_task pair_of numbers held reads (prints made most) = job_of_print held reads (made pair_of)
 job_of_task pair_of numbers held reads (plays type_named most script) =
     after_reading (script_job (rules_of pair_of type_named most) numbers (fresh held) script)
+job_of_task pair_of numbers held reads (weaves type_named most base order scripts) =
+    after_reading (weave_job (rules_of pair_of type_named most) (fresh held) base order scripts)
 
 -- the job of these words over files with this content; files are read for words that are taken
 abbrev pub job_of : PairOf → List (List ℕ) → Content → List ℕ → Job
 job_of pair_of words held numbers =
     job_of_task pair_of numbers held (is_some (taken words)) (task_of held words)
 
--- the steps of a task's script
+-- the steps of a task's scripts
 abbrev pub turns_of_task : PairOf → List ℕ → Content → Task → List Turn
 turns_of_task pair_of numbers held (says line) = []
 turns_of_task pair_of numbers held (prints made most) = []
 turns_of_task pair_of numbers held (plays type_named most script) =
     turns_of_script (rules_of pair_of type_named most) numbers (fresh held) script
+turns_of_task pair_of numbers held (weaves type_named most base order scripts) =
+    turns_of_weave (rules_of pair_of type_named most) (fresh held) base order scripts
 
--- the steps of the script that the words run, if they run one
+-- the steps of the scripts that the words run, if they run any
 abbrev pub turns_of : PairOf → List (List ℕ) → Content → List ℕ → List Turn
 turns_of pair_of words held numbers = turns_of_task pair_of numbers held (task_of held words)
 
--- How many pairs a task may hash: of a script 126 for the zero table, and the charges of the
+-- How many pairs a task may hash: of scripts 126 for the zero table, and the charges of the
 -- statements.
 abbrev pub pairs_of_task : PairOf → Content → Task → ℕ
 pairs_of_task pair_of held (says line) = 0
 pairs_of_task pair_of held (prints made most) = most
 pairs_of_task pair_of held (plays type_named most script) =
     126 + charges (turns_of_task pair_of [] held (plays type_named most script))
+pairs_of_task pair_of held (weaves type_named most base order scripts) =
+    126 + charges (turns_of_task pair_of [] held (weaves type_named most base order scripts))
 
 abbrev pub pairs_allowed : PairOf → List (List ℕ) → Content → ℕ
 pairs_allowed pair_of words held = pairs_of_task pair_of held (task_of held words)

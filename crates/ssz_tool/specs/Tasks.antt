@@ -14,6 +14,7 @@ use Rattle.ssz_tool.specs.Reached.{reached_of_task}
 use Rattle.ssz_tool.specs.Readings as given
 use Rattle.ssz_tool.specs.Runs.{job_of_task, pairs_of_task, turns_of_task}
 use Rattle.ssz_tool.specs.ToDo as job
+use Rattle.ssz_tool.specs.Weavings.{IsReadyWeaving, weaving_view}
 use Rattle.ssz_tool.specs.declared.job.Loaded.{Loaded}
 use Rattle.ssz_tool.specs.declared.job.Loaded.TheVariants as loaded
 use Rattle.ssz_tool.specs.declared.job.Reading.{Reading}
@@ -68,6 +69,7 @@ task_view (task.Root schema id bytes) = job.roots (type_of schema id) bytes.item
 task_view (task.Verify root proof) = job.verifies root.0 proof
 task_view (task.Clash one other) = job.compares one other
 task_view (task.Script schema most script) = job.plays (known_in schema) most script.items
+task_view (task.Weave weaving) = weaving_view weaving
 
 -- Two tasks that do the same, whatever hasher there is: their jobs, their steps, the files that
 -- these read, and the pairs that they may hash.
@@ -96,3 +98,4 @@ IsReady (task.Root schema id bytes) =
 IsReady (task.Verify root proof) = ⊤
 IsReady (task.Clash one other) = ⊤
 IsReady (task.Script schema most script) = ⊤
+IsReady (task.Weave weaving) = IsReadyWeaving weaving

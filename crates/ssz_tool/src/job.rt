@@ -11,13 +11,14 @@ ghost use Rattle.ssz_tool.specs.Readings.{reading_of_schema, reading_of};
 ghost use Rattle.ssz_tool.specs.Reached.{reached_first, reached_of_asked, reached_of_root, reached_of_type};
 ghost use Rattle.ssz_tool.specs.Tasks.{Loads, IsWithin, CountsStop, StandsFor, IsNoUsage, IsReady, DoesSame, task_view};
 ghost use Rattle.ssz_tool.specs.ToDo.{is_script, is_usage_task};
-ghost use Rattle.ssz_tool.specs.Words.{AreReadable, runs_script, taken, texts};
+ghost use Rattle.ssz_tool.specs.Words.{AreReadable, HasOrder, runs_script, taken, texts};
 
 use crate::clashes::task_of_clash;
 use crate::line::Line;
 use crate::parts::task_of_part;
 use crate::scripts::task_of_run;
 use crate::verifying::task_of_verify;
+use crate::weaving::{Weaving, task_of_weave};
 use crate::words::{Asked, read_asked};
 use ssz_chunk::Chunk;
 use ssz_codec::check;
@@ -63,6 +64,8 @@ pub enum Task {
     Clash(Proof, Proof),
     /// The run of a script over these types, with the most bytes of a value.
     Script(Schema, u32, Vec<u8>),
+    /// The weave of scripts.
+    Weave(Weaving),
 }
 
 /// What a file gives, of at most max bytes.
@@ -213,6 +216,7 @@ fn task_of_root<F: Files>(alloc: Global, files: &mut F, args: &RootArgs) -> Resu
 }
 
 fn task_of_asked<F: Files>(alloc: Global, files: &mut F, asked: &Asked) -> Result<Task, Stop>
+    requires { HasOrder (Some asked.now) }
     ensures read { ForSome (F.content files.old) (λ held. IfOk result (λ task.
         DoesSame (task_of_asked held (Some asked.now)) (task_view task))) }
     ensures ready { IfOk result IsReady }
@@ -232,6 +236,7 @@ fn task_of_asked<F: Files>(alloc: Global, files: &mut F, asked: &Asked) -> Resul
         Asked::Root(args) => task_of_root(alloc, files, args),
         Asked::Verify(args) => task_of_verify(alloc, files, args),
         Asked::Run(args) => task_of_run(alloc, files, args),
+        Asked::Weave(args) => task_of_weave(alloc, files, args),
         Asked::Part(args, path) => task_of_part(alloc, files, args, path.as_slice()),
         Asked::Clash(args) => task_of_clash(alloc, files, args),
     }

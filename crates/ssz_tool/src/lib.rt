@@ -1,7 +1,7 @@
 //! The program over files, a sink and a hasher.
 //!
 //! `run` is the top call: the words give a task by reading files (`job`, and a file for each
-//! further command), and the task gives a line, which is said, or runs a script (`top`). The main
+//! further command), and the task gives a line, which is said, or runs scripts (`top`). The main
 //! theorem stands on `run`.
 #![tactic(auto)]
 
@@ -14,6 +14,7 @@ mod proof_file;
 mod scripts;
 mod top;
 mod verifying;
+mod weaving;
 mod words;
 
 pub use laws::printed_proofs_are_valid;

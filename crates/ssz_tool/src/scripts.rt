@@ -20,7 +20,8 @@ use ssz_schema::Schema;
 use ssz_words::RunArgs;
 use std::alloc::Global;
 
-const MOST_SCRIPT_BYTES: u64 = 1 << 26;
+/// The most bytes of a script file.
+pub const MOST_SCRIPT_BYTES: u64 = 1 << 26;
 
 fn task_of_script<F: Files>(
     alloc: Global,

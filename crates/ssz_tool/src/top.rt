@@ -21,6 +21,7 @@ ghost use Rattle.ssz_value.specs.Reading.{value_in};
 use crate::job::{Stop, Task, task_of};
 use crate::line::{Line, line_text, status_of};
 use crate::scripts::run_script;
+use crate::weaving::run_weave;
 use ssz_chunk::{Chunk, PairHash, ZeroTable};
 use ssz_clash::clash;
 use ssz_outside::{Files, Sink, Status, say_line};
@@ -112,6 +113,7 @@ fn do_task<F: Files, S: Sink, H: PairHash>(
         Task::Script(schema, max, script) => {
             run_script(alloc, schema, max, script.as_slice(), files, out, hasher)
         }
+        Task::Weave(weaving) => run_weave(alloc, weaving, files, out, hasher),
     }
 }
 
@@ -188,8 +190,8 @@ pub fn run<F: Files, S: Sink, H: PairHash>(
     ensures readable { ForSome (taken (texts words.now)) (λ asked.
         AreReadable (F.readable files.old) asked → result ≢ Status.ReadFault) }
 
-    // The pairs hashed: of a value its own, of a script those of the values that it brings in and
-    // the levels of the paths that it edits, beyond the zero table; of a proof as many as its
+    // The pairs hashed: of a value its own, of scripts those of the values that they bring in and
+    // the levels of the paths that they edit, beyond the zero table; of a proof as many as its
     // leaves have levels.
     ensures pairs { ForSome (F.content files.old) (λ held. H.pairs hasher.new
         ≤ H.pairs hasher.old + pairs_allowed H.pair_of (texts words.now) held) }

@@ -1,11 +1,12 @@
 // The words that the program takes.
 ghost use Rattle.std.specs.Prelude.{◌≡◌, IfOk, Some};
-ghost use Rattle.ssz_tool.specs.Words.{part_asked, standing, taken, texts};
+ghost use Rattle.ssz_words.specs.Limits.{IsWithinLimits};
+ghost use Rattle.ssz_tool.specs.Words.{HasOrder, part_asked, standing, taken, texts};
 
 use ssz_line::{LineFault, read_path};
 use ssz_schema::Steps;
 use ssz_words::{
-    ClashArgs, Command, PartArgs, RootArgs, RunArgs, VerifyArgs, WordsFault, read_words,
+    ClashArgs, Command, PartArgs, RootArgs, RunArgs, VerifyArgs, WeaveArgs, WordsFault, read_words,
 };
 use std::alloc::{AllocError, Global};
 
@@ -15,6 +16,7 @@ pub enum Asked {
     Root(RootArgs),
     Verify(VerifyArgs),
     Run(RunArgs),
+    Weave(WeaveArgs),
     /// With the path that the last word spells.
     Part(PartArgs, Steps),
     Clash(ClashArgs),
@@ -22,7 +24,8 @@ pub enum Asked {
 
 // Words of `part` are taken where the last one is a path.
 fn part_asked(alloc: Global, args: PartArgs) -> Result<Option<Asked>, AllocError>
-    ensures { IfOk result (λ asked. asked ≡ part_asked args) }
+    ensures value { IfOk result (λ asked. asked ≡ part_asked args) }
+    ensures limits { IfOk result HasOrder }
 {
     match read_path(alloc, args.path.as_str().as_bytes()) {
         Ok(path) => Ok(Some(Asked::Part(args, path))),
@@ -33,21 +36,25 @@ fn part_asked(alloc: Global, args: PartArgs) -> Result<Option<Asked>, AllocError
 
 // Another command joins here.
 fn standing(alloc: Global, command: Command) -> Result<Option<Asked>, AllocError>
-    ensures { IfOk result (λ asked. asked ≡ standing (Some command)) }
+    requires { IsWithinLimits command }
+    ensures value { IfOk result (λ asked. asked ≡ standing (Some command)) }
+    ensures limits { IfOk result HasOrder }
 {
     match command {
         Command::Root(args) => Ok(Some(Asked::Root(args))),
         Command::Verify(args) => Ok(Some(Asked::Verify(args))),
         Command::Run(args) => Ok(Some(Asked::Run(args))),
+        Command::Weave(args) => Ok(Some(Asked::Weave(args))),
         Command::Part(args) => part_asked(alloc, args),
         Command::Clash(args) => Ok(Some(Asked::Clash(args))),
-        Command::Weave(_) | Command::Work(_) | Command::Partial(_) => Ok(None),
+        Command::Work(_) | Command::Partial(_) => Ok(None),
     }
 }
 
 /// What the words ask for, of which the first is the program's name, where they are taken.
 pub fn read_asked(alloc: Global, words: &[String]) -> Result<Option<Asked>, AllocError>
-    ensures { IfOk result (λ asked. asked ≡ taken (texts words.now)) }
+    ensures value { IfOk result (λ asked. asked ≡ taken (texts words.now)) }
+    ensures limits { IfOk result HasOrder }
 {
     match read_words(alloc, words) {
         Ok(command) => standing(alloc, command),

@@ -1,7 +1,9 @@
-use Rattle.std.proofs.Common.{◌≡◌, sym}
+use Rattle.std.proofs.Common.{◌≡◌, ◌∷◌, sym}
 use Rattle.ssz_tool.specs.Jobs.{task_of_root, task_of_run}
 use Rattle.ssz_tool.specs.Parts.{task_of_part}
 use Rattle.ssz_tool.specs.Tasks.{DoesSame, task_view}
+use Rattle.ssz_tool.specs.Weaves.{task_of_weave}
+use Rattle.ssz_tool.proofs.Beginnings.{all_readable}
 use Rattle.ssz_tool.proofs.Verdicts.{DoesSame-equal, IfOk-weaker}
 use Rattle.ssz_tool.proofs.job.task_of_asked.Goals as goal
 
@@ -28,3 +30,17 @@ returns-in-Part-clause-read g c = λ held told.
     (λ task. DoesSame (task_of_part held c.in-Part.args c.as_slice.result.now) (task_view task))
     (λ task same. DoesSame-equal _ _ same) c.task_of_part.result
     (c.task_of_part.ensures.read held told))
+
+pub returns-in-Weave-clause-read : goal.returns-in-Weave-clause-read
+returns-in-Weave-clause-read g c = λ held told.
+    rw c.in-Weave.is
+    (IfOk-weaker (λ task. task_of_weave held c.in-Weave.args ≡ task_view task)
+    (λ task. DoesSame (task_of_weave held c.in-Weave.args) (task_view task))
+    (λ task same. DoesSame-equal _ _ same) c.task_of_weave.result
+    (c.task_of_weave.ensures.read held told))
+
+pub returns-in-Weave-clause-fails : goal.returns-in-Weave-clause-fails
+returns-in-Weave-clause-fails g c = λ each.
+    c.task_of_weave.ensures.fails
+    (all_readable (g.F.Files.readable c.args.files.now) (rw c.in-Weave.is at each)
+    (c.in-Weave.args.schema ∷ c.in-Weave.args.base ∷ c.in-Weave.args.scripts))

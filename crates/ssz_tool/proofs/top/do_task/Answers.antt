@@ -53,3 +53,7 @@ returns-in-Clash-clause-ends g c = λ reads held told.
 pub returns-in-Script-clause-ends : goal.returns-in-Script-clause-ends
 returns-in-Script-clause-ends g c = λ reads held told.
     rw (c.in-Script.is, sym c.as_slice.ensures.value) (c.run_script.ensures.ends reads held told)
+
+pub returns-in-Weave-clause-ends : goal.returns-in-Weave-clause-ends
+returns-in-Weave-clause-ends g c = λ reads held told.
+    rw c.in-Weave.is (c.run_weave.ensures.ends reads held told)

@@ -3,7 +3,7 @@ use Rattle.std.specs.List.{AllByRecursion}
 use Rattle.ssz_tool.specs.Jobs.{task_of}
 use Rattle.ssz_tool.specs.Reached.{reached_first}
 use Rattle.ssz_tool.specs.Words.{texts, taken}
-use Rattle.ssz_tool.proofs.Beginnings.{all_back, does_same, fails_first, wants_memory_first, zero_table}
+use Rattle.ssz_tool.proofs.Beginnings.{all_back, all_front, does_same, fails_first, wants_memory_first, zero_table}
 use Rattle.ssz_engine.proofs.Reaching.{all_names}
 use Rattle.ssz_tool.proofs.top.run_words.Goals as goal
 
@@ -39,3 +39,10 @@ returns-in-Err-Memory-clause-ends g c = λ held told.
     (is_some (taken (texts c.args.words.now))) (task_of held (texts c.args.words.now))
     (g.H.PairHash.pairs c.args.hasher.now) _ (g.H.PairHash.pairs c.args.hasher.now)
     (g.S.Sink.pieces c.args.out.now) (zero_table (g.H.PairHash.pairs c.args.hasher.now)))
+
+pub returns-in-Err-Read-clause-reached : goal.returns-in-Err-Read-clause-reached
+returns-in-Err-Read-clause-reached g c = λ held told all same.
+    c.task_of.ensures.reached held told
+    (all_front (g.F.Files.readable c.args.files.now)
+    (reached_first held (texts c.args.words.now)) _ all)
+    (c.in-Err-Read.is ∙ ap Err c.in-Err-Read.field-0-is)
