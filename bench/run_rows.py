@@ -928,9 +928,11 @@ def literal(t, r):
         b = b[:i] + bytes([b[i] ^ 1 << r.randrange(8)]) + b[i + 1:]
     return '0x' + b.hex()
 
-def script(seed, n, spells=False):
+def script(seed, n, held={}, spells=False):
+    """A script that is drawn, by a writer that holds these versions, and what it prints."""
     r = random.Random(seed)
     m = Machine(SCHEMA)
+    m.v = dict(held)
     lines = []
     out = []
     for i in range(1, n + 1):
@@ -1180,7 +1182,7 @@ def wanted(hasher, text, numbers=(), types=SCHEMA):
 
 def main():
     drawn = [(random.Random(seed).choice(["sha", "xor"]), script(seed, 60)[0]) for seed in range(40)]
-    drawn += [(random.Random(seed).choice(["sha", "xor"]), script(seed, 60, True)[0]) for seed in range(40, 64)]
+    drawn += [(random.Random(seed).choice(["sha", "xor"]), script(seed, 60, spells=True)[0]) for seed in range(40, 64)]
     with open(os.path.join(TOP, "examples/ethereum/state.script")) as file:
         state = file.read()
     with open(os.path.join(TOP, "examples/ethereum/deneb.json")) as file:
