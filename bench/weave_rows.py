@@ -96,6 +96,10 @@ EXAMPLES = [
     ('sha', 'save S f\nhashes\nnew S P\nsave S f\nsave s\nhashes 1\n', '0', ['save S f\nhashes\nsave S a/b\nload T P f\n']),
     # a file that was there before is read as ever
     ('sha', 'load A Bytes w1\nlen A /\n', '1100', ['bytes A /\nload B Bytes base\nbytes B /\n', 'load A Bytes w0\nlist\nload L8 L8 w0\nload P P w0\n']),
+    # texts are written and read as ever; a text that is a script has one line, which is no statement
+    ('xor', 'lit S M 0xaabb060000000102\njson S /\n', '0110',
+     ['json S /b/1\nloadjson S M w1\nloadjson T M w1\nset S /a 0x0000\njson T /\njson S /a\nloadjson U M w0\nlist\n',
+      '{"a":"48042","b":"0x0102"}', 'list\njson S /\njson T /\nloadjson T U2 base\n']),
     # scripts of unequal length, and one of no line; lines are numbered in each script by itself
     ('sha', '\n# the base\n\nnew S L8\n', '0000012',
      [f'append S / {ONE}\n\nappend S / {TWO}\nlen S /\nfrob\n', '', f'# only this\nappend S / {TWO}\nlen S /\nroot S\nroot T\nbytes S /\n']),
