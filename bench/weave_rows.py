@@ -10,7 +10,8 @@ import os, random, re
 import run_rows
 from run_rows import Machine, NAME, ref, sha, xor
 
-USAGE = re.search('usage: ssz .*', open(os.path.join(run_rows.TOP, 'docs/formats.md')).read()).group(0)
+USAGE = ('usage: ssz root SCHEMA TYPE FILE | run SCHEMA SCRIPT | weave SCHEMA BASE ORDER SCRIPT.. | verify ROOT FILE'
+         ' | work SCHEMA TYPE SEED EDITS | part SCHEMA TYPE FILE PATH | partial SCHEMA TYPE PROOF SCRIPT | clash FILE FILE')
 TYPES = run_rows.SCHEMA.replace('["P",', '["Bytes",{"list":["uint8",4096]}],\n["P",', 1)
 
 
