@@ -5,3 +5,4 @@ mod Literals
 mod Asked
 mod Telling
 mod OneLine
+pub mod Order

@@ -1,6 +1,7 @@
 // What a statement comes to.
 ghost use Rattle.std.specs.Prelude.{◌≡◌, ◌<◌, ◌≤◌, ◌+◌, ◌^◌, true, length, Some, None, IfOk, OnOk};
 ghost use Rattle.ssz_schema.specs.Unfolding.{type_of};
+ghost use Rattle.ssz_script.specs.declared.reply.TheConstants.Reply.{BAD_LITERAL};
 ghost use Rattle.ssz_value.specs.Standing.{value_of};
 ghost use Rattle.ssz_partial.specs.Partial.{FitsAt, set_to};
 ghost use Rattle.ssz_partial_script.specs.Statements.{becomes, get, refusal_of, refusal_reply, set};
@@ -8,7 +9,7 @@ ghost use Rattle.ssz_partial_script.specs.Plays.{charge_of, known_after, known_i
 ghost use Rattle.ssz_partial_script.specs.Runs.{turn_at};
 
 use super::line::PartialLine;
-use ssz_bytes::ByteRun;
+use ssz_bytes::{ByteRun, Fault};
 use ssz_chunk::PairHash;
 use ssz_codec::{DecodeFault, decode};
 use ssz_partial::{Partial, PartialFault};
@@ -28,6 +29,17 @@ fn refused(line: u64, code: u8) -> Reply
     }
 }
 
+// The reply that refuses a line for the first fault of its literal.
+fn bad_literal(line: u64, fault: Fault) -> Reply
+    ensures { result ≡ Reply.Refused line BAD_LITERAL (Some fault) }
+{
+    Reply::Refused {
+        line,
+        code: Reply::BAD_LITERAL,
+        fault: Some(fault),
+    }
+}
+
 // The reply to a statement that the tree refuses.
 fn refusal(line: u64, fault: PartialFault) -> Reply
     ensures { result ≡ refusal_reply line (refusal_of fault) }
@@ -43,6 +55,7 @@ fn refusal(line: u64, fault: PartialFault) -> Reply
     }
 }
 
+// The reply to `get P`.
 fn get(
     alloc: Global,
     schema: &Schema,
@@ -81,6 +94,7 @@ fn put(schema: &Schema, partial: &mut Partial, line: u64, path: &[PathStep], val
     }
 }
 
+// The reply to `set P LIT`. Whether a value can be set there is tested before the literal.
 fn set(
     alloc: Global,
     schema: &Schema,
@@ -106,11 +120,7 @@ fn set(
     };
     match decode(alloc, schema, part, literal) {
         Ok(value) => Ok(put(schema, partial, line, path, &value)),
-        Err(DecodeFault::Bad(fault)) => Ok(Reply::Refused {
-            line,
-            code: Reply::BAD_LITERAL,
-            fault: Some(fault),
-        }),
+        Err(DecodeFault::Bad(fault)) => Ok(bad_literal(line, fault)),
         Err(DecodeFault::Memory) => Err(AllocError),
     }
 }
@@ -122,6 +132,7 @@ fn are_few(bytes: &[u8]) -> bool
     bytes.len() < 0x1_0000_0000
 }
 
+// The reply to a statement of this line.
 fn reply_to_statement<H: PairHash>(
     alloc: Global,
     schema: &Schema,
