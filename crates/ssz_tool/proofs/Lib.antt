@@ -6,5 +6,6 @@ pub mod Quiet
 pub mod Beginnings
 pub mod Woven
 pub mod Weaves
+pub mod Trees
 pub mod PrintedProofs
 pub mod Encodings

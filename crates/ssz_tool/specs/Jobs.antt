@@ -11,6 +11,7 @@ use Rattle.ssz_words.specs.declared.commands.RootArgs.{RootArgs}
 use Rattle.ssz_words.specs.declared.commands.RunArgs.{RunArgs}
 use Rattle.ssz_words.specs.declared.commands.VerifyArgs.{VerifyArgs}
 use Rattle.ssz_tool.specs.Clashes.{task_of_clash}
+use Rattle.ssz_tool.specs.Partials.{task_of_partial}
 use Rattle.ssz_tool.specs.Parts.{task_of_part}
 use Rattle.ssz_tool.specs.Readings.{Reading, accepted, refused, reading_of, proof_in}
 use Rattle.ssz_tool.specs.ToDo.{Task, says, roots, verifies, plays}
@@ -77,6 +78,7 @@ task_of_asked held (Some (asked.Run args)) = task_of_run held args
 task_of_asked held (Some (asked.Weave args)) = task_of_weave held args
 task_of_asked held (Some (asked.Part args path)) = task_of_part held args path
 task_of_asked held (Some (asked.Clash args)) = task_of_clash held args
+task_of_asked held (Some (asked.Partial args)) = task_of_partial held args
 
 -- the task of these words
 abbrev pub task_of : Content → List (List ℕ) → Task

@@ -11,10 +11,11 @@ use Rattle.ssz_words.specs.declared.commands.RunArgs.{RunArgs}
 use Rattle.ssz_engine.specs.Scripts.{files_reached}
 use Rattle.ssz_tool.specs.Clashes.{reached_of_clash}
 use Rattle.ssz_tool.specs.Jobs.{task_of}
+use Rattle.ssz_tool.specs.Partials.{reached_of_partial}
 use Rattle.ssz_tool.specs.Parts.{reached_of_part}
 use Rattle.ssz_tool.specs.Readings.{Reading, accepted, refused, reading_of}
 use Rattle.ssz_tool.specs.Runs.{rules_of, turns_of_task}
-use Rattle.ssz_tool.specs.ToDo.{Task, says, prints, plays, weaves}
+use Rattle.ssz_tool.specs.ToDo.{Task, says, prints, plays, weaves, plays_tree}
 use Rattle.ssz_tool.specs.Weaves.{reached_of_weave}
 use Rattle.ssz_tool.specs.Words.{taken}
 use Rattle.ssz_tool.specs.declared.words.Asked.{Asked}
@@ -55,6 +56,7 @@ reached_of_asked held (Some (asked.Run args)) = reached_of_run held args
 reached_of_asked held (Some (asked.Weave args)) = reached_of_weave held args
 reached_of_asked held (Some (asked.Part args path)) = reached_of_part held args path
 reached_of_asked held (Some (asked.Clash args)) = reached_of_clash held args
+reached_of_asked held (Some (asked.Partial args)) = reached_of_partial held args
 
 -- the files of the words
 abbrev pub reached_first : Content → List (List ℕ) → List (List ℕ)
@@ -64,6 +66,7 @@ reached_first held words = reached_of_asked held (taken words)
 abbrev pub reached_of_task : PairOf → Content → Task → List (List ℕ)
 reached_of_task pair_of held (says line) = []
 reached_of_task pair_of held (prints made most) = []
+reached_of_task pair_of held (plays_tree t lists script) = []
 reached_of_task pair_of held (plays type_named most script) =
     files_reached (rules_of pair_of type_named most)
     (turns_of_task pair_of [] held (plays type_named most script))

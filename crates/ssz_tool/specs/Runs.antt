@@ -12,8 +12,9 @@ use Rattle.ssz_machine.specs.Machine.{Turn}
 use Rattle.ssz_machine.specs.Plays.{charges}
 use Rattle.ssz_machine.specs.Jobs.{after_reading, script_job, turns_of_script, turns_of_weave, weave_job}
 use Rattle.ssz_engine.specs.Scripts.{HasCounts}
+use Rattle.ssz_partial_script.specs.Plays.{charges as tree_charges, script_job as tree_job, turns_of_script as tree_turns}
 use Rattle.ssz_tool.specs.Jobs.{task_of}
-use Rattle.ssz_tool.specs.ToDo.{Printed, printed, Task, says, prints, plays, weaves}
+use Rattle.ssz_tool.specs.ToDo.{Printed, printed, Task, says, prints, plays, weaves, plays_tree}
 use Rattle.ssz_tool.specs.Words.{taken}
 use Rattle.ssz_tool.specs.declared.line.Line.{Line}
 
@@ -38,13 +39,15 @@ job_of_task pair_of numbers held reads (plays type_named most script) =
     after_reading (script_job (rules_of pair_of type_named most) numbers (fresh held) script)
 job_of_task pair_of numbers held reads (weaves type_named most base order scripts) =
     after_reading (weave_job (rules_of pair_of type_named most) (fresh held) base order scripts)
+job_of_task pair_of numbers held reads (plays_tree t lists script) =
+    after_reading (tree_job pair_of t lists held script)
 
 -- the job of these words over files with this content; files are read for words that are taken
 abbrev pub job_of : PairOf → List (List ℕ) → Content → List ℕ → Job
 job_of pair_of words held numbers =
     job_of_task pair_of numbers held (is_some (taken words)) (task_of held words)
 
--- the steps of a task's scripts
+-- the steps of a task's scripts, where they may ask for `hashes`
 abbrev pub turns_of_task : PairOf → List ℕ → Content → Task → List Turn
 turns_of_task pair_of numbers held (says line) = []
 turns_of_task pair_of numbers held (prints made most) = []
@@ -52,13 +55,14 @@ turns_of_task pair_of numbers held (plays type_named most script) =
     turns_of_script (rules_of pair_of type_named most) numbers (fresh held) script
 turns_of_task pair_of numbers held (weaves type_named most base order scripts) =
     turns_of_weave (rules_of pair_of type_named most) (fresh held) base order scripts
+turns_of_task pair_of numbers held (plays_tree t lists script) = []
 
 -- the steps of the scripts that the words run, if they run any
 abbrev pub turns_of : PairOf → List (List ℕ) → Content → List ℕ → List Turn
 turns_of pair_of words held numbers = turns_of_task pair_of numbers held (task_of held words)
 
--- How many pairs a task may hash: of scripts 126 for the zero table, and the charges of the
--- statements.
+-- How many pairs a task may hash: of scripts the charges of the statements, and 126 for the zero
+-- table, which a partial tree needs not.
 abbrev pub pairs_of_task : PairOf → Content → Task → ℕ
 pairs_of_task pair_of held (says line) = 0
 pairs_of_task pair_of held (prints made most) = most
@@ -66,6 +70,8 @@ pairs_of_task pair_of held (plays type_named most script) =
     126 + charges (turns_of_task pair_of [] held (plays type_named most script))
 pairs_of_task pair_of held (weaves type_named most base order scripts) =
     126 + charges (turns_of_task pair_of [] held (weaves type_named most base order scripts))
+pairs_of_task pair_of held (plays_tree t lists script) =
+    tree_charges (tree_turns pair_of t lists script)
 
 abbrev pub pairs_allowed : PairOf → List (List ℕ) → Content → ℕ
 pairs_allowed pair_of words held = pairs_of_task pair_of held (task_of held words)

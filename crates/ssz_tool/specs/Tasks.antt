@@ -70,6 +70,8 @@ task_view (task.Verify root proof) = job.verifies root.0 proof
 task_view (task.Clash one other) = job.compares one other
 task_view (task.Script schema most script) = job.plays (known_in schema) most script.items
 task_view (task.Weave weaving) = weaving_view weaving
+task_view (task.Partial schema partial script) =
+    job.plays_tree (type_of schema partial.id) partial.proof script.items
 
 -- Two tasks that do the same, whatever hasher there is: their jobs, their steps, the files that
 -- these read, and the pairs that they may hash.
@@ -99,3 +101,4 @@ IsReady (task.Verify root proof) = ⊤
 IsReady (task.Clash one other) = ⊤
 IsReady (task.Script schema most script) = ⊤
 IsReady (task.Weave weaving) = IsReadyWeaving weaving
+IsReady (task.Partial schema partial script) = partial.id < length schema.trees

@@ -23,13 +23,15 @@ abbrev pub printed : Line → Printed
 printed line = record { text = line_text line; status = status_of line }
 
 -- A line to print; a text that is made with the hasher's pairs, and how many of them at most; a
--- script to run over types by their names, with the most bytes of a value; or a base, an order and
--- scripts to weave.
+-- script to run over types by their names, with the most bytes of a value; a base, an order and
+-- scripts to weave; or a script to run over the tree of a value of a type, of which a multiproof
+-- knows some nodes.
 pub data Task : Type 0 where
   says : Line → Task
   prints : (PairOf → Printed) → ℕ → Task
   plays : (List ℕ → Option SszType) → ℕ → List ℕ → Task
   weaves : (List ℕ → Option SszType) → ℕ → List ℕ → List ℕ → List (List ℕ) → Task
+  plays_tree : SszType → Multiproof → List ℕ → Task
 
 -- ---- tasks that print one line
 
@@ -74,7 +76,7 @@ abbrev pub is_usage_task : Task → Bool
 is_usage_task (says line) = is_usage line
 is_usage_task other = false
 
--- whether scripts are run: all other tasks print one line
+-- whether scripts are run that may read files
 abbrev pub is_script : Task → Bool
 is_script (plays type_named most script) = true
 is_script (weaves type_named most base order scripts) = true

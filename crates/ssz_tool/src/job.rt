@@ -15,6 +15,7 @@ ghost use Rattle.ssz_tool.specs.Words.{AreReadable, HasOrder, runs_script, taken
 
 use crate::clashes::task_of_clash;
 use crate::line::Line;
+use crate::partials::task_of_partial;
 use crate::parts::task_of_part;
 use crate::scripts::task_of_run;
 use crate::verifying::task_of_verify;
@@ -23,6 +24,7 @@ use crate::words::{Asked, read_asked};
 use ssz_chunk::Chunk;
 use ssz_codec::check;
 use ssz_outside::{Files, GetFault, Got};
+use ssz_partial::Partial;
 use ssz_proof::Proof;
 use ssz_schema::{Schema, TypeId};
 use ssz_schema_json::{SchemaRead, read_schema};
@@ -66,6 +68,8 @@ pub enum Task {
     Script(Schema, u32, Vec<u8>),
     /// The weave of scripts.
     Weave(Weaving),
+    /// The run of a script over a tree of which a proof knows some nodes, of a type of the schema.
+    Partial(Schema, Partial, Vec<u8>),
 }
 
 /// What a file gives, of at most max bytes.
@@ -239,6 +243,7 @@ fn task_of_asked<F: Files>(alloc: Global, files: &mut F, asked: &Asked) -> Resul
         Asked::Weave(args) => task_of_weave(alloc, files, args),
         Asked::Part(args, path) => task_of_part(alloc, files, args, path.as_slice()),
         Asked::Clash(args) => task_of_clash(alloc, files, args),
+        Asked::Partial(args) => task_of_partial(alloc, files, args),
     }
 }
 

@@ -9,6 +9,7 @@ mod clashes;
 mod job;
 mod laws;
 mod line;
+mod partials;
 mod parts;
 mod proof_file;
 mod scripts;

@@ -25,6 +25,7 @@ use crate::weaving::run_weave;
 use ssz_chunk::{Chunk, PairHash, ZeroTable};
 use ssz_clash::clash;
 use ssz_outside::{Files, Sink, Status, say_line};
+use ssz_partial_script::run_partial;
 use ssz_proof::{Proof, calc};
 use ssz_roots::root_of_bytes;
 use ssz_schema::{Schema, TypeId};
@@ -114,6 +115,9 @@ fn do_task<F: Files, S: Sink, H: PairHash>(
             run_script(alloc, schema, max, script.as_slice(), files, out, hasher)
         }
         Task::Weave(weaving) => run_weave(alloc, weaving, files, out, hasher),
+        Task::Partial(schema, mut partial, script) => {
+            run_partial(alloc, &schema, &mut partial, script.as_slice(), out, hasher)
+        }
     }
 }
 
@@ -192,7 +196,7 @@ pub fn run<F: Files, S: Sink, H: PairHash>(
 
     // The pairs hashed: of a value its own, of scripts those of the values that they bring in and
     // the levels of the paths that they edit, beyond the zero table; of a proof as many as its
-    // leaves have levels.
+    // leaves have levels, for each root that is taken of it.
     ensures pairs { ForSome (F.content files.old) (λ held. H.pairs hasher.new
         ≤ H.pairs hasher.old + pairs_allowed H.pair_of (texts words.now) held) }
 {

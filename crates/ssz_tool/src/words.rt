@@ -6,7 +6,8 @@ ghost use Rattle.ssz_tool.specs.Words.{HasOrder, part_asked, standing, taken, te
 use ssz_line::{LineFault, read_path};
 use ssz_schema::Steps;
 use ssz_words::{
-    ClashArgs, Command, PartArgs, RootArgs, RunArgs, VerifyArgs, WeaveArgs, WordsFault, read_words,
+    ClashArgs, Command, PartArgs, PartialArgs, RootArgs, RunArgs, VerifyArgs, WeaveArgs,
+    WordsFault, read_words,
 };
 use std::alloc::{AllocError, Global};
 
@@ -20,6 +21,7 @@ pub enum Asked {
     /// With the path that the last word spells.
     Part(PartArgs, Steps),
     Clash(ClashArgs),
+    Partial(PartialArgs),
 }
 
 // Words of `part` are taken where the last one is a path.
@@ -47,7 +49,8 @@ fn standing(alloc: Global, command: Command) -> Result<Option<Asked>, AllocError
         Command::Weave(args) => Ok(Some(Asked::Weave(args))),
         Command::Part(args) => part_asked(alloc, args),
         Command::Clash(args) => Ok(Some(Asked::Clash(args))),
-        Command::Work(_) | Command::Partial(_) => Ok(None),
+        Command::Partial(args) => Ok(Some(Asked::Partial(args))),
+        Command::Work(_) => Ok(None),
     }
 }
 

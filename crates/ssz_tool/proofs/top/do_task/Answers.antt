@@ -5,6 +5,7 @@ use Rattle.ssz_schema.specs.Unfolding.{type_of}
 use Rattle.ssz_tool.specs.ToDo.{line_of_value, printed}
 use Rattle.ssz_tool.specs.declared.line.Line.TheVariants.{Compared}
 use Rattle.ssz_tool.proofs.Beginnings.{line_does, line_does_as}
+use Rattle.ssz_tool.proofs.Trees.{tree_does}
 use Rattle.ssz_tool.proofs.top.do_task.Goals as goal
 
 pub returns-in-Says-clause-ends : goal.returns-in-Says-clause-ends
@@ -57,3 +58,12 @@ returns-in-Script-clause-ends g c = λ reads held told.
 pub returns-in-Weave-clause-ends : goal.returns-in-Weave-clause-ends
 returns-in-Weave-clause-ends g c = λ reads held told.
     rw c.in-Weave.is (c.run_weave.ensures.ends reads held told)
+
+pub returns-in-Partial-clause-ends : goal.returns-in-Partial-clause-ends
+returns-in-Partial-clause-ends g c = λ reads held told.
+    let t = type_of c.in-Partial.schema c.in-Partial.partial.id in
+    rw (told, c.in-Partial.is, sym c.as_slice-in-Partial.ensures.value)
+    (tree_does g.H.PairHash.pair_of t c.in-Partial.partial.proof c.as_slice-in-Partial.result.now
+    held reads c.run_partial.result (g.H.PairHash.pairs c.args.hasher.now)
+    (g.H.PairHash.pairs c.run_partial.new.hasher) (g.S.Sink.pieces c.args.out.now)
+    (g.S.Sink.pieces c.run_partial.new.out) (c.run_partial.ensures.ends held))
