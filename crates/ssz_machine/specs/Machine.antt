@@ -110,7 +110,7 @@ charge_in (Err refusal) = 0
 abbrev pub charge_of : Turn → ℕ
 charge_of turn = charge_in turn.row
 
--- whether a statement reads a file: a load of a type that is known under a name that is free
+-- whether a statement reads a file: it loads a type that is known under a name that is free
 abbrev pub can_load : Rules → Versions → Name → Name → Bool
 can_load rules versions v t = is_some (rules.type_named t) && not (has_version v versions)
 
