@@ -13,7 +13,7 @@ use Rattle.ssz_value.specs.Sizes.{size, fields_size, option_size}
 use Rattle.ssz_schema.proofs.WalkFields.{drop_at}
 use Rattle.ssz_value.proofs.PartLemmas.{Part, size_at}
 use Rattle.ssz_value.specs.Shapes.{AreFields}
-use Rattle.ssz_parts.specs.Encoded.{capped}
+use Rattle.ssz_value.specs.Written.{capped}
 use Rattle.std.specs.List.{AllByRecursion}
 use Rattle.ssz_schema.specs.declared.format.Format.{Format}
 use Rattle.ssz_schema.specs.Legal.{IsLegal}

@@ -8,15 +8,16 @@ ghost use Rattle.ssz_schema.specs.Unfolding.{type_of, fields_over, options_over,
 ghost use Rattle.ssz_value.specs.Encoding.{enc, heads_length, bodies, joined, joined_alike, field_encodings};
 ghost use Rattle.ssz_value.specs.Standing.{value_of, IsValue};
 ghost use Rattle.ssz_value.specs.Shapes.{AreFields, IsSequence, parts_of};
-ghost use Rattle.ssz_parts.specs.Encoded.{Appends, body_of};
+ghost use Rattle.ssz_parts.specs.Encoded.{body_of};
+ghost use Rattle.ssz_value.specs.Written.{Appends};
 ghost use Rattle.ssz_codec.specs.Writing.{Writes, PutsPart, PutsAll};
 
 use super::measuring::encoded_len;
 use ssz_basic::{put_bits, put_uint};
 use ssz_bytes::BitRun;
-use ssz_parts::{EncodeFault, head_len};
+use ssz_parts::head_len;
 use ssz_schema::{Name, Schema, Ty, TypeId, Width};
-use ssz_value::{Value, option_at, wide_bytes};
+use ssz_value::{EncodeFault, Value, option_at, wide_bytes};
 
 /// Appends the value's encoding. `TooLong` exactly where its length exceeds max. After a refusal
 /// `out` is as before.

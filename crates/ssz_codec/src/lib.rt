@@ -19,4 +19,4 @@ pub use decoding::decode;
 pub use encoding::encode;
 pub use fault::DecodeFault;
 pub use measuring::encoded_len;
-pub use ssz_parts::EncodeFault;
+pub use ssz_value::EncodeFault;

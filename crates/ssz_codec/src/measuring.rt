@@ -7,7 +7,7 @@ ghost use Rattle.ssz_value.specs.Encoding.{enc};
 ghost use Rattle.ssz_value.specs.Sizes.{size, fields_size};
 ghost use Rattle.ssz_value.specs.Standing.{value_of, IsValue};
 ghost use Rattle.ssz_value.specs.Shapes.{AreFields, IsSequence, parts_of};
-ghost use Rattle.ssz_parts.specs.Encoded.{capped};
+ghost use Rattle.ssz_value.specs.Written.{capped};
 
 use ssz_schema::{Name, Schema, Ty, TypeId};
 use ssz_value::{Value, bits_of, option_at};

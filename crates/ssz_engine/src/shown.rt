@@ -4,7 +4,7 @@ ghost use Rattle.ssz_schema.specs.Unfolding.{type_of};
 ghost use Rattle.ssz_value.specs.Values.{SszValue, Fits};
 ghost use Rattle.ssz_value.specs.Encoding.{enc};
 ghost use Rattle.ssz_value_json.specs.Text.{json as json_text};
-ghost use Rattle.ssz_parts.specs.Encoded.{Appends};
+ghost use Rattle.ssz_value.specs.Written.{Appends};
 ghost use Rattle.ssz_arena.specs.Content.{IsNodeOf, tree_of};
 ghost use Rattle.ssz_places.specs.Spots.{HasPart, LiesWithin};
 ghost use Rattle.ssz_walk.specs.Found.{spot_of};

@@ -1,11 +1,10 @@
 -- The option that a union's bytes choose.
-use Rattle.std.proofs.Common.{ℕ, zero, suc, ◌+◌, ◌<◌, ◌≤◌, ◌≡◌, List, [], ◌∷◌, length, get_or, drop, slice_get, Option, Some, None, cond, ltb, eqb, false, refl, ap, ◌∙◌, subst, arith, lt-ltb, le-ltb}
-use Rattle.std.specs.List.{AllByRecursion}
+use Rattle.std.proofs.Common.{ℕ, zero, suc, ◌+◌, ◌<◌, ◌≤◌, ◌≡◌, List, [], ◌∷◌, length, get_or, drop, slice_get, Option, Some, None, cond, ltb, eqb, false, refl, ap, ◌∙◌, arith, lt-ltb, le-ltb}
 use Rattle.std.proofs.lemmas.Bool.{cond-true, cond-false}
 use Rattle.ssz_schema.specs.Types.{SszType, union}
 use Rattle.ssz_schema.specs.Sizes.{option_count}
 use Rattle.ssz_schema.proofs.OptionLemmas.{option_count-over}
-use Rattle.ssz_schema.specs.Unfolding.{tree_at, options_over, IsBelow}
+use Rattle.ssz_schema.specs.Unfolding.{tree_at, options_over}
 use Rattle.ssz_value.specs.Faults.{why, option_fault}
 use Rattle.ssz_bytes.specs.Faults.{extra, bad_selector}
 
@@ -38,15 +37,6 @@ option_fault-some trees (Some other ∷ ids) zero id s b e = let same : other �
     cc in ap (λ n. why (tree_at trees n) s b) same
 option_fault-some trees (None ∷ ids) (suc k) id s b e = option_fault-some trees ids k id s b e
 option_fault-some trees (Some other ∷ ids) (suc k) id s b e = option_fault-some trees ids k id s b e
-
-pub option_below : (ids : List (Option ℕ)) (k id count : ℕ) → Some (Some id) ≡ slice_get ids k
-    → AllByRecursion (IsBelow count) ids → id < count
-option_below [] k id count e all = cc
-option_below (None ∷ ids) zero id count e all = cc
-option_below (Some other ∷ ids) zero id count e all = let same : other ≡ id =
-    cc in subst (λ (n : ℕ). n < count) same all.0
-option_below (None ∷ ids) (suc k) id count e all = option_below ids k id count e all.1
-option_below (Some other ∷ ids) (suc k) id count e all = option_below ids k id count e all.1
 
 pub union_past : (trees : List SszType) (ids : List (Option ℕ)) (s : ℕ) (b : List ℕ) → 0 < length b
     → None ≡ slice_get ids (get_or b 0 0)

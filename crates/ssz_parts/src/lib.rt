@@ -8,12 +8,10 @@
 //! first fault of a head. Behind a head without a fault, `element_at`, `end_of_part` and
 //! `part_range` find the parts. That elements, and what a union holds, have no fault where the
 //! whole has none is no clause of these calls: it is what the lemmas `element_faultless` and
-//! `union_rest` of proofs/ say. No call takes memory. `EncodeFault` is why a call that writes an
-//! encoding did not.
+//! `union_rest` of proofs/ say. No call takes memory.
 #![tactic(auto)]
 
 mod elements;
-mod fault;
 mod field_heads;
 mod fields;
 mod heads;
@@ -21,7 +19,6 @@ mod offsets;
 mod unions;
 
 pub use elements::{element_at, element_count, end_of_part};
-pub use fault::EncodeFault;
 pub use field_heads::fields_head_fault;
 pub use fields::part_range;
 pub use heads::{count_of, length_fault, none_fault, offsets_fault};

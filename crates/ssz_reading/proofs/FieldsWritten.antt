@@ -19,7 +19,8 @@ use Rattle.ssz_arena.specs.declared.node.NodeId.{NodeId}
 use Rattle.ssz_arena.specs.Content.{Content, tree_of}
 use Rattle.ssz_reading.specs.Ahead.{Ahead, Holds}
 use Rattle.ssz_places.specs.PlaceLaws.{IsTreeOf}
-use Rattle.ssz_parts.specs.Encoded.{head_of, body_of, capped}
+use Rattle.ssz_parts.specs.Encoded.{head_of, body_of}
+use Rattle.ssz_value.specs.Written.{capped}
 use Rattle.ssz_reading.specs.Shown.{ForValue, AreElements, AreFields, AreBits, AreCountedBits, ArePacked, ForElements, ForFields, Adds, room_of, rooms, delimited_bytes}
 use Rattle.ssz_reading.proofs.Rooms.{rooms_step, Filled, Filled-start, Filled-more, Filled-end, joined_adds}
 use Rattle.ssz_reading.proofs.Walked.{Takes, FieldsLeft, FieldsLeft-start, FieldsLeft-first}

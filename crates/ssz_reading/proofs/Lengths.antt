@@ -11,7 +11,7 @@ use Rattle.ssz_schema.specs.Unfolding.{tree_at, options_over}
 use Rattle.ssz_value.specs.Values.{SszValue, items, Fits}
 use Rattle.ssz_value.specs.Sizes.{size, fields_size, option_size}
 use Rattle.ssz_places.specs.PlaceLaws.{IsTreeOf}
-use Rattle.ssz_parts.specs.Encoded.{capped}
+use Rattle.ssz_value.specs.Written.{capped}
 use Rattle.ssz_parts.proofs.PartSizes.{fixed_part}
 use Rattle.ssz_reading.specs.Shown.{ForValue, AreElements, ForElements, AreFields, ForFields}
 use Rattle.ssz_reading.proofs.Walked.{added}

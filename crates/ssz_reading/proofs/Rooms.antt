@@ -6,7 +6,8 @@ use Rattle.ssz_schema.specs.Sizes.{head_size}
 use Rattle.ssz_bytes.specs.Bytes.{le_bytes, offset_bytes}
 use Rattle.ssz_value.specs.Encoding.{heads_length, heads, bodies, joined}
 use Rattle.ssz_value.proofs.Cut.{AreParts}
-use Rattle.ssz_parts.specs.Encoded.{head_of, body_of, capped}
+use Rattle.ssz_parts.specs.Encoded.{head_of, body_of}
+use Rattle.ssz_value.specs.Written.{capped}
 use Rattle.ssz_reading.specs.Shown.{Extends, room_of, rooms}
 
 -- rooms are as long as what comes into them

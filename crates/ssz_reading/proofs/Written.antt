@@ -24,7 +24,8 @@ use Rattle.ssz_arena.specs.Content.{Content, tree_of}
 use Rattle.ssz_reading.specs.declared.basics.Basic.{Basic}
 use Rattle.ssz_reading.specs.declared.basics.Basic.TheVariants.{Number, Flag}
 use Rattle.ssz_reading.specs.Ahead.{Ahead, Holds}
-use Rattle.ssz_parts.specs.Encoded.{head_of, body_of, capped}
+use Rattle.ssz_parts.specs.Encoded.{head_of, body_of}
+use Rattle.ssz_value.specs.Written.{capped}
 use Rattle.ssz_reading.specs.Shown.{ForValue, AreElements, ArePacked, ForElements, Adds, room_of, rooms, basic_type}
 use Rattle.ssz_reading.proofs.Rooms.{rooms_step, Filled, Filled-start, Filled-more, Filled-end, joined_adds}
 use Rattle.ssz_reading.proofs.Walked.{Takes, Left, Left-first, AreElements-trees, composite}

@@ -8,7 +8,8 @@ use Rattle.ssz_bytes.specs.Bytes.{le_bytes, offset_bytes, number_of_bits, delimi
 use Rattle.ssz_value.specs.Values.{SszValue, Fits, FitFields}
 use Rattle.ssz_value.specs.Encoding.{enc, heads, bodies}
 use Rattle.ssz_places.specs.PlaceLaws.{IsTreeOf}
-use Rattle.ssz_parts.specs.Encoded.{head_of, body_of, capped}
+use Rattle.ssz_parts.specs.Encoded.{head_of, body_of}
+use Rattle.ssz_value.specs.Written.{capped}
 use Rattle.ssz_value.specs.Trees.{tree, mixed_in, element_leaves, field_trees, padded, pack, pack_bits}
 use Rattle.ssz_reading.specs.declared.basics.Basic.{Basic}
 use Rattle.ssz_reading.specs.declared.basics.Basic.TheVariants.{Number, Flag}

@@ -21,7 +21,7 @@ pub use basics::{Basic, bit_of, number_of};
 pub use measuring::part_len;
 pub use nodes::chunk_of;
 pub use reading::read_value;
-pub use ssz_parts::EncodeFault;
+pub use ssz_value::EncodeFault;
 pub use writing::write_encoding;
 
 #[cfg(test)]

@@ -7,7 +7,7 @@ ghost use Rattle.ssz_schema.specs.Unfolding.{type_of, fields_over, options_over,
 ghost use Rattle.ssz_value.specs.Encoding.{enc};
 ghost use Rattle.ssz_value.specs.Sizes.{size, fields_size};
 ghost use Rattle.ssz_arena.specs.Content.{IsNodeOf, tree_of};
-ghost use Rattle.ssz_parts.specs.Encoded.{capped};
+ghost use Rattle.ssz_value.specs.Written.{capped};
 ghost use Rattle.ssz_reading.specs.Shown.{ForValue, ForElements, ForFields};
 
 use super::nodes::mixed_in;

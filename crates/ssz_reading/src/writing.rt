@@ -9,7 +9,7 @@ ghost use Rattle.ssz_schema.specs.Legal.{AreLegalFields};
 ghost use Rattle.ssz_bytes.specs.Bytes.{offset_bytes};
 ghost use Rattle.ssz_value.specs.Encoding.{enc, joined, joined_alike, field_encodings};
 ghost use Rattle.ssz_arena.specs.Content.{IsNodeOf, tree_of};
-ghost use Rattle.ssz_parts.specs.Encoded.{Appends, capped};
+ghost use Rattle.ssz_value.specs.Written.{Appends, capped};
 ghost use Rattle.ssz_reading.specs.Shown.{ForValue, ForElements, ForFields, AreCountedBits, delimited_bytes, Adds, Extends, KeepsUpTo, room_of, rooms, Fills, FillsAll, basic_type};
 
 use super::basics::Basic;
@@ -20,9 +20,9 @@ use super::places::Places;
 use ssz_arena::{Arena, NodeId};
 use ssz_basic::put_uint;
 use ssz_chunk::PairHash;
-use ssz_parts::{EncodeFault, head_len};
+use ssz_parts::head_len;
 use ssz_schema::{Name, Schema, Ty, TypeId, Width};
-use ssz_value::option_at;
+use ssz_value::{EncodeFault, option_at};
 use std::alloc::AllocError;
 
 /// Appends the encoding of the value whose tree the node has, straight from the nodes. `TooLong`

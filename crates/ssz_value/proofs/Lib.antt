@@ -15,3 +15,4 @@ pub mod FormLemmas
 pub mod FitLemmas
 pub mod DefaultLemmas
 pub mod CopyLemmas
+pub mod OptionLemmas

@@ -1,6 +1,7 @@
 pub mod Values
 pub mod Defaults
 pub mod Encoding
+pub mod Written
 pub mod Sizes
 pub mod Faults
 pub mod Reading

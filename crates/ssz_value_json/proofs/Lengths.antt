@@ -28,7 +28,7 @@ use Rattle.ssz_value.specs.Shapes.{AreFields}
 use Rattle.ssz_schema.proofs.WalkFields.{drop_at}
 use Rattle.ssz_value.proofs.PartLemmas.{Part}
 use Rattle.ssz_value_json.specs.Text.{json, json_of, members_json}
-use Rattle.ssz_parts.specs.Encoded.{capped}
+use Rattle.ssz_value.specs.Written.{capped}
 use Rattle.ssz_value_json.proofs.Plain.{name_plain, length-quoted_plain}
 
 -- what an element takes: its text, and a comma or bracket

@@ -1,6 +1,6 @@
 -- The steps of a walk: faults with the numbers of parts.
 use Rattle.std.specs.Prelude.{ℕ, ◌+◌, ◌==◌, Bool, nat_le, if◌then◌else◌, Result, Ok, Err}
-use Rattle.ssz_parts.specs.Encoded.{capped}
+use Rattle.ssz_value.specs.Written.{capped}
 use Rattle.ssz_value_json.specs.declared.count.Count.{Count}
 use Rattle.ssz_value_json.specs.declared.count.Count.TheVariants.{Exactly, AtMost}
 use Rattle.ssz_value_json.specs.declared.fault.JsonFault.{JsonFault}

@@ -1,4 +1,4 @@
-use ssz_parts::EncodeFault;
+use ssz_value::EncodeFault;
 use std::alloc::{AllocError, AllocFailed};
 
 /// The first fault of bytes that are the text of no value of a type.

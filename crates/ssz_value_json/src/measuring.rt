@@ -10,7 +10,7 @@ ghost use Rattle.ssz_schema.specs.Unfolding.{type_of, fields_over, options_over,
 ghost use Rattle.ssz_value.specs.Standing.{value_of, is_byte, IsValue};
 ghost use Rattle.ssz_value.specs.Shapes.{AreFields, IsSequence, parts_of};
 ghost use Rattle.ssz_value_json.specs.Text.{json, json_of, sequence_json, members_json, bits_json};
-ghost use Rattle.ssz_parts.specs.Encoded.{capped};
+ghost use Rattle.ssz_value.specs.Written.{capped};
 ghost use Rattle.serde_json.specs.Data.{object};
 
 use itoa::Buffer;

@@ -2,7 +2,7 @@ ghost use Rattle.std.specs.Prelude.{◌≡◌, ◌<◌, ◌++◌, length, OnOk, 
 ghost use Rattle.ssz_schema.specs.Unfolding.{type_of};
 ghost use Rattle.ssz_value.specs.Standing.{value_of, IsValue};
 ghost use Rattle.ssz_value_json.specs.Text.{json};
-ghost use Rattle.ssz_parts.specs.Encoded.{Appends};
+ghost use Rattle.ssz_value.specs.Written.{Appends};
 
 use super::appending::append_value;
 use super::fault::JsonWrite;

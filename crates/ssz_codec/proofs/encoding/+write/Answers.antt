@@ -14,7 +14,7 @@ use Rattle.ssz_value.specs.Encoding.{enc, joined, joined_alike, bodies, heads_le
 use Rattle.ssz_value.proofs.ExactLaw.{agrees}
 use Rattle.ssz_value.proofs.ValueLemmas.{seq_is, bytes_are, chosen_none_is}
 use Rattle.ssz_value.proofs.Sequences.{items-values}
-use Rattle.ssz_parts.proofs.UnionLemmas.{option_below}
+use Rattle.ssz_value.proofs.OptionLemmas.{option_below}
 use Rattle.ssz_value.proofs.PartLemmas.{part_known}
 use Rattle.ssz_value.specs.Shapes.{IsSequence, AreFields, parts_of}
 use Rattle.ssz_codec.specs.Writing.{Writes}

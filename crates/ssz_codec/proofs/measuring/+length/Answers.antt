@@ -8,9 +8,9 @@ use Rattle.ssz_value.specs.Standing.{value_of, IsValue}
 use Rattle.ssz_value.specs.Sizes.{size, fields_size}
 use Rattle.ssz_value.proofs.ValueLemmas.{seq_is, bytes_are}
 use Rattle.ssz_value.proofs.Sequences.{items-values}
-use Rattle.ssz_parts.proofs.UnionLemmas.{option_below}
+use Rattle.ssz_value.proofs.OptionLemmas.{option_below}
 use Rattle.ssz_value.specs.Shapes.{IsSequence, AreFields, parts_of}
-use Rattle.ssz_parts.specs.Encoded.{capped}
+use Rattle.ssz_value.specs.Written.{capped}
 use Rattle.ssz_value.proofs.FormLemmas.{seq_elements, bytes_elements, seq_fields, chosen_fits, union_inner, chosen_option, value_of_chosen}
 use Rattle.ssz_parts.proofs.PartSizes.{fixed_part}
 use Rattle.ssz_codec.proofs.LengthLemmas.{sum_of_bytes, option_size_at, fixed_sum}

@@ -2,7 +2,7 @@ use Rattle.std.proofs.Common.{◌∙◌, ap, sym}
 use Rattle.ssz_schema.specs.Unfolding.{type_of}
 use Rattle.ssz_value.specs.Standing.{value_of}
 use Rattle.ssz_value.proofs.SizeLaw.{measured}
-use Rattle.ssz_parts.specs.Encoded.{capped}
+use Rattle.ssz_value.specs.Written.{capped}
 use Rattle.ssz_codec.proofs.measuring.encoded_len.Goals as goal
 
 pub returns : goal.returns

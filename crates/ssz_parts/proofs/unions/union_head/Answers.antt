@@ -1,7 +1,8 @@
 use Rattle.std.proofs.Common.{◌∙◌, ◌+◌, ℕ, List, Some, None, ap, sym, length, cond, ltb}
 use Rattle.std.proofs.lemmas.List.{take_rest}
 use Rattle.ssz_bytes.specs.Faults.{extra}
-use Rattle.ssz_parts.proofs.UnionLemmas.{union_past, union_none, union_some, option_below, some_byte}
+use Rattle.ssz_parts.proofs.UnionLemmas.{union_past, union_none, union_some, some_byte}
+use Rattle.ssz_value.proofs.OptionLemmas.{option_below}
 use Rattle.ssz_parts.proofs.unions.union_head.Goals as goal
 
 pub returns-in-None-clause-err : goal.returns-in-None-clause-err

@@ -8,7 +8,7 @@ use Rattle.ssz_schema.specs.Unfolding.{type_of, tree_over, fields_over, options_
 use Rattle.ssz_schema.specs.Legal.{IsLegal}
 use Rattle.ssz_value.specs.Sizes.{size}
 use Rattle.ssz_arena.specs.Content.{tree_of}
-use Rattle.ssz_parts.specs.Encoded.{capped}
+use Rattle.ssz_value.specs.Written.{capped}
 use Rattle.ssz_reading.specs.Shown.{ForValue}
 use Rattle.ssz_reading.proofs.Walked.{composite, Sums-start, Sums-more, Sums-end, FieldSums-start, FieldSums-more, FieldSums-end}
 use Rattle.ssz_reading.proofs.Formed.{union_few}

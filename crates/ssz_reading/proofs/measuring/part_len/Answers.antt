@@ -1,7 +1,7 @@
 use Rattle.std.proofs.Common.{◌∙◌, ap, sym}
 use Rattle.ssz_schema.specs.Unfolding.{type_of}
 use Rattle.ssz_value.proofs.SizeLaw.{measured}
-use Rattle.ssz_parts.specs.Encoded.{capped}
+use Rattle.ssz_value.specs.Written.{capped}
 use Rattle.ssz_reading.proofs.measuring.part_len.Goals as goal
 
 pub returns : goal.returns

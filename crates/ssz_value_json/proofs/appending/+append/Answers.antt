@@ -14,7 +14,7 @@ use Rattle.ssz_value.specs.Shapes.{IsSequence, AreFields}
 use Rattle.ssz_value.proofs.ValueLemmas.{chosen_none_is}
 use Rattle.ssz_value.proofs.PartLemmas.{Part, field_count_is, part_known}
 use Rattle.ssz_value.proofs.FormLemmas.{seq_elements, seq_fields, chosen_fits, union_inner, chosen_option, value_of_chosen}
-use Rattle.ssz_parts.proofs.UnionLemmas.{option_below}
+use Rattle.ssz_value.proofs.OptionLemmas.{option_below}
 use Rattle.ssz_value_json.specs.Strings.{hex_text}
 use Rattle.ssz_value_json.specs.Text.{json}
 use Rattle.ssz_value_json.specs.Order.{members_over, IsFieldOf}

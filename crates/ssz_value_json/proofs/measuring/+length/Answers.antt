@@ -11,10 +11,10 @@ use Rattle.ssz_value.specs.Shapes.{IsSequence, AreFields, parts_of}
 use Rattle.ssz_value.proofs.ValueLemmas.{chosen_none_is}
 use Rattle.ssz_value.proofs.PartLemmas.{field_count_is, part_known}
 use Rattle.ssz_value.proofs.FormLemmas.{seq_elements, seq_fields, chosen_fits, union_inner, chosen_option, value_of_chosen}
-use Rattle.ssz_parts.proofs.UnionLemmas.{option_below}
+use Rattle.ssz_value.proofs.OptionLemmas.{option_below}
 use Rattle.ssz_value_json.specs.Strings.{hex_text}
 use Rattle.ssz_value_json.specs.Text.{json, json_of, sequence_json}
-use Rattle.ssz_parts.specs.Encoded.{capped}
+use Rattle.ssz_value.specs.Written.{capped}
 use Rattle.ssz_value_json.proofs.Plain.{hex_plain, length-quoted_plain, length-hex_text}
 use Rattle.ssz_value_json.proofs.Forms.{seq_json, bytes_json, container_json, chosen_length, none_length}
 use Rattle.ssz_value_json.proofs.Lengths.{elements_length, fields_length, SumFrom-end, FieldSumFrom-more, FieldSumFrom-end}

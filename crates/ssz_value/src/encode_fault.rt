@@ -1,6 +1,6 @@
 use std::alloc::AllocError;
 
-/// Why an encoding is not written.
+/// Why an encoding, or a text, of a value is not written.
 #[derive(Clone, Copy, Debug, PartialEq, Eq)]
 pub enum EncodeFault {
     /// It is longer than the caller takes.
@@ -11,7 +11,7 @@ pub enum EncodeFault {
 
 impl From<AllocError> for EncodeFault {
     ghost use Rattle.std.specs.Prelude.{◌≡◌};
-    ghost use Rattle.ssz_parts.specs.declared.fault.EncodeFault.TheVariants.{Memory};
+    ghost use Rattle.ssz_value.specs.declared.encode_fault.EncodeFault.TheVariants.{Memory};
 
     ghost from_gives = { λ _ e. e ≡ Memory };
 
