@@ -1,12 +1,12 @@
 -- The literals of a script are bytes, by the grammar.
-use Rattle.std.proofs.Common.{ℕ, ◌≡◌, Bool, true, false, cond, List, [], ◌∷◌, drop, Option, Some, None, option_map, refl, ap, ◌∙◌, subst}
-use Rattle.std.specs.Prelude.{Result, Ok, Err, bytes_eq, codes, nat_eq}
+use Rattle.std.proofs.Common.{ℕ, ◌≡◌, Bool, true, false, cond, List, [], ◌∷◌, drop, Option, Some, None, option_map, refl, ◌∙◌, subst}
+use Rattle.std.specs.Prelude.{bytes_eq, codes, nat_eq}
 use Rattle.std.specs.List.{AllByRecursion, starts_with}
 use Rattle.std.specs.Result.{result_ok}
 use Rattle.hex.specs.Hex.{decode_of}
-use Rattle.hex.specs.declared.error.FromHexError.{FromHexError}
 use Rattle.hex.proofs.HexLemmas.{decode_of-ok}
 use Rattle.ssz_bytes.specs.Bytes.{IsBytes}
+use Rattle.ssz_bytes.proofs.Results.{ok_of}
 use Rattle.ssz_schema.specs.Paths.{Path}
 use Rattle.ssz_line.specs.Words.{words_of}
 use Rattle.ssz_line.specs.Single.{literal}
@@ -25,11 +25,6 @@ HasBytes other = Unit {0}
 abbrev pub HaveBytes : List Line → Type 0
 HaveBytes lines = AllByRecursion (λ (line : Line). HasBytes line.1) lines
 
-decoded : (r : Result (List ℕ) FromHexError) (bytes : List ℕ) → result_ok r ≡ Some bytes
-    → r ≡ Ok bytes
-decoded (Ok xs) bytes e = let same : xs ≡ bytes = cc in ap Ok same
-decoded (Err f) bytes e = absurd (cc)
-
 -- what a word spells as a literal is bytes
 literal_bytes : (word bytes : List ℕ) → literal word ≡ Some bytes → IsBytes bytes
 unfolding literal
@@ -39,7 +34,7 @@ literal_bytes word bytes e =
     by : (marked : Bool) (o : Option (List ℕ)) → result_ok (decode_of (drop 2 word)) ≡ o
         → cond marked o None ≡ Some bytes → IsBytes bytes
     by true o is same =
-        (decode_of-ok (drop 2 word) bytes (decoded (decode_of (drop 2 word)) bytes (is ∙ same))).3
+        (decode_of-ok (drop 2 word) bytes (ok_of (decode_of (drop 2 word)) bytes (is ∙ same))).3
     by false o is same = absurd (cc)
 
 -- a form gives statements whose literals are bytes

@@ -1,15 +1,12 @@
 -- What a walk gives is a value of the type.
-use Rattle.std.proofs.Common.{◌≡◌, ◌⊎◌, inl, inr, ℕ, zero, suc, ◌<◌, ◌≤◌, ◌^◌, ◌&&◌, Bool, true, false, not, eqb, cond, nat_lt, List, [], ◌∷◌, length, map, Option, Some, None, Ok, Err, refl, sym, ap, ◌∙◌, subst}
+use Rattle.std.proofs.Common.{◌≡◌, ◌⊎◌, inl, inr, ℕ, zero, suc, ◌<◌, ◌≤◌, ◌^◌, ◌&&◌, Bool, true, false, not, eqb, cond, nat_lt, List, [], ◌∷◌, length, map, Option, Some, None, Ok, refl, sym, ap, ◌∙◌, subst}
 use Rattle.std.specs.Option.{ok_or}
 use Rattle.std.specs.List.{AllByRecursion, list_all}
 use Rattle.std.proofs.lemmas.List.{length-map}
 use Rattle.std.specs.Char.{is_ascii_uppercase}
 use Rattle.std.specs.Prelude.{drop, codes, nat_eq}
 use Rattle.std.specs.List.{starts_with}
-use Rattle.std.specs.Result.{result_ok}
-use Rattle.std.specs.declared.result.Result.{Result}
 use Rattle.std.proofs.lemmas.Bool.{and_parts, eqb-true, leb-true, ltb-true}
-use Rattle.hex.specs.declared.error.FromHexError.{FromHexError}
 use Rattle.hex.specs.Hex.{decode_of}
 use Rattle.hex.proofs.HexLemmas.{decode_of-ok}
 use Rattle.serde_json.specs.Data.{Data, null, boolean as json_boolean, number as json_number, string, array, object, Items, no_items, item, Members}
@@ -19,6 +16,7 @@ use Rattle.ssz_decimal.specs.Decimal.{is_digit, number_after, digits_below, numb
 use Rattle.ssz_schema.specs.declared.width.Width.{Width}
 use Rattle.ssz_schema.specs.declared.width.Width.TheVariants.{W8, W16, W32, W64, W128, W256}
 use Rattle.ssz_bytes.specs.Bytes.{IsBytes}
+use Rattle.ssz_bytes.proofs.Results.{ok_of}
 use Rattle.ssz_schema.specs.Legal.{field_names}
 use Rattle.ssz_schema.specs.Sizes.{byte_count}
 use Rattle.ssz_schema.specs.Types.{SszType, Fields, Options, uint, boolean, container, vector, list, bitvector, bitlist, union, no_fields, field, no_options, none_option, option}
@@ -72,11 +70,6 @@ decimal_fits w n s v e =
       ok_same (number two.0) v (Ok (number two.0)) refl two.2,
     )
 
-some_ok : (r : Result (List ℕ) FromHexError) (bytes : List ℕ) → result_ok r ≡ Some bytes
-    → r ≡ Ok bytes
-some_ok (Ok xs) bytes e = let same : xs ≡ bytes = cc in ap Ok same
-some_ok (Err f) bytes e = absurd (cc)
-
 if_some_bytes : (b : Bool) (o : Option (List ℕ)) (bytes : List ℕ) → cond b o None ≡ Some bytes
     → o ≡ Some bytes
 if_some_bytes true o bytes e = e
@@ -88,7 +81,7 @@ hex_fits s bytes e =
     let inner = if_some_bytes (starts_with nat_eq s (codes "0x")) _ bytes e in
     let decoded = if_some_bytes (list_all (λ c. not (is_ascii_uppercase c)) (drop 2 s)) _ bytes
     inner in
-    (decode_of-ok (drop 2 s) bytes (some_ok (decode_of (drop 2 s)) bytes decoded)).3
+    (decode_of-ok (drop 2 s) bytes (ok_of (decode_of (drop 2 s)) bytes decoded)).3
 
 wide_fits : (n : ℕ) (s : List ℕ) (v : SszValue) → wide_at n s ≡ Ok v
     → (bytes : List ℕ) × (length bytes ≡ 32) × IsBytes bytes × (wide bytes ≡ v)
