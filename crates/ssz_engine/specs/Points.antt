@@ -103,8 +103,8 @@ Goes pair_of place these result was refused before after =
     → GoesTo pair_of place course left result refused before after
 
 -- Whatever run had come to these events has come to those, or it has ended.
-abbrev pub GoesOn : PairOf → Place → List Event → List Event → Result (Unit {0}) Status → Bool → Bool
-    → Scene → Scene → Type 0
+abbrev pub GoesOn : PairOf → Place → List Event → List Event → Result (Unit {0}) Status
+    → Bool → Bool → Scene → Scene → Type 0
 GoesOn pair_of place these those result was refused before after =
     (course : Course) (left : List Event) → Comes pair_of place course (these ++ left) was before
     → GoesTo pair_of place course (those ++ left) result refused before after

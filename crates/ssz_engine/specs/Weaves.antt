@@ -58,9 +58,9 @@ AreFirst (piece ∷ pieces) [] = ⊥
 AreFirst (piece ∷ []) (line ∷ lines) = (count : ℕ) × (piece ≡ take count line)
 AreFirst (piece ∷ pieces) (line ∷ lines) = (piece ≡ line) × AreFirst pieces lines
 
--- Of the pieces that a sink was given, those with the mark of a script's writer are the first lines
--- that its script prints where it is played from the base's versions with no other writer there; all
--- of them, where no fault or want of memory ended the weave.
+-- Of the pieces that a sink was given, those with the mark of a script's writer are the first
+-- lines that its script prints where it is played from the base's versions with no other writer
+-- there; all of them, where no fault or want of memory ended the weave.
 pub record IsolatesFrom (rules : Rules) (base : List ℕ) (scripts : List (List ℕ)) (first : State)
     (ended : Status) (old new : Told) : Type 0 where
   pub pieces : List (List ℕ)

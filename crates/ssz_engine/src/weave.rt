@@ -113,10 +113,10 @@ fn run_weave<F: Files, S: Sink, H: PairHash>(
 }
 
 impl<H: PairHash> Engine<H> {
-    /// Runs a base as writer 255, and then scripts in turns, the script at place w as writer w. Each
-    /// of these writers first takes over the base's versions. Then each number of the order runs the
-    /// next line of that writer, or nothing where it has none left, and what is left then runs
-    /// writer by writer. A line's reply is printed in one piece, behind the mark of its writer.
+    /// Runs a base as writer 255, and then scripts in turns, the script at place w as writer w.
+    /// Each of these writers first takes over the base's versions. Then each number of the order
+    /// runs the next line of that writer, or nothing where it has none left, and what is left then
+    /// runs writer by writer. Each reply is printed in one piece, behind the mark of its writer.
     /// Lines are numbered in each script by itself; `save` and `hashes` are refused.
     ///
     /// There are at most 255 scripts, the order has numbers below their number, and none of their

@@ -29,7 +29,8 @@ known-append : (a b : List Event) → AreKnown a → AreKnown b → AreKnown (a 
 known-append [] b first then = then
 known-append (event ∷ a) b first then = (first.0, known-append a b first.1 then)
 
-known_all : (writer : ℕ) (script : List Line) → writer ≤ base_writer → AreKnown (all_of writer script)
+known_all : (writer : ℕ) (script : List Line) → writer ≤ base_writer
+    → AreKnown (all_of writer script)
 known_all writer [] few = tt
 known_all writer (line ∷ script) few = (few, known_all writer script few)
 

@@ -8,7 +8,8 @@ use Rattle.ssz_machine.specs.Machine.{Line}
 use Rattle.ssz_machine.specs.Plays.{says, all_of, is_own, next_of, own, rest_from, woven}
 use Rattle.ssz_machine.proofs.Alone.{itself}
 
-own_all : (writer : ℕ) (script : List Line) → own writer (all_of writer script) ≡ all_of writer script
+own_all : (writer : ℕ) (script : List Line)
+    → own writer (all_of writer script) ≡ all_of writer script
 own_all writer [] = refl
 own_all writer (line ∷ script) =
     rw (itself writer) (ap (λ rest. says writer line ∷ rest) (own_all writer script))

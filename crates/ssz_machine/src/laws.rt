@@ -32,9 +32,9 @@ pub fn writers_are_isolated_so_far()
     ensures { WritersAreIsolatedSoFar }
 {}
 
-/// Of the lines that a weave of at most 255 scripts prints, those with the mark of a script's writer
-/// are the lines that this script prints where it is played alone from the base's versions; wherever
-/// the weave breaks off, a front of them.
+/// Of the lines that a weave of at most 255 scripts prints, those with the mark of a script's
+/// writer are the lines that this script prints where it is played alone from the base's versions;
+/// wherever the weave breaks off, a front of them.
 pub fn lines_are_isolated()
     ensures { LinesAreIsolated }
 {}
