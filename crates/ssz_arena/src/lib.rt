@@ -17,6 +17,3 @@ mod node;
 
 pub use arena::{Arena, Compacted};
 pub use node::{NodeId, NodeRef};
-
-#[cfg(test)]
-mod tests;

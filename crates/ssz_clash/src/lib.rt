@@ -9,8 +9,6 @@ mod comparing;
 mod fault;
 mod finding;
 mod places;
-#[cfg(test)]
-mod tests;
 mod walk;
 
 pub use comparing::clash;

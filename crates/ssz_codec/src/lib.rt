@@ -11,8 +11,6 @@ mod encoding;
 mod fault;
 mod measuring;
 mod plain;
-#[cfg(test)]
-mod tests;
 
 pub use checking::check;
 pub use decoding::decode;

@@ -11,8 +11,6 @@ mod gindex;
 mod helpers;
 mod laws;
 mod of_path;
-#[cfg(test)]
-mod tests;
 mod walk;
 
 pub use fault::HelperFault;

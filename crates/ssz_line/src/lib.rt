@@ -13,8 +13,6 @@ mod index;
 mod parts;
 mod path;
 mod single;
-#[cfg(test)]
-mod tests;
 mod words;
 
 pub use fault::LineFault;

@@ -15,8 +15,6 @@ mod status;
 mod store;
 mod streams;
 mod tape;
-#[cfg(test)]
-mod tests;
 
 pub use memory::{MemFiles, MemSink};
 pub use outside::{Files, GetFault, Got, PutFault, Sink};

@@ -11,8 +11,6 @@ mod laws;
 mod line;
 mod reply;
 mod run;
-#[cfg(test)]
-mod tests;
 
 pub use laws::{printed_lines_are_lines, scripts_tell_values};
 pub use run::run_partial;

@@ -13,8 +13,6 @@ mod laws;
 mod places;
 mod proof;
 mod reading;
-#[cfg(test)]
-mod tests;
 mod text;
 mod words;
 

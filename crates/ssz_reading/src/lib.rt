@@ -23,6 +23,3 @@ pub use nodes::chunk_of;
 pub use reading::read_value;
 pub use ssz_value::EncodeFault;
 pub use writing::write_encoding;
-
-#[cfg(test)]
-mod tests;

@@ -19,8 +19,6 @@ mod path;
 mod reading;
 mod schema;
 mod schema_fault;
-#[cfg(test)]
-mod tests;
 mod ty;
 mod type_id;
 mod walk;

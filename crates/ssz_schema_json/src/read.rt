@@ -60,6 +60,3 @@ fn schema_of(alloc: Global, definitions: Definitions) -> Result<Schema, SchemaRe
     }
     Ok(schema)
 }
-
-#[cfg(test)]
-mod tests;

@@ -15,8 +15,6 @@ mod read;
 mod reply;
 mod statement;
 mod statements;
-#[cfg(test)]
-mod tests;
 mod texts;
 
 pub use indices::Indices;

@@ -21,6 +21,3 @@ mod words;
 pub use laws::printed_proofs_are_valid;
 pub use line::Line;
 pub use top::run;
-
-#[cfg(test)]
-mod tests;

@@ -15,8 +15,6 @@ mod fitting;
 mod law;
 mod parts;
 mod path_fault;
-#[cfg(test)]
-mod tests;
 mod value;
 
 pub use copying::copy;

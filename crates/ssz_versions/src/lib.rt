@@ -15,8 +15,6 @@ mod pool;
 mod raise;
 mod remove;
 mod search;
-#[cfg(test)]
-mod tests;
 mod tree;
 mod versions;
 mod walk;

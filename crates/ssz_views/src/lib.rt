@@ -8,6 +8,3 @@
 mod view;
 
 pub use view::View;
-
-#[cfg(test)]
-mod tests;

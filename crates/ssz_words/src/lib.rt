@@ -12,8 +12,6 @@ mod faults;
 mod laws;
 mod names;
 mod reading;
-#[cfg(test)]
-mod tests;
 mod values;
 
 pub use commands::{

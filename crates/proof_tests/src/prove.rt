@@ -1,0 +1,167 @@
+ghost use Rattle.std.specs.Prelude.{IfOk};
+ghost use Rattle.ssz_arena.specs.Content.{IsNodeOf};
+
+use ssz_arena::{Arena, NodeId};
+use ssz_chunk::{Chunk, PairHash, XorPair};
+use ssz_gindex::Gindex;
+use ssz_proof::{Proof, proof_text, verify};
+use ssz_prove::{ProveFault, prove};
+use std::alloc::{AllocError, Global};
+use std::test::Fail;
+
+// In the texts `[` stands for `0x`, and `]` for the zeros behind a chunk's first byte.
+fn expanded(alloc: Global, text: &str) -> Result<Vec<u8>, AllocError> {
+    let mut bytes = Vec::new(alloc);
+    for byte in text.bytes() {
+        match byte {
+            b'[' => bytes.extend_from_slice(b"0x")?,
+            b']' => bytes.extend_from_slice(&[b'0'; 62])?,
+            other => bytes.push(other)?,
+        }
+    }
+    Ok(bytes)
+}
+
+// A chunk that begins with this byte.
+fn beginning(first: u8) -> Chunk {
+    let mut chunk = Chunk::ZERO;
+    chunk.0[0] = first;
+    chunk
+}
+
+// What the rows are about.
+#[derive(Clone, Copy, Debug)]
+enum Made {
+    // The tree of two fields that are 0.
+    Zeros,
+    // The full tree over the chunks that begin with 1, 2, 3 and 4.
+    Four,
+    // The tree of a list with room for 8 numbers of 64 bits that has one, 9.
+    List,
+}
+
+fn built(arena: &mut Arena<XorPair>, kind: Made) -> Result<NodeId, AllocError>
+    ensures { IfOk result (IsNodeOf arena.new) }
+{
+    arena.reserve(7)?;
+    let chunks = match kind {
+        Made::Zeros => return Ok(arena.zero(1)),
+        Made::Four => [1, 2, 3, 4],
+        Made::List => [9, 0, 1, 0],
+    };
+    let a = arena.leaf(beginning(chunks[0]));
+    let b = arena.leaf(beginning(chunks[1]));
+    let left = arena.pair(a, b);
+    let c = arena.leaf(beginning(chunks[2]));
+    if chunks[3] == 0 {
+        return Ok(arena.pair(left, c));
+    }
+    let d = arena.leaf(beginning(chunks[3]));
+    let right = arena.pair(c, d);
+    Ok(arena.pair(left, right))
+}
+
+// The proof at these numbers, of which 0 stands for none, if there is one.
+fn proved(
+    alloc: Global,
+    kind: Made,
+    numbers: &[u128],
+    hasher: &mut XorPair,
+) -> Result<Result<Proof, ProveFault>, Fail> {
+    let mut arena = Arena::start(alloc, hasher)?;
+    let top = built(&mut arena, kind)?;
+    let mut indices = Vec::new(alloc);
+    for number in numbers {
+        if let Some(index) = Gindex::new(*number) {
+            indices.push(index)?;
+        }
+    }
+    if indices.is_empty() {
+        return Err("no index".into());
+    }
+    let proof = prove(&mut arena, top, &indices, hasher);
+    if let Ok(proof) = &proof {
+        let root = arena.root(top, hasher);
+        if !verify(proof, &root, hasher) {
+            return Err("another root".into());
+        }
+    }
+    Ok(proof)
+}
+
+type ProofRow = (Made, [u128; 4], &'static str);
+
+// The chunks of each tree at its places, with those at the helper indices, from the last one down
+// (merkle-proofs.md, Merkle multiproofs).
+const PROOFS: [ProofRow; 5] = [
+    (Made::Zeros, [1, 0, 0, 0], "proof 1=[00] /\n"),
+    (Made::Zeros, [3, 2, 2, 0], "proof 2=[00] 3=[00] /\n"),
+    (
+        Made::Four,
+        [4, 6, 0, 0],
+        "proof 4=[01] 6=[03] / 7=[04] 5=[02]\n",
+    ),
+    (
+        Made::Four,
+        [6, 4, 6, 4],
+        "proof 4=[01] 6=[03] / 7=[04] 5=[02]\n",
+    ),
+    // The place of four elements that the list does not have.
+    (Made::List, [5, 0, 0, 0], "proof 5=[00] / 4=[09] 3=[01]\n"),
+];
+
+#[test]
+fn proofs(rt: HostRuntime) -> Result<(), Fail> {
+    for (kind, numbers, text) in PROOFS {
+        let proof = proved(rt.alloc(), kind, &numbers, &mut XorPair::new())??;
+        let wanted = expanded(rt.alloc(), text)?;
+        assert_eq!(rt;
+            proof_text(rt.alloc(), &proof)?.as_slice(),
+            wanted.as_slice()
+        );
+    }
+    Ok(())
+}
+
+// The numbers that a fault names.
+fn named(fault: ProveFault) -> (u128, u128) {
+    match fault {
+        ProveFault::NoNode(index) => (index.get(), 0),
+        ProveFault::Nested(upper, lower) => (upper.get(), lower.get()),
+        ProveFault::Memory => (0, 0),
+    }
+}
+
+type FaultRow = (Made, [u128; 4], (u128, u128));
+
+// The least index without a node first, and then the lowest of two that are nested.
+const FAULTS: [FaultRow; 5] = [
+    (Made::Zeros, [1, 2, 0, 0], (1, 2)),
+    (Made::Zeros, [4, 1, 0, 0], (4, 0)),
+    (Made::Zeros, [1 << 64, 2, 0, 0], (1 << 64, 0)),
+    (Made::Four, [9, 2, 8, 4], (8, 0)),
+    (Made::Four, [4, 7, 2, 0], (2, 4)),
+];
+
+#[test]
+fn faults(rt: HostRuntime) -> Result<(), Fail> {
+    for (kind, numbers, answer) in FAULTS {
+        let proof = proved(rt.alloc(), kind, &numbers, &mut XorPair::new())?;
+        assert_eq!(rt; proof.err().map(named), Some(answer));
+    }
+    Ok(())
+}
+
+// A proof of all hashes nothing, and one of a leaf the pair beside it.
+#[test]
+fn pairs(rt: HostRuntime) -> Result<(), Fail> {
+    let mut hasher = XorPair::new();
+    let mut arena = Arena::start(rt.alloc(), &mut hasher)?;
+    let top = built(&mut arena, Made::Four)?;
+    let start = hasher.count();
+    prove(&mut arena, top, &[Gindex::root().right()], &mut hasher)?;
+    assert_eq!(rt; hasher.count(), start.saturating_add(2));
+    prove(&mut arena, top, &[Gindex::root()], &mut hasher)?;
+    assert_eq!(rt; hasher.count(), start.saturating_add(3));
+    Ok(())
+}
