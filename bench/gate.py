@@ -1,24 +1,15 @@
 #!/usr/bin/env python3
 """Prints what the gate takes of each crate, of its tests and of its must-fail edits, in seconds of processor time.
 
-  python3 bench/gate.py            every crate of crates.txt
-  python3 bench/gate.py NAME..     these crates alone
+  python3 bench/gate.py            starts rt ci in a fresh clone of what is committed
+  python3 bench/gate.py --pid N    watches the rt ci that is process N from here on, to its end
 
-In a fresh clone of what is committed, `rt ci NAME` runs crate by crate, lowest first. What a run passes rt keeps beside
-its kit for later runs on the machine: the crates below are then done, so that each row is of its crate alone. For the
-same reason a row is from nothing only on a machine that has not passed these files before. Each row says so:
-
-  anew      proof, tests and edits were done in this run
-  KEPT      all or part of them was kept from an earlier run: the row is no measure, and no part of the sum
-  WITH x    the crate x below was not kept, and is in the row
-
-The sum of a row is exact (the system's count for rt and all that it started); how it falls to proof, tests and edits
-is read from /proc four times a second. `rest` is rt itself, linking and running. RT_JOBS=1 before the command lets one
-check run at a time, so that checks do not slow one another down.
+A check is a process `rattle .. --crate-name NAME`: of tests where its words hold --test, of an edit where it works in a
+folder rt-edit-, and else of the crate. /proc is read several times a second, and the last sample of each process counts,
+so that up to a quarter of a second a process is lost; `all` is the system's own count, rt, linking and running with it.
 """
 import collections
 import os
-import re
 import subprocess
 import sys
 import tempfile
@@ -28,119 +19,113 @@ TOP = os.path.realpath(os.path.join(os.path.dirname(os.path.abspath(__file__)), 
 TICK = os.sysconf("SC_CLK_TCK")
 KINDS = ("proof", "tests", "edits")
 
-
-def crates():
-    """The crates of crates.txt, each with those of the repository that it names, lowest first."""
-    names = {}
-    with open(f"{TOP}/crates.txt") as file:
-        for line in file:
-            head, colon, uses = line.split("#")[0].partition(":")
-            if colon:
-                names[head.split()[0]] = uses.split()
-    order = []
-
-    def put(name):
-        if name in names and name not in order:
-            for low in names[name]:
-                put(low)
-            order.append(name)
-
-    for name in names:
-        put(name)
-    return order
+Process = collections.namedtuple("Process", "parent began own waited")
 
 
-def below(top):
-    """The processes that stand under a process, itself aside."""
-    children = collections.defaultdict(list)
+def read(process):
+    """The parent of a process, when it began, and the seconds that it took and that its ended children took."""
+    with open(f"/proc/{process}/stat") as file:
+        fields = file.read().rpartition(")")[2].split()
+    user, system, ended_user, ended_system = map(int, fields[11:15])
+    return Process(int(fields[1]), fields[19], (user + system) / TICK, (ended_user + ended_system) / TICK)
+
+
+def processes():
+    """All processes by their numbers."""
+    found = {}
     for number in filter(str.isdigit, os.listdir("/proc")):
         try:
-            with open(f"/proc/{number}/stat") as file:
-                children[int(file.read().rpartition(")")[2].split()[1])].append(int(number))
+            found[int(number)] = read(number)
         except OSError:
             pass
-    found = list(children[top])
-    for process in found:
-        found += children[process]
     return found
 
 
-def kind_of(process):
-    """What a check is for, or None of another process."""
-    with open(f"/proc/{process}/cmdline") as file:
+def below(top, found):
+    """The numbers of the processes that stand under a process."""
+    children = collections.defaultdict(list)
+    for number, process in found.items():
+        children[process.parent].append(number)
+    numbers = list(children[top])
+    for number in numbers:
+        numbers += children[number]
+    return numbers
+
+
+def check_of(number):
+    """The crate that a process checks, and what for, or None of another process."""
+    with open(f"/proc/{number}/cmdline") as file:
         words = file.read().split("\0")
-    if os.path.basename(words[0]) != "rattle":
+    if os.path.basename(words[0]) != "rattle" or "--crate-name" not in words:
         return None
-    if "/rt-edit" in os.readlink(f"/proc/{process}/cwd") or any("/rt-edit" in word for word in words):
-        return "edits"
-    return "tests" if "--test" in words else "proof"
+    name = words[words.index("--crate-name") + 1]
+    if "/rt-edit-" in os.readlink(f"/proc/{number}/cwd"):
+        return name, "edits"
+    return name, "tests" if "--test" in words else "proof"
 
 
-def look(top, seen):
-    """Notes for each check under a process what it has taken up to now."""
-    for process in below(top):
+def watch(top, is_over):
+    """Looks at what stands under a process until it is over: the seconds of each check by process, and those of all."""
+    checks, whole = {}, 0.0
+    while not is_over():
+        found = processes()
+        if top in found:
+            whole = found[top].own + found[top].waited
+        for number in below(top, found):
+            try:
+                check = check_of(number)
+            except OSError:
+                continue
+            if check:
+                checks[number, found[number].began] = *check, found[number].own
+        time.sleep(0.2)
+    return checks, whole
+
+
+def run_in_clone():
+    """Starts rt ci in a fresh clone and watches it: its checks, the seconds of all, and its last line."""
+    with tempfile.TemporaryDirectory(prefix="gate-") as room, open(f"{room}/log", "w+", errors="replace") as log:
+        subprocess.run(["git", "clone", "-q", TOP, f"{room}/clone"], check=True)
+        before = os.times()
+        gate = subprocess.Popen(["rt", "ci"], cwd=f"{room}/clone", stdout=log, stderr=subprocess.STDOUT, stdin=subprocess.DEVNULL)
+        checks, _ = watch(gate.pid, lambda: gate.poll() is not None)
+        after = os.times()
+        log.seek(0)
+        whole = after.children_user + after.children_system - before.children_user - before.children_system
+        return checks, whole, (log.read().splitlines() or [""])[-1]
+
+
+def attach(top):
+    """Watches the rt ci that runs as this process: its checks, the seconds of all, and no line."""
+    began = read(top).began
+
+    def is_over():
         try:
-            kind = kind_of(process)
-            with open(f"/proc/{process}/stat") as file:
-                fields = file.read().rpartition(")")[2].split()
+            return read(top).began != began
         except OSError:
-            continue
-        if kind:
-            seen[process, fields[19]] = kind, (int(fields[11]) + int(fields[12])) / TICK
+            return True
+
+    return *watch(top, is_over), ""
 
 
-def measure(name, clone, log):
-    """Runs rt ci over a crate: its exit status, its processor time, and that of its checks by kind."""
-    log.seek(0)
-    log.truncate()
-    seen = {}
-    began = subprocess.Popen(["rt", "ci", name], cwd=clone, stdout=log, stderr=subprocess.STDOUT, stdin=subprocess.DEVNULL)
-    while True:
-        look(began.pid, seen)
-        ended, status, usage = os.wait4(began.pid, os.WNOHANG)
-        if ended:
-            began.returncode = os.waitstatus_to_exitcode(status)
-            break
-        time.sleep(0.25)
-    taken = dict.fromkeys(KINDS, 0.0)
-    for kind, seconds in seen.values():
-        taken[kind] += seconds
-    return began.returncode, usage.ru_utime + usage.ru_stime, taken
-
-
-def how(name, text):
-    """Whether a run did all of a crate, and nothing of another, from its printed lines."""
-    if re.search(rf"^rt: {name} is kept:", text, re.M) or re.search(rf"^rt: {name}: \d+ of its \d+ must-fail edits were tried by", text, re.M):
-        return "KEPT"
-    others = [low for low in re.findall(r"^rt: (\w+) proved$", text, re.M) if low != name]
-    return "WITH " + " ".join(others) if others else "anew"
-
-
-def main():
-    order = crates()
-    asked = sys.argv[1:] or order
-    if set(asked) - set(order):
-        sys.exit(f"crates.txt names no crate {' '.join(sorted(set(asked) - set(order)))}")
-    failed, sums, kept = [], 0.0, 0
-    print("| Crate | proof | tests | edits | rest | sum | |\n|---|---|---|---|---|---|---|", flush=True)
-    with tempfile.TemporaryDirectory(prefix="gate-") as room, tempfile.TemporaryFile("w+", errors="replace") as log:
-        clone = f"{room}/clone"
-        subprocess.run(["git", "clone", "-q", TOP, clone], check=True)
-        for name in (it for it in order if it in asked):
-            status, whole, taken = measure(name, clone, log)
-            log.seek(0)
-            text = log.read()
-            said = how(name, text) if status == 0 else "FAILED"
-            failed += [name] if status else []
-            kept += said == "KEPT"
-            sums += whole if said not in ("KEPT", "FAILED") else 0
-            cells = [taken[kind] for kind in KINDS] + [max(0.0, whole - sum(taken.values())), whole]
-            print(f"| `{name}` | {' | '.join(f'{it:.1f}' for it in cells)} | {said} |", flush=True)
-            if status:
-                print(text[-2000:], file=sys.stderr)
-    print(f"\nsum of the rows that were done in this run: {sums / 60:.1f} processor minutes; {kept} of {len(asked)} crates were kept")
-    return 1 if failed else 0
+def main(words):
+    if words and (len(words) != 2 or words[0] != "--pid" or not words[1].isdigit()):
+        sys.exit(__doc__)
+    began = time.monotonic()
+    checks, whole, said = attach(int(words[1])) if words else run_in_clone()
+    minutes = (time.monotonic() - began) / 60
+    taken = collections.defaultdict(float)
+    for name, kind, seconds in checks.values():
+        taken[name, kind] += seconds
+    print("| Crate | proof | tests | edits |\n|---|---|---|---|")
+    for crate in sorted({name for name, _ in taken}):
+        cells = [f"{taken[crate, kind]:.0f}" if (crate, kind) in taken else "" for kind in KINDS]
+        print(f"| `{crate}` | {' | '.join(cells)} |")
+    sums = [sum(seconds for (_, kind), seconds in taken.items() if kind == wanted) for wanted in KINDS]
+    print(f"| sum | {' | '.join(f'{it:.0f}' for it in sums)} |")
+    print(f"\n{sum(sums) / 60:.1f} processor minutes of checks, {whole / 60:.1f} of all, {minutes:.1f} on the clock")
+    print(said, end="\n" * bool(said))
 
 
 if __name__ == "__main__":
-    sys.exit(main())
+    main(sys.argv[1:])
