@@ -35,8 +35,9 @@ use Rattle.ssz_places.proofs.Charging.{law_of_charges}
 use Rattle.ssz_gindex.proofs.HelperNodes.{some_from}
 use Rattle.ssz_places.proofs.Theorems.{law_of_choice}
 use Rattle.ssz_tree.specs.Added.{Adds, Makes, Part, joined}
-use Rattle.ssz_tree.specs.Built.{part_of, chunk_part}
+use Rattle.ssz_tree.specs.Built.{part_of, none_part}
 use Rattle.ssz_tree.proofs.Adding.{MakesLeaf, MakesPair, Makes-joined}
+use Rattle.ssz_tree.proofs.FewNodes.{few_nodes}
 use Rattle.ssz_walk.specs.declared.place.Place.{Place}
 use Rattle.ssz_walk.specs.Found.{spot_of, IsFound}
 use Rattle.ssz_edit.specs.Edited.{Answers, IsPut}
@@ -221,13 +222,13 @@ module _ (types : Types) (ids : List (Option ℕ)) (k : ℕ) (option : Option �
         )
 
 -- the part that is chosen, where the option and the value are known
-pub none_part : (types : Types) (option : Option ℕ) (x : Option SszValue) → option ≡ None
-    → option_part types option x ≡ chunk_part zero_chunk
-none_part types None x none = refl
-none_part types (Some id) x none = absurd (none-some id (sym none))
+pub no_option_part : (types : Types) (option : Option ℕ) (x : Option SszValue) → option ≡ None
+    → option_part types option x ≡ none_part
+no_option_part types None x none = refl
+no_option_part types (Some id) x none = absurd (none-some id (sym none))
 
 pub no_value_part : (types : Types) (option : Option ℕ) (x : Option SszValue) → x ≡ None
-    → option_part types option x ≡ chunk_part zero_chunk
+    → option_part types option x ≡ none_part
 no_value_part types None x none = refl
 no_value_part types (Some id) None none = refl
 no_value_part types option (Some x) none = absurd (none-some x (sym none))
@@ -241,6 +242,15 @@ module _ (types : Types) (option : Option ℕ) (inner : Option Value) (id : ℕ)
   pub value_part : option_part types option (option_map value_of inner)
       ≡ part_of (type_of types id) (value_of v)
   value_part = ap₂ (λ o i. option_part types o (option_map value_of i)) is has
+
+-- its nodes are few beside its pairs
+pub few_in_option : (types : Types) (option : Option ℕ) (inner : Option Value)
+    → IsOfOption types option inner
+    → (let part = option_part types option (option_map value_of inner) in
+    part.nodes ≤ 2 * part.cost + 1)
+few_in_option types None inner of = omega arith
+few_in_option types (Some id) None of = omega arith
+few_in_option types (Some id) (Some v) of = few_nodes (type_of types id) (value_of v) of.fits
 
 -- an option of a type before others
 pub below_more : (n m : ℕ) (o : Option ℕ) → n < m → IsBelow n o → IsBelow m o

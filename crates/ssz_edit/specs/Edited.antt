@@ -14,14 +14,16 @@ use Rattle.ssz_places.specs.Spots.{with_part, without_part}
 use Rattle.ssz_arena.specs.declared.node.NodeId.{NodeId}
 use Rattle.ssz_arena.specs.Content.{Content, tree_of, todo, unhashed, node_count, IsNodeOf}
 use Rattle.ssz_tree.specs.Added.{Part}
+use Rattle.ssz_tree.specs.Nodes.{new_nodes}
 
--- a node's tree with a value at a spot, for the value's pairs
+-- a node's tree with a value at a spot, for the value's pairs and nodes
 abbrev pub part_with : Spot → SszType → SszValue → Tree → Part
-part_with spot t v node = record { tree = with_part spot t v node; cost = pairs t v }
+part_with spot t v node =
+    record { tree = with_part spot t v node; cost = pairs t v; nodes = new_nodes t v }
 
--- a node's tree with nothing at a spot
+-- a node's tree with nothing at a spot, for a leaf
 abbrev pub part_without : Spot → SszType → Tree → Part
-part_without spot t node = record { tree = without_part spot t node; cost = 0 }
+part_without spot t node = record { tree = without_part spot t node; cost = 0; nodes = 1 }
 
 -- the node made has the tree of the old one with a part at an index, and at most the levels of the
 -- index and what the part costs is more to be hashed

@@ -1,7 +1,6 @@
 // Choosing the option of a union.
 ghost use Rattle.std.specs.Prelude.{◌≡◌, ◌+◌, ◌*◌, ◌<◌, ◌≤◌, ◌^◌, length, Some, IfOk, IfSome, IfNone, OnOk, OnErr, option_map};
 ghost use Rattle.std.specs.List.{AllByRecursion};
-ghost use Rattle.ssz_chunk.specs.Chunk.{zero_chunk};
 ghost use Rattle.ssz_chunk.specs.Index.{at, levels};
 ghost use Rattle.ssz_schema.specs.Types.{union};
 ghost use Rattle.ssz_schema.specs.Unfolding.{type_of, options_over, IsBelow};
@@ -15,7 +14,7 @@ ghost use Rattle.ssz_places.specs.PlaceLaws.{IsTreeOf};
 ghost use Rattle.ssz_places.specs.Charges.{choose_charge};
 ghost use Rattle.ssz_arena.specs.Content.{IsNodeOf, KeepsNodes, KeepsTodo, tree_of};
 ghost use Rattle.ssz_tree.specs.Added.{Adds, IsPart, joined};
-ghost use Rattle.ssz_tree.specs.Built.{chunk_part};
+ghost use Rattle.ssz_tree.specs.Built.{none_part};
 ghost use Rattle.ssz_edit.specs.Chosen.{HasNoOptions, IsOfOption, option_part};
 ghost use Rattle.ssz_edit.specs.Edited.{Answers, IsPut};
 
@@ -137,7 +136,7 @@ fn option_node<H: PairHash>(
     ensures room { OnOk result (more ≤ arena.new.spare) }
     ensures adds { let part = option_part schema.now option
         (option_map value_of (inner_of inner.entry)) in
-        Adds (2 * part.cost + 1) part.cost arena.old arena.new }
+        Adds part.nodes part.cost arena.old arena.new }
     ensures err { OnErr result (arena.new.nodes ≡ arena.old.nodes) }
 {
     let Some(id) = option else {
@@ -152,7 +151,7 @@ fn option_node<H: PairHash>(
 
 // The node of the option None, which every arena has, and room for as many nodes more.
 fn none_node<H: PairHash>(arena: &mut Arena<H>, more: usize) -> Result<NodeId, AllocError>
-    ensures part { IfOk result (IsPart arena.new (chunk_part zero_chunk)) }
+    ensures part { IfOk result (IsPart arena.new none_part) }
     ensures room { OnOk result (more ≤ arena.new.spare) }
     ensures adds { Adds 0 0 arena.old arena.new }
     ensures err { OnErr result (arena.new.nodes ≡ arena.old.nodes) }

@@ -1,8 +1,7 @@
 -- What calls add to an arena, one after another.
-use Rattle.std.proofs.Common.{◌≡◌, ℕ, suc, ◌+◌, ◌-◌, ◌*◌, ◌^◌, ◌<◌, ◌≤◌, min, List, [], ◌∷◌, length, take, drop, refl, sym, ap, ap₂, subst, ◌∙◌, arith, zero-add, length-drop}
+use Rattle.std.proofs.Common.{◌≡◌, ℕ, suc, ◌+◌, ◌-◌, ◌^◌, ◌<◌, ◌≤◌, min, List, [], ◌∷◌, length, take, drop, refl, sym, ap, ap₂, subst, ◌∙◌, arith, zero-add, length-drop}
 use Rattle.std.proofs.lemmas.List.{take-map, drop-map, take-append-drop, length-take}
 use Rattle.std.proofs.lemmas.List.Sums.{sum_by-append}
-use Rattle.ssz_chunk.specs.Chunk.{zero_chunk}
 use Rattle.ssz_chunk.specs.Tree.{leaf, pair, full, grow, zero_tree}
 use Rattle.ssz_chunk.proofs.Growing.{grow-suc}
 use Rattle.ssz_chunk.proofs.Trees.{full-zero, full-suc}
@@ -10,7 +9,7 @@ use Rattle.ssz_arena.specs.declared.node.NodeId.{NodeId}
 use Rattle.ssz_arena.specs.Content.{Content, tree_of, todo, unhashed, node_count, IsNodeOf, KeepsNodes, KeepsTodo}
 use Rattle.ssz_arena.proofs.Keeping.{keeps_same, keeps_trans}
 use Rattle.ssz_tree.specs.Added.{Adds, Part, IsPart, Makes, part_trees, costs, whole, joined}
-use Rattle.ssz_tree.specs.Built.{chunk_part}
+use Rattle.ssz_tree.specs.Built.{chunk_part, none_part}
 use Rattle.ssz_tree.specs.Stack.{AreNodes}
 
 -- as much is to be hashed as before, over two calls
@@ -96,7 +95,7 @@ pub Makes-leaf : (old new : Content) (chunk : List ℕ) (node : NodeId) → IsNo
     → Makes old new (chunk_part chunk) node
 Makes-leaf old new chunk node inside tree due adds = record {
   is = record { node = inside; tree = tree; todo = omega (arith, due) };
-  adds = Adds-within 1 0 (2 * 0 + 1) 0 old new adds (omega arith) (omega arith);
+  adds = adds;
 }
 
 -- the full tree of depth 0 over one part is that part
@@ -210,13 +209,12 @@ Makes-joined old first second new part chunk node number top made a b =
           (omega arith) (omega arith);
     }
 
--- the zero chunk, which the arena has
-pub Makes-zero : (arena : Content) (id : NodeId) → IsNodeOf arena id
-    → tree_of arena id ≡ zero_tree 0 → todo arena id ≡ 0
-    → Makes arena arena (chunk_part zero_chunk) id
-Makes-zero arena id inside tree due = record {
+-- the option None, whose chunk the arena has
+pub Makes-none : (arena : Content) (id : NodeId) → IsNodeOf arena id
+    → tree_of arena id ≡ zero_tree 0 → todo arena id ≡ 0 → Makes arena arena none_part id
+Makes-none arena id inside tree due = record {
   is = record { node = inside; tree = tree ∙ full-zero []; todo = omega (arith, due) };
-  adds = Adds-within 0 0 _ _ arena arena (Adds-none arena) (omega arith) (omega arith);
+  adds = Adds-none arena;
 }
 
 -- an equal part
@@ -225,6 +223,6 @@ pub Makes-same : (old new : Content) (a b : Part) (id : NodeId) → a ≡ b → 
 Makes-same old new a b id e made = subst (λ part. Makes old new part id) e made
 
 -- a number's leaf and the pair find room
-pub joined_room : (start first : Content) (cost n : ℕ) → cost + 1 ≡ n → 2 * n + 1 ≤ start.spare
-    → start.spare ≤ first.spare + (2 * cost + 1) → 2 ≤ first.spare
-joined_room start first cost n is room made = omega arith
+pub joined_room : (start first : Content) (nodes n : ℕ) → nodes + 2 ≡ n → n ≤ start.spare
+    → start.spare ≤ first.spare + nodes → 2 ≤ first.spare
+joined_room start first nodes n is room made = omega arith

@@ -1,9 +1,8 @@
--- Values of one type of fixed size have equally many pairs.
-use Rattle.std.proofs.Common.{◌≡◌, ℕ, suc, ◌+◌, ◌*◌, ◌-◌, ◌/◌, ◌^◌, ◌<◌, ◌≤◌, min, List, [], ◌∷◌, length, map, replicate, get_or, Option, Some, None, refl, sym, ap, ap₂, subst, ◌∙◌, ⊎_elim, option_map, arith}
+-- Values of one type of fixed size have equally many pairs and nodes.
+use Rattle.std.proofs.Common.{◌≡◌, ℕ, suc, ◌+◌, ◌*◌, ◌/◌, ◌<◌, List, [], ◌∷◌, length, map, replicate, get_or, Option, Some, None, refl, sym, ap, ap₂, subst, ◌∙◌, option_map, arith}
 use Rattle.std.specs.Prelude.{IsSome, is_some}
 use Rattle.std.specs.List.{AllByRecursion, sum_by}
-use Rattle.std.proofs.Math.Nat.{mul-le-mul_left, mul-le-mul_right}
-use Rattle.std.proofs.lemmas.Bool.{cases_lt, false≢true}
+use Rattle.std.proofs.lemmas.Bool.{false≢true}
 use Rattle.std.proofs.lemmas.Option.{none-some}
 use Rattle.std.proofs.lemmas.List.Sums.{sum_by-cons}
 use Rattle.ssz_chunk.specs.Tree.{grow}
@@ -13,6 +12,7 @@ use Rattle.ssz_schema.specs.Types.{SszType, Fields, uint, boolean, container, ve
 use Rattle.ssz_schema.specs.Sizes.{basic_size, element_chunks, depth, fixed_size, part_sizes, total_size}
 use Rattle.ssz_value.specs.Values.{SszValue, sequence, bits, items, Fits, FitFields}
 use Rattle.ssz_value.specs.Pairs.{pairs, field_pairs}
+use Rattle.ssz_tree.specs.Nodes.{new_nodes, field_nodes, element_nodes}
 use Rattle.ssz_value.specs.declared.value.Value.{Value}
 use Rattle.ssz_value.specs.Standing.{value_of, IsValue}
 use Rattle.ssz_value.specs.Faults.{why, Scope, scopes, bytes_of, head_fault, alike_fault, elements_fault}
@@ -23,43 +23,44 @@ use Rattle.ssz_parts.proofs.ElementLemmas.{element_faultless}
 use Rattle.ssz_parts.proofs.Faultless.{IsFaultless}
 use Rattle.ssz_parts.specs.PartValues.{element_values}
 
--- the law for one type
-abbrev pub AreAlike : SszType → Type 0
-AreAlike t = (v w : SszValue) → Fits t v → Fits t w → pairs t v ≡ pairs t w
+-- the values of the type agree in a number
+abbrev pub AreAlike : SszType → (SszValue → ℕ) → Type 0
+AreAlike t number = (v w : SszValue) → Fits t v → Fits t w → number v ≡ number w
 
 -- one more value has one time more
 more_alike : (p a b n : ℕ) → a ≡ p → b ≡ p * n → a + b ≡ p * suc n
 more_alike p a b n first rest = omega (arith, first, rest)
 
 -- each has as many as the one given, so all have so many times as many
-pub sum-alike : (t : SszType) → AreAlike t → (v : SszValue) (vs : List SszValue) → Fits t v
-    → AllByRecursion (Fits t) vs → sum_by (pairs t) vs ≡ pairs t v * length vs
-sum-alike t alike v [] fit all = omega arith
-sum-alike t alike v (w ∷ vs) fit all = sum_by-cons (pairs t) w vs
-    ∙ more_alike (pairs t v) (pairs t w) (sum_by (pairs t) vs) (length vs) (alike w v all.0 fit)
-    (sum-alike t alike v vs fit all.1)
+pub sum-alike : (t : SszType) (f : SszValue → ℕ) → AreAlike t f → (v : SszValue)
+    (vs : List SszValue) → Fits t v → AllByRecursion (Fits t) vs
+    → sum_by f vs ≡ f v * length vs
+sum-alike t f alike v [] fit all = omega arith
+sum-alike t f alike v (w ∷ vs) fit all = sum_by-cons f w vs
+    ∙ more_alike (f v) (f w) (sum_by f vs) (length vs) (alike w v all.0 fit)
+    (sum-alike t f alike v vs fit all.1)
 
 -- so also those of the program
-pub sum-alike_values : (t : SszType) → AreAlike t → (v : SszValue) (vs : List Value) → Fits t v
-    → AllByRecursion (IsValue t) vs
-    → sum_by (pairs t) (map value_of vs) ≡ pairs t v * length vs
-sum-alike_values t alike v [] fit all = omega arith
-sum-alike_values t alike v (w ∷ vs) fit all =
-    sum_by-cons (pairs t) (value_of w) (map value_of vs)
-    ∙ more_alike (pairs t v) (pairs t (value_of w)) (sum_by (pairs t) (map value_of vs)) (length vs)
-    (alike (value_of w) v all.0.fits fit) (sum-alike_values t alike v vs fit all.1)
+pub sum-alike_values : (t : SszType) (f : SszValue → ℕ) → AreAlike t f → (v : SszValue)
+    (vs : List Value) → Fits t v → AllByRecursion (IsValue t) vs
+    → sum_by f (map value_of vs) ≡ f v * length vs
+sum-alike_values t f alike v [] fit all = omega arith
+sum-alike_values t f alike v (w ∷ vs) fit all =
+    sum_by-cons f (value_of w) (map value_of vs)
+    ∙ more_alike (f v) (f (value_of w)) (sum_by f (map value_of vs)) (length vs)
+    (alike (value_of w) v all.0.fits fit) (sum-alike_values t f alike v vs fit all.1)
 
--- as many values of one type have as many pairs
-sums_alike : (t : SszType) → AreAlike t → (vs ws : List SszValue) → length vs ≡ length ws
-    → AllByRecursion (Fits t) vs → AllByRecursion (Fits t) ws
-    → sum_by (pairs t) vs ≡ sum_by (pairs t) ws
-sums_alike t alike [] [] count all others = refl
-sums_alike t alike [] (w ∷ ws) count all others = absurd (omega arith)
-sums_alike t alike (v ∷ vs) [] count all others = absurd (omega arith)
-sums_alike t alike (v ∷ vs) (w ∷ ws) count all others = sum_by-cons (pairs t) v vs
+-- as many values of one type have as many in all
+sums_alike : (t : SszType) (f : SszValue → ℕ) → AreAlike t f → (vs ws : List SszValue)
+    → length vs ≡ length ws → AllByRecursion (Fits t) vs → AllByRecursion (Fits t) ws
+    → sum_by f vs ≡ sum_by f ws
+sums_alike t f alike [] [] count all others = refl
+sums_alike t f alike [] (w ∷ ws) count all others = absurd (omega arith)
+sums_alike t f alike (v ∷ vs) [] count all others = absurd (omega arith)
+sums_alike t f alike (v ∷ vs) (w ∷ ws) count all others = sum_by-cons f v vs
     ∙ ap₂ (λ a b. a + b) (alike v w all.0 others.0)
-    (sums_alike t alike vs ws (omega arith) all.1 others.1)
-    ∙ sym (sum_by-cons (pairs t) w ws)
+    (sums_alike t f alike vs ws (omega arith) all.1 others.1)
+    ∙ sym (sum_by-cons f w ws)
 
 -- with a part of no fixed size there is none
 none_first : (size : Option ℕ) (sizes : List (Option ℕ)) → size ≡ None
@@ -72,30 +73,50 @@ none_later : (size : Option ℕ) (sizes : List (Option ℕ)) → total_size size
 none_later (Some z) sizes none = ap (option_map (λ rest. z + rest)) none
 none_later None sizes none = refl
 
--- the law for the values of fields
+-- the law for two values of a type, and for the values of fields
+pub record Alike (t : SszType) (v w : SszValue) : Type 0 where
+  pub pairs : pairs t v ≡ pairs t w
+  pub nodes : new_nodes t v ≡ new_nodes t w
+
 pub record FieldsAlike (fs : Fields) (vs ws : List SszValue) : Type 0 where
   pub count : length vs ≡ length ws
   pub pairs : field_pairs fs vs ≡ field_pairs fs ws
+  pub nodes : field_nodes fs vs ≡ field_nodes fs ws
 
 mutual
   -- that a type has a fixed size is said by: it is not so that it has none
-  pub alike : (t : SszType) → (fixed_size t ≡ None → ⊥) → AreAlike t
-  alike (uint w) sized v u fit other = refl
-  alike boolean sized v u fit other = refl
+  pub alike : (t : SszType) → (fixed_size t ≡ None → ⊥) → (v w : SszValue) → Fits t v → Fits t w
+      → Alike t v w
+  alike (uint w) sized v u fit other = record { pairs = refl; nodes = refl }
+  alike boolean sized v u fit other = record { pairs = refl; nodes = refl }
   alike (bitvector n) sized (bits bs) (bits cs) fit other =
-      ap (λ k. grow (depth (bitvector n)) ((k + 255) / 256)) (fit ∙ sym other)
+      let chunks = ap (λ k. (k + 255) / 256) (fit ∙ sym other) in
+      record {
+        pairs = ap (grow (depth (bitvector n))) chunks;
+        nodes = ap (λ k. grow (depth (bitvector n)) k + k) chunks;
+      }
   alike (bitvector n) sized (bits bs) _ fit other = absurd other
   alike (bitvector n) sized _ u fit other = absurd fit
   alike (vector t n) sized (sequence vs) (sequence ws) fit other =
-      ap₂ (λ k s. grow (depth (vector t n)) (element_chunks (basic_size t) k) + s)
-      (fit.0 ∙ sym other.0)
-      (sums_alike t (alike t (λ none. sized (ap (option_map (λ z. n * z)) none)))
-      (items vs) (items ws) (fit.0 ∙ sym other.0) fit.1 other.1)
+      let one = alike t (λ none. sized (ap (option_map (λ z. n * z)) none)) in
+      let count = fit.0 ∙ sym other.0 in
+      record {
+        pairs = ap₂ (λ k s. grow (depth (vector t n)) (element_chunks (basic_size t) k) + s) count
+            (sums_alike t (pairs t) (λ v w a b. (one v w a b).pairs) (items vs) (items ws) count
+            fit.1 other.1);
+        nodes = ap₂ (λ k s. grow (depth (vector t n)) (element_chunks (basic_size t) k)
+            + element_nodes (basic_size t) k s) count
+            (sums_alike t (new_nodes t) (λ v w a b. (one v w a b).nodes) (items vs) (items ws)
+            count fit.1 other.1);
+      }
   alike (vector t n) sized (sequence vs) _ fit other = absurd other
   alike (vector t n) sized _ u fit other = absurd fit
   alike (container fs) sized (sequence vs) (sequence ws) fit other =
       let same = fields_alike fs sized (items vs) (items ws) fit other in
-      ap₂ (λ k s. grow (depth (container fs)) k + s) same.count same.pairs
+      record {
+        pairs = ap₂ (λ k s. grow (depth (container fs)) k + s) same.count same.pairs;
+        nodes = ap₂ (λ k s. grow (depth (container fs)) k + s) same.count same.nodes;
+      }
   alike (container fs) sized (sequence vs) _ fit other = absurd other
   alike (container fs) sized _ u fit other = absurd fit
   alike (list t limit) sized v u fit other = absurd (sized refl)
@@ -104,48 +125,22 @@ mutual
 
   fields_alike : (fs : Fields) → (total_size (part_sizes fs) ≡ None → ⊥)
       → (vs ws : List SszValue) → FitFields fs vs → FitFields fs ws → FieldsAlike fs vs ws
-  fields_alike no_fields sized [] [] fit other = record { count = refl; pairs = refl }
+  fields_alike no_fields sized [] [] fit other =
+      record { count = refl; pairs = refl; nodes = refl }
   fields_alike no_fields sized [] (w ∷ ws) fit other = absurd other
   fields_alike no_fields sized (v ∷ vs) ws fit other = absurd fit
   fields_alike (field name t fs) sized (v ∷ vs) (w ∷ ws) fit other =
       let rest = fields_alike fs
       (λ none. sized (none_later (fixed_size t) (part_sizes fs) none)) vs ws fit.1 other.1 in
+      let first = alike t (λ none. sized (none_first (fixed_size t) (part_sizes fs) none)) v w
+      fit.0 other.0 in
       record {
         count = ap suc rest.count;
-        pairs = ap₂ (λ a b. a + b)
-            (alike t (λ none. sized (none_first (fixed_size t) (part_sizes fs) none)) v w fit.0
-            other.0) rest.pairs;
+        pairs = ap₂ (λ a b. a + b) first.pairs rest.pairs;
+        nodes = ap₂ (λ a b. a + b) first.nodes rest.nodes;
       }
   fields_alike (field name t fs) sized (v ∷ vs) [] fit other = absurd other
   fields_alike (field name t fs) sized [] ws fit other = absurd fit
-
--- so many times a number that a u64 counts as far as it can
-pub times : (p n : ℕ) → 0 < n
-    → min (min p (2 ^ 64 - 1) * n) (2 ^ 64 - 1) ≡ min (p * n) (2 ^ 64 - 1)
-times p n some = ⊎_elim
-    (λ (small : p < 2 ^ 64 - 1).
-    let same : min p (2 ^ 64 - 1) ≡ p = omega arith in
-    ap (λ q. min (q * n) (2 ^ 64 - 1)) same)
-    (λ (large : 2 ^ 64 - 1 ≤ p).
-    let most : min p (2 ^ 64 - 1) ≡ 2 ^ 64 - 1 = omega arith in
-    let one : (2 ^ 64 - 1) * 1 ≤ (2 ^ 64 - 1) * n = mul-le-mul_left (2 ^ 64 - 1) some in
-    let more : (2 ^ 64 - 1) * n ≤ p * n = mul-le-mul_right n large in
-    omega (arith, ap (λ q. q * n) most, one, more))
-    (cases_lt p (2 ^ 64 - 1))
-
--- the first has as many as each, and is counted so many times
-pub counted_alike : (first sum one all n : ℕ) → sum ≡ first * n → 0 < n
-    → one ≡ min first (2 ^ 64 - 1) → all ≡ min (one * n) (2 ^ 64 - 1)
-    → all ≡ min sum (2 ^ 64 - 1)
-counted_alike first sum one all n total some counted is =
-    is ∙ ap (λ q. min (q * n) (2 ^ 64 - 1)) counted ∙ times first n some
-    ∙ ap (λ q. min q (2 ^ 64 - 1)) (sym total)
-
--- there is none
-pub counted_none : (t : SszType) (vs : List SszValue) → length vs ≡ 0
-    → 0 ≡ min (sum_by (pairs t) vs) (2 ^ 64 - 1)
-counted_none t [] none = refl
-counted_none t (v ∷ vs) none = absurd (omega arith)
 
 -- a type of this size has one
 pub has_size : (size : Option ℕ) (z : ℕ) → size ≡ Some z → size ≡ None → ⊥

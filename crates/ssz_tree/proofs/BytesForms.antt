@@ -14,7 +14,6 @@ use Rattle.ssz_value.specs.Encoding.{enc, joined_alike}
 use Rattle.ssz_value.specs.Faults.{why, head_fault, elements_fault, length_fault, element_count}
 use Rattle.ssz_value.specs.Reading.{value_in, elements_in}
 use Rattle.ssz_value.specs.Trees.{pack, pack_bits, padded, chunks, number_chunk}
-use Rattle.ssz_value.specs.Pairs.{pairs}
 use Rattle.ssz_value.specs.Values.{sequence, values}
 use Rattle.ssz_value.proofs.Agree.{IsInput, no_faults, length_from_fault}
 use Rattle.ssz_value.proofs.ExactLaw.{agrees}
@@ -32,6 +31,10 @@ use Rattle.ssz_parts.proofs.UnionValues.{option_in-some, option_in-none}
 use Rattle.ssz_packing.proofs.Options.{option_tree-some}
 use Rattle.ssz_tree.specs.Added.{Part, whole, joined}
 use Rattle.ssz_tree.specs.Built.{part_of, chunk_part, elements_part, chosen_part}
+use Rattle.ssz_tree.specs.Nodes.{new_nodes}
+use Rattle.ssz_tree.specs.Tallies.{IsTallyOf, Tallies}
+use Rattle.ssz_tree.specs.declared.tally.Tally.{Tally}
+use Rattle.ssz_tree.proofs.NodeCounts.{nodes-basic, nodes-option}
 use Rattle.ssz_tree.proofs.Gathering.{IsAt, IsAt-map}
 use Rattle.ssz_tree.proofs.Forms.{part, parts_equal, whole-chunks, elements-packed, vector-part, list-part}
 
@@ -41,10 +44,10 @@ pub basic-part : (format : Format) (t : SszType) (z : ℕ) (b : List ℕ) → ba
 basic-part format t z b e legal h =
     let written = (agrees format t legal).only 0 b h.input h.none in
     let basic = IsBasic-basic t z e in
-    parts_equal _ _ _ _
+    parts_equal _ _ _ _ _ _
     (ap (λ (bytes : List ℕ). leaf (padded bytes)) (sym written.bytes)
     ∙ sym (basic_tree t z (value_in t b) e))
-    (sym (basic.no_pairs (value_in t b)))
+    (sym (basic.no_pairs (value_in t b))) (sym (nodes-basic t z (value_in t b) e))
 
 -- elements of a basic type
 pub record ArePacked (t : SszType) (d count : ℕ) (b : List ℕ) : Type 0 where
@@ -106,9 +109,10 @@ bitvector-part format n b legal input h =
     ∙ ap pack written.bytes in
     let chunks_are : (length b + 31) / 32 ≡ (length (bits_of_number n (le_number b)) + 255) / 256 =
     omega (arith, len, count) in
-    whole-chunks (depth (bitvector n)) (pack b) ∙ parts_equal _ _ _ _
+    let all = length-chunks ((length b + 31) / 32) b ∙ chunks_are in
+    whole-chunks (depth (bitvector n)) (pack b) ∙ parts_equal _ _ _ _ _ _
     (ap (λ cs. full (depth (bitvector n)) (map leaf cs)) (sym packed))
-    (ap (grow (depth (bitvector n))) (length-chunks ((length b + 31) / 32) b ∙ chunks_are))
+    (ap (grow (depth (bitvector n))) all) (ap (λ m. grow (depth (bitvector n)) m + m) all)
 
 pub bitlist-part : (limit : ℕ) (b : List ℕ) → IsInput b → 0 < length b
     → 0 < last_byte b
@@ -121,13 +125,14 @@ bitlist-part limit b input some positive =
     let bs : List Bool = bits_of_number (bitlist_length b) (le_number b) in
     let count : length (bits_of_number (bitlist_length b) (le_number b)) ≡ bitlist_length b =
     length-bits_of_number (bitlist_length b) (le_number b) in
+    let all = length-chunks ((bitlist_length b + 255) / 256) (undelimited b)
+    ∙ ap (λ n. (n + 255) / 256) (sym count) in
     ap (λ p. joined p (number_chunk (bitlist_length b)))
     (whole-chunks d (chunks ((bitlist_length b + 255) / 256) (undelimited b)))
-    ∙ parts_equal _ _ _ _
+    ∙ parts_equal _ _ _ _ _ _
     (ap₂ (λ cs n. pair (full d (map leaf cs)) (leaf (number_chunk n)))
     (sym (pack_bits-undelimited b input.bytes some positive)) (sym count))
-    (ap (λ n. grow d n + 1) (length-chunks ((bitlist_length b + 255) / 256) (undelimited b)
-    ∙ ap (λ n. (n + 255) / 256) (sym count)))
+    (ap (λ n. grow d n + 1) all) (ap (λ n. grow d n + n + 2) all)
 
 -- unions
 pub union-part : (trees : List SszType) (ids : List (Option ℕ)) (o : Option ℕ) (b : List ℕ)
@@ -141,8 +146,9 @@ union-part trees ids (Some id) (k ∷ b) some e =
     let t = tree_at trees id in
     let held = option_tree-some trees ids k id (value_in (tree_at trees id) b) e in
     sym (ap (part_of (union (options_over trees ids))) (option_in-some trees ids k k id b e)
-    ∙ parts_equal _ _ _ _ (ap (λ t. pair t (leaf (number_chunk k))) held.0)
-    (ap (λ n. n + 1) held.1))
+    ∙ parts_equal _ _ _ _ _ _ (ap (λ t. pair t (leaf (number_chunk k))) held.0)
+    (ap (λ n. n + 1) held.1)
+    (ap (λ n. n + 2) (nodes-option trees ids k id (value_in (tree_at trees id) b) e)))
 
 -- The same as the program finds them: the form of the type, its depth, its count.
 
@@ -187,27 +193,47 @@ pub basic_made : (format : Format) (form : SszType) (z : ℕ) (b chunk : List �
 basic_made format form z b chunk e legal input h is =
     ap chunk_part is ∙ basic-part format form z b e legal (record { input = input; none = h })
 
--- equal parts cost the same
-pub same_cost : (a b : Part) → a ≡ b → a.cost ≡ b.cost
-same_cost a b e = ap (λ (p : Part). p.cost) e
+-- equal parts have equally many nodes
+pub same_nodes : (a b : Part) → a ≡ b → a.nodes ≡ b.nodes
+same_nodes a b e = ap (λ (p : Part). p.nodes) e
 
--- the pairs of bits
-pub bitvector_pairs : (form : SszType) (n d : ℕ) (b : List ℕ) → form ≡ bitvector n
-    → d ≡ depth form → grow d ((n + 255) / 256) ≡ pairs form (value_in form b)
-bitvector_pairs form n d b e deep =
-    ap (λ k. grow k ((n + 255) / 256)) (deep ∙ ap depth e)
-    ∙ ap (λ m. grow (depth (bitvector n)) ((m + 255) / 256))
-    (sym (length-bits_of_number n (le_number b)))
-    ∙ ap (λ ty. pairs ty (value_in ty b)) (sym e)
+-- the pairs and the nodes of bits
+pub bitvector_tally : (form : SszType) (n d : ℕ) (b : List ℕ) (tally : Tally)
+    → form ≡ bitvector n → d ≡ depth form
+    → Tallies (grow d ((n + 255) / 256)) (grow d ((n + 255) / 256) + (n + 255) / 256) tally
+    → IsTallyOf (part_of form (value_in form b)) tally
+bitvector_tally form n d b tally e deep counted =
+    let k = depth (bitvector n) in
+    let long = sym (length-bits_of_number n (le_number b)) in
+    subst (λ ty. IsTallyOf (part_of ty (value_in ty b)) tally) (sym e)
+    (subst (λ m. Tallies (grow k ((m + 255) / 256)) (grow k ((m + 255) / 256) + (m + 255) / 256)
+    tally) long
+    (subst (λ k. Tallies (grow k ((n + 255) / 256)) (grow k ((n + 255) / 256) + (n + 255) / 256)
+    tally) (deep ∙ ap depth e) counted))
 
-pub bitlist_pairs : (form : SszType) (limit d len : ℕ) (b : List ℕ) → form ≡ bitlist limit
+pub bitlist_tally : (form : SszType) (limit d len : ℕ) (b : List ℕ) (tally : Tally)
+    → form ≡ bitlist limit → d ≡ depth form → len ≡ bitlist_length b
+    → Tallies (grow d ((len + 255) / 256) + 1)
+    (grow d ((len + 255) / 256) + (len + 255) / 256 + 2) tally
+    → IsTallyOf (part_of form (value_in form b)) tally
+bitlist_tally form limit d len b tally e deep is counted =
+    let k = depth (bitlist limit) in
+    let long = is ∙ sym (length-bits_of_number (bitlist_length b) (le_number b)) in
+    subst (λ ty. IsTallyOf (part_of ty (value_in ty b)) tally) (sym e)
+    (subst (λ m. Tallies (grow k ((m + 255) / 256) + 1)
+    (grow k ((m + 255) / 256) + (m + 255) / 256 + 2) tally) long
+    (subst (λ k. Tallies (grow k ((len + 255) / 256) + 1)
+    (grow k ((len + 255) / 256) + (len + 255) / 256 + 2) tally) (deep ∙ ap depth e) counted))
+
+-- the nodes of a bitlist
+pub bitlist_nodes : (form : SszType) (limit d len : ℕ) (b : List ℕ) → form ≡ bitlist limit
     → d ≡ depth form → len ≡ bitlist_length b
-    → grow d ((len + 255) / 256) + 1 ≡ pairs form (value_in form b)
-bitlist_pairs form limit d len b e deep is =
-    ap₂ (λ k n. grow k ((n + 255) / 256) + 1) (deep ∙ ap depth e) is
-    ∙ ap (λ m. grow (depth (bitlist limit)) ((m + 255) / 256) + 1)
+    → grow d ((len + 255) / 256) + (len + 255) / 256 + 2 ≡ new_nodes form (value_in form b)
+bitlist_nodes form limit d len b e deep is =
+    ap₂ (λ k n. grow k ((n + 255) / 256) + (n + 255) / 256 + 2) (deep ∙ ap depth e) is
+    ∙ ap (λ m. grow (depth (bitlist limit)) ((m + 255) / 256) + (m + 255) / 256 + 2)
     (sym (length-bits_of_number (bitlist_length b) (le_number b)))
-    ∙ ap (λ ty. pairs ty (value_in ty b)) (sym e)
+    ∙ ap (λ ty. new_nodes ty (value_in ty b)) (sym e)
 
 -- the value of element i
 pub element-at : (t : SszType) (count : ℕ) (b : List ℕ) (i : ℕ) (part : List ℕ) → i < count

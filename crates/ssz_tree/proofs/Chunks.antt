@@ -1,5 +1,5 @@
 -- Chunks, made as leaves one after another.
-use Rattle.std.proofs.Common.{◌≡◌, ℕ, zero, suc, ◌+◌, ◌*◌, ◌^◌, ◌<◌, ◌≤◌, List, [], ◌∷◌, ◌++◌, length, map, take, drop, refl, sym, ap, ◌∙◌, arith}
+use Rattle.std.proofs.Common.{◌≡◌, ℕ, zero, suc, ◌+◌, ◌^◌, ◌<◌, ◌≤◌, List, [], ◌∷◌, ◌++◌, length, map, take, drop, refl, sym, ap, ◌∙◌, arith}
 use Rattle.std.proofs.lemmas.List.{length-map}
 use Rattle.ssz_chunk.specs.Tree.{full, grow}
 use Rattle.ssz_arena.specs.Content.{Content}
@@ -8,8 +8,11 @@ use Rattle.ssz_value.specs.Trees.{chunks, padded}
 use Rattle.ssz_packing.proofs.Chunks.{length-chunks, chunks-suc}
 use Rattle.ssz_tree.specs.Added.{whole}
 use Rattle.ssz_tree.specs.Built.{chunk_part}
-use Rattle.ssz_tree.proofs.Forms.{costs-chunks}
+use Rattle.ssz_tree.proofs.Forms.{costs-chunks, nodes-chunks}
 use Rattle.ssz_tree.proofs.Gathering.{IsAt, IsAt-map, HasRoom}
+use Rattle.ssz_tree.proofs.Sums.{Tallies-same}
+use Rattle.ssz_tree.specs.declared.tally.Tally.{Tally}
+use Rattle.ssz_tree.specs.Tallies.{IsTallyOf, Tallies}
 
 -- the first of the chunks
 take-chunks : (i count : ℕ) (b : List ℕ) → i ≤ count → take i (chunks count b) ≡ chunks i b
@@ -33,7 +36,7 @@ pub length-parts : (count : ℕ) (b : List ℕ) → length (map chunk_part (chun
 length-parts count b = length-map (chunks count b) chunk_part ∙ length-chunks count b
 
 pub chunks-room : (arena : Content) (depth count : ℕ) (b : List ℕ) → count ≤ 2 ^ depth
-    → 2 * grow depth count + 1 ≤ arena.spare
+    → grow depth count + count ≤ arena.spare
     → HasRoom arena depth (map chunk_part (chunks count b))
 chunks-room arena depth count b few room = record {
   few = omega (arith, length-parts count b);
@@ -41,11 +44,12 @@ chunks-room arena depth count b few room = record {
     arith,
     room,
     ap (grow depth) (length-parts count b),
-    costs-chunks (chunks count b),
+    nodes-chunks (chunks count b),
+    length-chunks count b,
   );
 }
 
--- and so many pairs above them
+-- and so many pairs above them, and nodes in all
 pub cost-chunks : (d count : ℕ) (b : List ℕ)
     → (whole d (map chunk_part (chunks count b))).cost ≡ grow d count
 cost-chunks d count b = omega (
@@ -53,6 +57,21 @@ cost-chunks d count b = omega (
   costs-chunks (chunks count b),
   ap (grow d) (length-parts count b),
 )
+
+pub nodes-of_chunks : (d count : ℕ) (b : List ℕ)
+    → (whole d (map chunk_part (chunks count b))).nodes ≡ grow d count + count
+nodes-of_chunks d count b = omega (
+  arith,
+  nodes-chunks (chunks count b),
+  length-chunks count b,
+  ap (grow d) (length-parts count b),
+)
+
+pub tally-chunks : (d count : ℕ) (b : List ℕ) (tally : Tally)
+    → Tallies (grow d count) (grow d count + count) tally
+    → IsTallyOf (whole d (map chunk_part (chunks count b))) tally
+tally-chunks d count b tally counted = Tallies-same _ _ _ _ tally counted
+    (sym (cost-chunks d count b)) (sym (nodes-of_chunks d count b))
 
 -- one chunk is its own full tree
 pub one-chunk : (chunk : List ℕ) → whole 0 (chunk_part chunk ∷ []) ≡ chunk_part chunk

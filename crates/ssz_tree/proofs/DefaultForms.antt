@@ -23,6 +23,7 @@ use Rattle.ssz_value.proofs.PartLemmas.{Part as FieldPart}
 use Rattle.ssz_packing.proofs.BasicTrees.{basic_tree}
 use Rattle.ssz_tree.specs.Added.{Adds, Part, IsPart, whole, joined, costs}
 use Rattle.ssz_tree.specs.Built.{part_of, elements_part, field_parts}
+use Rattle.ssz_tree.specs.Nodes.{element_nodes}
 use Rattle.ssz_tree.specs.Shared.{shared, shared_fields, shared_vector, default_part, empty_part, MakesWith}
 use Rattle.ssz_tree.proofs.Adding.{Adds-none, Adds-then, Adds-within, MakesPair}
 use Rattle.ssz_tree.proofs.Copies.{grow-few}
@@ -84,21 +85,27 @@ list-default form t limit d e deep = ap empty_part (deep ∙ ap depth e)
   where
     none : (size : Option ℕ) → basic_size t ≡ size
         → empty_part (depth (list t limit)) ≡ default_part (list t limit)
-    none (Some z) same = parts_equal _ _ _ _
+    none (Some z) same =
+        let empty : 0 ≡ (0 * z + 31) / 32 = omega arith in
+        parts_equal _ _ _ _ _ _
         (ap (λ s. pair (full (depth (list t limit)) (element_leaves s [] []))
         (leaf (number_chunk 0))) (sym same))
-        (ap (λ n. grow (depth (list t limit)) n + 0 + 1)
-        (let empty : 0 ≡ (0 * z + 31) / 32 = omega arith in empty)
+        (ap (λ n. grow (depth (list t limit)) n + 0 + 1) empty
         ∙ ap (λ s. grow (depth (list t limit)) (element_chunks s 0) + 0 + 1) (sym same))
-    none None same = parts_equal _ _ _ _
+        (ap (λ n. grow (depth (list t limit)) n + n + 2) empty
+        ∙ ap (λ s. grow (depth (list t limit)) (element_chunks s 0) + element_nodes s 0 0 + 2)
+        (sym same))
+    none None same = parts_equal _ _ _ _ _ _
         (ap (λ s. pair (full (depth (list t limit)) (element_leaves s [] []))
         (leaf (number_chunk 0))) (sym same))
         (ap (λ s. grow (depth (list t limit)) (element_chunks s 0) + 0 + 1) (sym same))
+        (ap (λ s. grow (depth (list t limit)) (element_chunks s 0) + element_nodes s 0 0 + 2)
+        (sym same))
 
 pub bitlist-default : (form : SszType) (limit d : ℕ) → form ≡ bitlist limit → d ≡ depth form
     → empty_part d ≡ default_part form
 bitlist-default form limit d e deep = ap empty_part (deep ∙ ap depth e)
-    ∙ parts_equal _ _ _ _ refl (omega arith) ∙ ap default_part (sym e)
+    ∙ parts_equal _ _ _ _ _ _ refl (omega arith) (omega arith) ∙ ap default_part (sym e)
 
 -- elements of a basic type
 pub elements-zeros : (t : SszType) (z d n : ℕ) → basic_size t ≡ Some z
@@ -221,7 +228,7 @@ pub union-none : (trees : List SszType) (ids : List (Option ℕ))
     → empty_part 0 ≡ default_part (union (options_over trees ids))
 unfolding full grow
 union-none trees ids is =
-    parts_equal _ _ _ _ refl (omega arith)
+    parts_equal _ _ _ _ _ _ refl (omega arith) (omega arith)
     ∙ none_value trees ids 0 (default_of (union (options_over trees ids))) is
 
 -- the nodes of the option that is the default

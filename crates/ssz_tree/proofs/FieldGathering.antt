@@ -1,6 +1,6 @@
 -- The values of fields, one after another.
 use Rattle.ssz_schema.specs.declared.format.Format.{Format}
-use Rattle.std.proofs.Common.{◌≡◌, ℕ, zero, suc, ◌+◌, ◌*◌, ◌^◌, ◌<◌, ◌≤◌, List, [], ◌∷◌, length, drop, get_or, slice_range, Option, Some, None, refl, sym, ap, subst, ◌∙◌, arith}
+use Rattle.std.proofs.Common.{◌≡◌, ℕ, zero, suc, ◌+◌, ◌^◌, ◌<◌, ◌≤◌, List, [], ◌∷◌, length, drop, get_or, slice_range, Option, Some, None, refl, sym, ap, subst, ◌∙◌, arith}
 use Rattle.ssz_schema.specs.Types.{SszType, Fields, no_fields, field, container}
 use Rattle.ssz_schema.specs.Sizes.{head_size, depth}
 use Rattle.ssz_schema.specs.Unfolding.{tree_at, fields_over}
@@ -19,6 +19,7 @@ use Rattle.ssz_parts.proofs.Faultless.{container_faultless}
 use Rattle.ssz_tree.specs.Added.{Part, whole}
 use Rattle.ssz_tree.specs.Stack.{Stack}
 use Rattle.ssz_tree.specs.Built.{part_of, field_parts}
+use Rattle.ssz_tree.specs.declared.tally.Tally.{Tally}
 use Rattle.ssz_tree.proofs.Forms.{container-part}
 use Rattle.ssz_tree.proofs.Gathering.{IsAt, IsAt-drop, First, HasRoom}
 use Rattle.ssz_tree.proofs.Sums.{IsSum}
@@ -150,16 +151,16 @@ pub record FirstFields (start now : Content) (depth : ℕ) (stack : Stack) (tree
   pub fields : FieldsAt trees parts b i place
   pub first : First start now depth stack (parts_from trees parts 0 b) i
 
--- the pairs of the first i fields were added
+-- the tallies of the first i fields were added
 pub record SumsFields (trees : List SszType) (parts : List FieldPart) (b : List ℕ)
-    (i place start sum : ℕ) : Type 0 where
+    (i place start : ℕ) (sum : Tally) : Type 0 where
   pub fields : FieldsAt trees parts b i place
   pub adds : IsSum (parts_from trees parts 0 b) i start sum
 
 -- fields in their full tree
 pub fields-room : (start : Content) (d : ℕ) (trees : List SszType) (parts : List FieldPart)
     (b : List ℕ) → length parts ≤ 2 ^ d
-    → 2 * (whole d (parts_from trees parts 0 b)).cost + 1 ≤ start.spare
+    → (whole d (parts_from trees parts 0 b)).nodes ≤ start.spare
     → HasRoom start d (parts_from trees parts 0 b)
 fields-room start d trees parts b few room = record {
   few = omega (arith, length-parts_from trees parts 0 b);

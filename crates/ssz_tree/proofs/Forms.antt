@@ -15,17 +15,19 @@ use Rattle.ssz_value.proofs.Sequences.{items-values}
 use Rattle.ssz_packing.proofs.Bounds.{IsBasic-basic, no_pairs_in}
 use Rattle.ssz_packing.proofs.Chunks.{length-chunks}
 use Rattle.ssz_packing.proofs.BasicTrees.{composite_trees}
-use Rattle.ssz_tree.specs.Added.{Part, part_trees, costs, whole, joined}
+use Rattle.ssz_tree.specs.Added.{Part, part_trees, part_nodes, costs, whole, joined}
+use Rattle.ssz_tree.specs.Nodes.{new_nodes, field_nodes, element_nodes}
 use Rattle.ssz_tree.specs.Built.{part_of, chunk_part, elements_part, field_parts}
 
--- a part by its two fields
-abbrev pub part : Tree → ℕ → Part
-part tree cost = record { tree = tree; cost = cost }
+-- a part by its fields
+abbrev pub part : Tree → ℕ → ℕ → Part
+part tree cost nodes = record { tree = tree; cost = cost; nodes = nodes }
 
-pub parts_equal : (t u : Tree) (c d : ℕ) → t ≡ u → c ≡ d → part t c ≡ part u d
-parts_equal t u c d trees costs = ap₂ part trees costs
+pub parts_equal : (t u : Tree) (c d n m : ℕ) → t ≡ u → c ≡ d → n ≡ m → part t c n ≡ part u d m
+parts_equal t u c d n m trees costs nodes =
+    ap₂ (λ tree cost. part tree cost n) trees costs ∙ ap (part u d) nodes
 
--- chunks cost nothing
+-- chunks cost nothing, and each is a node
 pub costs-chunks : (cs : List (List ℕ)) → costs (map chunk_part cs) ≡ 0
 costs-chunks [] = refl
 costs-chunks (c ∷ cs) = omega (
@@ -34,11 +36,19 @@ costs-chunks (c ∷ cs) = omega (
   costs-chunks cs,
 )
 
-pub whole-chunks : (d : ℕ) (cs : List (List ℕ))
-    → whole d (map chunk_part cs) ≡ part (full d (map leaf cs)) (grow d (length cs))
-whole-chunks d cs = parts_equal _ _ _ _
-    (ap (full d) (map-map (λ (p : Part). p.tree) chunk_part cs))
-    (omega (arith, costs-chunks cs, ap (grow d) (length-map cs chunk_part)))
+pub nodes-chunks : (cs : List (List ℕ)) → part_nodes (map chunk_part cs) ≡ length cs
+nodes-chunks [] = refl
+nodes-chunks (c ∷ cs) = omega (
+  arith,
+  sum_by-cons (λ (p : Part). p.nodes) (chunk_part c) (map chunk_part cs),
+  nodes-chunks cs,
+)
+
+pub whole-chunks : (d : ℕ) (cs : List (List ℕ)) → whole d (map chunk_part cs)
+    ≡ part (full d (map leaf cs)) (grow d (length cs)) (grow d (length cs) + length cs)
+whole-chunks d cs = let above = ap (grow d) (length-map cs chunk_part) in
+    parts_equal _ _ _ _ _ _ (ap (full d) (map-map (λ (p : Part). p.tree) chunk_part cs))
+    (omega (arith, costs-chunks cs, above)) (omega (arith, nodes-chunks cs, above))
 
 -- values of one type cost their pairs
 pub costs-values : (t : SszType) (vs : List SszValue)
@@ -51,11 +61,22 @@ costs-values t (v ∷ vs) = omega (
   costs-values t vs,
 )
 
+pub nodes-values : (t : SszType) (vs : List SszValue)
+    → part_nodes (map (part_of t) vs) ≡ sum_by (new_nodes t) vs
+nodes-values t [] = refl
+nodes-values t (v ∷ vs) = omega (
+  arith,
+  sum_by-cons (λ (p : Part). p.nodes) (part_of t v) (map (part_of t) vs),
+  sum_by-cons (new_nodes t) v vs,
+  nodes-values t vs,
+)
+
 pub whole-values : (d : ℕ) (t : SszType) (vs : List SszValue) → whole d (map (part_of t) vs)
     ≡ part (full d (map (tree t) vs)) (grow d (length vs) + sum_by (pairs t) vs)
-whole-values d t vs = parts_equal _ _ _ _
-    (ap (full d) (map-map (λ (p : Part). p.tree) (part_of t) vs))
-    (omega (arith, costs-values t vs, ap (grow d) (length-map vs (part_of t))))
+    (grow d (length vs) + sum_by (new_nodes t) vs)
+whole-values d t vs = let above = ap (grow d) (length-map vs (part_of t)) in
+    parts_equal _ _ _ _ _ _ (ap (full d) (map-map (λ (p : Part). p.tree) (part_of t) vs))
+    (omega (arith, costs-values t vs, above)) (omega (arith, nodes-values t vs, above))
 
 -- elements of a basic type are packed
 pub elements-packed : (t : SszType) (z d : ℕ) (vs : List SszValue) (b : List ℕ)
@@ -64,21 +85,26 @@ pub elements-packed : (t : SszType) (z d : ℕ) (vs : List SszValue) (b : List �
     → whole d (map chunk_part (pack b)) ≡ elements_part t d vs
 elements-packed t z d vs b e bytes count =
     let basic = IsBasic-basic t z e in
-    whole-chunks d (pack b) ∙ parts_equal _ _ _ _
+    let chunks : length (pack b) ≡ element_chunks (basic_size t) (length vs) =
+    length-chunks ((length b + 31) / 32) b ∙ count in
+    let leaves : element_nodes (basic_size t) (length vs) (sum_by (new_nodes t) vs)
+    ≡ element_chunks (basic_size t) (length vs) =
+    ap (λ size. element_nodes size (length vs) (sum_by (new_nodes t) vs)) e
+    ∙ ap (λ size. element_chunks size (length vs)) (sym e) in
+    whole-chunks d (pack b) ∙ parts_equal _ _ _ _ _ _
     (ap (λ (bs : List ℕ). full d (map leaf (pack bs))) (sym bytes)
     ∙ ap (λ size. full d (element_leaves size (map (enc t) vs) (map (tree t) vs))) (sym e))
-    (omega (
-      arith,
-      ap (grow d) (length-chunks ((length b + 31) / 32) b ∙ count),
-      no_pairs_in t z basic vs,
-    ))
+    (omega (arith, ap (grow d) chunks, no_pairs_in t z basic vs))
+    (omega (arith, ap (grow d) chunks, chunks, leaves))
 
 -- elements of a composite type stand as they are
 pub elements-composite : (t : SszType) (d : ℕ) (vs : List SszValue) → basic_size t ≡ None
     → whole d (map (part_of t) vs) ≡ elements_part t d vs
 elements-composite t d vs e =
-    whole-values d t vs ∙ parts_equal _ _ _ _ (ap (full d) (composite_trees t vs e))
+    whole-values d t vs ∙ parts_equal _ _ _ _ _ _ (ap (full d) (composite_trees t vs e))
     (ap (λ size. grow d (element_chunks size (length vs)) + sum_by (pairs t) vs) (sym e))
+    (ap (λ size. grow d (element_chunks size (length vs))
+    + element_nodes size (length vs) (sum_by (new_nodes t) vs)) (sym e))
 
 -- vectors and lists
 pub vector-part : (t : SszType) (n : ℕ) (vs : List SszValue)
@@ -108,12 +134,24 @@ costs-fields (field name t fs) (v ∷ vs) = omega (
   costs-fields fs vs,
 )
 
+pub nodes-fields : (fs : Fields) (vs : List SszValue)
+    → part_nodes (field_parts fs vs) ≡ field_nodes fs vs
+nodes-fields no_fields vs = refl
+nodes-fields (field name t fs) [] = refl
+nodes-fields (field name t fs) (v ∷ vs) = omega (
+  arith,
+  sum_by-cons (λ (p : Part). p.nodes) (part_of t v) (field_parts fs vs),
+  nodes-fields fs vs,
+)
+
 pub container-part : (fs : Fields) (vs : List SszValue) → length (field_parts fs vs) ≡ length vs
     → whole (depth (container fs)) (field_parts fs vs)
     ≡ part_of (container fs) (sequence (values vs))
 container-part fs vs count =
-    parts_equal _ _ _ _
+    let above = ap (grow (depth (container fs))) count in
+    parts_equal _ _ _ _ _ _
     (ap (full (depth (container fs))) (trees-fields fs vs))
-    (omega (arith, costs-fields fs vs, ap (grow (depth (container fs))) count))
+    (omega (arith, costs-fields fs vs, above)) (omega (arith, nodes-fields fs vs, above))
     ∙ ap (λ ws. part (full (depth (container fs)) (field_trees fs ws))
-    (grow (depth (container fs)) (length ws) + field_pairs fs ws)) (sym (items-values vs))
+    (grow (depth (container fs)) (length ws) + field_pairs fs ws)
+    (grow (depth (container fs)) (length ws) + field_nodes fs ws)) (sym (items-values vs))

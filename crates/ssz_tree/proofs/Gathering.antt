@@ -1,30 +1,18 @@
 -- What a caller's loop keeps that makes the nodes of parts one after another and pushes them, and
 -- what it has at the end.
-use Rattle.std.proofs.Common.{◌≡◌, ℕ, zero, suc, ◌+◌, ◌-◌, ◌*◌, ◌^◌, ◌<◌, ◌≤◌, min, List, [], ◌∷◌, ◌++◌, length, map, take, drop, sym, ap, subst, ◌∙◌, arith, zero-add}
+use Rattle.std.proofs.Common.{◌≡◌, ℕ, zero, suc, ◌+◌, ◌-◌, ◌^◌, ◌<◌, ◌≤◌, List, [], ◌∷◌, ◌++◌, length, map, take, drop, sym, ap, subst, ◌∙◌, arith, zero-add}
+use Rattle.std.specs.List.{sum_by}
 use Rattle.std.proofs.lemmas.List.{map-append, take-map, take_all, take-append-drop, length-take-le, length-map}
 use Rattle.std.proofs.lemmas.List.Sums.{sum_by-append}
 use Rattle.ssz_chunk.specs.Tree.{grow}
-use Rattle.ssz_chunk.proofs.Growing.{grow-suc}
 use Rattle.ssz_arena.specs.declared.node.NodeId.{NodeId}
 use Rattle.ssz_arena.specs.Content.{Content}
 use Rattle.ssz_merkle.specs.Frontier.{whole_pairs}
 use Rattle.ssz_merkle.proofs.WholePairs.{whole_pairs-rises, whole_pairs-le-grow}
-use Rattle.ssz_tree.specs.Added.{Adds, Part, IsPart, Makes, costs, whole}
+use Rattle.ssz_tree.specs.Added.{Adds, Part, IsPart, Makes, costs, part_nodes, whole}
 use Rattle.ssz_tree.specs.Stack.{Stack, AreNodes, Holds}
 use Rattle.ssz_tree.proofs.Adding.{Adds-none, Adds-then, Adds-within, AreNodes-kept}
 use Rattle.ssz_tree.proofs.Holding.{Holds-kept}
-
--- n places have at least n - 1 pairs above them
-pub few_places : (d n : ℕ) → n ≤ 2 ^ d → n ≤ grow d n + 1
-few_places zero n few = omega arith
-few_places (suc d) zero few = omega arith
-few_places (suc d) (suc n) few =
-    let power : 2 ^ suc d ≡ 2 * 2 ^ d = omega arith in
-    let left : min (2 ^ d) (suc n) ≤ grow d (min (2 ^ d) (suc n)) + 1 =
-    few_places d (min (2 ^ d) (suc n)) (omega arith) in
-    let right : suc n - 2 ^ d ≤ grow d (suc n - 2 ^ d) + 1 =
-    few_places d (suc n - 2 ^ d) (omega arith) in
-    omega (arith, grow-suc d (suc n) (omega arith) few, left, right)
 
 -- whole pairs above more places
 pub whole_pairs-mono : (d n k : ℕ) → whole_pairs d n ≤ whole_pairs d (n + k)
@@ -70,18 +58,25 @@ IsAt-drop (p ∷ all) (suc i) part rest e =
       ap (λ n. drop n (p ∷ all)) (sym up) ∙ next.1,
     )
 
--- the costs of the first parts, with one more, and at most all
+-- a sum over the first parts, with one more, and at most over all
+sum-more : (f : Part → ℕ) (all : List Part) (i : ℕ) (part : Part) → IsAt all i part
+    → sum_by f (take (i + 1) all) ≡ sum_by f (take i all) + f part
+sum-more f all i part at = ap (sum_by f) at.more ∙ sum_by-append f (take i all) (part ∷ [])
+    ∙ ap (λ n. sum_by f (take i all) + n) (zero-add (f part))
+
 pub costs-more : (all : List Part) (i : ℕ) (part : Part) → IsAt all i part
     → costs (take (i + 1) all) ≡ costs (take i all) + part.cost
-costs-more all i part at = ap costs at.more
-    ∙ sum_by-append (λ (p : Part). p.cost) (take i all) (part ∷ [])
-    ∙ ap (λ n. costs (take i all) + n) (zero-add part.cost)
+costs-more = sum-more (λ (p : Part). p.cost)
 
-costs-first : (all : List Part) (i : ℕ) → costs (take i all) ≤ costs all
-costs-first all i =
-    let sum : costs all ≡ costs (take i all) + costs (drop i all) =
-    ap costs (sym (take-append-drop i all))
-    ∙ sum_by-append (λ (p : Part). p.cost) (take i all) (drop i all) in
+pub nodes-more : (all : List Part) (i : ℕ) (part : Part) → IsAt all i part
+    → part_nodes (take (i + 1) all) ≡ part_nodes (take i all) + part.nodes
+nodes-more = sum-more (λ (p : Part). p.nodes)
+
+nodes-first : (all : List Part) (i : ℕ) → part_nodes (take i all) ≤ part_nodes all
+nodes-first all i =
+    let sum : part_nodes all ≡ part_nodes (take i all) + part_nodes (drop i all) =
+    ap part_nodes (sym (take-append-drop i all))
+    ∙ sum_by-append (λ (p : Part). p.nodes) (take i all) (drop i all) in
     omega (arith, sum)
 
 -- the nodes of the first i of these parts were made and pushed
@@ -90,16 +85,16 @@ pub record First (start now : Content) (depth : ℕ) (stack : Stack) (all : List
   pub deep : stack.depth ≡ depth
   pub within : i ≤ length all
   pub holds : Holds now (take i all) stack
-  pub adds : Adds (whole_pairs depth i + (2 * costs (take i all) + i))
+  pub adds : Adds (whole_pairs depth i + part_nodes (take i all))
       (whole_pairs depth i + costs (take i all)) start now
 
 -- there is room for all of them
 pub record HasRoom (start : Content) (depth : ℕ) (all : List Part) : Type 0 where
   pub few : length all ≤ 2 ^ depth
-  pub room : 2 * (grow depth (length all) + costs all) + 1 ≤ start.spare
+  pub room : grow depth (length all) + part_nodes all ≤ start.spare
 
 pub has_room : (start : Content) (d count : ℕ) (all : List Part) → length all ≡ count
-    → count ≤ 2 ^ d → 2 * (whole d all).cost + 1 ≤ start.spare → HasRoom start d all
+    → count ≤ 2 ^ d → (whole d all).nodes ≤ start.spare → HasRoom start d all
 has_room start d count all many few room = record {
   few = omega (arith, many);
   room = room;
@@ -122,7 +117,7 @@ First-pushed start now depth stack all i h = h.holds.number ∙ length-take-le i
 -- for the next one's node, and then for its place
 pub First-room : (start now : Content) (depth : ℕ) (stack : Stack) (all : List Part) (i : ℕ)
     (part : Part) → First start now depth stack all i → IsAt all i part → HasRoom start depth all
-    → 2 * part.cost + 1 ≤ now.spare
+    → part.nodes ≤ now.spare
 First-room start now depth stack all i part h at room =
     let above : whole_pairs depth i ≤ grow depth (length all) = omega (
       arith,
@@ -136,10 +131,8 @@ First-room start now depth stack all i part h at room =
       h.adds.spare,
       room.room,
       above,
-      few_places depth (length all) room.few,
-      costs-more all i part at,
-      costs-first all (i + 1),
-      at.below,
+      nodes-more all i part at,
+      nodes-first all (i + 1),
     )
 
 -- what a push asks for
@@ -167,10 +160,8 @@ First-push start now middle depth stack all i part node h at room made =
       made.adds.spare,
       room.room,
       above,
-      few_places depth (length all) room.few,
-      costs-more all i part at,
-      costs-first all (i + 1),
-      at.below,
+      nodes-more all i part at,
+      nodes-first all (i + 1),
     ) in
     let here : stack.pushed < 2 ^ depth = omega (arith, count, at.below, room.few) in
     record {
@@ -208,7 +199,7 @@ First-more start now middle end depth stack after all i part node h at made stay
       adds = Adds-within _ _ _ _ start end
           (Adds-then _ _ _ _ start middle end
           (Adds-then _ _ _ _ start now middle h.adds made.adds) pushes)
-          (omega (arith, costs-more all i part at, whole_pairs-rises depth i))
+          (omega (arith, nodes-more all i part at, whole_pairs-rises depth i))
           (omega (arith, costs-more all i part at, whole_pairs-rises depth i));
     }
 
@@ -229,9 +220,7 @@ First-finish start now depth stack all i h last room =
       h.adds.spare,
       room.room,
       same,
-      few_places depth (length all) room.few,
-      costs-first all i,
-      last,
+      nodes-first all i,
     ) in
     record {
       nodes = h.holds.nodes;
@@ -242,17 +231,17 @@ First-finish start now depth stack all i h last room =
 
 pub First-done : (start now end : Content) (depth : ℕ) (stack : Stack) (all : List Part) (i : ℕ)
     (node : NodeId) → First start now depth stack all i → i ≡ length all
-    → length all ≤ 2 ^ depth
     → ((parts : List Part) → Holds now parts stack → IsPart end (whole stack.depth parts) node)
     → (let made = grow stack.depth stack.pushed - whole_pairs stack.depth stack.pushed in
     Adds made made now end)
     → Makes start end (whole depth all) node
-First-done start now end depth stack all i node h last few held adds =
+First-done start now end depth stack all i node h last held adds =
     let count : stack.pushed ≡ length all = First-pushed start now depth stack all i h ∙ last in
     let same : whole_pairs depth i ≡ whole_pairs depth (length all) =
     ap (whole_pairs depth) last in
     let taken : take i all ≡ all = take_all i all (omega (arith, last)) in
     let sum : costs (take i all) ≡ costs all = ap costs taken in
+    let nodes : part_nodes (take i all) ≡ part_nodes all = ap part_nodes taken in
     let finishes : Adds (grow depth (length all) - whole_pairs depth (length all))
     (grow depth (length all) - whole_pairs depth (length all)) now end =
     subst (λ n. Adds (grow depth n - whole_pairs depth n)
@@ -265,13 +254,6 @@ First-done start now end depth stack all i node h last few held adds =
           (held (take i all) h.holds));
       adds = Adds-within _ _ _ _ start end
           (Adds-then _ _ _ _ start now end h.adds finishes)
-          (omega (
-            arith,
-            sum,
-            same,
-            last,
-            whole_pairs-le-grow depth (length all),
-            few_places depth (length all) few,
-          ))
+          (omega (arith, nodes, same, whole_pairs-le-grow depth (length all)))
           (omega (arith, sum, same, whole_pairs-le-grow depth (length all)));
     }

@@ -3,6 +3,8 @@ pub mod Blocks
 pub mod Holding
 pub mod Carrying
 pub mod Gathering
+pub mod NodeCounts
+pub mod FewNodes
 pub mod Alike
 pub mod Forms
 pub mod BytesForms

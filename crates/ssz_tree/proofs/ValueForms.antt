@@ -3,7 +3,6 @@ use Rattle.std.proofs.Common.{◌≡◌, ℕ, zero, suc, ◌+◌, ◌*◌, ◌/�
 use Rattle.std.specs.List.{concat, AllByRecursion}
 use Rattle.std.proofs.lemmas.List.{length-map}
 use Rattle.std.proofs.lemmas.Simd.{map-map}
-use Rattle.ssz_chunk.specs.Chunk.{zero_chunk}
 use Rattle.ssz_chunk.specs.Tree.{leaf, pair, full, grow}
 use Rattle.ssz_schema.specs.declared.width.Width.TheVariants.{W8}
 use Rattle.ssz_schema.specs.Types.{SszType, uint, container, vector, list, bitvector, bitlist, union}
@@ -31,9 +30,13 @@ use Rattle.ssz_packing.proofs.Options.{option_tree-some}
 use Rattle.ssz_packing.proofs.ValueArms.{parts_of_seq, seq_fit, bytes_written}
 use Rattle.ssz_packing.proofs.ValueArms.{length-fit}
 use Rattle.ssz_tree.specs.Added.{Part, whole, joined}
-use Rattle.ssz_tree.specs.Built.{part_of, chunk_part, elements_part, field_parts}
-use Rattle.ssz_tree.proofs.Chunks.{cost-chunks}
-use Rattle.ssz_tree.proofs.Forms.{part, parts_equal, whole-chunks, elements-packed, elements-composite, trees-fields, costs-fields}
+use Rattle.ssz_tree.specs.Built.{part_of, chunk_part, none_part, elements_part, field_parts}
+use Rattle.ssz_tree.specs.Tallies.{IsTallyOf, Tallies}
+use Rattle.ssz_tree.specs.declared.tally.Tally.{Tally}
+use Rattle.ssz_tree.proofs.Chunks.{cost-chunks, nodes-of_chunks}
+use Rattle.ssz_tree.proofs.Forms.{part, parts_equal, whole-chunks, elements-packed, elements-composite, trees-fields, costs-fields, nodes-fields}
+use Rattle.ssz_tree.proofs.NodeCounts.{nodes-basic, nodes-option}
+use Rattle.ssz_tree.proofs.Sums.{IsTallyOf-same}
 use Rattle.ssz_tree.proofs.Gathering.{IsAt}
 
 -- a basic value
@@ -41,21 +44,31 @@ pub basic_value : (t : SszType) (z : ℕ) (v : SszValue) (chunk : List ℕ) → 
     → chunk ≡ padded (enc t v) → chunk_part chunk ≡ part_of t v
 basic_value t z v chunk e is =
     let basic = IsBasic-basic t z e in
-    parts_equal _ _ _ _ (ap leaf is ∙ sym (basic_tree t z v e)) (sym (basic.no_pairs v))
+    parts_equal _ _ _ _ _ _ (ap leaf is ∙ sym (basic_tree t z v e)) (sym (basic.no_pairs v))
+    (sym (nodes-basic t z v e))
 
 -- bits
 bits-part : (d : ℕ) (bs : List Bool) → whole d (map chunk_part (pack_bits bs))
     ≡ part (full d (map leaf (pack_bits bs))) (grow d ((length bs + 255) / 256))
+    (grow d ((length bs + 255) / 256) + (length bs + 255) / 256)
 bits-part d bs =
     let count : length (pack_bits bs) ≡ (length bs + 255) / 256 =
     ap (λ (cs : List (List ℕ)). length cs)
     (sym (pack_bits-chunks bs ((length bs + 255) / 256) refl))
     ∙ length-chunks ((length bs + 255) / 256) _ in
-    whole-chunks d (pack_bits bs) ∙ parts_equal _ _ _ _ refl (ap (grow d) count)
+    whole-chunks d (pack_bits bs)
+    ∙ parts_equal _ _ _ _ _ _ refl (ap (grow d) count) (ap (λ m. grow d m + m) count)
 
-pub bits-cost : (d : ℕ) (bs : List Bool)
-    → (whole d (map chunk_part (pack_bits bs))).cost ≡ grow d ((length bs + 255) / 256)
-bits-cost d bs = ap (λ (p : Part). p.cost) (bits-part d bs)
+-- their pairs and nodes, and their nodes alone
+pub bits-tally : (d : ℕ) (bs : List Bool) (tally : Tally)
+    → (let chunks = (length bs + 255) / 256 in
+    Tallies (grow d chunks) (grow d chunks + chunks) tally)
+    → IsTallyOf (whole d (map chunk_part (pack_bits bs))) tally
+bits-tally d bs tally counted = IsTallyOf-same _ _ tally counted (sym (bits-part d bs))
+
+pub bits-nodes : (d : ℕ) (bs : List Bool) → (whole d (map chunk_part (pack_bits bs))).nodes
+    ≡ grow d ((length bs + 255) / 256) + (length bs + 255) / 256
+bits-nodes d bs = ap (λ (p : Part). p.nodes) (bits-part d bs)
 
 pub bitvector_value : (form : SszType) (n d : ℕ) (v : SszValue) (bs : List Bool)
     → form ≡ bitvector n → Fits form v → d ≡ depth form → bs ≡ bits_of v
@@ -135,13 +148,11 @@ container_value form trees parts d v e fits deep =
     of_parts (sequence vs) fits =
         let fs = fields_over trees parts in
         let count : length (items vs) ≡ length parts = length-fit trees parts (items vs) fits in
-        parts_equal _ _ _ _ (ap (full (depth (container fs))) (trees-fields fs (items vs)))
-        (omega (
-          arith,
-          costs-fields fs (items vs),
-          ap (grow (depth (container fs)))
-              (length-field_values trees parts (items vs) count ∙ sym count),
-        ))
+        let above = ap (grow (depth (container fs)))
+        (length-field_values trees parts (items vs) count ∙ sym count) in
+        parts_equal _ _ _ _ _ _ (ap (full (depth (container fs))) (trees-fields fs (items vs)))
+        (omega (arith, costs-fields fs (items vs), above))
+        (omega (arith, nodes-fields fs (items vs), above))
     of_parts _ fits = absurd fits
 
 pub IsAt-cons : (first : Part) (all : List Part) (i : ℕ) (part : Part) → IsAt all i part
@@ -177,12 +188,12 @@ pub chosen_value : (trees : List SszType) (ids : List (Option ℕ)) (k id : ℕ)
     ≡ part_of (union (options_over trees ids)) w
 chosen_value trees ids k id v w here is =
     let held = option_tree-some trees ids k id v here in
-    parts_equal _ _ _ _ (ap (λ t. pair t (leaf (number_chunk k))) (sym held.0))
-    (ap (λ n. n + 1) (sym held.1))
+    parts_equal _ _ _ _ _ _ (ap (λ t. pair t (leaf (number_chunk k))) (sym held.0))
+    (ap (λ n. n + 1) (sym held.1)) (ap (λ n. n + 2) (sym (nodes-option trees ids k id v here)))
     ∙ ap (part_of (union (options_over trees ids))) (sym is)
 
 pub none_value : (trees : List SszType) (ids : List (Option ℕ)) (k : ℕ) (w : SszValue)
-    → w ≡ chosen_none k → joined (chunk_part zero_chunk) (number_chunk k)
+    → w ≡ chosen_none k → joined none_part (number_chunk k)
     ≡ part_of (union (options_over trees ids)) w
 none_value trees ids k w is = ap (part_of (union (options_over trees ids))) (sym is)
 
@@ -193,6 +204,8 @@ pub record ArePackedValues (t : SszType) (d z : ℕ) (vs : List Value)
   pub same : whole d (map chunk_part (pack (concat (encodings_of t vs)))) ≡ elements_part t d ws
   pub chunks : (length vs * z + 31) / 32 ≡ element_chunks (basic_size t) (length ws)
   pub cost : (elements_part t d ws).cost ≡ grow d ((length vs * z + 31) / 32)
+  pub nodes : (elements_part t d ws).nodes
+      ≡ grow d ((length vs * z + 31) / 32) + (length vs * z + 31) / 32
 
 pub packed_values : (t : SszType) (d z : ℕ) (parts : Vec Value Global) (out : List Value)
     (v : Value) → v ≡ Seq parts → out ≡ parts.items → IsSequence t v → basic_size t ≡ Some z
@@ -231,6 +244,10 @@ packed_values t d z parts out v is same h e =
           ∙ cost-chunks d ((length (concat (encodings_of t vs)) + 31) / 32)
           (concat (encodings_of t vs))
           ∙ ap (λ n. grow d ((n + 31) / 32)) long;
+      nodes = sym (ap (λ (p : Part). p.nodes) packed)
+          ∙ nodes-of_chunks d ((length (concat (encodings_of t vs)) + 31) / 32)
+          (concat (encodings_of t vs))
+          ∙ ap (λ n. grow d ((n + 31) / 32) + (n + 31) / 32) long;
     }
 
 -- elements of a composite type

@@ -14,20 +14,27 @@ use Rattle.ssz_value.specs.Trees.{tree}
 use Rattle.ssz_value.specs.Pairs.{pairs}
 use Rattle.ssz_packing.specs.Elements.{element_trees}
 use Rattle.ssz_tree.specs.Added.{Part}
+use Rattle.ssz_tree.specs.Nodes.{new_nodes, element_nodes}
 
--- the tree of a value of the type, with the value's pairs
+-- the tree of a value of the type, with the value's pairs and the nodes that are made for it
 abbrev pub part_of : SszType → SszValue → Part
-part_of t v = record { tree = tree t v; cost = pairs t v }
+part_of t v = record { tree = tree t v; cost = pairs t v; nodes = new_nodes t v }
 
--- a chunk, for which nothing is hashed
+-- a chunk: a leaf, for which nothing is hashed
 abbrev pub chunk_part : List ℕ → Part
-chunk_part chunk = record { tree = leaf chunk; cost = 0 }
+chunk_part chunk = record { tree = leaf chunk; cost = 0; nodes = 1 }
+
+-- the option None: the zero chunk, which every arena has
+abbrev pub none_part : Part
+none_part = record { tree = leaf zero_chunk; cost = 0; nodes = 0 }
 
 -- the full tree of depth d over elements of the type, packed where it is basic
 abbrev pub elements_part : SszType → ℕ → List SszValue → Part
 elements_part t d vs = record {
   tree = full d (element_trees t vs);
   cost = grow d (element_chunks (basic_size t) (length vs)) + sum_by (pairs t) vs;
+  nodes = grow d (element_chunks (basic_size t) (length vs))
+      + element_nodes (basic_size t) (length vs) (sum_by (new_nodes t) vs);
 }
 
 -- the values of the fields
@@ -35,9 +42,9 @@ abbrev pub field_parts : Fields → List SszValue → List Part
 field_parts (field name t fs) (v ∷ vs) = part_of t v ∷ field_parts fs vs
 field_parts _ _ = []
 
--- what a union's bytes choose: the value of an option, or the zero chunk for None
+-- what a union's bytes choose: the value of an option, or None
 abbrev pub chosen_part : List SszType → Option ℕ → List ℕ → Part
-chosen_part trees None b = chunk_part zero_chunk
+chosen_part trees None b = none_part
 chosen_part trees (Some id) b = part_of (tree_at trees id) (value_in (tree_at trees id) b)
 
 -- the values are of a basic type of this size

@@ -10,11 +10,12 @@ ghost use Rattle.ssz_value.specs.Pairs.{pairs};
 ghost use Rattle.ssz_parts.specs.PartValues.{element_values, field_values};
 ghost use Rattle.ssz_tree.specs.Added.{Adds, IsPart, Makes, whole};
 ghost use Rattle.ssz_tree.specs.Built.{chosen_part, elements_part, field_parts, part_of};
+ghost use Rattle.ssz_tree.specs.Nodes.{new_nodes};
 
 use super::builder::Builder;
-use super::bytes_pairs::pairs_in_bytes;
 use super::packed::{bits_node, packed_node};
-use super::room::{nodes_for, reserve_nodes};
+use super::room::reserve_nodes;
+use super::tally_bytes::bytes_tally;
 use ssz_arena::{Arena, NodeId};
 use ssz_chunk::PairHash;
 use ssz_merkle::chunk_at;
@@ -25,8 +26,8 @@ use std::alloc::AllocError;
 
 /// The node of the value that the bytes stand for, which have no fault (simple-serialize.md,
 /// Deserialization, Merkleization): one walk over the bytes to count, one to make, and no value.
-/// Nothing is hashed. Fails for want of memory, and the arena is then as it was; with room for
-/// twice the pairs of the value and one node there is no want.
+/// Nothing is hashed. Fails for want of memory, and the arena is then as it was; with room for the
+/// new nodes there is no want.
 pub fn build_bytes<H: PairHash>(
     arena: &mut Arena<H>,
     schema: &Schema,
@@ -38,14 +39,13 @@ pub fn build_bytes<H: PairHash>(
     requires faultless { why (type_of schema.now id) 0 bytes.now ≡ None }
     ensures part { IfOk result (IsPart arena.new
         (part_of (type_of schema.now id) (value_in (type_of schema.now id) bytes.now))) }
-    ensures adds { let cost = pairs (type_of schema.now id)
-        (value_in (type_of schema.now id) bytes.now) in
-        Adds (2 * cost + 1) cost arena.old arena.new }
-    ensures enough { 2 * pairs (type_of schema.now id)
-        (value_in (type_of schema.now id) bytes.now) + 1 ≤ arena.old.spare → IsOk result }
+    ensures adds { let t = type_of schema.now id in let v = value_in t bytes.now in
+        Adds (new_nodes t v) (pairs t v) arena.old arena.new }
+    ensures enough { let t = type_of schema.now id in
+        new_nodes t (value_in t bytes.now) ≤ arena.old.spare → IsOk result }
     ensures err { OnErr result (arena.new ≡ arena.old) }
 {
-    reserve_nodes(arena, nodes_for(pairs_in_bytes(schema, id, bytes)))?;
+    reserve_nodes(arena, bytes_tally(schema, id, bytes).nodes)?;
     Ok(bytes_node(arena, schema, id, bytes))
 }
 
@@ -60,8 +60,8 @@ fn bytes_node<H: PairHash>(
     requires known { id < length schema.now.trees }
     requires short { length bytes.now < 2 ^ 32 }
     requires faultless { why (type_of schema.now id) 0 bytes.now ≡ None }
-    requires room { 2 * pairs (type_of schema.now id)
-        (value_in (type_of schema.now id) bytes.now) + 1 ≤ arena.old.spare }
+    requires room { let t = type_of schema.now id in
+        new_nodes t (value_in t bytes.now) ≤ arena.old.spare }
     ensures { Makes arena.old arena.new
         (part_of (type_of schema.now id) (value_in (type_of schema.now id) bytes.now)) result }
 {
@@ -116,7 +116,7 @@ fn elements_node<H: PairHash>(
     requires faultless { elements_fault (why (type_of schema.now elem))
         (fixed_size (type_of schema.now elem)) count 0 bytes.now ≡ None }
     requires room { let t = type_of schema.now elem in
-        2 * (elements_part t depth (element_values t count bytes.now)).cost + 1 ≤ arena.old.spare }
+        (elements_part t depth (element_values t count bytes.now)).nodes ≤ arena.old.spare }
     ensures { let t = type_of schema.now elem in Makes arena.old arena.new
         (elements_part t depth (element_values t count bytes.now)) result }
 {
@@ -144,7 +144,7 @@ fn parts_node<H: PairHash>(
     requires faultless { elements_fault (why (type_of schema.now elem))
         (fixed_size (type_of schema.now elem)) count 0 bytes.now ≡ None }
     requires room { let t = type_of schema.now elem in
-        2 * (whole depth (map (part_of t) (element_values t count bytes.now))).cost + 1
+        (whole depth (map (part_of t) (element_values t count bytes.now))).nodes
         ≤ arena.old.spare }
     ensures { let t = type_of schema.now elem in Makes arena.old arena.new
         (whole depth (map (part_of t) (element_values t count bytes.now))) result }
@@ -178,8 +178,7 @@ fn fields_node<H: PairHash>(
     requires faultless { why (container (fields_over schema.now.trees fields.now)) 0 bytes.now
         ≡ None }
     requires room { let fs = fields_over schema.now.trees fields.now in
-        2 * (whole depth (field_parts fs (field_values fs bytes.now))).cost + 1
-        ≤ arena.old.spare }
+        (whole depth (field_parts fs (field_values fs bytes.now))).nodes ≤ arena.old.spare }
     ensures { let fs = fields_over schema.now.trees fields.now in
         Makes arena.old arena.new (whole depth (field_parts fs (field_values fs bytes.now)))
         result }
@@ -212,7 +211,7 @@ fn union_node<H: PairHash>(
     requires faultless { why (union (options_over schema.now.trees options.now)) 0 bytes.now
         ≡ None }
     requires room { let t = union (options_over schema.now.trees options.now) in
-        2 * pairs t (value_in t bytes.now) + 1 ≤ arena.old.spare }
+        new_nodes t (value_in t bytes.now) ≤ arena.old.spare }
     ensures { let t = union (options_over schema.now.trees options.now) in
         Makes arena.old arena.new (part_of t (value_in t bytes.now)) result }
 {
@@ -236,8 +235,7 @@ fn option_node<H: PairHash>(
     requires before { IsBelow id option }
     requires short { length bytes.now < 2 ^ 32 }
     requires faultless { IfSome option (λ some. why (type_of schema.now some) 0 bytes.now ≡ None) }
-    requires room { 2 * (chosen_part schema.now.trees option bytes.now).cost + 1
-        ≤ arena.old.spare }
+    requires room { (chosen_part schema.now.trees option bytes.now).nodes ≤ arena.old.spare }
     ensures { Makes arena.old arena.new (chosen_part schema.now.trees option bytes.now) result }
 {
     match option {

@@ -6,9 +6,10 @@
 //!
 //! Each call first counts how many nodes it makes at most, takes room for them at once, and then
 //! makes them without taking memory: after want of memory the arena is as it was. What a call adds
-//! to an arena is defined in `specs/Added.antt`, and what it counts for a default in
-//! `specs/Shared.antt`. One builder takes nodes one after another and finishes at a depth; a zero
-//! part of a full tree is the arena's own zero tree.
+//! to an arena is defined in `specs/Added.antt`, how many nodes are made for a value in
+//! `specs/Nodes.antt`, and what is counted for a default in `specs/Shared.antt`. One builder takes
+//! nodes one after another and finishes at a depth; a zero part of a full tree is the arena's own
+//! zero tree.
 //!
 //! A caller that makes more than a value, as an edit does, takes the room for all first
 //! (`nodes_needed`, `reserve_nodes`), and then makes the value's node in it (`value_node`).
@@ -16,17 +17,18 @@
 
 mod builder;
 mod bytes;
-mod bytes_pairs;
 mod defaults;
 mod packed;
 mod packed_values;
 mod room;
 mod shared_nodes;
-mod value_pairs;
+mod tally;
+mod tally_bytes;
+mod tally_values;
 mod values;
 
 pub use bytes::build_bytes;
 pub use defaults::build_default;
 pub use room::reserve_nodes;
-pub use value_pairs::nodes_needed;
+pub use tally_values::nodes_needed;
 pub use values::{build, value_node};

@@ -1,4 +1,4 @@
-ghost use Rattle.std.specs.Prelude.{◌+◌, ◌*◌, ◌/◌, ◌^◌, ◌<◌, ◌≤◌, length, map};
+ghost use Rattle.std.specs.Prelude.{◌+◌, ◌/◌, ◌^◌, ◌<◌, ◌≤◌, length, map};
 ghost use Rattle.ssz_chunk.specs.declared.TheConstants.{LEVELS};
 ghost use Rattle.ssz_chunk.specs.Tree.{grow};
 ghost use Rattle.ssz_bytes.specs.Faults.{last_byte};
@@ -17,7 +17,8 @@ use ssz_packing::bit_chunk_at;
 pub fn packed_node<H: PairHash>(arena: &mut Arena<H>, depth: u32, bytes: &[u8]) -> NodeId
     requires depth { depth ≤ LEVELS }
     requires few { (length bytes.now + 31) / 32 ≤ 2 ^ depth }
-    requires room { 2 * grow depth ((length bytes.now + 31) / 32) + 1 ≤ arena.old.spare }
+    requires room { let chunks = (length bytes.now + 31) / 32 in
+        grow depth chunks + chunks ≤ arena.old.spare }
     ensures { Makes arena.old arena.new (whole depth (map chunk_part (pack bytes.now))) result }
 {
     // One chunk stands for itself, and needs no builder.
@@ -31,7 +32,8 @@ pub fn packed_node<H: PairHash>(arena: &mut Arena<H>, depth: u32, bytes: &[u8]) 
 fn chunks_node<H: PairHash>(arena: &mut Arena<H>, depth: u32, bytes: &[u8]) -> NodeId
     requires depth { depth ≤ LEVELS }
     requires few { (length bytes.now + 31) / 32 ≤ 2 ^ depth }
-    requires room { 2 * grow depth ((length bytes.now + 31) / 32) + 1 ≤ arena.old.spare }
+    requires room { let chunks = (length bytes.now + 31) / 32 in
+        grow depth chunks + chunks ≤ arena.old.spare }
     ensures { Makes arena.old arena.new (whole depth (map chunk_part (pack bytes.now))) result }
 {
     let count = (bytes.len() + 31) / 32;
@@ -51,7 +53,8 @@ pub fn bits_node<H: PairHash>(arena: &mut Arena<H>, depth: u32, len: u64, bytes:
     requires short { length bytes.now < 2 ^ 32 }
     requires len { len < 2 ^ 63 }
     requires few { (len + 255) / 256 ≤ 2 ^ depth }
-    requires room { 2 * grow depth ((len + 255) / 256) + 1 ≤ arena.old.spare }
+    requires room { let chunks = (len + 255) / 256 in
+        grow depth chunks + chunks ≤ arena.old.spare }
     ensures { Makes arena.old arena.new
         (whole depth (map chunk_part (chunks ((len + 255) / 256) (undelimited bytes.now)))) result }
 {

@@ -12,7 +12,7 @@ ghost use Rattle.ssz_tree.specs.Added.{Makes, whole};
 ghost use Rattle.ssz_tree.specs.Built.{chunk_part, AreBasic};
 
 use super::builder::Builder;
-use super::value_pairs::chunk_count;
+use super::tally_values::chunk_count;
 use ssz_arena::{Arena, NodeId};
 use ssz_chunk::PairHash;
 use ssz_packing::{bits_chunk, values_chunk};
@@ -29,7 +29,8 @@ pub fn packed_values_node<H: PairHash>(
     requires basic { AreBasic size parts.now }
     requires depth { depth ≤ LEVELS }
     requires few { (length parts.now * size + 31) / 32 ≤ 2 ^ depth }
-    requires room { 2 * grow depth ((length parts.now * size + 31) / 32) + 1 ≤ arena.old.spare }
+    requires room { let chunks = (length parts.now * size + 31) / 32 in
+        grow depth chunks + chunks ≤ arena.old.spare }
     ensures { (t : SszType) → basic_size t ≡ Some size
         → AllByRecursion (Fits t) (map value_of parts.now)
         → Makes arena.old arena.new
@@ -48,7 +49,8 @@ pub fn packed_values_node<H: PairHash>(
 pub fn bit_values_node<H: PairHash>(arena: &mut Arena<H>, depth: u32, bits: &[bool]) -> NodeId
     requires depth { depth ≤ LEVELS }
     requires few { (length bits.now + 255) / 256 ≤ 2 ^ depth }
-    requires room { 2 * grow depth ((length bits.now + 255) / 256) + 1 ≤ arena.old.spare }
+    requires room { let chunks = (length bits.now + 255) / 256 in
+        grow depth chunks + chunks ≤ arena.old.spare }
     ensures { Makes arena.old arena.new (whole depth (map chunk_part (pack_bits bits.now))) result }
 {
     let count = (bits.len() + 255) / 256;

@@ -1,4 +1,5 @@
-ghost use Rattle.std.specs.Prelude.{◌≡◌, ℕ, ◌+◌, ◌*◌, ◌-◌, ◌^◌, ◌≤◌, min, IsOk, OnOk, OnErr};
+ghost use Rattle.std.specs.Prelude.{◌≡◌, ℕ, ◌+◌, ◌*◌, ◌-◌, ◌^◌, ◌≤◌, min, max, IsOk, OnOk, OnErr};
+ghost use Rattle.ssz_arena.specs.Content.{node_count};
 ghost use Rattle.ssz_chunk.specs.Tree.{grow};
 
 use ssz_arena::Arena;
@@ -12,6 +13,8 @@ pub fn reserve_nodes<H: PairHash>(arena: &mut Arena<H>, nodes: u64) -> Result<()
     ensures nodes { arena.new.nodes ≡ arena.old.nodes }
     ensures more { arena.old.spare ≤ arena.new.spare }
     ensures ok { OnOk result ((n : ℕ) → nodes ≡ min n (2 ^ 64 - 1) → n ≤ arena.new.spare) }
+    ensures exact { node_count arena.old ≤ nodes
+        → OnOk result (arena.new.spare ≡ max nodes arena.old.spare) }
     ensures enough { (n : ℕ) → nodes ≡ min n (2 ^ 64 - 1) → n ≤ arena.old.spare → IsOk result }
     ensures err { OnErr result (arena.new ≡ arena.old) }
 {

@@ -9,12 +9,13 @@ ghost use Rattle.ssz_value.specs.Shapes.{IsSequence, AreFields, parts_of, part_c
 ghost use Rattle.ssz_value.specs.Pairs.{pairs};
 ghost use Rattle.ssz_tree.specs.Added.{Adds, IsPart, Makes, whole};
 ghost use Rattle.ssz_tree.specs.Built.{elements_part, field_parts, part_of};
+ghost use Rattle.ssz_tree.specs.Nodes.{new_nodes};
 
 use super::builder::Builder;
 use super::packed::packed_node;
 use super::packed_values::{bit_values_node, packed_values_node};
-use super::room::{nodes_for, reserve_nodes};
-use super::value_pairs::pairs_in_value;
+use super::room::reserve_nodes;
+use super::tally_values::value_tally;
 use ssz_arena::{Arena, NodeId};
 use ssz_chunk::PairHash;
 use ssz_packing::{basic_chunk, number_chunk};
@@ -24,7 +25,7 @@ use std::alloc::AllocError;
 
 /// The node of a value of the type (simple-serialize.md, Merkleization). Nothing is hashed: each
 /// pair gets its root when it is asked for. Fails for want of memory, and the arena is then as it
-/// was; with room for the nodes that are needed there is no want.
+/// was; with room for the new nodes there is no want.
 pub fn build<H: PairHash>(
     arena: &mut Arena<H>,
     schema: &Schema,
@@ -35,18 +36,18 @@ pub fn build<H: PairHash>(
     requires value { IsValue (type_of schema.now id) value.now }
     ensures part { IfOk result (IsPart arena.new
         (part_of (type_of schema.now id) (value_of value.now))) }
-    ensures adds { let cost = pairs (type_of schema.now id) (value_of value.now) in
-        Adds (2 * cost + 1) cost arena.old arena.new }
-    ensures enough { 2 * pairs (type_of schema.now id) (value_of value.now) + 1 ≤ arena.old.spare
+    ensures adds { let t = type_of schema.now id in let v = value_of value.now in
+        Adds (new_nodes t v) (pairs t v) arena.old arena.new }
+    ensures enough { new_nodes (type_of schema.now id) (value_of value.now) ≤ arena.old.spare
         → IsOk result }
     ensures err { OnErr result (arena.new ≡ arena.old) }
 {
-    reserve_nodes(arena, nodes_for(pairs_in_value(schema, id, value)))?;
+    reserve_nodes(arena, value_tally(schema, id, value).nodes)?;
     Ok(value_node(arena, schema, id, value))
 }
 
-/// The node of a value of the type, as `build` makes it, where there is room for its nodes: as many
-/// as `nodes_needed` says. Takes no memory.
+/// The node of a value of the type, as `build` makes it, where there is room for its nodes, of
+/// which there are no more than `nodes_needed` says. Takes no memory.
 #[cycle(node)]
 pub fn value_node<H: PairHash>(
     arena: &mut Arena<H>,
@@ -56,7 +57,7 @@ pub fn value_node<H: PairHash>(
 ) -> NodeId
     requires known { id < length schema.now.trees }
     requires value { IsValue (type_of schema.now id) value.now }
-    requires room { 2 * pairs (type_of schema.now id) (value_of value.now) + 1 ≤ arena.old.spare }
+    requires room { new_nodes (type_of schema.now id) (value_of value.now) ≤ arena.old.spare }
     ensures { Makes arena.old arena.new (part_of (type_of schema.now id) (value_of value.now))
         result }
 {
@@ -104,8 +105,8 @@ fn sequence_node<H: PairHash>(
     requires depth { depth ≤ LEVELS }
     requires few { element_chunks (basic_size (type_of schema.now elem))
         (part_count_of (value_of value.now)) ≤ 2 ^ depth }
-    requires room { 2 * (elements_part (type_of schema.now elem) depth
-        (parts_of (value_of value.now))).cost + 1 ≤ arena.old.spare }
+    requires room { (elements_part (type_of schema.now elem) depth
+        (parts_of (value_of value.now))).nodes ≤ arena.old.spare }
     ensures { Makes arena.old arena.new (elements_part (type_of schema.now elem) depth
         (parts_of (value_of value.now))) result }
 {
@@ -133,7 +134,7 @@ fn values_node<H: PairHash>(
     requires few { length parts.now ≤ 2 ^ depth }
     requires values { AllByRecursion (IsValue (type_of schema.now elem)) parts.now }
     requires room { let t = type_of schema.now elem in
-        2 * (whole depth (map (part_of t) (map value_of parts.now))).cost + 1 ≤ arena.old.spare }
+        (whole depth (map (part_of t) (map value_of parts.now))).nodes ≤ arena.old.spare }
     ensures { let t = type_of schema.now elem in
         Makes arena.old arena.new (whole depth (map (part_of t) (map value_of parts.now)))
         result }
@@ -162,7 +163,7 @@ fn container_node<H: PairHash>(
     requires depth { depth ≤ LEVELS }
     requires few { length fields.now ≤ 2 ^ depth }
     requires room { let fs = fields_over schema.now.trees fields.now in
-        2 * (whole depth (field_parts fs (parts_of (value_of value.now)))).cost + 1
+        (whole depth (field_parts fs (parts_of (value_of value.now)))).nodes
         ≤ arena.old.spare }
     ensures { let fs = fields_over schema.now.trees fields.now in
         Makes arena.old arena.new (whole depth (field_parts fs (parts_of (value_of value.now))))
@@ -190,7 +191,7 @@ fn fields_node<H: PairHash>(
     requires depth { depth ≤ LEVELS }
     requires few { length fields.now ≤ 2 ^ depth }
     requires room { let fs = fields_over schema.now.trees fields.now in
-        2 * (whole depth (field_parts fs (map value_of parts.now))).cost + 1 ≤ arena.old.spare }
+        (whole depth (field_parts fs (map value_of parts.now))).nodes ≤ arena.old.spare }
     ensures { let fs = fields_over schema.now.trees fields.now in
         Makes arena.old arena.new (whole depth (field_parts fs (map value_of parts.now)))
         result }
@@ -216,7 +217,7 @@ fn union_node<H: PairHash>(
     requires before { AllByRecursion (IsBelow id) options.now }
     requires value { IsValue (union (options_over schema.now.trees options.now)) value.now }
     requires room { let t = union (options_over schema.now.trees options.now) in
-        2 * pairs t (value_of value.now) + 1 ≤ arena.old.spare }
+        new_nodes t (value_of value.now) ≤ arena.old.spare }
     ensures { let t = union (options_over schema.now.trees options.now) in
         Makes arena.old arena.new (part_of t (value_of value.now)) result }
 {

@@ -1,4 +1,4 @@
-use Rattle.std.proofs.Common.{◌+◌, ◌*◌, sym, ap, subst, arith, option_map}
+use Rattle.std.proofs.Common.{◌+◌, sym, ap, subst, arith, option_map}
 use Rattle.std.specs.Prelude.{IfOk}
 use Rattle.ssz_schema.specs.Unfolding.{type_of}
 use Rattle.ssz_value.specs.Standing.{value_of}
@@ -7,13 +7,15 @@ use Rattle.ssz_tree.specs.Added.{Adds, IsPart, Part}
 use Rattle.ssz_tree.specs.Built.{part_of}
 use Rattle.ssz_tree.proofs.Adding.{Adds-then, Adds-within}
 use Rattle.ssz_edit.proofs.Replacing.{adds_room}
-use Rattle.ssz_edit.proofs.ChoiceLanding.{none_part, no_value_part, value_of_option, value_part}
+use Rattle.ssz_tree.proofs.FewNodes.{few_nodes}
+use Rattle.ssz_edit.proofs.ChoiceLanding.{no_option_part, no_value_part, value_of_option, value_part}
 use Rattle.ssz_edit.proofs.choosing.option_node.Goals as goal
 
 pub returns-in_default-clause-part : goal.returns-in_default-clause-part
 returns-in_default-clause-part g c =
     subst (λ (part : Part). IfOk c.none_node.result (IsPart c.none_node.new.arena part))
-    (sym (none_part c.args.schema.now c.args.option _ c.in_default.is)) c.none_node.ensures.part
+    (sym (no_option_part c.args.schema.now c.args.option _ c.in_default.is))
+    c.none_node.ensures.part
 
 pub returns-in_default-clause-adds : goal.returns-in_default-clause-adds
 returns-in_default-clause-adds g c =
@@ -43,6 +45,27 @@ value_node-requires-clause-value g c =
     value_of_option c.args.schema.now c.args.option (inner_of c.args.inner) c.in-Some.id
     c.in-Some-inner.value.now c.in-Some.is (ap inner_of c.in-Some-inner.is) c.requires.inner
 
+pub value_node-requires-clause-room : goal.value_node-requires-clause-room
+value_node-requires-clause-room g c = omega (
+  arith,
+  c.in_ok-reserve_for.ensures.ok,
+  few_nodes (type_of c.args.schema.now c.in-Some.id) (value_of c.in-Some-inner.value.now)
+      (value_of_option c.args.schema.now c.args.option (inner_of c.args.inner) c.in-Some.id
+      c.in-Some-inner.value.now c.in-Some.is (ap inner_of c.in-Some-inner.is)
+      c.requires.inner).fits,
+)
+
+pub returns-clause-room : goal.returns-clause-room
+returns-clause-room g c = omega (
+  arith,
+  c.in_ok-reserve_for.ensures.ok,
+  few_nodes (type_of c.args.schema.now c.in-Some.id) (value_of c.in-Some-inner.value.now)
+      (value_of_option c.args.schema.now c.args.option (inner_of c.args.inner) c.in-Some.id
+      c.in-Some-inner.value.now c.in-Some.is (ap inner_of c.in-Some-inner.is)
+      c.requires.inner).fits,
+  c.value_node.ensures.adds.spare,
+)
+
 pub returns-in_err-reserve_for-clause-adds : goal.returns-in_err-reserve_for-clause-adds
 returns-in_err-reserve_for-clause-adds g c =
     Adds-within 0 0 _ _ c.args.arena.now c.reserve_for.new.arena
@@ -60,13 +83,12 @@ pub returns-clause-adds : goal.returns-clause-adds
 returns-clause-adds g c =
     let part = part_of (type_of c.args.schema.now c.in-Some.id)
     (value_of c.in-Some-inner.value.now) in
-    subst (λ (part : Part). Adds (2 * part.cost + 1) part.cost c.args.arena.now
-    c.value_node.new.arena)
+    subst (λ (part : Part). Adds part.nodes part.cost c.args.arena.now c.value_node.new.arena)
     (sym (value_part c.args.schema.now c.args.option (inner_of c.args.inner) c.in-Some.id
     c.in-Some-inner.value.now c.in-Some.is (ap inner_of c.in-Some-inner.is)))
-    (Adds-within (0 + (2 * part.cost + 1)) (0 + part.cost) _ _ c.args.arena.now
+    (Adds-within (0 + part.nodes) (0 + part.cost) _ _ c.args.arena.now
     c.value_node.new.arena
-    (Adds-then 0 0 (2 * part.cost + 1) part.cost c.args.arena.now c.reserve_for.new.arena
+    (Adds-then 0 0 part.nodes part.cost c.args.arena.now c.reserve_for.new.arena
     c.value_node.new.arena
     (adds_room c.args.arena.now c.reserve_for.new.arena c.reserve_for.ensures.nodes
     c.reserve_for.ensures.more) c.value_node.ensures.adds) (omega arith) (omega arith))

@@ -1,4 +1,4 @@
-use Rattle.std.proofs.Common.{◌+◌, ◌*◌, ◌∙◌, ap, arith, option_map, is_some}
+use Rattle.std.proofs.Common.{◌∙◌, ap, arith, option_map, is_some}
 use Rattle.ssz_chunk.specs.Index.{levels}
 use Rattle.ssz_value.specs.Standing.{value_of}
 use Rattle.ssz_value.specs.Suiting.{inner_of}
@@ -7,7 +7,7 @@ use Rattle.ssz_tree.specs.Added.{Makes, joined}
 use Rattle.ssz_tree.proofs.Adding.{Adds-then, Adds-within, makes_leaf, makes_pair}
 use Rattle.ssz_edit.specs.Chosen.{option_part}
 use Rattle.ssz_edit.proofs.Replacing.{index_there, put_made}
-use Rattle.ssz_edit.proofs.ChoiceLanding.{choice_made}
+use Rattle.ssz_edit.proofs.ChoiceLanding.{choice_made, few_in_option}
 use Rattle.ssz_edit.proofs.choosing.put_choice.Goals as goal
 use Rattle.ssz_edit.proofs.choosing.put_choice.Goals.{After-replace}
 
@@ -15,8 +15,13 @@ pub returns-in_err-chosen-clause-adds : goal.returns-in_err-chosen-clause-adds
 returns-in_err-chosen-clause-adds g c =
     let part = option_part c.args.schema.now c.args.option
     (option_map value_of (inner_of c.args.inner)) in
-    Adds-within (2 * part.cost + 1) part.cost _ _ c.args.arena.now c.option_node.new.arena
-    c.option_node.ensures.adds (omega arith) (omega arith)
+    Adds-within part.nodes part.cost _ _ c.args.arena.now c.option_node.new.arena
+    c.option_node.ensures.adds
+    (omega (
+      arith,
+      few_in_option c.args.schema.now c.args.option (inner_of c.args.inner)
+          c.requires.inner,
+    )) (omega arith)
 
 -- the union was made
 made : (g : _) (c : After-replace g) → Makes c.args.arena.now c.pair-union.new.self
@@ -57,7 +62,12 @@ returns-in-Some-clause-adds g c =
       count = c.replace.ensures.count;
       unhashed = c.replace.ensures.unhashed;
       spare = c.replace.ensures.spare;
-    })) (omega arith) (omega arith)
+    }))
+    (omega (
+      arith,
+      few_in_option c.args.schema.now c.args.option (inner_of c.args.inner)
+          c.requires.inner,
+    )) (omega arith)
 
 pub returns-in-None-clause-adds : goal.returns-in-None-clause-adds
 returns-in-None-clause-adds g c =

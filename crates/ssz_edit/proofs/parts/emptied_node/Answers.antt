@@ -5,7 +5,7 @@ use Rattle.ssz_places.specs.Spots.{CanHold, LiesWithin}
 use Rattle.ssz_tree.specs.Added.{IsPart}
 use Rattle.ssz_walk.specs.Found.{spot_of}
 use Rattle.ssz_edit.specs.Edited.{part_without}
-use Rattle.ssz_tree.proofs.Adding.{Makes-zero}
+use Rattle.ssz_tree.proofs.Adding.{Makes-none}
 use Rattle.ssz_edit.proofs.Parting.{byte_emptied, bit_emptied}
 use Rattle.ssz_edit.proofs.parts.emptied_node.Goals as goal
 
@@ -13,10 +13,11 @@ pub returns-in-Whole-clause-part : goal.returns-in-Whole-clause-part
 returns-in-Whole-clause-part g c =
     let u = type_of c.args.schema.now c.args.id in
     let tree = tree_of c.args.arena.now c.args.old in
+    let none = (Makes-none c.args.arena.now c.zero.result c.zero.ensures.node
+    c.zero.ensures.tree c.zero.ensures.todo).is in
     subst (λ s. CanHold (spot_of s) tree
     → IsPart c.args.arena.now (part_without (spot_of s) u tree) c.zero.result)
-    (sym c.in-Whole.is) (λ holds. (Makes-zero c.args.arena.now c.zero.result c.zero.ensures.node
-    c.zero.ensures.tree c.zero.ensures.todo).is)
+    (sym c.in-Whole.is) (λ holds. record { node = none.node; tree = none.tree; todo = none.todo })
 
 pub returns-in-Byte-clause-part : goal.returns-in-Byte-clause-part
 returns-in-Byte-clause-part g c =

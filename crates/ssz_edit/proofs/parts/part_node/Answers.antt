@@ -1,13 +1,29 @@
-use Rattle.std.proofs.Common.{sym, subst}
+use Rattle.std.proofs.Common.{sym, subst, arith}
 use Rattle.ssz_schema.specs.Unfolding.{type_of}
 use Rattle.ssz_value.specs.Standing.{value_of}
 use Rattle.ssz_arena.specs.Content.{tree_of}
 use Rattle.ssz_places.specs.Spots.{CanHold, LiesWithin}
 use Rattle.ssz_tree.specs.Added.{IsPart}
+use Rattle.ssz_tree.proofs.Adding.{Adds-within}
+use Rattle.ssz_tree.proofs.FewNodes.{few_nodes}
 use Rattle.ssz_walk.specs.Found.{spot_of}
 use Rattle.ssz_edit.specs.Edited.{part_with}
 use Rattle.ssz_edit.proofs.Parting.{byte_made, bit_made}
 use Rattle.ssz_edit.proofs.parts.part_node.Goals as goal
+
+pub value_node-requires-clause-room : goal.value_node-requires-clause-room
+value_node-requires-clause-room g c = omega (
+  arith,
+  c.requires.room,
+  few_nodes (type_of c.args.schema.now c.args.id) (value_of c.args.value.now)
+      c.requires.value.fits,
+)
+
+pub returns-in-Whole-clause-adds : goal.returns-in-Whole-clause-adds
+returns-in-Whole-clause-adds g c =
+    Adds-within _ _ _ _ c.args.arena.now c.value_node.new.arena c.value_node.ensures.adds
+    (few_nodes (type_of c.args.schema.now c.args.id) (value_of c.args.value.now)
+    c.requires.value.fits) (omega arith)
 
 pub returns-in-Byte-clause-part : goal.returns-in-Byte-clause-part
 returns-in-Byte-clause-part g c =

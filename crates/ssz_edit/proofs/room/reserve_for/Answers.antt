@@ -9,5 +9,5 @@ pub returns-clause-ok : goal.returns-clause-ok
 returns-clause-ok g c =
     let nodes = 2 * pairs (type_of c.args.schema.now c.args.id) (value_of c.args.value.now) + 1 in
     on_ok_weaker c.reserve_nodes.result (λ room. room (nodes + c.args.more)
-    (omega (arith, c.saturating_add.ensures, c.nodes_needed-nodes.ensures)))
+    (omega (arith, c.saturating_add.ensures, c.nodes_needed-nodes.ensures.number)))
     c.reserve_nodes.ensures.ok

@@ -1,4 +1,4 @@
-use Rattle.std.proofs.Common.{rules, ◌≡◌, ◌∙◌, ◌+◌, ◌-◌, ◌*◌, ◌/◌, ◌<◌, ◌≤◌, ◌^◌, length, map, take, drop, get_or, slice_range, List, [], Option, None, ℕ, refl, sym, ap, subst, arith, length-drop}
+use Rattle.std.proofs.Common.{rules, ◌≡◌, ◌∙◌, ◌+◌, ◌-◌, ◌/◌, ◌<◌, ◌≤◌, ◌^◌, length, map, take, drop, get_or, slice_range, List, [], Option, None, ℕ, refl, sym, ap, subst, arith, length-drop}
 use Rattle.std.specs.Prelude.{IfSome}
 use Rattle.std.specs.List.{AllByRecursion}
 use Rattle.std.proofs.lemmas.List.{take_rest, length-map}
@@ -8,7 +8,7 @@ use Rattle.ssz_schema.specs.Unfolding.{type_of, tree_at, tree_over, fields_over,
 use Rattle.ssz_value.specs.Faults.{why, element_count}
 use Rattle.ssz_value.specs.Reading.{value_in, elements_in}
 use Rattle.ssz_value.specs.Trees.{number_chunk}
-use Rattle.ssz_value.specs.Pairs.{pairs}
+use Rattle.ssz_tree.specs.Nodes.{new_nodes}
 use Rattle.ssz_value.proofs.Agree.{IsInput}
 use Rattle.ssz_value.proofs.PartLemmas.{known_weaker, part_known, size_at}
 use Rattle.ssz_parts.proofs.ElementLemmas.{element_faultless}
@@ -22,9 +22,9 @@ use Rattle.ssz_parts.proofs.UnionValues.{union_chosen, union_rest}
 use Rattle.ssz_packing.proofs.Options.{below_at}
 use Rattle.ssz_tree.specs.Added.{Makes, whole, joined}
 use Rattle.ssz_tree.specs.Built.{part_of, chosen_part, elements_part}
-use Rattle.ssz_tree.proofs.Adding.{makes_leaf, makes_pair, Makes-chunk, Makes-joined, Makes-zero, Makes-same, joined_room}
-use Rattle.ssz_tree.proofs.BytesForms.{element-at, packed_elements, vector_made, list_made, bitvector_made, bitlist_made, bitlist_pairs, basic_made, union-part, same_cost}
-use Rattle.ssz_tree.proofs.Chunks.{cost-chunks}
+use Rattle.ssz_tree.proofs.Adding.{makes_leaf, makes_pair, Makes-chunk, Makes-joined, Makes-none, Makes-same, joined_room}
+use Rattle.ssz_tree.proofs.BytesForms.{element-at, packed_elements, vector_made, list_made, bitvector_made, bitlist_made, bitlist_nodes, basic_made, union-part, same_nodes}
+use Rattle.ssz_tree.proofs.Chunks.{nodes-of_chunks}
 use Rattle.ssz_tree.proofs.FieldGathering.{FirstFields, FieldsAt-start, FieldsAt-faultless, FieldsAt-next, fields-room, container_made, length-parts_from, parts_from}
 use Rattle.ssz_tree.proofs.Forms.{elements-composite}
 use Rattle.ssz_tree.proofs.Gathering.{First-start, First-room, First-push, First-more, First-finish, First-done, has_room}
@@ -56,7 +56,7 @@ parts_node-bytes_node-node-requires g t c κs within =
     let room = has_room c.args.arena.now c.args.depth c.args.count (map (part_of ty) vs)
     (length-map vs (part_of ty) ∙ length-element_values ty c.args.count c.args.bytes.now)
     c.requires.few c.requires.room in
-    let spare : 2 * pairs ty (value_in ty c.element_at-part.result.now) + 1
+    let spare : new_nodes ty (value_in ty c.element_at-part.result.now)
     ≤ c.loop-i.arena.spare = First-room _ _ _ _ _ _ _ c.loop-i.invariant at room in
     search rules
 
@@ -103,9 +103,7 @@ parts_node-returns g t c =
     let many = length-map vs (part_of ty)
     ∙ length-element_values ty c.args.count c.args.bytes.now in
     let last : c.loop-i.i ≡ length (map (part_of ty) vs) = omega (arith, many) in
-    let few : length (map (part_of ty) vs) ≤ 2 ^ c.args.depth =
-    omega (arith, many, c.requires.few) in
-    First-done c.args.arena.now c.loop-i.arena _ _ _ _ _ _ c.loop-i.invariant last few
+    First-done c.args.arena.now c.loop-i.arena _ _ _ _ _ _ c.loop-i.invariant last
     c.finish.ensures.part c.finish.ensures.adds
 
 -- elements, packed or not
@@ -133,8 +131,8 @@ elements_node-packed_node-requires-clause-room g t c =
     omega (
       arith,
       c.requires.room,
-      cost-chunks c.args.depth ((length c.args.bytes.now + 31) / 32) c.args.bytes.now,
-      same_cost _ _ packed.same,
+      nodes-of_chunks c.args.depth ((length c.args.bytes.now + 31) / 32) c.args.bytes.now,
+      same_nodes _ _ packed.same,
     )
 
 pub elements_node-returns-in-Some : goal.elements_node-returns-in-Some
@@ -192,8 +190,8 @@ fields_node-bytes_node-node-requires g t c κs within =
     c.loop-i-test.true c.index-fields-i.is c.part_range-from.ensures c.requires.faultless in
     let room = fields-room c.args.arena.now c.args.depth c.args.schema.now.trees
     c.args.fields.now c.args.bytes.now c.requires.few c.requires.room in
-    let spare : 2 * pairs ty (value_in ty (slice_range c.args.bytes.now
-    c.part_range-from.result.0 c.part_range-from.result.1)) + 1 ≤ c.loop-i.arena.spare =
+    let spare : new_nodes ty (value_in ty (slice_range c.args.bytes.now
+    c.part_range-from.result.0 c.part_range-from.result.1)) ≤ c.loop-i.arena.spare =
     First-room _ _ _ _ _ _ _ c.loop-i.invariant.first next.at room in
     search rules
 
@@ -238,8 +236,7 @@ fields_node-returns g t c =
     let many : length all ≡ length c.args.fields.now =
     length-parts_from c.args.schema.now.trees c.args.fields.now 0 c.args.bytes.now in
     let last : c.loop-i.i ≡ length all = omega (arith, many) in
-    let few : length all ≤ 2 ^ c.args.depth = omega (arith, many, c.requires.few) in
-    First-done c.args.arena.now c.loop-i.arena _ _ _ _ _ _ c.loop-i.invariant.first last few
+    First-done c.args.arena.now c.loop-i.arena _ _ _ _ _ _ c.loop-i.invariant.first last
     c.finish.ensures.part c.finish.ensures.adds
 
 -- unions
@@ -273,12 +270,12 @@ union_node-option_node-value-requires g t c κs within =
     c.requires.faultless) in
     let made = union-part c.args.schema.now.trees c.args.options.now c.index-options-from.result
     c.args.bytes.now h.some chosen in
-    let room : 2 * (chosen_part c.args.schema.now.trees c.index-options-from.result
-    (take (length c.args.bytes.now - 1) (drop 1 c.args.bytes.now))).cost + 1
+    let room : (chosen_part c.args.schema.now.trees c.index-options-from.result
+    (take (length c.args.bytes.now - 1) (drop 1 c.args.bytes.now))).nodes
     ≤ c.args.arena.now.spare =
-    subst (λ (b : List ℕ). 2 * (chosen_part c.args.schema.now.trees
-    c.index-options-from.result b).cost + 1 ≤ c.args.arena.now.spare) (sym rest)
-    (omega (arith, c.requires.room, same_cost _ _ made)) in
+    subst (λ (b : List ℕ). (chosen_part c.args.schema.now.trees
+    c.index-options-from.result b).nodes ≤ c.args.arena.now.spare) (sym rest)
+    (omega (arith, c.requires.room, same_nodes _ _ made)) in
     search rules
 
 pub union_node-leaf-leaf-requires : goal.union_node-leaf-leaf-requires
@@ -293,7 +290,7 @@ union_node-leaf-leaf-requires g t c =
     let value = subst (λ (b : List ℕ). Makes c.args.arena.now c.option_node-value.new.arena
     (chosen_part c.args.schema.now.trees c.index-options-from.result b)
     c.option_node-value.result) (take_rest c.args.bytes.now 1) c.option_node-value.ensures in
-    let spare = joined_room c.args.arena.now c.option_node-value.new.arena _ _ (same_cost _ _ made)
+    let spare = joined_room c.args.arena.now c.option_node-value.new.arena _ _ (same_nodes _ _ made)
     c.requires.room value.adds.spare in
     omega (arith, spare)
 
@@ -309,7 +306,7 @@ union_node-pair-requires-clause-room g t c =
     let value = subst (λ (b : List ℕ). Makes c.args.arena.now c.option_node-value.new.arena
     (chosen_part c.args.schema.now.trees c.index-options-from.result b)
     c.option_node-value.result) (take_rest c.args.bytes.now 1) c.option_node-value.ensures in
-    let spare = joined_room c.args.arena.now c.option_node-value.new.arena _ _ (same_cost _ _ made)
+    let spare = joined_room c.args.arena.now c.option_node-value.new.arena _ _ (same_nodes _ _ made)
     c.requires.room value.adds.spare in
     omega (arith, spare, c.leaf-leaf.ensures.spare)
 
@@ -339,7 +336,7 @@ option_node-returns-in-None g t c =
     let z = c.zero.ensures in
     subst (λ (o : Option ℕ). Makes c.args.arena.now c.args.arena.now
     (chosen_part c.args.schema.now.trees o c.args.bytes.now) c.zero.result) (sym c.in-None.is)
-    (Makes-zero c.args.arena.now c.zero.result z.node z.tree z.todo)
+    (Makes-none c.args.arena.now c.zero.result z.node z.tree z.todo)
 
 -- a value of any type
 
@@ -355,9 +352,9 @@ bytes_node-elements_node-requires g t c κs within =
     c.in-Vector.is c.ty.ensures.before in
     let made = vector_made (type_of c.args.schema.now c.args.id) ty c.in-Vector.count
     c.depth.result c.args.bytes.now form c.depth.ensures.exact in
-    let room : 2 * (elements_part ty c.depth.result
-    (element_values ty c.in-Vector.count c.args.bytes.now)).cost + 1 ≤ c.args.arena.now.spare =
-    omega (arith, c.requires.room, same_cost _ _ made) in
+    let room : (elements_part ty c.depth.result
+    (element_values ty c.in-Vector.count c.args.bytes.now)).nodes ≤ c.args.arena.now.spare =
+    omega (arith, c.requires.room, same_nodes _ _ made) in
     search rules
 
 pub bytes_node-returns-in-Vector : goal.bytes_node-returns-in-Vector
@@ -385,9 +382,9 @@ bytes_node-elements_node-elements-requires g t c κs within =
     let made = list_made (type_of c.args.schema.now c.args.id) ty c.in-List.limit
     c.element_count-count.result c.depth-in-List.result c.args.bytes.now _ form
     c.depth-in-List.ensures.exact count refl in
-    let room : 2 * (elements_part ty c.depth-in-List.result
-    (element_values ty c.element_count-count.result c.args.bytes.now)).cost + 1
-    ≤ c.args.arena.now.spare = omega (arith, c.requires.room, same_cost _ _ made) in
+    let room : (elements_part ty c.depth-in-List.result
+    (element_values ty c.element_count-count.result c.args.bytes.now)).nodes
+    ≤ c.args.arena.now.spare = omega (arith, c.requires.room, same_nodes _ _ made) in
     search rules
 
 pub bytes_node-leaf-len-requires : goal.bytes_node-leaf-len-requires
@@ -402,7 +399,7 @@ bytes_node-leaf-len-requires g t c =
     omega (
       arith,
       joined_room c.args.arena.now c.elements_node-elements.new.arena _ _
-          (same_cost _ _ made) c.requires.room c.elements_node-elements.ensures.adds.spare,
+          (same_nodes _ _ made) c.requires.room c.elements_node-elements.ensures.adds.spare,
     )
 
 pub bytes_node-pair-requires-clause-room : goal.bytes_node-pair-requires-clause-room
@@ -417,7 +414,7 @@ bytes_node-pair-requires-clause-room g t c =
     omega (
       arith,
       joined_room c.args.arena.now c.elements_node-elements.new.arena _ _
-          (same_cost _ _ made) c.requires.room c.elements_node-elements.ensures.adds.spare,
+          (same_nodes _ _ made) c.requires.room c.elements_node-elements.ensures.adds.spare,
       c.leaf-len.ensures.spare,
     )
 
@@ -484,8 +481,8 @@ bytes_node-packed_node-requires-clause-room g t c =
     omega (
       arith,
       c.requires.room,
-      same_cost _ _ made,
-      cost-chunks c.depth-in-Bitvector.result ((length c.args.bytes.now + 31) / 32)
+      same_nodes _ _ made,
+      nodes-of_chunks c.depth-in-Bitvector.result ((length c.args.bytes.now + 31) / 32)
           c.args.bytes.now,
     )
 
@@ -517,9 +514,9 @@ bytes_node-fields_node-requires g t c κs within =
     let known : P c.as_slice.result.now = subst P fields all in
     let made = container_made (type_of c.args.schema.now c.args.id) trees c.as_slice.result.now
     c.depth-in-Container.result c.args.bytes.now form c.depth-in-Container.ensures.exact in
-    let room : 2 * (whole c.depth-in-Container.result (parts_from trees c.as_slice.result.now 0
-    c.args.bytes.now)).cost + 1 ≤ c.args.arena.now.spare =
-    omega (arith, c.requires.room, same_cost _ _ made) in
+    let room : (whole c.depth-in-Container.result (parts_from trees c.as_slice.result.now 0
+    c.args.bytes.now)).nodes ≤ c.args.arena.now.spare =
+    omega (arith, c.requires.room, same_nodes _ _ made) in
     search rules
 
 pub bytes_node-returns-in-Container : goal.bytes_node-returns-in-Container
@@ -555,7 +552,7 @@ bytes_node-bits_node-bits-requires-clause-room g t c =
     omega (
       arith,
       c.requires.room,
-      bitlist_pairs _ c.in-Bitlist.field-0 c.depth-in-Bitlist.result c.bitlist_len-count.result
+      bitlist_nodes _ c.in-Bitlist.field-0 c.depth-in-Bitlist.result c.bitlist_len-count.result
           c.args.bytes.now form c.depth-in-Bitlist.ensures.exact c.bitlist_len-count.ensures,
     )
 
@@ -565,9 +562,9 @@ bytes_node-leaf-len-requires-in-Bitlist g t c =
     omega (
       arith,
       c.requires.room,
-      bitlist_pairs _ c.in-Bitlist.field-0 c.depth-in-Bitlist.result c.bitlist_len-count.result
+      bitlist_nodes _ c.in-Bitlist.field-0 c.depth-in-Bitlist.result c.bitlist_len-count.result
           c.args.bytes.now form c.depth-in-Bitlist.ensures.exact c.bitlist_len-count.ensures,
-      cost-chunks c.depth-in-Bitlist.result ((c.bitlist_len-count.result + 255) / 256)
+      nodes-of_chunks c.depth-in-Bitlist.result ((c.bitlist_len-count.result + 255) / 256)
           (undelimited c.args.bytes.now),
       c.bits_node-bits.ensures.adds.spare,
     )
@@ -579,9 +576,9 @@ bytes_node-pair-requires-in-Bitlist-clause-room g t c =
     omega (
       arith,
       c.requires.room,
-      bitlist_pairs _ c.in-Bitlist.field-0 c.depth-in-Bitlist.result c.bitlist_len-count.result
+      bitlist_nodes _ c.in-Bitlist.field-0 c.depth-in-Bitlist.result c.bitlist_len-count.result
           c.args.bytes.now form c.depth-in-Bitlist.ensures.exact c.bitlist_len-count.ensures,
-      cost-chunks c.depth-in-Bitlist.result ((c.bitlist_len-count.result + 255) / 256)
+      nodes-of_chunks c.depth-in-Bitlist.result ((c.bitlist_len-count.result + 255) / 256)
           (undelimited c.args.bytes.now),
       c.bits_node-bits.ensures.adds.spare,
       c.leaf-len-in-Bitlist.ensures.spare,

@@ -90,6 +90,7 @@ vector_node-finish-requires-clause-nodes g t c =
     (c.of_copies-nodes.ensures.holds (record {
       tree = tree_of c.default_node-part.new.arena c.default_node-part.result;
       cost = todo c.default_node-part.new.arena c.default_node-part.result;
+      nodes = 0;
     }) (record {
       node = c.default_node-part.ensures.is.node;
       tree = refl;

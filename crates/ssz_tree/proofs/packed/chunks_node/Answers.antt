@@ -61,5 +61,5 @@ returns g c =
     c.requires.room in
     let last : c.loop-i.i ≡ length (map chunk_part (chunks count c.args.bytes.now)) =
     omega (arith, length-parts count c.args.bytes.now) in
-    First-done c.args.arena.now c.loop-i.arena _ _ _ _ _ _ c.loop-i.invariant last room.few
+    First-done c.args.arena.now c.loop-i.arena _ _ _ _ _ _ c.loop-i.invariant last
     c.finish.ensures.part c.finish.ensures.adds

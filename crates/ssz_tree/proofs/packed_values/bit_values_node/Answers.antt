@@ -75,5 +75,5 @@ returns g c =
     omega (arith, length-parts count (bytes_of_bits c.args.bits.now)) in
     Makes-same _ _ _ _ _ (ap (λ (cs : List (List ℕ)). whole c.args.depth (map chunk_part cs))
     (pack_bits-chunks c.args.bits.now count refl))
-    (First-done c.args.arena.now c.loop-i.arena _ _ _ _ _ _ c.loop-i.invariant last room.few
+    (First-done c.args.arena.now c.loop-i.arena _ _ _ _ _ _ c.loop-i.invariant last
     c.finish.ensures.part c.finish.ensures.adds)

@@ -101,4 +101,4 @@ returns g c = λ t sized fit.
     Makes-same _ _ _ _ _ (ap (λ n. whole c.args.depth (map chunk_part (chunks ((n + 31) / 32)
     bytes))) (sym long))
     (First-done c.args.arena.now c.loop-i.arena _ _ _ _ _ _
-    (c.loop-i.invariant.first t sized fit) last few c.finish.ensures.part c.finish.ensures.adds)
+    (c.loop-i.invariant.first t sized fit) last c.finish.ensures.part c.finish.ensures.adds)

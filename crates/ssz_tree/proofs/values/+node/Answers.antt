@@ -1,7 +1,6 @@
-use Rattle.std.proofs.Common.{rules, ◌≡◌, ◌∙◌, ◌+◌, ◌*◌, ◌/◌, ◌<◌, ◌≤◌, ◌^◌, ◌++◌, ◌∷◌, length, map, take, slice_get, List, [], Bool, Some, None, ℕ, refl, sym, ap, subst, arith}
+use Rattle.std.proofs.Common.{rules, ◌≡◌, ◌∙◌, ◌+◌, ◌/◌, ◌<◌, ◌≤◌, ◌^◌, ◌++◌, ◌∷◌, length, map, take, slice_get, List, [], Bool, Some, None, ℕ, refl, sym, ap, subst, arith}
 use Rattle.std.specs.List.{AllByRecursion}
 use Rattle.std.proofs.lemmas.List.{length-map}
-use Rattle.ssz_chunk.specs.Chunk.{zero_chunk}
 use Rattle.ssz_schema.specs.Types.{SszType, container}
 use Rattle.ssz_schema.specs.Sizes.{basic_size, element_chunks}
 use Rattle.ssz_schema.specs.Unfolding.{type_of, tree_at, tree_over, fields_over, AreBelow}
@@ -10,7 +9,7 @@ use Rattle.ssz_value.specs.declared.value.Value.TheVariants.{Bytes, Union}
 use Rattle.ssz_value.specs.Values.{SszValue, chosen, chosen_none}
 use Rattle.ssz_value.specs.Standing.{value_of, IsValue}
 use Rattle.ssz_value.specs.Shapes.{IsSequence, AreFields, parts_of, part_count_of}
-use Rattle.ssz_value.specs.Pairs.{pairs}
+use Rattle.ssz_tree.specs.Nodes.{new_nodes}
 use Rattle.ssz_value.specs.Trees.{number_chunk}
 use Rattle.ssz_value.proofs.FormLemmas.{vector_sequence, list_sequence, seq_fields, element_at, chosen_fits, union_inner, value_of_chosen}
 use Rattle.ssz_value.proofs.PartLemmas.{Part as FieldPart, part_known, field_count_is}
@@ -21,12 +20,12 @@ use Rattle.ssz_packing.proofs.Options.{below_at}
 use Rattle.ssz_packing.proofs.ValueArms.{HasValues-seq, HasBitValues-bitvector, HasBitList-bitlist, HasVector-vector, HasList-list, HasByteValues-bytes, parts_of_seq, field_value}
 use Rattle.ssz_packing.proofs.Lists.{take-map-next}
 use Rattle.ssz_tree.specs.Added.{Makes, whole, joined}
-use Rattle.ssz_tree.specs.Built.{part_of, chunk_part, elements_part, field_parts}
-use Rattle.ssz_tree.proofs.Adding.{makes_leaf, makes_pair, Makes-chunk, Makes-joined, Makes-zero, Makes-same, joined_room}
-use Rattle.ssz_tree.proofs.BytesForms.{same_cost}
-use Rattle.ssz_tree.proofs.Chunks.{cost-chunks}
+use Rattle.ssz_tree.specs.Built.{part_of, none_part, elements_part, field_parts}
+use Rattle.ssz_tree.proofs.Adding.{makes_leaf, makes_pair, Makes-chunk, Makes-joined, Makes-none, Makes-same, joined_room}
+use Rattle.ssz_tree.proofs.BytesForms.{same_nodes}
+use Rattle.ssz_tree.proofs.Chunks.{nodes-of_chunks}
 use Rattle.ssz_tree.proofs.Gathering.{IsAt, IsAt-map, First-start, First-room, First-push, First-more, First-finish, First-done, has_room}
-use Rattle.ssz_tree.proofs.ValueForms.{basic_value, bitvector_value, bitlist_value, bits-cost, vector_value, list_value, container_value, length-field_values, field-value-at, chosen_value, none_value, packed_values, composite_values, byte_values, has_type}
+use Rattle.ssz_tree.proofs.ValueForms.{basic_value, bitvector_value, bitlist_value, bits-nodes, vector_value, list_value, container_value, length-field_values, field-value-at, chosen_value, none_value, packed_values, composite_values, byte_values, has_type}
 use Rattle.ssz_tree.proofs.values.+node.Goals as goal
 
 -- parts in their full tree
@@ -58,7 +57,7 @@ values_node-value_node-node-requires g t c κs within =
     let room = has_room c.args.arena.now c.args.depth (length c.args.parts.now)
     (map (part_of ty) (map value_of c.args.parts.now)) (many_values ty c.args.parts.now)
     c.requires.few c.requires.room in
-    let spare : 2 * pairs ty (value_of c.part-item.result) + 1 ≤ c.loop-part.arena.spare =
+    let spare : new_nodes ty (value_of c.part-item.result) ≤ c.loop-part.arena.spare =
     First-room _ _ _ _ _ _ _ c.loop-part.invariant at room in
     search rules
 
@@ -99,9 +98,7 @@ values_node-returns g t c =
     let last : c.loop-part.part-index
     ≡ length (map (part_of ty) (map value_of c.args.parts.now)) =
     omega (arith, many_values ty c.args.parts.now) in
-    let few : length (map (part_of ty) (map value_of c.args.parts.now)) ≤ 2 ^ c.args.depth =
-    omega (arith, many_values ty c.args.parts.now, c.requires.few) in
-    First-done c.args.arena.now c.loop-part.arena _ _ _ _ _ _ c.loop-part.invariant last few
+    First-done c.args.arena.now c.loop-part.arena _ _ _ _ _ _ c.loop-part.invariant last
     c.finish.ensures.part c.finish.ensures.adds
 
 -- fields
@@ -146,8 +143,8 @@ fields_node-value_node-node-requires g t c κs within =
     (field_parts (fields_over c.args.schema.now.trees c.args.fields.now)
     (map value_of c.args.parts.now)) (many_fields c.args.schema.now.trees c.args.fields.now
     c.args.parts.now c.requires.values) c.requires.few c.requires.room in
-    let spare : 2 * pairs (tree_at c.args.schema.now.trees c.index-fields-i.result.1)
-    (value_of c.index-parts-i.result) + 1 ≤ c.loop-i.arena.spare =
+    let spare : new_nodes (tree_at c.args.schema.now.trees c.index-fields-i.result.1)
+    (value_of c.index-parts-i.result) ≤ c.loop-i.arena.spare =
     First-room _ _ _ _ _ _ _ c.loop-i.invariant at room in
     search rules
 
@@ -190,8 +187,7 @@ fields_node-returns g t c =
     let many = many_fields c.args.schema.now.trees c.args.fields.now c.args.parts.now
     c.requires.values in
     let last : c.loop-i.i ≡ length all = omega (arith, many) in
-    let few : length all ≤ 2 ^ c.args.depth = omega (arith, many, c.requires.few) in
-    First-done c.args.arena.now c.loop-i.arena _ _ _ _ _ _ c.loop-i.invariant last few
+    First-done c.args.arena.now c.loop-i.arena _ _ _ _ _ _ c.loop-i.invariant last
     c.finish.ensures.part c.finish.ensures.adds
 
 -- a container
@@ -208,10 +204,10 @@ container_node-fields_node-requires g t c κs within =
     let parts : map value_of c.as_slice.result.now ≡ parts_of (value_of c.args.value.now) =
     ap (map value_of) c.as_slice.ensures.value ∙ sym
     (ap (λ (v : Value). parts_of (value_of v)) c.in-Seq.is ∙ parts_of_seq c.in-Seq.parts) in
-    let room : 2 * (whole c.args.depth (field_parts fs (map value_of c.as_slice.result.now))).cost
-    + 1 ≤ c.args.arena.now.spare =
-    subst (λ (vs : List SszValue). 2 * (whole c.args.depth (field_parts
-    (fields_over c.args.schema.now.trees c.args.fields.now) vs)).cost + 1
+    let room : (whole c.args.depth (field_parts fs (map value_of c.as_slice.result.now))).nodes
+    ≤ c.args.arena.now.spare =
+    subst (λ (vs : List SszValue). (whole c.args.depth (field_parts
+    (fields_over c.args.schema.now.trees c.args.fields.now) vs)).nodes
     ≤ c.args.arena.now.spare) (sym parts) c.requires.room in
     search rules
 
@@ -250,8 +246,8 @@ sequence_node-packed_node-requires-clause-room g t c =
     omega (
       arith,
       c.requires.room,
-      cost-chunks c.args.depth ((length c.as_slice.result.now + 31) / 32) c.as_slice.result.now,
-      same_cost _ _ made,
+      nodes-of_chunks c.args.depth ((length c.as_slice.result.now + 31) / 32) c.as_slice.result.now,
+      same_nodes _ _ made,
     )
 
 pub sequence_node-returns-in-Bytes : goal.sequence_node-returns-in-Bytes
@@ -295,7 +291,7 @@ sequence_node-packed_values_node-requires-clause-room g t c =
     c.in-Seq.parts c.as_slice-in-Some.result.now c.args.value.now c.in-Seq.is
     c.as_slice-in-Some.ensures.value c.requires.value
     (sym c.basic_size.ensures.exact ∙ c.in-Some.is) in
-    omega (arith, c.requires.room, h.cost)
+    omega (arith, c.requires.room, h.nodes)
 
 pub sequence_node-returns-in-Some : goal.sequence_node-returns-in-Some
 sequence_node-returns-in-Some g t c =
@@ -329,9 +325,9 @@ sequence_node-values_node-requires g t c κs within =
     let made = composite_values (type_of c.args.schema.now c.args.elem) c.args.depth
     c.in-Seq.parts c.as_slice-in-None.result.now c.args.value.now c.in-Seq.is
     c.as_slice-in-None.ensures.value (sym c.basic_size.ensures.exact ∙ c.in-None.is) in
-    let room : 2 * (whole c.args.depth (map (part_of (type_of c.args.schema.now c.args.elem))
-    (map value_of c.as_slice-in-None.result.now))).cost + 1 ≤ c.args.arena.now.spare =
-    omega (arith, c.requires.room, same_cost _ _ made) in
+    let room : (whole c.args.depth (map (part_of (type_of c.args.schema.now c.args.elem))
+    (map value_of c.as_slice-in-None.result.now))).nodes ≤ c.args.arena.now.spare =
+    omega (arith, c.requires.room, same_nodes _ _ made) in
     search rules
 
 pub sequence_node-returns-in-None : goal.sequence_node-returns-in-None
@@ -395,8 +391,8 @@ value_node-bit_values_node-requires-clause-room g t c =
     omega (
       arith,
       c.requires.room,
-      bits-cost c.depth.result c.bits_of.result.now,
-      same_cost _ _ (bitvector_value (type_of c.args.schema.now c.args.id) c.in-Bitvector.field-0
+      bits-nodes c.depth.result c.bits_of.result.now,
+      same_nodes _ _ (bitvector_value (type_of c.args.schema.now c.args.id) c.in-Bitvector.field-0
           c.depth.result (value_of c.args.value.now) c.bits_of.result.now form
           c.requires.value.fits c.depth.ensures.exact c.bits_of.ensures),
     )
@@ -435,8 +431,8 @@ value_node-bit_values_node-content-requires-clause-room g t c =
     omega (
       arith,
       c.requires.room,
-      bits-cost c.depth-in-Bitlist.result c.bits_of-bits.result.now,
-      same_cost _ _ (bitlist_value (type_of c.args.schema.now c.args.id) c.in-Bitlist.field-0
+      bits-nodes c.depth-in-Bitlist.result c.bits_of-bits.result.now,
+      same_nodes _ _ (bitlist_value (type_of c.args.schema.now c.args.id) c.in-Bitlist.field-0
           c.depth-in-Bitlist.result (value_of c.args.value.now) c.bits_of-bits.result.now _
           form c.requires.value.fits c.depth-in-Bitlist.ensures.exact c.bits_of-bits.ensures refl),
     )
@@ -447,7 +443,7 @@ value_node-leaf-len-requires g t c =
     omega (
       arith,
       joined_room c.args.arena.now c.bit_values_node-content.new.arena _ _
-          (same_cost _ _ (bitlist_value (type_of c.args.schema.now c.args.id) c.in-Bitlist.field-0
+          (same_nodes _ _ (bitlist_value (type_of c.args.schema.now c.args.id) c.in-Bitlist.field-0
           c.depth-in-Bitlist.result (value_of c.args.value.now) c.bits_of-bits.result.now _
           form c.requires.value.fits c.depth-in-Bitlist.ensures.exact c.bits_of-bits.ensures refl))
           c.requires.room c.bit_values_node-content.ensures.adds.spare,
@@ -459,7 +455,7 @@ value_node-pair-requires-clause-room g t c =
     omega (
       arith,
       joined_room c.args.arena.now c.bit_values_node-content.new.arena _ _
-          (same_cost _ _ (bitlist_value (type_of c.args.schema.now c.args.id) c.in-Bitlist.field-0
+          (same_nodes _ _ (bitlist_value (type_of c.args.schema.now c.args.id) c.in-Bitlist.field-0
           c.depth-in-Bitlist.result (value_of c.args.value.now) c.bits_of-bits.result.now _
           form c.requires.value.fits c.depth-in-Bitlist.ensures.exact c.bits_of-bits.ensures refl))
           c.requires.room c.bit_values_node-content.ensures.adds.spare,
@@ -492,13 +488,13 @@ value_node-sequence_node-requires g t c κs within =
     (subst (λ f. IsValue f c.args.value.now) form c.requires.value) in
     let below : c.in-Vector.elem < c.args.id = subst (AreBelow c.args.id)
     c.in-Vector.is c.ty.ensures.before in
-    let room : 2 * (elements_part (tree_at c.args.schema.now.trees c.in-Vector.elem)
-    c.depth-in-Vector.result (parts_of (value_of c.args.value.now))).cost + 1
+    let room : (elements_part (tree_at c.args.schema.now.trees c.in-Vector.elem)
+    c.depth-in-Vector.result (parts_of (value_of c.args.value.now))).nodes
     ≤ c.args.arena.now.spare =
     omega (
       arith,
       c.requires.room,
-      same_cost _ _ (vector_value
+      same_nodes _ _ (vector_value
           (type_of c.args.schema.now c.args.id) ty c.in-Vector.field-1 c.depth-in-Vector.result
           (value_of c.args.value.now) form c.requires.value.fits c.depth-in-Vector.ensures.exact),
     ) in
@@ -525,13 +521,13 @@ value_node-sequence_node-content-requires g t c κs within =
     (subst (λ f. IsValue f c.args.value.now) form c.requires.value) in
     let below : c.in-List.elem < c.args.id = subst (AreBelow c.args.id)
     c.in-List.is c.ty.ensures.before in
-    let room : 2 * (elements_part (tree_at c.args.schema.now.trees c.in-List.elem)
-    c.depth-in-List.result (parts_of (value_of c.args.value.now))).cost + 1
+    let room : (elements_part (tree_at c.args.schema.now.trees c.in-List.elem)
+    c.depth-in-List.result (parts_of (value_of c.args.value.now))).nodes
     ≤ c.args.arena.now.spare =
     omega (
       arith,
       c.requires.room,
-      same_cost _ _ (list_value
+      same_nodes _ _ (list_value
           (type_of c.args.schema.now c.args.id) ty c.in-List.field-1 c.depth-in-List.result
           (value_of c.args.value.now) _ form c.requires.value.fits
           c.depth-in-List.ensures.exact refl),
@@ -544,7 +540,7 @@ value_node-leaf-len-requires-in-List g t c =
     omega (
       arith,
       joined_room c.args.arena.now c.sequence_node-content.new.arena _ _
-          (same_cost _ _ (list_value (type_of c.args.schema.now c.args.id)
+          (same_nodes _ _ (list_value (type_of c.args.schema.now c.args.id)
           (tree_at c.args.schema.now.trees c.in-List.elem) c.in-List.field-1 c.depth-in-List.result
           (value_of c.args.value.now) _ form c.requires.value.fits
           c.depth-in-List.ensures.exact refl))
@@ -557,7 +553,7 @@ value_node-pair-requires-in-List-clause-room g t c =
     omega (
       arith,
       joined_room c.args.arena.now c.sequence_node-content.new.arena _ _
-          (same_cost _ _ (list_value (type_of c.args.schema.now c.args.id)
+          (same_nodes _ _ (list_value (type_of c.args.schema.now c.args.id)
           (tree_at c.args.schema.now.trees c.in-List.elem) c.in-List.field-1 c.depth-in-List.result
           (value_of c.args.value.now) _ form c.requires.value.fits
           c.depth-in-List.ensures.exact refl))
@@ -596,13 +592,13 @@ value_node-container_node-requires g t c κs within =
     let all : P c.in-Container.fields.items = subst (AreBelow c.args.id)
     c.in-Container.is c.ty.ensures.before in
     let known : P c.as_slice.result.now = subst P fields all in
-    let room : 2 * (whole c.depth-in-Container.result (field_parts
-    (fields_over trees c.as_slice.result.now) (parts_of (value_of c.args.value.now)))).cost + 1
+    let room : (whole c.depth-in-Container.result (field_parts
+    (fields_over trees c.as_slice.result.now) (parts_of (value_of c.args.value.now)))).nodes
     ≤ c.args.arena.now.spare =
     omega (
       arith,
       c.requires.room,
-      same_cost _ _ (container_value
+      same_nodes _ _ (container_value
           (type_of c.args.schema.now c.args.id) trees c.as_slice.result.now
           c.depth-in-Container.result (value_of c.args.value.now) form c.requires.value.fits
           c.depth-in-Container.ensures.exact),
@@ -645,11 +641,11 @@ union_node-value_node-node-requires g t c κs within =
     let made = chosen_value c.args.schema.now.trees c.args.options.now c.in-Union.selector
     c.in-Some-Some.option (value_of c.in-Some.inner.value) (value_of c.args.value.now) (sym here)
     is in
-    let room : 2 * pairs (tree_at c.args.schema.now.trees c.in-Some-Some.option)
-    (value_of c.deref.result.now) + 1 ≤ c.args.arena.now.spare =
-    subst (λ (v : Value). 2 * pairs (tree_at c.args.schema.now.trees c.in-Some-Some.option)
-    (value_of v) + 1 ≤ c.args.arena.now.spare) (sym c.deref.ensures)
-    (omega (arith, c.requires.room, same_cost _ _ made)) in
+    let room : new_nodes (tree_at c.args.schema.now.trees c.in-Some-Some.option)
+    (value_of c.deref.result.now) ≤ c.args.arena.now.spare =
+    subst (λ (v : Value). new_nodes (tree_at c.args.schema.now.trees c.in-Some-Some.option)
+    (value_of v) ≤ c.args.arena.now.spare) (sym c.deref.ensures)
+    (omega (arith, c.requires.room, same_nodes _ _ made)) in
     search rules
 
 pub union_node-leaf-leaf-requires : goal.union_node-leaf-leaf-requires
@@ -669,7 +665,7 @@ union_node-leaf-leaf-requires g t c =
     omega (
       arith,
       joined_room c.args.arena.now c.value_node-node.new.arena _ _
-          (same_cost _ _ made) c.requires.room node.adds.spare,
+          (same_nodes _ _ made) c.requires.room node.adds.spare,
     )
 
 pub union_node-pair-requires-clause-room : goal.union_node-pair-requires-clause-room
@@ -689,7 +685,7 @@ union_node-pair-requires-clause-room g t c =
     omega (
       arith,
       joined_room c.args.arena.now c.value_node-node.new.arena _ _
-          (same_cost _ _ made) c.requires.room node.adds.spare,
+          (same_nodes _ _ made) c.requires.room node.adds.spare,
       c.leaf-leaf.ensures.spare,
     )
 
@@ -742,10 +738,10 @@ union_node-returns-in-None g t c =
     let e = c.leaf-leaf-in-None.ensures in
     let p = c.pair-in-None.ensures in
     let numbered = c.number_chunk-in-None.ensures ∙ ap number_chunk c.from-in-None.ensures in
-    Makes-same _ _ _ _ _ (ap (joined (chunk_part zero_chunk)) numbered
+    Makes-same _ _ _ _ _ (ap (joined none_part) numbered
     ∙ none_value c.args.schema.now.trees c.args.options.now c.in-Union.selector
     (value_of c.args.value.now) is)
-    (Makes-joined _ _ _ _ (chunk_part zero_chunk) c.number_chunk-in-None.result.0 _ _ _
-    (Makes-zero c.args.arena.now c.zero-none.result z.node z.tree z.todo)
+    (Makes-joined _ _ _ _ none_part c.number_chunk-in-None.result.0 _ _ _
+    (Makes-none c.args.arena.now c.zero-none.result z.node z.tree z.todo)
     (makes_leaf _ _ _ _ e.node e.tree e.todo e.keeps e.same e.unhashed e.count e.spare)
     (makes_pair _ _ _ _ _ p.node p.tree p.todo p.keeps p.same p.unhashed p.count p.spare))

@@ -1,4 +1,4 @@
-ghost use Rattle.std.specs.Prelude.{◌≡◌, ◌-◌, ◌<◌, ◌^◌, min, length, None, Some, IfSome, map, sum_by};
+ghost use Rattle.std.specs.Prelude.{◌≡◌, ◌<◌, ◌^◌, length, None, Some, IfSome, map, sum_by};
 ghost use Rattle.std.specs.List.{AllByRecursion};
 ghost use Rattle.ssz_schema.specs.Sizes.{fixed_size};
 ghost use Rattle.ssz_schema.specs.Types.{container, union};
@@ -10,97 +10,97 @@ ghost use Rattle.ssz_value.specs.Pairs.{pairs};
 ghost use Rattle.ssz_parts.specs.PartValues.{element_values, field_values};
 ghost use Rattle.ssz_tree.specs.Added.{whole};
 ghost use Rattle.ssz_tree.specs.Built.{chosen_part, elements_part, field_parts, part_of};
+ghost use Rattle.ssz_tree.specs.Nodes.{new_nodes};
+ghost use Rattle.ssz_tree.specs.Tallies.{IsTallyOf, Tallies};
 
-use super::room::pairs_above;
+use super::tally::Tally;
 use ssz_packing::bitlist_len;
 use ssz_parts::{element_at, element_count, head_len, part_range};
 use ssz_schema::{Name, Schema, Ty, TypeId};
 
-/// The pairs of the value that the bytes stand for, which have no fault; u64::MAX stands for all
-/// numbers from there on.
+/// The tally of the value that the bytes stand for, which have no fault.
 #[cycle(count)]
-pub fn pairs_in_bytes(schema: &Schema, id: TypeId, bytes: &[u8]) -> u64
+pub fn bytes_tally(schema: &Schema, id: TypeId, bytes: &[u8]) -> Tally
     requires known { id < length schema.now.trees }
     requires short { length bytes.now < 2 ^ 32 }
     requires faultless { why (type_of schema.now id) 0 bytes.now ≡ None }
-    ensures { result ≡ min (pairs (type_of schema.now id)
-        (value_in (type_of schema.now id) bytes.now)) (2 ^ 64 - 1) }
+    ensures { IsTallyOf (part_of (type_of schema.now id)
+        (value_in (type_of schema.now id) bytes.now)) result }
 {
     match schema.ty(id) {
-        Ty::Uint(_) => 0,
-        Ty::Boolean => 0,
+        Ty::Uint(_) => Tally::leaf(),
+        Ty::Boolean => Tally::leaf(),
         Ty::Vector(elem, count) => {
-            elements_pairs(schema, *elem, schema.depth(id), *count, bytes)
+            elements_tally(schema, *elem, schema.depth(id), *count, bytes)
         }
         Ty::List(elem, limit) => {
             let count = element_count(schema.fixed_size(*elem), *limit, bytes);
-            elements_pairs(schema, *elem, schema.depth(id), count, bytes).saturating_add(1)
+            elements_tally(schema, *elem, schema.depth(id), count, bytes).joined()
         }
-        Ty::Bitvector(n) => pairs_above(schema.depth(id), (*n + 255) / 256),
+        Ty::Bitvector(n) => Tally::chunks(schema.depth(id), (*n + 255) / 256),
         Ty::Container(fields) => {
-            fields_pairs(schema, id, schema.depth(id), fields.as_slice(), bytes)
+            fields_tally(schema, id, schema.depth(id), fields.as_slice(), bytes)
         }
-        Ty::Union(options) => union_pairs(schema, id, options.as_slice(), bytes),
+        Ty::Union(options) => union_tally(schema, id, options.as_slice(), bytes),
         Ty::Bitlist(_) => {
             let chunks = (bitlist_len(bytes) + 255) / 256;
-            pairs_above(schema.depth(id), chunks).saturating_add(1)
+            Tally::chunks(schema.depth(id), chunks).joined()
         }
     }
 }
 
 // Of count elements, in a full tree of this depth.
 #[cycle(count)]
-fn elements_pairs(schema: &Schema, elem: TypeId, depth: u32, count: u64, bytes: &[u8]) -> u64
+fn elements_tally(schema: &Schema, elem: TypeId, depth: u32, count: u64, bytes: &[u8]) -> Tally
     requires known { elem < length schema.now.trees }
     requires legal { IsLegal schema.now.format (type_of schema.now elem) }
     requires short { length bytes.now < 2 ^ 32 }
     requires faultless { elements_fault (why (type_of schema.now elem))
         (fixed_size (type_of schema.now elem)) count 0 bytes.now ≡ None }
     ensures { let t = type_of schema.now elem in
-        result ≡ min (elements_part t depth (element_values t count bytes.now)).cost
-        (2 ^ 64 - 1) }
+        IsTallyOf (elements_part t depth (element_values t count bytes.now)) result }
 {
     match schema.basic_size(elem) {
-        Some(_) => pairs_above(depth, (bytes.len() as u64 + 31) / 32),
-        None => parts_pairs(schema, elem, depth, count, bytes),
+        Some(_) => Tally::chunks(depth, (bytes.len() as u64 + 31) / 32),
+        None => parts_tally(schema, elem, depth, count, bytes),
     }
 }
 
 // Of count elements of a composite type.
 #[cycle(count)]
-fn parts_pairs(schema: &Schema, elem: TypeId, depth: u32, count: u64, bytes: &[u8]) -> u64
+fn parts_tally(schema: &Schema, elem: TypeId, depth: u32, count: u64, bytes: &[u8]) -> Tally
     requires known { elem < length schema.now.trees }
     requires legal { IsLegal schema.now.format (type_of schema.now elem) }
     requires short { length bytes.now < 2 ^ 32 }
     requires faultless { elements_fault (why (type_of schema.now elem))
         (fixed_size (type_of schema.now elem)) count 0 bytes.now ≡ None }
     ensures { let t = type_of schema.now elem in
-        result ≡ min (whole depth (map (part_of t) (element_values t count bytes.now))).cost
-        (2 ^ 64 - 1) }
+        IsTallyOf (whole depth (map (part_of t) (element_values t count bytes.now))) result }
 {
-    pairs_above(depth, count).saturating_add(all_pairs(schema, elem, count, bytes))
+    Tally::above(depth, count).plus(all_tally(schema, elem, count, bytes))
 }
 
 // In all of count elements of a composite type.
 #[cycle(count)]
-fn all_pairs(schema: &Schema, elem: TypeId, count: u64, bytes: &[u8]) -> u64
+fn all_tally(schema: &Schema, elem: TypeId, count: u64, bytes: &[u8]) -> Tally
     requires known { elem < length schema.now.trees }
     requires legal { IsLegal schema.now.format (type_of schema.now elem) }
     requires short { length bytes.now < 2 ^ 32 }
     requires faultless { elements_fault (why (type_of schema.now elem))
         (fixed_size (type_of schema.now elem)) count 0 bytes.now ≡ None }
     ensures { let t = type_of schema.now elem in
-        result ≡ min (sum_by (pairs t) (element_values t count bytes.now)) (2 ^ 64 - 1) }
+        Tallies (sum_by (pairs t) (element_values t count bytes.now))
+        (sum_by (new_nodes t) (element_values t count bytes.now)) result }
 {
     match schema.fixed_size(elem) {
-        Some(size) => alike_pairs(schema, elem, size, count, bytes),
-        None => varied_pairs(schema, elem, count, bytes),
+        Some(size) => alike_tally(schema, elem, size, count, bytes),
+        None => varied_tally(schema, elem, count, bytes),
     }
 }
 
-// In count elements of fixed size, which all have as many as the first.
+// In count elements of fixed size, whose tallies are that of the first.
 #[cycle(count)]
-fn alike_pairs(schema: &Schema, elem: TypeId, size: u64, count: u64, bytes: &[u8]) -> u64
+fn alike_tally(schema: &Schema, elem: TypeId, size: u64, count: u64, bytes: &[u8]) -> Tally
     requires known { elem < length schema.now.trees }
     requires legal { IsLegal schema.now.format (type_of schema.now elem) }
     requires size { fixed_size (type_of schema.now elem) ≡ Some size }
@@ -108,18 +108,19 @@ fn alike_pairs(schema: &Schema, elem: TypeId, size: u64, count: u64, bytes: &[u8
     requires faultless { elements_fault (why (type_of schema.now elem)) (Some size) count 0
         bytes.now ≡ None }
     ensures { let t = type_of schema.now elem in
-        result ≡ min (sum_by (pairs t) (element_values t count bytes.now)) (2 ^ 64 - 1) }
+        Tallies (sum_by (pairs t) (element_values t count bytes.now))
+        (sum_by (new_nodes t) (element_values t count bytes.now)) result }
 {
     if count == 0 {
-        return 0;
+        return Tally::none();
     }
     let first = element_at(Some(size), count, 0, bytes);
-    pairs_in_bytes(schema, elem, first).saturating_mul(count)
+    bytes_tally(schema, elem, first).times(count)
 }
 
 // In count elements of variable size.
 #[cycle(count)]
-fn varied_pairs(schema: &Schema, elem: TypeId, count: u64, bytes: &[u8]) -> u64
+fn varied_tally(schema: &Schema, elem: TypeId, count: u64, bytes: &[u8]) -> Tally
     requires known { elem < length schema.now.trees }
     requires legal { IsLegal schema.now.format (type_of schema.now elem) }
     requires size { fixed_size (type_of schema.now elem) ≡ None }
@@ -127,25 +128,26 @@ fn varied_pairs(schema: &Schema, elem: TypeId, count: u64, bytes: &[u8]) -> u64
     requires faultless { elements_fault (why (type_of schema.now elem)) None count 0 bytes.now
         ≡ None }
     ensures { let t = type_of schema.now elem in
-        result ≡ min (sum_by (pairs t) (element_values t count bytes.now)) (2 ^ 64 - 1) }
+        Tallies (sum_by (pairs t) (element_values t count bytes.now))
+        (sum_by (new_nodes t) (element_values t count bytes.now)) result }
 {
-    let mut pairs = 0u64;
+    let mut tally = Tally::none();
     for i in 0..count {
         let part = element_at(None, count, i, bytes);
-        pairs = pairs.saturating_add(pairs_in_bytes(schema, elem, part));
+        tally = tally.plus(bytes_tally(schema, elem, part));
     }
-    pairs
+    tally
 }
 
 // Of a container of these fields, whose types stand before id.
 #[cycle(count)]
-fn fields_pairs(
+fn fields_tally(
     schema: &Schema,
     id: TypeId,
     depth: u32,
     fields: &[(Name, TypeId)],
     bytes: &[u8],
-) -> u64
+) -> Tally
     requires known { id < length schema.now.trees }
     requires before { AllByRecursion (λ part. part.1 < id) fields.now }
     requires legal { AreLegalFields schema.now.format (fields_over schema.now.trees fields.now) }
@@ -153,23 +155,22 @@ fn fields_pairs(
     requires faultless { why (container (fields_over schema.now.trees fields.now)) 0 bytes.now
         ≡ None }
     ensures { let fs = fields_over schema.now.trees fields.now in
-        result ≡ min (whole depth (field_parts fs (field_values fs bytes.now))).cost
-        (2 ^ 64 - 1) }
+        IsTallyOf (whole depth (field_parts fs (field_values fs bytes.now))) result }
 {
-    let mut pairs = pairs_above(depth, fields.len() as u64);
+    let mut tally = Tally::above(depth, fields.len() as u64);
     let mut place = 0usize;
     for (i, field) in fields.iter().enumerate() {
         let (from, to) = part_range(schema, field.1, fields, i, place, bytes);
         let part = &bytes[from..to];
-        pairs = pairs.saturating_add(pairs_in_bytes(schema, field.1, part));
+        tally = tally.plus(bytes_tally(schema, field.1, part));
         place += head_len(schema.fixed_size(field.1)) as usize;
     }
-    pairs
+    tally
 }
 
 // Of a union of these options, whose types stand before id.
 #[cycle(count)]
-fn union_pairs(schema: &Schema, id: TypeId, options: &[Option<TypeId>], bytes: &[u8]) -> u64
+fn union_tally(schema: &Schema, id: TypeId, options: &[Option<TypeId>], bytes: &[u8]) -> Tally
     requires known { id < length schema.now.trees }
     requires before { AllByRecursion (IsBelow id) options.now }
     requires legal { AreLegalOptions schema.now.format (options_over schema.now.trees options.now) }
@@ -177,23 +178,23 @@ fn union_pairs(schema: &Schema, id: TypeId, options: &[Option<TypeId>], bytes: &
     requires faultless { why (union (options_over schema.now.trees options.now)) 0 bytes.now
         ≡ None }
     ensures { let t = union (options_over schema.now.trees options.now) in
-        result ≡ min (pairs t (value_in t bytes.now)) (2 ^ 64 - 1) }
+        IsTallyOf (part_of t (value_in t bytes.now)) result }
 {
     let option = options[usize::from(bytes[0])];
-    option_pairs(schema, id, option, &bytes[1..]).saturating_add(1)
+    option_tally(schema, id, option, &bytes[1..]).joined()
 }
 
 // Of the value of the option that is chosen, or of None.
 #[cycle(count)]
-fn option_pairs(schema: &Schema, id: TypeId, option: Option<TypeId>, bytes: &[u8]) -> u64
+fn option_tally(schema: &Schema, id: TypeId, option: Option<TypeId>, bytes: &[u8]) -> Tally
     requires known { id < length schema.now.trees }
     requires before { IsBelow id option }
     requires short { length bytes.now < 2 ^ 32 }
     requires faultless { IfSome option (λ some. why (type_of schema.now some) 0 bytes.now ≡ None) }
-    ensures { result ≡ min (chosen_part schema.now.trees option bytes.now).cost (2 ^ 64 - 1) }
+    ensures { IsTallyOf (chosen_part schema.now.trees option bytes.now) result }
 {
     match option {
-        Some(option) => pairs_in_bytes(schema, option, bytes),
-        None => 0,
+        Some(option) => bytes_tally(schema, option, bytes),
+        None => Tally::none(),
     }
 }
