@@ -7,6 +7,8 @@
 #![tactic(auto)]
 
 ghost use Rattle.std.specs.Prelude.{◌<◌, ◌^◌, length};
+ghost use Rattle.ssz_schema.specs.Unfolding.{type_of};
+ghost use Rattle.ssz_value.specs.Standing.{IsValue};
 ghost use Rattle.ssz_arena.specs.Content.{IsNodeOf};
 
 use anyhow::{Context, Result, bail};
@@ -15,7 +17,8 @@ use ssz_chunk::{Chunk, PairHash, ShaPair};
 use ssz_codec::{check, decode};
 use ssz_schema::{Schema, TypeId};
 use ssz_schema_json::read_schema;
-use ssz_tree::{build, build_bytes, build_default, nodes_needed};
+use ssz_tree::{build, build_bytes, build_default, nodes_needed, reserve_nodes, value_node};
+use ssz_value::Value;
 use std::alloc::Global;
 use std::fs;
 
@@ -62,15 +65,37 @@ fn of_bytes<H: PairHash>(
     let Ok(value) = decode(alloc, schema, id, bytes) else {
         bail!("not decoded");
     };
-    let before = arena.len();
-    let node = build(arena, schema, id, &value)?;
-    if asked(arena, before, node, hasher) != from_bytes {
+    if of_value(arena, schema, id, &value, hasher)? != from_bytes {
         bail!("the value has another node than its bytes");
     }
-    if nodes_needed(schema, id, &value) < from_bytes.nodes {
+    Ok(from_bytes)
+}
+
+// Of the node of a value, which that made in room that is there already must equal.
+fn of_value<H: PairHash>(
+    arena: &mut Arena<H>,
+    schema: &Schema,
+    id: TypeId,
+    value: &Value,
+    hasher: &mut H,
+) -> Result<Made>
+    requires known { id < length schema.now.trees }
+    requires value { IsValue (type_of schema.now id) value.now }
+{
+    let before = arena.len();
+    let node = build(arena, schema, id, value)?;
+    let from_value = asked(arena, before, node, hasher);
+    let needed = nodes_needed(schema, id, value);
+    reserve_nodes(arena, needed as u64)?;
+    let before = arena.len();
+    let node = value_node(arena, schema, id, value);
+    if asked(arena, before, node, hasher) != from_value {
+        bail!("another node in room that is there");
+    }
+    if needed < from_value.nodes {
         bail!("more nodes than are needed");
     }
-    Ok(from_bytes)
+    Ok(from_value)
 }
 
 // Of the node of the default of the type.
