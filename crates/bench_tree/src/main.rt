@@ -1,5 +1,5 @@
-//! Makes the nodes of a list of numbers or of validators, or as many bare nodes, to be timed from
-//! outside.
+//! Makes the nodes of a list of numbers, of validators or of short lists, or as many bare nodes, to
+//! be timed from outside, and says for how many more there is room.
 #![tactic(auto)]
 
 ghost use Rattle.std.specs.Prelude.{◌*◌, ◌≤◌};
@@ -13,32 +13,44 @@ use ssz_tree::build_bytes;
 use std::alloc::Global;
 use std::{env, fs};
 
-const USAGE: &str = "usage: bench_tree numbers|containers COUNT build|check SCHEMA
+const USAGE: &str = "usage: bench_tree numbers|containers|lists COUNT build|check SCHEMA
        bench_tree nodes COUNT build|check";
 
-// So many elements of this size, each byte 1, as a value of the type of this name: checked, and
-// then made into nodes or not.
+// The encoding of a list of so many lists, each of 8 bytes 1: the offsets, and then the lists.
+fn lists(alloc: Global, count: u32) -> Result<Vec<u8>> {
+    let mut bytes = Vec::new(alloc);
+    let mut offset = count.saturating_mul(4);
+    for _i in 0..count {
+        bytes.extend_from_slice(offset.to_le_bytes().as_slice())?;
+        offset = offset.saturating_add(8);
+    }
+    for _i in 0..count {
+        bytes.extend_from_slice([1u8; 8].as_slice())?;
+    }
+    Ok(bytes)
+}
+
+// The bytes of a value of the type of this name: checked, and then made into nodes or not.
 fn build<H: PairHash>(
     alloc: Global,
     arena: &mut Arena<H>,
     schema: &[u8],
     name: &str,
-    len: usize,
+    bytes: &[u8],
     makes: bool,
 ) -> Result<()> {
     let Ok(schema) = read_schema(alloc, schema) else {
         bail!("no schema");
     };
     let id = schema.find(name).context("no such type")?;
-    let bytes = Vec::from_elem(alloc, 1u8, len)?;
     if bytes.len() > u32::MAX as usize {
         bail!("too long");
     }
-    if let Some(fault) = check(&schema, id, bytes.as_slice()) {
+    if let Some(fault) = check(&schema, id, bytes) {
         bail!("{fault:?}");
     }
     if makes {
-        build_bytes(arena, &schema, id, bytes.as_slice())?;
+        build_bytes(arena, &schema, id, bytes)?;
     }
     Ok(())
 }
@@ -68,15 +80,25 @@ fn main(rt: HostRuntime) -> Result<()> {
         }
     } else {
         let text = fs::read(&rt, words.next().context(USAGE)?.as_str())?;
-        let (name, size) = match work.as_str() {
-            "numbers" => ("Numbers", 8),
-            "containers" => ("Validators", 121),
+        let (name, bytes) = match work.as_str() {
+            "numbers" => ("Numbers", Vec::from_elem(alloc, 1u8, count as usize * 8)?),
+            "containers" => (
+                "Validators",
+                Vec::from_elem(alloc, 1u8, count as usize * 121)?,
+            ),
+            "lists" => ("Lists", lists(alloc, count)?),
             _ => bail!(USAGE),
         };
-        let len = count as usize * size;
-        build(alloc, &mut arena, text.as_slice(), name, len, makes)?;
+        build(
+            alloc,
+            &mut arena,
+            text.as_slice(),
+            name,
+            bytes.as_slice(),
+            makes,
+        )?;
     }
-    let nodes = arena.len();
-    println!(rt; "{nodes} nodes")?;
+    let (nodes, spare) = (arena.len(), arena.spare());
+    println!(rt; "{nodes} nodes, room for {spare} more")?;
     Ok(())
 }
