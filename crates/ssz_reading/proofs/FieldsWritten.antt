@@ -1,6 +1,6 @@
 -- Encodings of fields that are written one after another, and of each form of a type.
 use Rattle.std.proofs.Common.{ℕ, zero, suc, ◌+◌, ◌-◌, ◌/◌, ◌%◌, ◌^◌, ◌<◌, ◌≤◌, ◌≡◌, min, Bool, List, [], ◌∷◌, ◌++◌, length, map, drop, get_or, slice_get, Option, Some, None, Result, OnOk, inl, inr, refl, sym, ap, ap₂, ◌∙◌, subst, arith, append_assoc}
-use Rattle.std.proofs.lemmas.List.{append-nil, drop_all}
+use Rattle.std.proofs.lemmas.List.{drop_all}
 use Rattle.ssz_chunk.specs.Tree.{Tree, full}
 use Rattle.ssz_schema.specs.declared.format.Format.{Format}
 use Rattle.ssz_schema.specs.Types.{SszType, Fields, container, vector, list, bitvector, bitlist, union}
@@ -73,14 +73,6 @@ FieldHeads-more arena trees fields i part all out written old new node h below e
           (field_encodings (fields_over trees ps) h.rest) ≡ all) here h.is))
           (head first.value first.is);
     }
-
-pub FieldHeads-end : (arena : Content) (trees : List SszType) (fields : List Part)
-    (i : ℕ) (all out : List ℕ) (places : Ahead)
-    → FieldHeads arena trees fields i all out places → length fields ≤ i → out ≡ all
-FieldHeads-end arena trees fields i all out places h past =
-    sym (append-nil out)
-    ∙ subst (λ (ps : List Part). out ++ rooms (part_sizes (fields_over trees ps))
-    (field_encodings (fields_over trees ps) h.rest) ≡ all) (drop_all i fields past) h.is
 
 -- their variable parts
 pub record FieldBodies (arena : Content) (trees : List SszType) (fields : List Part)

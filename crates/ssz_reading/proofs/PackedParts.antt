@@ -13,7 +13,7 @@ use Rattle.ssz_bytes.proofs.Numbers.{length-le_bytes}
 use Rattle.ssz_value.specs.declared.value.Value.{Value}
 use Rattle.ssz_value.specs.Values.{SszValue, number, Fits}
 use Rattle.ssz_value.specs.Encoding.{enc}
-use Rattle.ssz_value.specs.Trees.{padded, pack, pack_bits, element_leaves, tree}
+use Rattle.ssz_value.specs.Trees.{padded, pack, element_leaves, tree}
 use Rattle.ssz_value.specs.Standing.{value_of}
 use Rattle.ssz_value.proofs.ChunkLaw.{length-chunks}
 use Rattle.ssz_places.proofs.Packing.{chunk-part}
@@ -22,7 +22,7 @@ use Rattle.ssz_places.proofs.Elements.{IsBasic, is_basic, AreSized-enc}
 use Rattle.ssz_arena.specs.declared.node.NodeId.{NodeId}
 use Rattle.ssz_arena.specs.Content.{Content, tree_of}
 use Rattle.ssz_reading.specs.Ahead.{Ahead, Holds}
-use Rattle.ssz_reading.specs.Shown.{AreElements, AreBits, ArePacked, bit_in, chunk_from}
+use Rattle.ssz_reading.specs.Shown.{AreElements, ArePacked, bit_in, chunk_from}
 use Rattle.ssz_reading.proofs.Walked.{Takes}
 use Rattle.ssz_reading.proofs.Chunked.{pack-more}
 
@@ -315,21 +315,6 @@ pub record BitsLeft (arena : Content) (bs : List Bool) (left : ℕ) (done : List
   pub chunks : ChunksLeft arena (bit_bytes bs) j places
   pub all : done ≡ take (256 * j) bs
 
-pub BitsLeft-start : (arena : Content) (depth count : ℕ) (bs : List Bool) (node : NodeId)
-    (places : Ahead) → AreBits depth count bs (tree_of arena node)
-    → ((trees : List Tree) → length trees ≤ 2 ^ depth → tree_of arena node ≡ full depth trees
-    → Holds arena trees places)
-    → BitsLeft arena bs count [] places
-BitsLeft-start arena depth count bs node places are holds = record {
-  j = 0;
-  many = omega (arith, are.many);
-  chunks = record {
-    holds = holds (map leaf (pack_bits bs)) (omega (arith, length-map (pack_bits bs) leaf, are.few))
-        are.tree;
-  };
-  all = refl;
-}
-
 pub record MoreBits (arena : Content) (bs : List Bool) (left here : ℕ) (done : List Bool)
     (chunk : List ℕ) (places : Ahead) : Type 0 where
   pub j : ℕ
@@ -363,11 +348,6 @@ BitsLeft-more arena bs left here done chunk old new node h some is takes shows =
             ∙ sym (take-add (256 * h.j) 256 bs) ∙ ap (λ n. take n bs) (sym more);
       };
     }
-
-pub BitsLeft-end : (arena : Content) (bs : List Bool) (left : ℕ) (done : List Bool)
-    (places : Ahead) → BitsLeft arena bs left done places → left ≤ 0 → done ≡ bs
-BitsLeft-end arena bs left done places h none =
-    h.all ∙ take_all (256 * h.j) bs (omega (arith, h.many))
 
 -- bytes
 

@@ -1,9 +1,9 @@
 -- Fixed parts that are written with room for the offsets, and offsets that are written into it.
-use Rattle.std.proofs.Common.{ℕ, zero, suc, ◌+◌, ◌-◌, ◌/◌, ◌%◌, ◌^◌, ◌<◌, ◌≤◌, ◌≡◌, min, List, [], ◌∷◌, ◌++◌, length, take, replicate, Option, Some, None, refl, sym, ap, ap₂, ◌∙◌, arith, append_assoc, length-append}
+use Rattle.std.proofs.Common.{ℕ, zero, suc, ◌+◌, ◌-◌, ◌^◌, ◌<◌, ◌≤◌, ◌≡◌, min, List, [], ◌∷◌, ◌++◌, length, take, replicate, Option, Some, None, refl, sym, ap, ap₂, ◌∙◌, arith, append_assoc, length-append}
 use Rattle.std.proofs.lemmas.List.{append-nil}
 use Rattle.std.proofs.Math.Seq.{take-append-add}
 use Rattle.ssz_schema.specs.Sizes.{head_size}
-use Rattle.ssz_bytes.specs.Bytes.{le_bytes, offset_bytes}
+use Rattle.ssz_bytes.specs.Bytes.{offset_bytes}
 use Rattle.ssz_value.specs.Encoding.{heads_length, heads, bodies, joined}
 use Rattle.ssz_value.proofs.Cut.{AreParts}
 use Rattle.ssz_parts.specs.Encoded.{head_of, body_of}
@@ -184,12 +184,3 @@ put_kept room bytes new behind front is within kept =
           ∙ ap (λ xs. xs ++ behind) (take-append-add front kept.more some)
           ∙ append_assoc front (take some kept.more) behind;
     }
-
--- the first bytes of a number are those of its remainder
-pub low_bytes : (n : ℕ) → le_bytes 4 (n % 2 ^ 32) ≡ offset_bytes n
-low_bytes n =
-    let a : n % 2 ^ 32 % 256 ≡ n % 256 = omega arith in
-    let b : n % 2 ^ 32 / 256 % 256 ≡ n / 256 % 256 = omega arith in
-    let c : n % 2 ^ 32 / 256 / 256 % 256 ≡ n / 256 / 256 % 256 = omega arith in
-    let d : n % 2 ^ 32 / 256 / 256 / 256 % 256 ≡ n / 256 / 256 / 256 % 256 = omega arith in
-    ap₂ (λ x xs. x ∷ xs) a (ap₂ (λ x xs. x ∷ xs) b (ap₂ (λ x y. x ∷ y ∷ []) c d))

@@ -1,7 +1,7 @@
 -- Encodings that are written part after part.
 use Rattle.std.proofs.Common.{ℕ, ◌+◌, ◌-◌, ◌*◌, ◌/◌, ◌^◌, ◌<◌, ◌≤◌, ◌≡◌, min, List, [], ◌∷◌, ◌++◌, length, map, take, replicate, Option, Some, None, Result, Ok, Err, OnOk, refl, sym, ap, ap₂, ◌∙◌, subst, arith}
 use Rattle.std.specs.List.{AllByRecursion, concat}
-use Rattle.std.proofs.lemmas.List.{append-nil, length-map}
+use Rattle.std.proofs.lemmas.List.{length-map}
 use Rattle.ssz_chunk.specs.Tree.{Tree, leaf, full}
 use Rattle.ssz_schema.specs.declared.format.Format.{Format}
 use Rattle.ssz_schema.specs.Types.{SszType}
@@ -27,7 +27,7 @@ use Rattle.ssz_reading.specs.Ahead.{Ahead, Holds}
 use Rattle.ssz_parts.specs.Encoded.{head_of, body_of}
 use Rattle.ssz_value.specs.Written.{capped}
 use Rattle.ssz_reading.specs.Shown.{ForValue, AreElements, ArePacked, ForElements, Adds, room_of, rooms, basic_type}
-use Rattle.ssz_reading.proofs.Rooms.{rooms_step, Filled, Filled-start, Filled-more, Filled-end, joined_adds}
+use Rattle.ssz_reading.proofs.Rooms.{rooms_step, Filled, Filled-start, Filled-more, joined_adds}
 use Rattle.ssz_reading.proofs.Walked.{Takes, Left, Left-first, AreElements-trees, composite}
 use Rattle.ssz_reading.proofs.PackedParts.{length-encodings}
 
@@ -79,16 +79,6 @@ HeadsSoFar-more arena t vs i all out written old new node h below takes head =
           (subst (λ ws. out ++ rooms (alike t ws) (map (enc t) ws) ≡ all) first.are h.is)
           (head first.value first.is);
     }
-
-pub HeadsSoFar-end : (arena : Content) (t : SszType) (vs : List SszValue) (i : ℕ)
-    (all out : List ℕ) (places : Ahead) → HeadsSoFar arena t vs i all out places
-    → length vs ≤ i → out ≡ all
-HeadsSoFar-end arena t vs i all out places h full = end h.rest h.count h.is
-  where
-    end : (rest : List SszValue) → i + length rest ≡ length vs
-        → out ++ rooms (alike t rest) (map (enc t) rest) ≡ all → out ≡ all
-    end [] count is = sym (append-nil out) ∙ is
-    end (v ∷ rest) count is = absurd (omega (arith, count, full))
 
 pub record BodiesSoFar (arena : Content) (t : SszType) (vs : List SszValue) (i start room : ℕ)
     (all out : List ℕ) (places : Ahead) : Type 0 where
@@ -150,16 +140,6 @@ BodiesSoFar-more arena t vs i start room next all out written old new node h bel
           (is ∙ ap (λ size. min (room + head_size size) (2 ^ 64 - 1)) (sym none))
           (body first.value first.is);
     }
-
-pub BodiesSoFar-end : (arena : Content) (t : SszType) (vs : List SszValue) (i start room : ℕ)
-    (all out : List ℕ) (places : Ahead) → BodiesSoFar arena t vs i start room all out places
-    → length vs ≤ i → out ≡ all
-BodiesSoFar-end arena t vs i start room all out places h full = end h.rest h.count h.filled
-  where
-    end : (rest : List SszValue) → i + length rest ≡ length vs
-        → Filled (alike t rest) (map (enc t) rest) start room all out → out ≡ all
-    end [] count filled = Filled-end start room all out filled
-    end (v ∷ rest) count filled = absurd (omega (arith, count, full))
 
 pub elements_adds : (format : Format) (t : SszType) (start : ℕ) (vs : List SszValue)
     (old mid new : List ℕ) → IsLegal format t → AllByRecursion (Fits t) vs → start ≡ length old
