@@ -156,12 +156,3 @@ module _ (view : Looking) (path : Path) (is : IsView view) (some : 0 < length pa
         let typed = some_from (path_type (type_seen view) path) lost.0 in
         lost.1 v (tree_there view path typed.0 v is some typed.1 stands),
   )
-
--- no step: the view itself
-pub Reaches-here : (view : Looking) → Reaches view [] view
-Reaches-here view = record {
-  arena = refl;
-  types = refl;
-  type_at = refl;
-  part = λ v stands. record { value = v; is = refl; stands = stands };
-}

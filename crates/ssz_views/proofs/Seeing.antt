@@ -312,8 +312,3 @@ flag_seen view chunk b i form shows begins is = λ v stands.
     (shows at.chunk at.is)
     ∙ ap (λ n. eqb n 1) at.bit ∙ flag_is_one at.flag)
     ∙ ap truth_in (sym at.value)
-
--- the leaf that is shown
-pub leaf_seen : (tree : Tree) (chunk c : List ℕ) → tree ≡ leaf c
-    → ((c : List ℕ) → tree ≡ leaf c → chunk ≡ c) → tree ≡ leaf chunk
-leaf_seen tree chunk c is shows = is ∙ ap leaf (sym (shows c is))
