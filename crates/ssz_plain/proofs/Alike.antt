@@ -137,12 +137,6 @@ less_alike to elem limit xs =
     ∙ ap (λ (vs : List SszValue). cond (eqb (length xs) 0) (Err Empty)
     (made (sequence (values vs)))) (map_less to (length xs - 1) xs))
 
--- one bit less
-pub less_bits : (limit : ℕ) (bs : List Bool)
-    → turned bits (one_less bs) ≡ with_less (bitlist limit) (bits bs)
-less_bits limit bs =
-    turned_cond_not bits (eqb (length bs) 0) (take (length bs - 1) bs) Empty
-
 -- element i of a sequence
 pub item_alike : {X : Type 0} (to : X → SszValue) (xs : List X) (i : ℕ)
     → part_at (Index i) (alike to xs) ≡ option_map to (slice_get xs i)

@@ -50,22 +50,6 @@ bytes_counted run = ap (part_at Len) (bytes_are run)
     ∙ ap (λ vs. Some (number (length vs))) (items_alike number run)
     ∙ ap (λ n. Some (number n)) (length-map run number)
 
--- One step, and the rest of the path.
-
-pub part_led : (t u : SszType) (v : SszValue) (step : PathStep) (rest path : Path) (at : PathStep)
-    → path ≡ step ∷ rest → step_type t step ≡ Some u → numbered t step ≡ at
-    → part t v path ≡ option_and_then (λ w. part u w rest) (part_at at v)
-part_led t u v step rest path at path_is typed at_is =
-    ap (part t v) path_is
-    ∙ ap (option_and_then (λ x. option_and_then (λ w. part x w rest)
-    (part_at (numbered t step) v))) typed
-    ∙ ap (λ s. option_and_then (λ w. part u w rest) (part_at s v)) at_is
-
-pub path_led : (t u : SszType) (step : PathStep) (rest path : Path)
-    → path ≡ step ∷ rest → step_type t step ≡ Some u → path_type t path ≡ path_type u rest
-path_led t u step rest path path_is typed =
-    ap (path_type t) path_is ∙ ap (option_and_then (λ x. path_type x rest)) typed
-
 -- a number and a bit have no parts
 
 part_of_number : (u : SszType) (n : ℕ) (step : PathStep) → step_part u (number n) step ≡ None
