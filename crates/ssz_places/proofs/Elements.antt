@@ -8,7 +8,7 @@ use Rattle.ssz_schema.specs.declared.width.Width.{Width}
 use Rattle.ssz_schema.specs.declared.width.Width.TheVariants.{W8, W16, W32, W64, W128, W256}
 use Rattle.ssz_schema.specs.Types.{SszType, uint, boolean, container, vector, list, bitvector, bitlist, union}
 use Rattle.ssz_schema.specs.Sizes.{basic_size, byte_count}
-use Rattle.ssz_value.specs.Values.{SszValue, number, truth, Fits}
+use Rattle.ssz_value.specs.Values.{SszValue, truth, Fits}
 use Rattle.ssz_value.specs.Encoding.{enc}
 use Rattle.ssz_chunk.specs.Tree.{Tree, leaf, place}
 use Rattle.ssz_chunk.specs.Chunk.{zero_chunk}
