@@ -101,10 +101,20 @@ empty_script held = refl
 
 -- statements that are still to come
 pub statements_to_come : (held : Content)
-    → run types_P held (codes "new V P\nupgrade V W P\ncompact\nlist\n")
-    ≡ codes "ok\nrefused 2 1 Syntax\nrefused 3 1 Syntax\nlist V\n"
+    → run types_P held (codes "new V P\nupgrade V W P\nlist\n")
+    ≡ codes "ok\nrefused 2 1 Syntax\nlist V\n"
 unfolding computes
 statements_to_come held = refl
+
+-- no version changes where memory is given up
+pub compacted : (held : Content)
+    → run types_Q held (codes "new V Q\nset V /a 0x05\nroot V\ncompact\nroot V\nlist\ncompact V\n")
+    ≡ codes "ok\nok\n"
+    ++ codes "root 0x0000000000000000000000000000000000000000000000000000000000000005\nok\n"
+    ++ codes "root 0x0000000000000000000000000000000000000000000000000000000000000005\n"
+    ++ codes "list V\nrefused 7 1 Syntax\n"
+unfolding computes
+compacted held = refl
 
 -- comments and blank lines are no statements
 pub blank_lines : (held : Content)
@@ -373,6 +383,11 @@ pub charges_of_texts : (held : Content)
     ≡ 1 ∷ 0 ∷ 0 ∷ []
 unfolding computes
 charges_of_texts held text none is = rw (text, none, is) refl
+
+pub charges_of_compact : (held : Content)
+    → charges types_Q held (codes "new V Q\ncompact\ncompact\n") ≡ 1 ∷ 0 ∷ 0 ∷ []
+unfolding computes
+charges_of_compact held = refl
 
 pub charges_of_lists : (held : Content)
     → charges ((codes "T", list (uint W64) 8) ∷ []) held

@@ -117,7 +117,8 @@ row_changes rules place number view (Json v path) =
 row_changes rules place number view (LoadJson v t x) =
     let is : Puts (LoadJson v t x) v = record { entry = refl; files = refl } in
     search (given, passed, made_changes, is) depth 12
-row_changes rules place number view Compact = record { is = tt }
+row_changes rules place number view Compact =
+    told_changes _ (record { entry = refl; files = refl })
 
 pub statements_change_their_entry_lem : StatementsChangeTheirEntry
 statements_change_their_entry_lem rules place number view statement =

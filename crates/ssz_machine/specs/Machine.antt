@@ -9,7 +9,7 @@ use Rattle.ssz_script.specs.declared.reply.TheConstants.Reply.{SYNTAX}
 use Rattle.ssz_machine.specs.declared.place.Place.{Place}
 use Rattle.ssz_machine.specs.State.{Name, Versions, View, State, has_version, view_of, with_view}
 use Rattle.ssz_machine.specs.Rules.{Rules, coded, Row, refusal_reply}
-use Rattle.ssz_machine.specs.Making.{new, lit, load, loadjson, fork, drop, list}
+use Rattle.ssz_machine.specs.Making.{new, lit, load, loadjson, fork, drop, list, compact}
 use Rattle.ssz_machine.specs.Editing.{set, append, pop, choose}
 use Rattle.ssz_machine.specs.Asking.{root_row, bytes, json_row, len, save, gindex, prove, hashes}
 
@@ -36,9 +36,10 @@ effect rules place number view Hashes = hashes place number view.versions
 effect rules place number view (Json v path) = json_row rules view.versions v path
 effect rules place number view (LoadJson v t file) =
     loadjson rules view.versions v t (contents view.files file)
--- these are still to come
+-- only what is kept of the nodes changes, of which the machine knows nothing
+effect rules place number view Compact = compact view.versions
+-- this is still to come
 effect rules place number view (Upgrade v w t) = Err (coded SYNTAX)
-effect rules place number view Compact = Err (coded SYNTAX)
 
 -- a line that is not of the grammar is refused
 abbrev pub said : Rules → Place → ℕ → View → Option Statement → Row

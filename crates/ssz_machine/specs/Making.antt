@@ -81,3 +81,7 @@ names_of versions = map (λ entry. entry.0) versions
 
 abbrev pub list : Versions → Row
 list versions = says versions (Listed (names_of versions))
+
+-- `compact`: memory that no version needs is given up
+abbrev pub compact : Versions → Row
+compact versions = says versions Done

@@ -6,7 +6,7 @@
 //! jobs of `run`, `weave` and `work` in the sense of ssz_outside, the edits that `work` draws, and
 //! what is so of the numbers that `hashes` prints. The laws about them stand in `laws`.
 //!
-//! `upgrade` and `compact` are still to come, and are refused as Syntax.
+//! `upgrade` is still to come, and is refused as Syntax.
 #![tactic(auto)]
 
 mod laws;
