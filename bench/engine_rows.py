@@ -324,6 +324,9 @@ class Script:
             return "ok"
         self.line("drop " + v, reply)
 
+    def compact(self):
+        self.line("compact", "ok")
+
     def list(self):
         self.line("list", lambda: " ".join(["list"] + sorted(self.own())))
 
@@ -619,7 +622,8 @@ def lines(script):
     script.none("")
     script.list()
     script.refused("upgrade V W P", "Syntax")
-    script.refused("compact", "Syntax")
+    script.refused("compact V", "Syntax")
+    script.compact()
     for text in ("json V", "json V /a /b", "json V a", "loadjson V P", "loadjson V P f g", "loadjson V P f~"):
         script.refused(text, "Syntax")
 
@@ -748,6 +752,25 @@ def counts(script):
     script.hashes(1)
     script.refused("root Z", "NoVersion")
     script.hashes(1)
+    # what was hashed stays so where nodes are given up, and what was not is hashed later
+    script.new("X", "Q")
+    script.set("X", "/a", b"\x05", 5)
+    script.root("X")
+    script.hashes(2)
+    script.compact()
+    for name in "XVW":
+        script.root(name)
+    script.hashes(2)
+    script.set("V", "/b", le(9, 8), 9)
+    script.compact()
+    script.hashes(2)
+    script.root("V")
+    script.hashes(3)
+    script.drop("X")
+    script.compact()
+    script.root("W")
+    script.prove("V", 2)
+    script.hashes(3)
 
 
 def woven(script):
@@ -764,8 +787,14 @@ def woven(script):
     script.set("S", "/b", b"\x02", 2)
     script.root("S")
     script.root("S")
+    script.compact()
+    script.root("S")
+    script.root("S")
+    script.compact()
     script.drop("S")
     script.bytes("S", "/b")
+    script.compact()
+    script.root("S")
     script.list()
     script.list()
 

@@ -640,6 +640,9 @@ class Machine:
         if c == 'hashes':
             need(n == 0)
             return 'hashes ?'
+        if c == 'compact':
+            need(n == 0)
+            return 'ok'
         if c in ('set', 'append', 'pop', 'choose'):
             if c in ('set', 'append'):
                 need(n == 3 and nm(a[0]) and (path(a[1]) is not None) and (hx(a[2]) is not None))
@@ -996,6 +999,14 @@ def script(seed, n, held={}, spells=False):
         o, _ = m.script('\n' * (i - 1) + line)
         out += o
     return ('\n'.join(lines) + '\n', out)
+
+
+def compacting(seed, text):
+    """The same with a `compact` behind some of its lines."""
+    r = random.Random(seed)
+    return ''.join(line + '\n' + 'compact\n' * (r.random() < 0.3) for line in text.split('\n')[:-1])
+
+
 EXAMPLES = [
     ("sha", """\
 new V L8
@@ -1151,7 +1162,7 @@ append V /b 0x03
 json V /
 list
 """),
-    ("sha", 'upgrade V W P\njson V\nloadjson V P\njson V / /\nloadjson V P f g\nloadjson V 1 f\ncompact\nhashes x\nnew V\nnew 1 P\nset V a 0x\nprove V\nlit V P 0x0\nlit V P 0xzz\nbytes V /a/\nbytes V /01\n\x01\n'),
+    ("sha", 'upgrade V W P\njson V\nloadjson V P\njson V / /\nloadjson V P f g\nloadjson V 1 f\ncompact V\nhashes x\nnew V\nnew 1 P\nset V a 0x\nprove V\nlit V P 0x0\nlit V P 0xzz\nbytes V /a/\nbytes V /01\n\x01\n'),
 ]
 # with the numbers of `hashes`, which follow from the pairs of the trees
 COUNTED = [
@@ -1166,6 +1177,39 @@ hashes
 root V
 hashes
 """, ['hashes 0', 'hashes 1', 'hashes 1']),
+    ("xor", """\
+new V Q
+set V /a 0x05
+root V
+hashes
+compact
+root V
+hashes
+""", ['hashes 1', 'hashes 1']),
+    # what was not hashed before is hashed later, once; what two names share is shared as before
+    ("sha", """\
+compact
+new V P
+fork V W
+set V /a 0x0100000000000000
+fork V X
+compact
+compact
+hashes
+root X
+hashes
+compact
+root V
+root X
+hashes
+drop X
+drop V
+compact
+hashes
+root W
+hashes
+list
+""", ['hashes 0', 'hashes 1', 'hashes 1', 'hashes 1', 'hashes 2']),
 ]
 TOP = os.path.join(os.path.dirname(os.path.abspath(__file__)), '..')
 CRATE = os.path.join(TOP, 'crates', 'run_rows')
@@ -1183,6 +1227,7 @@ def wanted(hasher, text, numbers=(), types=SCHEMA):
 def main():
     drawn = [(random.Random(seed).choice(["sha", "xor"]), script(seed, 60)[0]) for seed in range(40)]
     drawn += [(random.Random(seed).choice(["sha", "xor"]), script(seed, 60, spells=True)[0]) for seed in range(40, 64)]
+    drawn += [(random.Random(seed).choice(["sha", "xor"]), compacting(seed, script(seed, 60)[0])) for seed in range(64, 80)]
     with open(os.path.join(TOP, "examples/ethereum/state.script")) as file:
         state = file.read()
     with open(os.path.join(TOP, "examples/ethereum/deneb.json")) as file:

@@ -105,25 +105,32 @@ EXAMPLES = [
     ('sha', '\n# the base\n\nnew S L8\n', '0000012',
      [f'append S / {ONE}\n\nappend S / {TWO}\nlen S /\nfrob\n', '', f'# only this\nappend S / {TWO}\nlen S /\nroot S\nroot T\nbytes S /\n']),
     ('sha', 'new S P\r\n', '1', ['root S', '\tlist \r\nroot S \r']),
+    # a writer gives up what no version needs, of whichever writer
+    ('xor', f'new S P\ncompact\nset S /a {ONE}\n', '0101010101',
+     [f'set S /b {TWO}\nroot S\ncompact\nroot S\nbytes S /\n', f'root S\ncompact\nroot S\nfork S T\nset T /a {TWO}\nroot S\nroot T\n']),
+    ('sha', 'compact\nnew S L8\ncompact\n', '01201201',
+     [f'append S / {ONE}\ncompact\nroot S\n', f'drop S\ncompact\nlist\nnew S L8\nroot S\n', f'append S / {TWO}\nlist\nroot S\n']),
     # as many writers as there can be
     ('sha', 'new S L8\n', '9876543210' * 2, [f'append S / 0x{i:02x}00000000000000\nbytes S /\nlist\n' for i in range(10)]),
 ]
 
 
-def drawn(seed):
+def drawn(seed, compacts=False):
     r = random.Random(seed)
     base = run_rows.script(seed, 12)[0]
     begun = Script('base', base, sha, {}, {})
     begun.all()
     count = r.randint(1, 4)
     scripts = [run_rows.script(1000 * (seed + 1) + i, r.randint(0, 14), begun.writer.v)[0] for i in range(count)]
+    if compacts:
+        base, scripts = run_rows.compacting(seed, base), [run_rows.compacting(seed + i, text) for i, text in enumerate(scripts)]
     order = ''.join(str(r.randrange(count)) for _ in range(r.randint(1, 30)))
     return r.choice(['sha', 'xor']), base, order, scripts
 
 
 def main():
     crate = os.path.join(run_rows.TOP, 'crates', 'weave_rows')
-    rows = EXAMPLES + [drawn(seed) for seed in range(24)]
+    rows = EXAMPLES + [drawn(seed) for seed in range(24)] + [drawn(seed, compacts=True) for seed in range(24, 32)]
     os.makedirs(os.path.join(crate, 'data'), exist_ok=True)
     with open(os.path.join(crate, 'data', 'types.json'), 'w') as file:
         file.write(TYPES)
