@@ -2,29 +2,32 @@
 use Rattle.std.proofs.Common.{ℕ, ◌+◌, ◌-◌, ◌≤◌, ◌≡◌, Bool, true, false, List, [], Option, Some, None, refl, sym, ap, ◌∙◌, subst}
 use Rattle.std.specs.Prelude.{Result, Ok, Err, IfOk, IfErr, OnErr, is_some, ◌≢◌}
 use Rattle.std.specs.List.{AllByRecursion}
-use Rattle.ssz_arena.specs.Content.{unhashed}
+use Rattle.ssz_arena.specs.Content.{Content as Nodes, unhashed}
 use Rattle.ssz_outside.specs.Content.{Content as Files}
 use Rattle.ssz_proof.specs.Calculation.{PairOf}
 use Rattle.ssz_script.specs.declared.statement.Statement.{Statement}
 use Rattle.ssz_script.specs.declared.statement.Statement.TheVariants.{Load, LoadJson}
 use Rattle.ssz_versions.specs.Content.{Entries, held_at}
+use Rattle.ssz_versions.specs.Compacted.{IsCompacted}
 use Rattle.ssz_machine.specs.declared.place.Place.{Place}
 use Rattle.ssz_machine.specs.State.{Name, State, Versions}
 use Rattle.ssz_machine.specs.Rules.{Row, Rules}
 use Rattle.ssz_machine.specs.Machine.{Turn, step, state_of, charge_of, is_refused_row, reads}
 use Rattle.ssz_machine.specs.Changes.{Touch, nothing, puts, takes}
 use Rattle.ssz_machine.specs.Counts.{asks_root, hashes_row}
+use Rattle.ssz_engine.specs.Compacting.{compacted, is_compact}
 use Rattle.ssz_engine.specs.Content.{rules_of}
 use Rattle.ssz_engine.specs.Outside.{Holds}
 use Rattle.ssz_engine.specs.Steps.{DoesStep, Leaves, SavesPart, Stops, TouchesWhere, file_read, is_refusal, turn_at}
 use Rattle.ssz_engine.specs.Scripts.{Scene, file_named, name_before}
-use Rattle.ssz_engine.specs.Lines.{DoesLine, LeavesOthers}
+use Rattle.ssz_engine.specs.Lines.{DoesLine, LeavesOthers, type_held}
 use Rattle.ssz_engine.specs.declared.outcome.Outcome.{Outcome}
 use Rattle.ssz_engine.specs.declared.outcome.Outcome.TheVariants.{Accepted, Refused}
 use Rattle.ssz_engine.specs.declared.fault.EngineFault.{EngineFault}
 use Rattle.ssz_engine.specs.declared.fault.EngineFault.TheVariants.{Read, Write, Memory}
 use Rattle.ssz_engine.proofs.Entries.{held_at-with, held_at-without}
 use Rattle.ssz_engine.proofs.Keys.{other_writer}
+use Rattle.ssz_engine.proofs.Moving.{type-moved}
 use Rattle.ssz_engine.proofs.Replies.{said_number}
 
 not-both : false ≡ true → ⊥
@@ -167,9 +170,10 @@ reads_named readable statement result none some all = by (file_read statement) r
     by None is all = none is
     by (Some name) is all = some name is all.0
 
--- a step of one writer leaves what the others hold
+-- a step of one writer that gives up no nodes leaves what the others hold
 touched : (writer : ℕ) (made : Outcome) (touch : Touch) (old new : Entries)
-    → TouchesWhere made touch writer old new → LeavesOthers writer old new
+    → TouchesWhere made touch writer old new → (other : ℕ) (name : Name) → other ≢ writer
+    → held_at new other name ≡ held_at old other name
 touched writer Accepted nothing old new is other name apart =
     ap (λ es. held_at es other name) is
 touched writer Accepted (puts v) old new is other name apart =
@@ -182,11 +186,29 @@ touched writer Accepted (takes v) old new is other name apart =
     ∙ rw (other_writer other writer name v apart) refl
 touched writer Refused touch old new is other name apart = ap (λ es. held_at es other name) is
 
-pub step_leaves_others : (writer : ℕ) (result : Result Outcome EngineFault) (touch : Touch)
-    (old new : Entries) (P : Type 0)
-    → IfOk result (λ made. TouchesWhere made touch writer old new)
-    → OnErr result ((new ≡ old) × P) → LeavesOthers writer old new
-step_leaves_others writer (Ok made) touch old new P ok err other name apart =
-    touched writer made touch old new ok other name apart
-step_leaves_others writer (Err fault) touch old new P ok err other name apart =
-    ap (λ es. held_at es other name) err.0
+-- whether nodes are given up or not, the others keep names and types
+module _ (writer : ℕ) (touch : Touch) (old new : Entries) (before after : Nodes) (P : Type 0) where
+  moved_or_touched : (made : Outcome) (test : Bool)
+      → (test ≡ false → TouchesWhere made touch writer old new)
+      → (test ≡ true → IsCompacted old new before after) → LeavesOthers writer old new
+  moved_or_touched made true touches moves other name apart =
+      type-moved before after _ _ ((moves refl).entries other name)
+  moved_or_touched made false touches moves other name apart =
+      ap type_held (touched writer made touch old new (touches refl) other name apart)
+
+  pub step_leaves_others : (statement : Statement) (result : Result Outcome EngineFault)
+      → (compacted statement result ≡ false
+      → IfOk result (λ made. TouchesWhere made touch writer old new))
+      → (compacted statement result ≡ true → IsCompacted old new before after)
+      → OnErr result ((new ≡ old) × P) → LeavesOthers writer old new
+  step_leaves_others statement (Ok made) touches moves err other name apart =
+      moved_or_touched made (compacted statement (Ok made)) touches moves other name apart
+  step_leaves_others statement (Err fault) touches moves err other name apart =
+      ap (λ (es : Entries). type_held (held_at es other name)) err.0
+
+-- a line that gives up no nodes is a step that gives up none
+pub stays_uncompacted : (statement : Statement) (result : Result Outcome EngineFault)
+    → is_compact statement ≡ false → compacted statement result ≡ false
+stays_uncompacted statement (Ok Accepted) none = none
+stays_uncompacted statement (Ok Refused) none = refl
+stays_uncompacted statement (Err fault) none = refl

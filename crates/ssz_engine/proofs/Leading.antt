@@ -1,7 +1,6 @@
 -- Lines one after another.
 use Rattle.std.proofs.Common.{ℕ, ◌≡◌, Bool, List, [], ◌∷◌, ◌++◌, refl, ◌∙◌, subst, arith}
 use Rattle.std.specs.Prelude.{Ok, Err}
-use Rattle.ssz_arena.proofs.Keeping.{keeps_trans}
 use Rattle.ssz_outside.specs.declared.status.Status.{Status}
 use Rattle.ssz_outside.specs.declared.status.Status.TheVariants as status
 use Rattle.ssz_proof.specs.Calculation.{PairOf}
@@ -68,7 +67,6 @@ keeps_on first then = record {
   types = then.types ∙ first.types;
   most = then.most ∙ first.most;
   base = then.base ∙ first.base;
-  nodes = keeps_trans first.nodes then.nodes;
 }
 
 -- there is no line left

@@ -18,6 +18,7 @@ pub mod Tested
 pub mod Chosen
 pub mod Edited
 pub mod Stepping
+pub mod Moving
 pub mod Paying
 pub mod Replies
 pub mod Settling
@@ -29,6 +30,7 @@ pub mod Leading
 pub mod Scripts
 pub mod Going
 pub mod NamedFiles
+pub mod Uncompacted
 pub mod TakenOver
 pub mod Weaving
 pub mod Isolating

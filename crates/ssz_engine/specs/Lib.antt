@@ -6,6 +6,7 @@ pub mod Counted
 pub mod EditTests
 pub mod Finished
 pub mod Steps
+pub mod Compacting
 pub mod Outside
 pub mod Scripts
 pub mod Points

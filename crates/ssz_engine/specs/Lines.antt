@@ -1,5 +1,5 @@
 -- What a line of a script does, as the plain machine does it.
-use Rattle.std.specs.Prelude.{◌≡◌, ◌≢◌, ℕ, ◌-◌, true, List, [], ◌∷◌, ◌++◌, take, Some, Result, Ok, Err}
+use Rattle.std.specs.Prelude.{◌≡◌, ◌≢◌, ℕ, ◌-◌, true, List, [], ◌∷◌, ◌++◌, take, Option, Some, None, Result, Ok, Err}
 use Rattle.ssz_arena.specs.Content.{unhashed}
 use Rattle.ssz_outside.specs.Outcome.{Rose}
 use Rattle.ssz_outside.specs.Pieces.{Told, told_append}
@@ -7,7 +7,7 @@ use Rattle.ssz_outside.specs.declared.status.Status.{Status}
 use Rattle.ssz_outside.specs.declared.status.Status.TheVariants as status
 use Rattle.ssz_proof.specs.Calculation.{PairOf}
 use Rattle.ssz_script.specs.Texts.{reply_line}
-use Rattle.ssz_versions.specs.Content.{Entries, held_at}
+use Rattle.ssz_versions.specs.Content.{Entries, Held, held_at}
 use Rattle.ssz_machine.specs.declared.place.Place.{Place}
 use Rattle.ssz_machine.specs.State.{Name, State}
 use Rattle.ssz_machine.specs.Rules.{Rules}
@@ -58,10 +58,17 @@ DoesLine pair_of place writer line result before after text more =
     (step (rules_of pair_of before.engine) place (before.hashed - before.engine.base) state writer
     line) result before after text more
 
--- the entries of all other writers stay
+-- the type of an entry, without its node
+abbrev pub type_held : Option Held → Option ℕ
+type_held None = None
+type_held (Some held) = Some held.0
+
+-- all other writers hold under the same names what has the same types: a `compact` alone gives it
+-- other nodes
 abbrev pub LeavesOthers : ℕ → Entries → Entries → Type 0
 LeavesOthers writer old new =
-    (other : ℕ) (name : Name) → other ≢ writer → held_at new other name ≡ held_at old other name
+    (other : ℕ) (name : Name) → other ≢ writer
+    → type_held (held_at new other name) ≡ type_held (held_at old other name)
 
 -- the status of a run that a line ended
 abbrev pub ended_by : EngineFault → Status

@@ -3,7 +3,7 @@ use Rattle.std.specs.Prelude.{◌≡◌, ◌≤◌, ◌<◌, ◌^◌, ◌+◌, �
 use Rattle.ssz_outside.specs.Content.{Content as Files, told_with_bytes}
 use Rattle.ssz_outside.specs.Job.{Save}
 use Rattle.ssz_outside.specs.Outcome.{Tears}
-use Rattle.ssz_arena.specs.Content.{KeepsNodes, todo, unhashed}
+use Rattle.ssz_arena.specs.Content.{todo, unhashed}
 use Rattle.ssz_arena.specs.declared.node.NodeId.{NodeId}
 use Rattle.ssz_proof.specs.Calculation.{PairOf}
 use Rattle.ssz_script.specs.declared.statement.Statement.{Statement}
@@ -217,10 +217,8 @@ file_read (Load v t file) = Some file
 file_read (LoadJson v t file) = Some file
 file_read _ = None
 
--- what no statement changes: the types, the limit and the base; each node is there, with the same
--- tree and no more to be hashed
+-- what no statement changes: the types, the limit and the base
 pub record Keeps (old new : Content) : Type 0 where
   pub types : new.types ≡ old.types
   pub most : new.most ≡ old.most
   pub base : new.base ≡ old.base
-  pub nodes : KeepsNodes old.arena new.arena

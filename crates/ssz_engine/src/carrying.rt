@@ -19,8 +19,8 @@ use ssz_schema::TypeId;
 use ssz_script::{FileName, Identifier, Reply, reply_text};
 use ssz_versions::Writer;
 
-// Appends `ok`, for which there is room.
-fn say_done(out: &mut Vec<u8>)
+/// Appends `ok`, for which there is room.
+pub(crate) fn say_done(out: &mut Vec<u8>)
     requires { vec_len out.old + 3 ≤ vec_capacity out.old }
     ensures { out.new.items ≡ out.old.items ++ reply_line Reply.Done }
 {

@@ -1,6 +1,7 @@
 ghost use Rattle.std.specs.Prelude.{◌≡◌, ◌≢◌, ◌+◌, ◌-◌, ◌≤◌, ℕ, List, Some, None, Err, false, IfOk, IfErr};
 ghost use Rattle.ssz_arena.specs.Content.{unhashed};
 ghost use Rattle.ssz_machine.specs.Counts.{asks_root};
+ghost use Rattle.ssz_engine.specs.Compacting.{is_compact};
 ghost use Rattle.ssz_engine.specs.Content.{Grows};
 ghost use Rattle.ssz_engine.specs.Outside.{CountsReads};
 ghost use Rattle.ssz_engine.specs.Steps.{CanAsk, Decides, DecidesAlone, IsShort, MakesFork, file_read, outcome_of};
@@ -23,8 +24,8 @@ use ssz_outside::Files;
 use ssz_script::{Reply, Statement};
 use ssz_versions::Writer;
 
-/// Finds what a statement comes to. Nothing is changed but that the arena may have more nodes and
-/// roots. A new statement joins here.
+/// Finds what a statement other than `compact` comes to. Nothing is changed but that the arena may
+/// have more nodes and roots. A new statement joins here.
 pub(crate) fn decide<'a, F: Files, H: PairHash>(
     engine: &mut Engine<H>,
     writer: Writer,
@@ -33,7 +34,8 @@ pub(crate) fn decide<'a, F: Files, H: PairHash>(
     files: &mut F,
     hasher: &mut H,
 ) -> Result<Decision<'a>, EngineFault>
-    requires { IsShort statement.now }
+    requires short { IsShort statement.now }
+    requires other { is_compact statement.now ≡ false }
     ensures grows { Grows engine.old engine.new }
     ensures decides { IfOk result (Decides H.pair_of place statement.now writer.0
         (H.pairs hasher.old - engine.old.base) (F.content files.old) engine.old engine.new
@@ -71,6 +73,7 @@ fn decide_alone<'a, H: PairHash>(
 ) -> Result<Decision<'a>, EngineFault>
     requires short { IsShort statement.now }
     requires alone { file_read statement.now ≡ None }
+    requires other { is_compact statement.now ≡ false }
     ensures grows { Grows engine.old engine.new }
     ensures decides { IfOk result (DecidesAlone H.pair_of place statement.now writer.0
         (H.pairs hasher.old - engine.old.base) engine.old engine.new
@@ -106,10 +109,10 @@ fn decide_alone<'a, H: PairHash>(
             choose(engine, writer, v, path.as_slice(), *selector, literal)
         }
         Statement::Prove(v, indices) => prove(engine, writer, v, indices, hasher),
-        // No script has these yet.
+        // No script has this yet.
         Statement::Upgrade(_, _, _) => Ok(Decision::Refused(Reply::SYNTAX)),
-        Statement::Compact => Ok(Decision::Refused(Reply::SYNTAX)),
         Statement::Load(_, _, _) => unreachable!(),
         Statement::LoadJson(_, _, _) => unreachable!(),
+        Statement::Compact => unreachable!(),
     }
 }

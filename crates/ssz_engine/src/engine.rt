@@ -1,16 +1,19 @@
-ghost use Rattle.std.specs.Prelude.{◌≡◌, ◌≢◌, ◌+◌, ◌-◌, ◌≤◌, ℕ, List, [], is_some, Some, None, Err, false, IfOk, IfErr, OnOk, OnErr};
+ghost use Rattle.std.specs.Prelude.{◌≡◌, ◌≢◌, ◌+◌, ◌-◌, ◌≤◌, ℕ, List, [], is_some, Some, None, Err, true, false, IfOk, IfErr, OnOk, OnErr};
 ghost use Rattle.std.specs.FinMap as finite;
 ghost use Rattle.ssz_chunk.specs.declared.TheConstants.{LEVELS};
 ghost use Rattle.ssz_chunk.specs.Chunk.{CountsUp};
-ghost use Rattle.ssz_arena.specs.Content.{unhashed};
+ghost use Rattle.ssz_arena.specs.Content.{KeepsNodes, unhashed};
+ghost use Rattle.ssz_versions.specs.Compacted.{IsCompacted};
 ghost use Rattle.ssz_machine.specs.Changes.{touch};
 ghost use Rattle.ssz_machine.specs.Counts.{asks_root};
+ghost use Rattle.ssz_engine.specs.Compacting.{compacted, is_compact};
 ghost use Rattle.ssz_engine.specs.Outside.{CountsReads, CountsWrites};
 ghost use Rattle.ssz_engine.specs.Standing.{StandsFor};
 ghost use Rattle.ssz_engine.specs.Steps.{DoesStep, ForksWhere, IsShort, Keeps, Stops, TouchesWhere, file_read};
 ghost use Rattle.ssz_engine.specs.Weaves.{HoldsNone};
 
 use super::carrying::carry_out;
+use super::compaction::compact;
 use super::deciding::decide;
 use super::fault::EngineFault;
 use super::outcome::Outcome;
@@ -104,11 +107,23 @@ impl<H: PairHash> Engine<H> {
     ) -> Result<Outcome, EngineFault>
         requires { IsShort statement.now }
         ensures keeps { Keeps self.old self.new }
+        // Each node is there, with the same tree and no more to be hashed; but `compact` gives up
+        // what no version reaches.
+        ensures nodes { compacted statement.now result ≡ false
+            → KeepsNodes self.old.arena self.new.arena }
+        // Then each entry has its writer, name and type, and a node with the same tree and the same
+        // root or none; nothing is hashed, and there are no more nodes than are reached, and the
+        // zero trees.
+        ensures compacted { compacted statement.now result ≡ true
+            → IsCompacted self.old.entries self.new.entries self.old.arena self.new.arena }
+        // One for which there was no memory leaves all as it was.
+        ensures whole { is_compact statement.now ≡ true → OnErr result (self.new ≡ self.old) }
         ensures ok { IfOk result (DoesStep H.pair_of place writer.0 line statement.now self.old
             self.new (H.pairs hasher.old) (H.pairs hasher.new) (F.content files.old)
             (F.content files.new) out.old.items out.new.items) }
-        ensures entries { IfOk result (λ outcome. TouchesWhere outcome (touch statement.now)
-            writer.0 self.old.entries self.new.entries) }
+        ensures entries { compacted statement.now result ≡ false
+            → IfOk result (λ outcome. TouchesWhere outcome (touch statement.now) writer.0
+            self.old.entries self.new.entries) }
         // A fork holds what its source holds, the same node.
         ensures forks { IfOk result (λ outcome. ForksWhere outcome statement.now writer.0
             self.old.entries self.new.entries) }
@@ -132,6 +147,10 @@ impl<H: PairHash> Engine<H> {
         ensures gets { CountsReads result (F.get_faults files.old) (F.get_faults files.new) }
         ensures puts { CountsWrites result (F.put_faults files.old) (F.put_faults files.new) }
     {
+        if let Statement::Compact = statement {
+            compact(self, out)?;
+            return Ok(Outcome::Accepted);
+        }
         let decision = decide(self, writer, place, statement, files, hasher)?;
         carry_out(self, writer, line, decision, files, out)
     }

@@ -6,6 +6,7 @@
 //! more nodes and roots. Then the decision is carried out (`carry_out`), with all memory taken
 //! before anything is changed. So each statement has one function with one shape of contract:
 //! whatever versions of the plain machine the entries stand for, the decision is the machine's row.
+//! `compact` alone goes another way (`compaction`), since it gives up nodes.
 //!
 //! A script is done line by line (`run_script`): each line's reply is made in memory and printed in
 //! one piece. Scripts of several writers take turns over the same arena (`weave`).
@@ -14,6 +15,7 @@
 mod adopting;
 mod asking;
 mod carrying;
+mod compaction;
 mod counting;
 mod deciding;
 mod decision;

@@ -1,12 +1,13 @@
 // One line of a script.
-ghost use Rattle.std.specs.Prelude.{◌≡◌, ◌≢◌, ◌≤◌, ◌<◌, ◌+◌, ◌^◌, ◌∷◌, ◌++◌, [], ℕ, List, true, length, Some, None, Err, IfOk, IfErr, OnOk};
+ghost use Rattle.std.specs.Prelude.{◌≡◌, ◌≢◌, ◌≤◌, ◌<◌, ◌+◌, ◌^◌, ◌∷◌, ◌++◌, [], ℕ, List, true, false, length, Some, None, Err, IfOk, IfErr, OnOk};
 ghost use Rattle.std.specs.List.{AllByRecursion};
-ghost use Rattle.ssz_arena.specs.Content.{unhashed};
+ghost use Rattle.ssz_arena.specs.Content.{KeepsNodes, unhashed};
 ghost use Rattle.ssz_outside.specs.Job.{IsFinished};
 ghost use Rattle.ssz_outside.specs.Pieces.{Told};
 ghost use Rattle.ssz_script.specs.Texts.{reply_line};
 ghost use Rattle.ssz_script.specs.declared.reply.TheConstants.Reply.{SYNTAX};
 ghost use Rattle.ssz_machine.specs.Plays.{front, mark, says};
+ghost use Rattle.ssz_engine.specs.Compacting.{compacts};
 ghost use Rattle.ssz_engine.specs.Lines.{CountsPrint, DoesLine, LeavesOthers, Prints, ended_by};
 ghost use Rattle.ssz_engine.specs.Outside.{CountsReads, CountsWrites};
 ghost use Rattle.ssz_engine.specs.Points.{Counts, Goes};
@@ -96,6 +97,8 @@ fn reply_to<F: Files, H: PairHash>(
     out: &mut Vec<u8>,
 ) -> Result<Outcome, EngineFault>
     ensures keeps { Keeps engine.old engine.new }
+    ensures nodes { compacts line.now.statement ≡ false
+        → KeepsNodes engine.old.arena engine.new.arena }
     ensures rises { H.pairs hasher.old ≤ H.pairs hasher.new }
     ensures hashed { H.pairs hasher.new ≤ H.pairs hasher.old + unhashed engine.old.arena }
     ensures does { (was is : Told) → DoesLine H.pair_of place writer.0
@@ -178,6 +181,8 @@ pub(crate) fn run_line<F: Files, S: Sink, H: PairHash>(
     refused: &mut bool,
 ) -> Result<(), Status>
     ensures keeps { Keeps engine.old engine.new }
+    ensures nodes { compacts line.now.statement ≡ false
+        → KeepsNodes engine.old.arena engine.new.arena }
     ensures rises { H.pairs hasher.old ≤ H.pairs hasher.new }
     ensures goes { Goes H.pair_of place (says writer.0 (line.now.line, line.now.statement) ∷ [])
         result refused.old refused.new

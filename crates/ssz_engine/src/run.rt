@@ -1,9 +1,11 @@
 // Scripts that run alone, line after line.
 ghost use Rattle.std.specs.Prelude.{◌≡◌, ◌≢◌, ◌≤◌, ℕ, List, false, Err, IfErr};
 ghost use Rattle.std.specs.List.{AllByRecursion};
+ghost use Rattle.ssz_arena.specs.Content.{KeepsNodes};
 ghost use Rattle.ssz_outside.specs.Job.{CountsRun, IsFinished};
 ghost use Rattle.ssz_script.specs.Lines.{statements_in};
 ghost use Rattle.ssz_machine.specs.Plays.{all_of};
+ghost use Rattle.ssz_engine.specs.Compacting.{NoneCompacts};
 ghost use Rattle.ssz_engine.specs.Lines.{LeavesOthers};
 ghost use Rattle.ssz_engine.specs.Points.{Counts, Goes, finished};
 ghost use Rattle.ssz_engine.specs.Scripts.{EndsScript, files_named};
@@ -29,6 +31,7 @@ pub(crate) fn run_lines<F: Files, S: Sink, H: PairHash>(
     refused: &mut bool,
 ) -> Result<(), Status>
     ensures keeps { Keeps engine.old engine.new }
+    ensures nodes { NoneCompacts lines.old → KeepsNodes engine.old.arena engine.new.arena }
     ensures rises { H.pairs hasher.old ≤ H.pairs hasher.new }
     ensures goes { Goes H.pair_of place (all_of writer.0 lines.old) result refused.old refused.new
         (record {
@@ -92,6 +95,10 @@ impl<H: PairHash> Engine<H> {
         hasher: &mut H,
     ) -> Status
         ensures keeps { Keeps self.old self.new }
+        // Each node is there, with the same tree and no more to be hashed, where no line gives up
+        // nodes.
+        ensures nodes { NoneCompacts (statements_in script.now)
+            → KeepsNodes self.old.arena self.new.arena }
         // Whatever state of the machine the engine stood for, where the files tell what they hold:
         // for some numbers that `hashes` prints, the run ended as the script's job does.
         ensures ends { EndsScript H.pair_of script.now result

@@ -1,9 +1,11 @@
 // The lines of several scripts, in turns and then one script after another.
 ghost use Rattle.std.specs.Prelude.{◌≡◌, ◌≢◌, ◌≤◌, ◌<◌, ℕ, List, All, drop, vec_len, Err, IfErr, OnOk};
 ghost use Rattle.std.specs.List.{AllByRecursion};
+ghost use Rattle.ssz_arena.specs.Content.{KeepsNodes};
 ghost use Rattle.ssz_outside.specs.Job.{IsFinished};
 ghost use Rattle.ssz_machine.specs.Plays.{base_writer, next_of, rest_from, woven};
 ghost use Rattle.ssz_machine.specs.declared.place.Place.TheVariants.{Weave};
+ghost use Rattle.ssz_engine.specs.Compacting.{NoneCompacts};
 ghost use Rattle.ssz_engine.specs.Points.{Counts, Goes, GoesOn};
 ghost use Rattle.ssz_engine.specs.Scripts.{AreNamedReadable, scene};
 ghost use Rattle.ssz_engine.specs.Steps.{Keeps};
@@ -28,6 +30,7 @@ fn run_next<F: Files, S: Sink, H: PairHash>(
     refused: &mut bool,
 ) -> Result<(), Status>
     ensures keeps { Keeps engine.old engine.new }
+    ensures nodes { NoneCompacts lines.old → KeepsNodes engine.old.arena engine.new.arena }
     ensures rises { H.pairs hasher.old ≤ H.pairs hasher.new }
     ensures goes { Goes H.pair_of Weave (next_of writer.0 lines.old) result refused.old refused.new
         (scene engine.old (H.pairs hasher.old) (F.content files.old) (F.readable files.old)
@@ -74,6 +77,10 @@ fn run_turns<F: Files, S: Sink, H: PairHash>(
 ) -> Result<(), Status>
     requires { All (λ writer. writer < vec_len scripts.old) order.now }
     ensures keeps { Keeps engine.old engine.new }
+    ensures nodes { AllByRecursion NoneCompacts scripts.old.items
+        → KeepsNodes engine.old.arena engine.new.arena }
+    ensures plain { AllByRecursion NoneCompacts scripts.old.items
+        → OnOk result (AllByRecursion NoneCompacts scripts.new.items) }
     ensures rises { H.pairs hasher.old ≤ H.pairs hasher.new }
     ensures goes { GoesOn H.pair_of Weave (woven order.now scripts.old.items)
         (rest_from 0 scripts.new.items) result refused.old refused.new
@@ -111,6 +118,8 @@ fn run_rest<F: Files, S: Sink, H: PairHash>(
 ) -> Result<(), Status>
     requires { vec_len scripts.old ≤ base_writer }
     ensures keeps { Keeps engine.old engine.new }
+    ensures nodes { AllByRecursion NoneCompacts scripts.old.items
+        → KeepsNodes engine.old.arena engine.new.arena }
     ensures rises { H.pairs hasher.old ≤ H.pairs hasher.new }
     ensures goes { Goes H.pair_of Weave (rest_from 0 scripts.old.items) result refused.old
         refused.new
@@ -157,6 +166,8 @@ pub(crate) fn run_woven<F: Files, S: Sink, H: PairHash>(
     requires few { vec_len scripts.old ≤ base_writer }
     requires known { All (λ writer. writer < vec_len scripts.old) order.now }
     ensures keeps { Keeps engine.old engine.new }
+    ensures nodes { AllByRecursion NoneCompacts scripts.old.items
+        → KeepsNodes engine.old.arena engine.new.arena }
     ensures rises { H.pairs hasher.old ≤ H.pairs hasher.new }
     ensures goes { Goes H.pair_of Weave (woven order.now scripts.old.items) result refused.old
         refused.new

@@ -1,11 +1,13 @@
 // Scripts of several writers that take turns.
 ghost use Rattle.std.specs.Prelude.{◌≡◌, ◌≢◌, ◌≤◌, ◌<◌, ◌∷◌, ◌++◌, ℕ, List, All, length, map, Err, IfOk, IfErr};
 ghost use Rattle.std.specs.List.{AllByRecursion};
+ghost use Rattle.ssz_arena.specs.Content.{KeepsNodes};
 ghost use Rattle.ssz_outside.specs.Job.{CountsRun, IsFinished};
 ghost use Rattle.ssz_script.specs.Lines.{statements_in};
 ghost use Rattle.ssz_machine.specs.Machine.{Line};
 ghost use Rattle.ssz_machine.specs.Plays.{adoptions, all_of, base_writer, weaving};
 ghost use Rattle.ssz_machine.specs.declared.place.Place.TheVariants.{Weave};
+ghost use Rattle.ssz_engine.specs.Compacting.{NoneCompacts};
 ghost use Rattle.ssz_engine.specs.Points.{Counts, Goes};
 ghost use Rattle.ssz_engine.specs.Scripts.{AreNamedReadable, scene};
 ghost use Rattle.ssz_engine.specs.Steps.{Keeps};
@@ -50,6 +52,8 @@ fn run_base<F: Files, S: Sink, H: PairHash>(
     requires few { count ≤ base_writer }
     requires none { (writer : ℕ) → writer < count → HoldsNone engine.old.entries writer }
     ensures keeps { Keeps engine.old engine.new }
+    ensures nodes { NoneCompacts (statements_in base.now)
+        → KeepsNodes engine.old.arena engine.new.arena }
     ensures rises { H.pairs hasher.old ≤ H.pairs hasher.new }
     ensures goes { (scripts : List (List Line)) → length scripts ≡ count
         → Goes H.pair_of Weave (all_of base_writer (statements_in base.now) ++ adoptions 0 scripts)
@@ -90,6 +94,8 @@ fn run_weave<F: Files, S: Sink, H: PairHash>(
     requires none { (writer : ℕ) → writer < length scripts.now
         → HoldsNone engine.old.entries writer }
     ensures keeps { Keeps engine.old engine.new }
+    ensures nodes { AllByRecursion NoneCompacts (map statements_in (base.now ∷ scripts.now))
+        → KeepsNodes engine.old.arena engine.new.arena }
     ensures rises { H.pairs hasher.old ≤ H.pairs hasher.new }
     ensures goes { Goes H.pair_of Weave
         (weaving (statements_in base.now) order.now (map statements_in scripts.now)) result
@@ -139,6 +145,10 @@ impl<H: PairHash> Engine<H> {
         requires none { (writer : ℕ) → writer < length scripts.now
             → HoldsNone self.old.entries writer }
         ensures keeps { Keeps self.old self.new }
+        // Each node is there, with the same tree and no more to be hashed, where no line gives up
+        // nodes.
+        ensures nodes { AllByRecursion NoneCompacts (map statements_in (base.now ∷ scripts.now))
+            → KeepsNodes self.old.arena self.new.arena }
         // Whatever state of the machine the engine stood for, where the files tell what they hold,
         // the run ended as the weave's job does.
         ensures ends { EndsWeave H.pair_of base.now order.now scripts.now result

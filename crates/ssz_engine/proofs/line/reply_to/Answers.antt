@@ -1,9 +1,10 @@
-use Rattle.std.proofs.Common.{Option, sym, ap, subst}
+use Rattle.std.proofs.Common.{◌≡◌, false, Option, sym, ap, subst}
 use Rattle.ssz_script.specs.declared.statement.Statement.{Statement}
+use Rattle.ssz_engine.specs.Compacting.{compacts}
 use Rattle.ssz_engine.specs.Lines.{DoesLine}
 use Rattle.ssz_engine.specs.Scripts.{Scene}
 use Rattle.ssz_machine.specs.Changes.{touch}
-use Rattle.ssz_engine.proofs.EngineSteps.{same_counts, step_does, step_leaves_others}
+use Rattle.ssz_engine.proofs.EngineSteps.{same_counts, stays_uncompacted, step_does, step_leaves_others}
 use Rattle.ssz_engine.proofs.line.reply_to.Goals as goal
 
 pub returns-clause-does : goal.returns-clause-does
@@ -35,6 +36,11 @@ returns-clause-does g c = λ was is.
 
 pub returns-clause-others : goal.returns-clause-others
 returns-clause-others g c =
-    step_leaves_others c.args.writer.0 c.step.result (touch c.in-Some.statement)
-    c.args.engine.now.entries c.step.new.self.entries _ c.step.ensures.entries
-    c.step.ensures.err
+    step_leaves_others c.args.writer.0 (touch c.in-Some.statement) c.args.engine.now.entries
+    c.step.new.self.entries c.args.engine.now.arena c.step.new.self.arena _ c.in-Some.statement
+    c.step.result c.step.ensures.entries c.step.ensures.compacted c.step.ensures.err
+
+pub returns-clause-nodes : goal.returns-clause-nodes
+returns-clause-nodes g c = λ none.
+    c.step.ensures.nodes (stays_uncompacted c.in-Some.statement c.step.result
+    (subst (λ (statement : Option Statement). compacts statement ≡ false) c.in-Some.is none))

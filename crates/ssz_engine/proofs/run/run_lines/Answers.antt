@@ -1,6 +1,7 @@
 use Rattle.std.proofs.Common.{◌∷◌, [], ◌∙◌, Option, sym, ap, subst, arith}
 use Rattle.std.specs.Prelude.{Result, Err}
 use Rattle.std.proofs.lemmas.Result.{err_from_is_err_and}
+use Rattle.ssz_arena.proofs.Keeping.{keeps_trans}
 use Rattle.ssz_outside.specs.declared.status.Status.{Status}
 use Rattle.ssz_script.specs.declared.statements.ScriptStatement.{ScriptStatement}
 use Rattle.ssz_script.specs.Next.{IsNext}
@@ -10,6 +11,7 @@ use Rattle.ssz_engine.specs.Points.{Goes}
 use Rattle.ssz_engine.specs.Scripts.{Scene}
 use Rattle.ssz_engine.proofs.Leading.{keeps_on, leads_memory, leads_on, leads_stops}
 use Rattle.ssz_engine.proofs.Reaching.{named_behind, named_first}
+use Rattle.ssz_engine.proofs.Uncompacted.{none_behind, none_first}
 use Rattle.ssz_engine.proofs.run.run_lines.Goals as goal
 
 pub returns-in-Err-clause-goes : goal.returns-in-Err-clause-goes
@@ -49,6 +51,11 @@ loop-line-preserved g c =
     let so_far = c.loop-line.invariant in
     record {
       keeps = keeps_on so_far.keeps ran.keeps;
+      nodes = λ none. keeps_trans (so_far.nodes none)
+          (ran.nodes (none_first line c.loop-line.lines c.next.new.self taken
+          (so_far.plain none)));
+      plain = λ none. none_behind line c.loop-line.lines c.next.new.self taken
+          (so_far.plain none);
       rises = omega (arith, so_far.rises, ran.rises);
       leads = leads_on g.H.PairHash.pair_of c.args.place (all_of c.args.writer.0 c.args.lines.now)
           c.args.writer.0 c.loop-line.lines
@@ -115,3 +122,13 @@ returns-in_err-ran-in-Ok-Some-clause-fails g c = λ all same.
     c.in_err-ran-in-Ok-Some.ensures.fails
     (named_first readable line c.loop-line.lines c.next.new.self taken
     (c.loop-line.invariant.named all)) (ap Err (sym exit.2) ∙ sym exit.1 ∙ same)
+
+pub returns-in_err-ran-in-Ok-Some-clause-nodes : goal.returns-in_err-ran-in-Ok-Some-clause-nodes
+returns-in_err-ran-in-Ok-Some-clause-nodes g c = λ none.
+    let line : Line = (c.in-Ok-Some.line.line, c.in-Ok-Some.line.statement) in
+    let taken = subst (λ (next : Option ScriptStatement).
+    IsNext next c.loop-line.lines c.next.new.self) c.in-Ok-Some.field-0-is
+    c.in-Ok-Some.ensures.ok in
+    keeps_trans (c.loop-line.invariant.nodes none)
+    (c.in_err-ran-in-Ok-Some.ensures.nodes
+    (none_first line c.loop-line.lines c.next.new.self taken (c.loop-line.invariant.plain none)))

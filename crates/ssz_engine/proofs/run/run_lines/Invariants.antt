@@ -1,6 +1,8 @@
 use Rattle.std.proofs.Common.{◌≡◌, ◌≤◌, ℕ, List, length}
 use Rattle.std.specs.List.{AllByRecursion}
 use Rattle.ssz_machine.specs.Plays.{all_of}
+use Rattle.ssz_arena.specs.Content.{KeepsNodes}
+use Rattle.ssz_engine.specs.Compacting.{NoneCompacts}
 use Rattle.ssz_engine.specs.Lines.{LeavesOthers}
 use Rattle.ssz_engine.specs.Points.{LeadsTo}
 use Rattle.ssz_engine.specs.Scripts.{files_named}
@@ -11,6 +13,8 @@ use Rattle.ssz_engine.proofs.run.run_lines.Given as goal
 abbrev pub invariant-loop-line : goal.invariant-loop-line
 invariant-loop-line g l = record {
   keeps : Keeps l.fn.engine l.engine;
+  nodes : NoneCompacts l.fn.lines → KeepsNodes l.fn.engine.arena l.engine.arena;
+  plain : NoneCompacts l.fn.lines → NoneCompacts l.lines;
   rises : g.H.PairHash.pairs l.fn.hasher ≤ g.H.PairHash.pairs l.hasher;
   leads : LeadsTo g.H.PairHash.pair_of l.fn.place (all_of l.fn.writer.0 l.fn.lines)
       (all_of l.fn.writer.0 l.lines) l.fn.refused l.refused

@@ -2,16 +2,19 @@ use Rattle.std.proofs.Common.{◌≡◌, ◌<◌, ◌+◌, ◌∙◌, ℕ, List,
 use Rattle.std.specs.Prelude.{Result, Err}
 use Rattle.std.specs.List.{AllByRecursion}
 use Rattle.std.proofs.lemmas.Result.{err_from_is_err_and}
+use Rattle.ssz_arena.proofs.Keeping.{keeps_trans}
 use Rattle.ssz_outside.specs.declared.status.Status.{Status}
 use Rattle.ssz_machine.specs.Machine.{Line}
 use Rattle.ssz_machine.specs.Plays.{Event, all_of, rest_from}
 use Rattle.ssz_machine.specs.declared.place.Place.TheVariants.{Weave}
 use Rattle.ssz_machine.proofs.Turns.{rest_turn}
+use Rattle.ssz_engine.specs.Compacting.{NoneCompacts}
 use Rattle.ssz_engine.specs.Points.{Goes, LeadsTo}
 use Rattle.ssz_engine.specs.Scripts.{AreNamedReadable, Scene, scene}
 use Rattle.ssz_engine.proofs.Going.{leads_cut, leads_then}
 use Rattle.ssz_engine.proofs.Leading.{keeps_on}
 use Rattle.ssz_engine.proofs.NamedFiles.{drop_set, named_rest}
+use Rattle.ssz_engine.proofs.Uncompacted.{none_first_of, none_rest}
 use Rattle.ssz_engine.proofs.turns.run_rest.Goals as goal
 
 pub returns-in_err-run_lines-clause-goes : goal.returns-in_err-run_lines-clause-goes
@@ -74,6 +77,11 @@ loop-writer-preserved g c =
     c.run_lines.new.refused before mid after leads ran.goes in
     record {
       keeps = keeps_on so_far.keeps ran.keeps;
+      nodes = λ none. keeps_trans (so_far.nodes none)
+          (ran.nodes (none_first_of scripts w lines known read (so_far.plain none)));
+      plain = λ none. subst (λ i. AllByRecursion NoneCompacts
+          (drop (w + 1) (set scripts i c.run_lines.new.lines))) (sym {A = ℕ} same)
+          (none_rest scripts w c.run_lines.new.lines (so_far.plain none));
       rises = omega (arith, so_far.rises, ran.rises);
       few = so_far.few;
       within = omega arith;
@@ -92,3 +100,15 @@ loop-writer-preserved g c =
       puts = ran.counts.1 ∙ so_far.puts;
       sinks = ran.counts.2 ∙ so_far.sinks;
     }
+
+pub returns-in_err-run_lines-clause-nodes : goal.returns-in_err-run_lines-clause-nodes
+returns-in_err-run_lines-clause-nodes g c = λ none.
+    let loop = c.loop-writer in
+    let lines = c.index_mut-lines.result.now in
+    let read : lines ≡ get_or loop.scripts.items loop.number lines =
+    subst (λ i. lines ≡ get_or loop.scripts.items i lines) c.from-in-loop-writer.ensures
+    c.index_mut-lines.ensures.value in
+    let known : loop.number < length loop.scripts.items = omega (arith, loop.scripts.ok.0) in
+    keeps_trans (loop.invariant.nodes none)
+    (c.in_err-run_lines.ensures.nodes
+    (none_first_of loop.scripts.items loop.number lines known read (loop.invariant.plain none)))

@@ -2,6 +2,8 @@ use Rattle.std.proofs.Common.{◌≡◌, ◌≤◌, ◌-◌, ℕ, List, drop, ve
 use Rattle.std.specs.List.{AllByRecursion}
 use Rattle.ssz_machine.specs.Plays.{base_writer, rest_from}
 use Rattle.ssz_machine.specs.declared.place.Place.TheVariants.{Weave}
+use Rattle.ssz_arena.specs.Content.{KeepsNodes}
+use Rattle.ssz_engine.specs.Compacting.{NoneCompacts}
 use Rattle.ssz_engine.specs.Points.{LeadsTo}
 use Rattle.ssz_engine.specs.Scripts.{AreNamedReadable, scene}
 use Rattle.ssz_engine.specs.Steps.{Keeps}
@@ -11,6 +13,10 @@ use Rattle.ssz_engine.proofs.turns.run_rest.Given as goal
 abbrev pub invariant-loop-writer : goal.invariant-loop-writer
 invariant-loop-writer g l = record {
   keeps : Keeps l.fn.engine l.engine;
+  nodes : AllByRecursion NoneCompacts l.fn.scripts.items
+      → KeepsNodes l.fn.engine.arena l.engine.arena;
+  plain : AllByRecursion NoneCompacts l.fn.scripts.items
+      → AllByRecursion NoneCompacts (drop l.number l.scripts.items);
   rises : g.H.PairHash.pairs l.fn.hasher ≤ g.H.PairHash.pairs l.hasher;
   few : vec_len l.scripts ≤ base_writer;
   within : l.number ≤ vec_len l.scripts;

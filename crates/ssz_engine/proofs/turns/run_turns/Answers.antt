@@ -1,16 +1,19 @@
 use Rattle.std.proofs.Common.{◌<◌, ◌+◌, ◌∙◌, ℕ, List, length, set, drop, refl, sym, subst, arith}
 use Rattle.std.specs.Prelude.{Result, Ok, Err}
 use Rattle.std.proofs.lemmas.Result.{err_from_is_err_and}
+use Rattle.ssz_arena.proofs.Keeping.{keeps_trans}
 use Rattle.ssz_outside.specs.declared.status.Status.{Status}
 use Rattle.ssz_machine.specs.Machine.{Line}
 use Rattle.ssz_machine.specs.Plays.{Event, next_of, rest_from, woven}
 use Rattle.ssz_machine.specs.declared.place.Place.TheVariants.{Weave}
 use Rattle.ssz_machine.proofs.Turns.{woven_turn}
+use Rattle.ssz_engine.specs.Compacting.{NoneCompacts}
 use Rattle.ssz_engine.specs.Points.{Goes, GoesOn, LeadsTo}
 use Rattle.ssz_engine.specs.Scripts.{AreNamedReadable, Scene, scene}
 use Rattle.ssz_engine.proofs.Going.{leads_cut, leads_then}
 use Rattle.ssz_engine.proofs.Leading.{keeps_on}
 use Rattle.ssz_engine.proofs.NamedFiles.{named_at, named_set, named_taken}
+use Rattle.ssz_engine.proofs.Uncompacted.{none_at, none_set, none_taken}
 use Rattle.ssz_engine.proofs.turns.run_turns.Goals as goal
 
 pub returns-in_err-run_next-clause-goes : goal.returns-in_err-run_next-clause-goes
@@ -83,6 +86,15 @@ loop-number-preserved g c =
     loop.refused c.run_next.new.refused mid after) (sym {A = ℕ} c.from.ensures) ran.goes in
     record {
       keeps = keeps_on so_far.keeps ran.keeps;
+      nodes = λ none. keeps_trans (so_far.nodes none)
+          (ran.nodes (none_at scripts w lines known c.index_mut-lines.ensures.value
+          (so_far.plain none)));
+      plain = λ none.
+          let left = so_far.plain none in
+          let own = none_at scripts w lines known c.index_mut-lines.ensures.value left in
+          none_set scripts w c.run_next.new.lines
+          (subst (λ (lines : List Line). NoneCompacts lines) (sym ran.left)
+          (none_taken lines own)) left;
       rises = omega (arith, so_far.rises, ran.rises);
       leads = leads_then g.H.PairHash.pair_of Weave these (next_of w lines) those
           c.args.refused.now loop.refused c.run_next.new.refused before mid after leads goes;
@@ -99,3 +111,15 @@ loop-number-preserved g c =
       puts = ran.counts.1 ∙ so_far.puts;
       sinks = ran.counts.2 ∙ so_far.sinks;
     }
+
+pub returns-in_err-run_next-clause-nodes : goal.returns-in_err-run_next-clause-nodes
+returns-in_err-run_next-clause-nodes g c = λ none.
+    let loop = c.loop-number in
+    let within : loop.number-index < length c.args.order.now = c.loop-number-test.true in
+    let below = c.requires loop.number-index 0 within in
+    let known : c.from.result < length loop.scripts.items =
+    omega (arith, below, loop.invariant.count, loop.scripts.ok.0, c.from.ensures) in
+    keeps_trans (loop.invariant.nodes none)
+    (c.in_err-run_next.ensures.nodes
+    (none_at loop.scripts.items c.from.result c.index_mut-lines.result.now known
+    c.index_mut-lines.ensures.value (loop.invariant.plain none)))

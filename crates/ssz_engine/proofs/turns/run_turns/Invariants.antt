@@ -2,6 +2,8 @@ use Rattle.std.proofs.Common.{◌≡◌, ◌≤◌, ℕ, List, drop, vec_len}
 use Rattle.std.specs.List.{AllByRecursion}
 use Rattle.ssz_machine.specs.Plays.{woven}
 use Rattle.ssz_machine.specs.declared.place.Place.TheVariants.{Weave}
+use Rattle.ssz_arena.specs.Content.{KeepsNodes}
+use Rattle.ssz_engine.specs.Compacting.{NoneCompacts}
 use Rattle.ssz_engine.specs.Points.{LeadsTo}
 use Rattle.ssz_engine.specs.Scripts.{AreNamedReadable, scene}
 use Rattle.ssz_engine.specs.Steps.{Keeps}
@@ -11,6 +13,10 @@ use Rattle.ssz_engine.proofs.turns.run_turns.Given as goal
 abbrev pub invariant-loop-number : goal.invariant-loop-number
 invariant-loop-number g l = record {
   keeps : Keeps l.fn.engine l.engine;
+  nodes : AllByRecursion NoneCompacts l.fn.scripts.items
+      → KeepsNodes l.fn.engine.arena l.engine.arena;
+  plain : AllByRecursion NoneCompacts l.fn.scripts.items
+      → AllByRecursion NoneCompacts l.scripts.items;
   rises : g.H.PairHash.pairs l.fn.hasher ≤ g.H.PairHash.pairs l.hasher;
   leads : LeadsTo g.H.PairHash.pair_of Weave (woven l.order l.fn.scripts.items)
       (woven (drop l.number-index l.order) l.scripts.items) l.fn.refused l.refused

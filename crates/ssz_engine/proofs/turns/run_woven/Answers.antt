@@ -1,6 +1,7 @@
 use Rattle.std.proofs.Common.{sym, subst}
 use Rattle.std.specs.Prelude.{Result, Err}
 use Rattle.std.proofs.lemmas.Result.{err_from_is_err_and}
+use Rattle.ssz_arena.proofs.Keeping.{keeps_trans}
 use Rattle.ssz_outside.specs.declared.status.Status.{Status}
 use Rattle.ssz_machine.specs.Plays.{rest_from, woven}
 use Rattle.ssz_machine.specs.declared.place.Place.TheVariants.{Weave}
@@ -37,3 +38,8 @@ returns-clause-goes g c =
     (rest_from 0 c.run_turns.new.scripts.items) c.run_rest.result c.args.refused.now
     c.run_turns.new.refused c.run_rest.new.refused before mid after
     c.in_ok-run_turns.ensures.goes c.run_rest.ensures.goes c.in_ok-run_turns.ensures.readable
+
+pub returns-clause-nodes : goal.returns-clause-nodes
+returns-clause-nodes g c = λ none.
+    keeps_trans (c.in_ok-run_turns.ensures.nodes none)
+    (c.run_rest.ensures.nodes (c.in_ok-run_turns.ensures.plain none))

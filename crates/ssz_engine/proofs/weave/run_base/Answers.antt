@@ -1,12 +1,14 @@
 use Rattle.std.proofs.Common.{◌++◌, ℕ, List, refl, sym, subst, arith}
 use Rattle.std.specs.Prelude.{Result, Ok, Err}
 use Rattle.std.proofs.lemmas.Result.{err_from_is_err_and}
+use Rattle.ssz_arena.specs.Content.{Content as Nodes, KeepsNodes}
 use Rattle.ssz_outside.specs.declared.status.Status.{Status}
 use Rattle.ssz_outside.specs.declared.status.Status.TheVariants as status
 use Rattle.ssz_script.specs.Lines.{statements_in}
 use Rattle.ssz_machine.specs.Machine.{Line}
 use Rattle.ssz_machine.specs.Plays.{adoptions, all_of, base_writer}
 use Rattle.ssz_machine.specs.declared.place.Place.TheVariants.{Weave}
+use Rattle.ssz_engine.specs.Compacting.{NoneCompacts}
 use Rattle.ssz_engine.specs.Points.{Goes}
 use Rattle.ssz_engine.specs.Scripts.{Scene, scene}
 use Rattle.ssz_engine.specs.Weaves.{AdoptsAll}
@@ -76,3 +78,22 @@ returns-in-Err-clause-goes g c = λ scripts count.
     (adoptions 0 scripts ++ left) c.run_lines.new.refused mid after comes refl refl
     (record { rises = omega arith; most = omega arith }))
     c.in_ok-run_lines.ensures.readable
+
+pub returns-in_err-run_lines-clause-nodes : goal.returns-in_err-run_lines-clause-nodes
+returns-in_err-run_lines-clause-nodes g c = λ none.
+    c.in_err-run_lines.ensures.nodes
+    (subst (λ (lines : List Line). NoneCompacts lines) (sym c.new-lines.ensures) none)
+
+pub returns-in-Ok-clause-nodes : goal.returns-in-Ok-clause-nodes
+returns-in-Ok-clause-nodes g c = λ none.
+    subst (λ (arena : Nodes). KeepsNodes c.args.engine.now.arena arena)
+    (sym c.in-Ok.ensures.nodes.arena)
+    (c.in_ok-run_lines.ensures.nodes
+    (subst (λ (lines : List Line). NoneCompacts lines) (sym c.new-lines.ensures) none))
+
+pub returns-in-Err-clause-nodes : goal.returns-in-Err-clause-nodes
+returns-in-Err-clause-nodes g c = λ none.
+    subst (λ (arena : Nodes). KeepsNodes c.args.engine.now.arena arena)
+    (sym c.in-Err.ensures.nodes.arena)
+    (c.in_ok-run_lines.ensures.nodes
+    (subst (λ (lines : List Line). NoneCompacts lines) (sym c.new-lines.ensures) none))

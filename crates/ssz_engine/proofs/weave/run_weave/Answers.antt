@@ -1,12 +1,14 @@
-use Rattle.std.proofs.Common.{◌≡◌, ◌++◌, List, length, map, sym, ap, subst, arith}
+use Rattle.std.proofs.Common.{◌≡◌, ◌++◌, List, length, map, refl, sym, ap, subst, arith}
 use Rattle.std.specs.Prelude.{Result, Err}
 use Rattle.std.specs.List.{AllByRecursion}
 use Rattle.std.proofs.lemmas.Result.{err_from_is_err_and}
+use Rattle.ssz_arena.proofs.Keeping.{keeps_same, keeps_trans}
 use Rattle.ssz_outside.specs.declared.status.Status.{Status}
 use Rattle.ssz_script.specs.Lines.{statements_in}
 use Rattle.ssz_machine.specs.Machine.{Line}
 use Rattle.ssz_machine.specs.Plays.{adoptions, all_of, base_writer, weaving, woven}
 use Rattle.ssz_machine.specs.declared.place.Place.TheVariants.{Weave}
+use Rattle.ssz_engine.specs.Compacting.{NoneCompacts}
 use Rattle.ssz_engine.specs.Points.{Goes}
 use Rattle.ssz_engine.specs.Scripts.{AreNamedReadable, Scene, scene}
 use Rattle.ssz_engine.proofs.Going.{goes_memory, goes_stops, goes_then}
@@ -70,3 +72,16 @@ returns-clause-fails g c = λ all.
     (sym c.in-Ok.ensures)
     (named_later (g.F.Files.readable c.args.files.now) (g.F.Files.readable c.run_base.new.files)
     c.in_ok-run_base.ensures.readable (map statements_in c.args.scripts.now) all.1))
+
+pub returns-in_default-clause-nodes : goal.returns-in_default-clause-nodes
+returns-in_default-clause-nodes g c = λ none. keeps_same _ _ refl
+
+pub returns-in_err-run_base-clause-nodes : goal.returns-in_err-run_base-clause-nodes
+returns-in_err-run_base-clause-nodes g c = λ none. c.in_err-run_base.ensures.nodes none.0
+
+pub returns-clause-nodes : goal.returns-clause-nodes
+returns-clause-nodes g c = λ none.
+    keeps_trans (c.in_ok-run_base.ensures.nodes none.0)
+    (c.run_woven.ensures.nodes
+    (subst (λ (left : List (List Line)). AllByRecursion NoneCompacts left)
+    (sym c.in-Ok.ensures) none.1))

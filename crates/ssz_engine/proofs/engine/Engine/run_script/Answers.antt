@@ -4,6 +4,7 @@ use Rattle.ssz_outside.specs.declared.status.Status.{Status}
 use Rattle.ssz_machine.specs.Machine.{Line}
 use Rattle.ssz_machine.specs.Plays.{all_of}
 use Rattle.ssz_machine.specs.declared.place.Place.TheVariants.{Run}
+use Rattle.ssz_engine.specs.Compacting.{NoneCompacts}
 use Rattle.ssz_engine.specs.Points.{Goes}
 use Rattle.ssz_engine.specs.Scripts.{EndsScript, Scene}
 use Rattle.ssz_engine.proofs.Scripts.{script_done, script_stopped}
@@ -52,3 +53,13 @@ returns-in-Err-clause-ends g c =
     (subst (λ (lines : List Line). Goes g.H.PairHash.pair_of Run (all_of 0 lines)
     (Err c.in-Err.ended) false c.run_lines.new.refused before after) c.new-lines.ensures
     c.in-Err.ensures.goes)
+
+pub returns-in-Ok-clause-nodes : goal.returns-in-Ok-clause-nodes
+returns-in-Ok-clause-nodes g c = λ none.
+    c.in-Ok.ensures.nodes
+    (subst (λ (lines : List Line). NoneCompacts lines) (sym c.new-lines.ensures) none)
+
+pub returns-in-Err-clause-nodes : goal.returns-in-Err-clause-nodes
+returns-in-Err-clause-nodes g c = λ none.
+    c.in-Err.ensures.nodes
+    (subst (λ (lines : List Line). NoneCompacts lines) (sym c.new-lines.ensures) none)

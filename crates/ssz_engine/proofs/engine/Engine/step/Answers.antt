@@ -1,10 +1,27 @@
 use Rattle.std.proofs.Common.{◌-◌, Option, IfOk, IfErr, sym, subst}
 use Rattle.ssz_outside.specs.Content.{Content as Files}
+use Rattle.ssz_script.specs.declared.statement.Statement.{Statement}
 use Rattle.ssz_engine.specs.Steps.{Decides, DoesStep, Fails, ForksWhere, IsCarriedOut, Stops}
 use Rattle.ssz_engine.specs.declared.outcome.Outcome.TheVariants.{Accepted}
 use Rattle.ssz_engine.proofs.Forking.{forks}
+use Rattle.ssz_engine.proofs.Moving.{compact-step}
 use Rattle.ssz_engine.proofs.Stepping.{does-step, err-of, ok-of, stops}
 use Rattle.ssz_engine.proofs.engine.Engine.step.Goals as goal
+
+pub returns-in-Compact-clause-ok : goal.returns-in-Compact-clause-ok
+returns-in-Compact-clause-ok g c =
+    let first = c.args.self.now in
+    let new = c.compact.new.engine in
+    let count = g.H.PairHash.pairs c.args.hasher.now in
+    let told = g.F.Files.content c.args.files.now in
+    let out_old = c.args.out.now.items in
+    let out_new = c.compact.new.out.items in
+    subst (λ (statement : Statement). DoesStep g.H.PairHash.pair_of c.args.place c.args.writer.0
+    c.args.line statement first new count count told told out_old out_new Accepted)
+    (sym c.in-Compact.is)
+    (compact-step first new c.in_ok-compact.ensures.keeps c.in_ok-compact.ensures.ok
+    g.H.PairHash.pair_of c.args.place c.args.writer.0 c.args.line count told out_old out_new
+    c.in_ok-compact.ensures.text)
 
 pub returns-clause-ok : goal.returns-clause-ok
 returns-clause-ok g c =
