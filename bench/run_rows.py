@@ -365,7 +365,7 @@ def count(t):
     return 1
 
 def depth(t):
-    return max(0, (count(t) - 1).bit_length())
+    return max(0, count(t) - 1).bit_length()
 
 def chunk(b):
     return b + bytes(32 - len(b))
