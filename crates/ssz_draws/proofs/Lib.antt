@@ -1,0 +1,6 @@
+mod Drawn
+mod Fields
+mod Choices
+mod Lengths
+mod Turning
+mod Ways

@@ -1,0 +1,15 @@
+//! The edits that the command `work` draws from a number: a generator of numbers, and a walk from
+//! the node of a value to an edit of one of its parts.
+//!
+//! `Generator` draws numbers. `Generator::walk` goes from part to part, at each by a `Turn`: on to
+//! a part of the part, or to the edit, which is then written as a statement. Only nodes are read,
+//! one length or selector at a step, and no value is made of them.
+#![tactic(auto)]
+
+mod generator;
+mod turn;
+mod turns;
+mod walking;
+
+pub use generator::Generator;
+pub use walking::worked;
