@@ -1,0 +1,6 @@
+pub mod Outcome
+pub mod Library
+pub mod Calls
+pub mod Verdict
+pub mod Held
+pub mod Reading

@@ -1,0 +1,52 @@
+-- A schema as C knows it: its types by the numbers that were given out.
+use Rattle.std.specs.Prelude.{◌≡◌, ◌⊎◌, ℕ, nat_lt, if◌then◌else◌, ◌<◌, List, [], ◌++◌, length, slice_index_or, Option, Some, None, Result, Ok, Err}
+use Rattle.std.specs.Str.{is_utf8}
+use Rattle.ssz_schema.specs.FaultCodes.{code_of}
+use Rattle.ssz_schema.specs.Types.{SszType}
+use Rattle.ssz_schema.specs.Unfolding.{Types, number_of, type_of}
+use Rattle.ssz_schema_json.specs.declared.fault.SchemaRead.{SchemaRead}
+use Rattle.ssz_schema_json.specs.declared.fault.SchemaRead.TheVariants.{NotJson, Shape, Def, Memory}
+use Rattle.ssz_schema_json.specs.Schema.{Reads, schema_of_bytes}
+use Rattle.ssz_c.specs.declared.fault.SszFault.{SszFault}
+use Rattle.ssz_c.specs.declared.library.Library.{Library}
+use Rattle.ssz_c.specs.declared.status.TheConstants.{NO_TYPE, BAD_SCHEMA, NO_MEMORY, MOST_TEXT}
+use Rattle.ssz_c.specs.Outcome.{Outcome, refused}
+
+-- the type of a number that was given out
+abbrev pub type_in : Library → ℕ → Outcome ℕ
+type_in library number =
+    if nat_lt number (length library.found.items)
+    then Ok (slice_index_or library.found.items number 0)
+    else Err (refused NO_TYPE)
+
+-- a fault of a schema: S1, S2, or S3 to S14 in a definition
+abbrev pub fault_of_read : SchemaRead → SszFault
+fault_of_read NotJson = record { status = BAD_SCHEMA; code = 1; position = 0 }
+fault_of_read Shape = record { status = BAD_SCHEMA; code = 2; position = 0 }
+fault_of_read (Def number fault) =
+    record { status = BAD_SCHEMA; code = code_of fault; position = number }
+fault_of_read Memory = refused NO_MEMORY
+
+-- S15: more bytes than a schema may have
+abbrev pub too_long : SszFault
+too_long = record { status = BAD_SCHEMA; code = 15; position = 0 }
+
+-- the place of a type in a list, where it has one
+abbrev pub IsFound : List ℕ → ℕ → Option ℕ → Type 0
+IsFound found id None = Unit {0}
+IsFound found id (Some k) = (k < length found) × (slice_index_or found k 0 ≡ id)
+
+-- a schema that the bytes define, with no number given out, or why there is none
+abbrev pub ReadsLibrary : Outcome Library → List ℕ → Type 0
+ReadsLibrary (Ok library) bytes =
+    Reads (Ok library.schema) (schema_of_bytes bytes) × (library.found.items ≡ [])
+ReadsLibrary (Err fault) bytes =
+    (fault ≡ too_long) × (MOST_TEXT < length bytes)
+    ⊎ (why : SchemaRead) × (fault ≡ fault_of_read why) × Reads (Err why) (schema_of_bytes bytes)
+
+-- the name's type has the number; numbers that were given out stay
+abbrev pub Names : List ℕ → Library → Library → Outcome ℕ → Type 0
+Names name old new (Ok number) =
+    ((id : ℕ) × (number_of old.schema name ≡ Some id) × (type_in new number ≡ Ok id))
+    × ((more : List ℕ) × (new.found.items ≡ old.found.items ++ more))
+Names name old new (Err fault) = new.found.items ≡ old.found.items

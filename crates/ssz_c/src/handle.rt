@@ -1,0 +1,47 @@
+// A handle of C.
+ghost use Rattle.std.specs.Prelude.{◌≡◌, Some, None, option_map};
+ghost use Rattle.ssz_c.specs.Held.{live_of};
+
+use super::held::Held;
+use super::library::Library;
+use std::alloc::Global;
+use std::mem::replace;
+
+/// A schema that C holds, or none: zeros stand for none.
+#[repr(C)]
+#[derive(Drop)]
+pub struct SszSchema {
+    /// 1 where it holds one, else 0.
+    pub live: u64,
+    /// The schema.
+    pub held: Held,
+    pub ghost honest: { live ≡ live_of held.value },
+}
+
+impl SszSchema {
+    /// Takes what the handle holds, which then holds nothing.
+    pub(crate) fn take(&mut self, alloc: Global) -> Option<Box<Library, Global>>
+        ensures value { option_map (λ library. library.value) result ≡ self.old.held.value }
+        ensures empty { self.new.held.value ≡ None }
+    {
+        let empty = SszSchema {
+            live: 0,
+            held: Held::empty(alloc),
+        };
+        let SszSchema { live, held } = replace(self, empty);
+        if live == 0 {
+            return None;
+        }
+        Some(held.into_box())
+    }
+
+    /// Gives the handle what it holds from now on.
+    pub(crate) fn put(&mut self, library: Box<Library, Global>)
+        ensures { self.new.held.value ≡ Some library.value }
+    {
+        *self = SszSchema {
+            live: 1,
+            held: Held::of(library),
+        };
+    }
+}

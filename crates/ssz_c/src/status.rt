@@ -1,0 +1,46 @@
+// What a call answers, as C reads it.
+
+/// The call did what it was asked.
+pub const OK: u32 = 0;
+
+/// The handle holds nothing.
+pub const NO_HANDLE: u32 = 1;
+
+/// There is no type of this name or number.
+pub const NO_TYPE: u32 = 2;
+
+/// More bytes than are taken: 2^32 of a value, 2^26 of a text.
+pub const TOO_LONG: u32 = 3;
+
+/// The bytes encode no value; the code is 1 to 11 for F1 to F11.
+pub const INVALID: u32 = 4;
+
+/// The bytes are no schema; the code is 1 to 15 for S1 to S15, the position a definition's number.
+pub const BAD_SCHEMA: u32 = 5;
+
+/// The text spells no path.
+pub const SYNTAX: u32 = 6;
+
+/// The path does not fit the type.
+pub const BAD_PATH: u32 = 7;
+
+/// The path fits, and the value has no such part.
+pub const ABSENT: u32 = 8;
+
+/// The text is no proof.
+pub const BAD_PROOF: u32 = 9;
+
+/// The proof leads to another root.
+pub const UNLIKE: u32 = 10;
+
+/// Want of memory.
+pub const NO_MEMORY: u32 = 11;
+
+/// There is too little room for what was found.
+pub const NO_ROOM: u32 = 12;
+
+/// The most bytes of a value.
+pub const MOST_BYTES: usize = 0xffff_ffff;
+
+/// The most bytes of a schema, a path or a proof.
+pub const MOST_TEXT: usize = 1 << 26;
