@@ -1,0 +1,119 @@
+#!/bin/sh
+# Builds the static library and the examples of C, Python and Rust, runs each over the same inputs as the
+# program `ssz`, and compares what they print. It needs what README's set-up installs, and says which
+# example it left out for want of a compiler or an interpreter. The last line is 'N compared, M differ'.
+set -eu
+cd "$(dirname "$0")/.."
+out=$(mktemp -d)
+trap 'rm -rf "$out"' EXIT
+kit=$(dirname "$(rt doc)")
+
+(cd crates/ssz_c && rt lib >"$out/log" 2>&1) || { tail "$out/log"; exit 1; }
+ssz=crates/ssz_cli/out/ssz_cli
+[ -x "$ssz" ] || (cd crates/ssz_cli && rt run -- root data/pair.json P data/zero16.bin) >"$out/log" 2>&1 ||
+    { tail "$out/log"; exit 1; }
+library="crates/ssz_c/out/libssz_c.a $kit/c/liblibc_c.a"
+
+# What each language runs, or nothing.
+ways=
+if command -v cc >/dev/null; then
+    cc -std=c11 -O2 -Wall -Wextra -Iinclude -o "$out/c" examples/c/example.c $library
+    cc -std=c11 -O2 -Wall -Wextra -Iinclude -o "$out/statuses" examples/c/statuses.c $library
+    "$out/statuses"
+    ways="$ways c"
+    if command -v python3 >/dev/null; then
+        cc -shared -o "$out/libssz_c.so" -Wl,--whole-archive $library -Wl,--no-whole-archive
+        ways="$ways python"
+    else
+        echo "left out: python (no python3)"
+    fi
+    if command -v rustc >/dev/null; then
+        rustc --edition 2024 -O -o "$out/rust" examples/rust/example.rs \
+            -C link-arg=crates/ssz_c/out/libssz_c.a -C link-arg="$kit/c/liblibc_c.a"
+        ways="$ways rust"
+    else
+        echo "left out: rust (no rustc)"
+    fi
+else
+    echo "left out: c, python, rust (no cc)"
+fi
+
+run() {
+    case $1 in
+    c) shift && "$out/c" "$@" ;;
+    python) shift && PYTHONDONTWRITEBYTECODE=1 python3 examples/python/example.py "$out/libssz_c.so" "$@" ;;
+    rust) shift && "$out/rust" "$@" ;;
+    esac
+}
+
+# The same four lines by the program: the root, the index, the part and the verdict.
+by_program() {
+    "$ssz" root "$1" "$2" "$3" >"$out/root" || { cat "$out/root"; return; }
+    cat "$out/root"
+    echo "gindex $2 $4" >"$out/script"
+    "$ssz" run "$1" "$out/script" >"$out/index" ||
+        { sed 's/^refused 1/refused 0/' "$out/index"; return; }
+    cat "$out/index"
+    "$ssz" part "$1" "$2" "$3" "$4" || return 0
+    "$ssz" verify "$(cut -d' ' -f2 "$out/root")" "$5" || true
+}
+
+compared=0
+differ=0
+# SCHEMA TYPE FILE PATH: the proof is that of the part, where there is one.
+compare() {
+    printf 'load V %s %s\nprove V %s\n' "$2" "$3" "$4" >"$out/script"
+    "$ssz" run "$1" "$out/script" | sed -n 2p >"$out/proof" || true
+    by_program "$1" "$2" "$3" "$4" "$out/proof" >"$out/wanted" 2>&1
+    for way in $ways; do
+        run "$way" "$1" "$2" "$3" "$4" "$out/proof" >"$out/said" 2>&1 || true
+        compared=$((compared + 1))
+        cmp -s "$out/wanted" "$out/said" && continue
+        differ=$((differ + 1))
+        echo "$way differs on $*"
+        diff "$out/wanted" "$out/said" || true
+    done
+}
+
+# So many bytes of this value, an octal number.
+bytes() {
+    head -c "$1" /dev/zero | tr '\0' "\\$2"
+}
+
+printf '%s' '{"ssz":1,"types":[["P",{"container":[["a","uint64"],["b","uint64"]]}]]}' >"$out/pair.json"
+printf '%s' '{"ssz":1,"types":[["M",{"container":[["a","uint16"],["b",{"list":["uint8",4]}]]}]]}' >"$out/m.json"
+printf '\252\273\006\000\000\000\001\002' >"$out/m.ssz"
+bytes 16 000 >"$out/16"
+bytes 15 000 >"$out/15"
+bytes 17 000 >"$out/17"
+compare "$out/pair.json" P "$out/16" /a
+compare "$out/pair.json" P "$out/15" /a
+compare "$out/pair.json" P "$out/17" /b
+compare "$out/pair.json" Q "$out/16" /a
+compare "$out/pair.json" P "$out/16" /c
+compare "$out/m.json" M "$out/m.ssz" /b
+compare "$out/m.json" M "$out/m.ssz" '/b/#len'
+compare "$out/m.json" M "$out/m.ssz" /b/1
+compare "$out/m.json" M "$out/m.ssz" /b/2
+compare "$out/16" P "$out/16" /a
+deneb=examples/ethereum/deneb.json
+bytes 16 001 >"$out/fork"
+bytes 40 002 >"$out/checkpoint"
+bytes 112 003 >"$out/header"
+bytes 121 000 >"$out/validator"
+bytes 128 004 >"$out/attestation"
+compare "$deneb" Fork "$out/fork" /current_version
+compare "$deneb" Checkpoint "$out/checkpoint" /root
+compare "$deneb" BeaconBlockHeader "$out/header" /state_root
+compare "$deneb" Validator "$out/validator" /slashed
+compare "$deneb" AttestationData "$out/attestation" /target/epoch
+printf 'new S BeaconState\nset S /slot 0x4000000000000000\nsave S %s\n' "$out/state" >"$out/script"
+"$ssz" run "$deneb" "$out/script" >"$out/log" || cat "$out/log"
+compare "$deneb" BeaconState "$out/state" /slot
+compare "$deneb" BeaconState "$out/state" /finalized_checkpoint/root
+compare "$deneb" BeaconState "$out/state" '/validators/#len'
+compare "$deneb" BeaconState "$out/state" /validators/7/slashed
+compare "$deneb" BeaconState "$out/state" /justification_bits/1
+
+echo "$compared compared, $differ differ"
+[ "$differ" -eq 0 ]

@@ -1,0 +1,255 @@
+//! SimpleSerialize from Rust, over the static library of crates/ssz_c.
+
+use std::cell::RefCell;
+
+/// Why a call did not do what it was asked.
+#[derive(Clone, Copy, Debug, PartialEq, Eq)]
+pub struct Error {
+    pub status: Status,
+    /// Of `Invalid` 1 to 11 for F1 to F11, of `BadSchema` 1 to 15 for S1 to S15, else 0.
+    pub code: u32,
+    /// The byte, or the number of the definition.
+    pub position: u64,
+}
+
+/// The statuses of ssz.h, without `SSZ_OK`.
+#[derive(Clone, Copy, Debug, PartialEq, Eq)]
+pub enum Status {
+    NoHandle,
+    NoType,
+    TooLong,
+    Invalid,
+    BadSchema,
+    Syntax,
+    BadPath,
+    Absent,
+    BadProof,
+    Unlike,
+    NoMemory,
+    NoRoom,
+}
+
+const STATUSES: [Status; 12] = [
+    Status::NoHandle,
+    Status::NoType,
+    Status::TooLong,
+    Status::Invalid,
+    Status::BadSchema,
+    Status::Syntax,
+    Status::BadPath,
+    Status::Absent,
+    Status::BadProof,
+    Status::Unlike,
+    Status::NoMemory,
+    Status::NoRoom,
+];
+
+#[repr(C)]
+#[derive(Default)]
+struct Fault {
+    status: u32,
+    code: u32,
+    position: u64,
+}
+
+#[repr(C)]
+struct Handle {
+    live: u64,
+    held: *mut u8,
+}
+
+#[repr(C)]
+#[derive(Default)]
+struct Index {
+    low: u64,
+    high: u64,
+}
+
+unsafe extern "C" {
+    fn ssz_schema_read(schema: *mut Handle, at: *const u8, len: usize, fault: *mut Fault) -> u32;
+    fn ssz_schema_free(schema: *mut Handle) -> u32;
+    fn ssz_type(
+        schema: *mut Handle,
+        name: *const u8,
+        len: usize,
+        number: *mut u64,
+        fault: *mut Fault,
+    ) -> u32;
+    fn ssz_check(
+        schema: *mut Handle,
+        number: u64,
+        at: *const u8,
+        len: usize,
+        fault: *mut Fault,
+    ) -> u32;
+    fn ssz_root(
+        schema: *mut Handle,
+        number: u64,
+        at: *const u8,
+        len: usize,
+        root: *mut [u8; 32],
+        fault: *mut Fault,
+    ) -> u32;
+    fn ssz_gindex(
+        schema: *mut Handle,
+        number: u64,
+        path: *const u8,
+        len: usize,
+        index: *mut Index,
+        fault: *mut Fault,
+    ) -> u32;
+    fn ssz_part(
+        schema: *mut Handle,
+        number: u64,
+        at: *const u8,
+        len: usize,
+        path: *const u8,
+        path_len: usize,
+        room: *mut u8,
+        room_len: usize,
+        part_len: *mut u64,
+        fault: *mut Fault,
+    ) -> u32;
+    fn ssz_verify(root: *const [u8; 32], proof: *const u8, len: usize) -> u32;
+}
+
+fn error(status: u32, fault: &Fault) -> Result<(), Error> {
+    if status == 0 {
+        return Ok(());
+    }
+    Err(Error {
+        status: STATUSES[status as usize - 1],
+        code: fault.code,
+        position: fault.position,
+    })
+}
+
+/// A schema, which is freed with it. The handle is boxed, so that it does not move.
+pub struct Schema {
+    handle: RefCell<Box<Handle>>,
+}
+
+impl Schema {
+    /// The schema that the bytes of a schema file define.
+    pub fn read(text: &[u8]) -> Result<Schema, Error> {
+        let mut handle = Box::new(Handle {
+            live: 0,
+            held: std::ptr::null_mut(),
+        });
+        let mut fault = Fault::default();
+        let status =
+            unsafe { ssz_schema_read(&mut *handle, text.as_ptr(), text.len(), &mut fault) };
+        error(status, &fault)?;
+        Ok(Schema {
+            handle: RefCell::new(handle),
+        })
+    }
+
+    /// The type of this name.
+    pub fn find(&self, name: &str) -> Result<Type<'_>, Error> {
+        let mut number = 0;
+        self.call(|handle, fault| unsafe {
+            ssz_type(handle, name.as_ptr(), name.len(), &mut number, fault)
+        })?;
+        Ok(Type {
+            schema: self,
+            number,
+        })
+    }
+
+    fn call(&self, call: impl FnOnce(*mut Handle, *mut Fault) -> u32) -> Result<(), Error> {
+        let mut fault = Fault::default();
+        let status = call(&mut **self.handle.borrow_mut(), &mut fault);
+        error(status, &fault)
+    }
+}
+
+impl Drop for Schema {
+    fn drop(&mut self) {
+        unsafe { ssz_schema_free(&mut **self.handle.borrow_mut()) };
+    }
+}
+
+/// A type of a schema.
+#[derive(Clone, Copy)]
+pub struct Type<'s> {
+    schema: &'s Schema,
+    number: u64,
+}
+
+impl Type<'_> {
+    /// The first fault of bytes that encode no value of the type, as an error.
+    pub fn check(&self, bytes: &[u8]) -> Result<(), Error> {
+        self.schema.call(|handle, fault| unsafe {
+            ssz_check(handle, self.number, bytes.as_ptr(), bytes.len(), fault)
+        })
+    }
+
+    /// The hash_tree_root of the value that the bytes encode.
+    pub fn root(&self, bytes: &[u8]) -> Result<[u8; 32], Error> {
+        let mut root = [0; 32];
+        self.schema.call(|handle, fault| unsafe {
+            ssz_root(
+                handle,
+                self.number,
+                bytes.as_ptr(),
+                bytes.len(),
+                &mut root,
+                fault,
+            )
+        })?;
+        Ok(root)
+    }
+
+    /// The generalized index of the part at a path.
+    pub fn gindex(&self, path: &str) -> Result<u128, Error> {
+        let mut index = Index::default();
+        self.schema.call(|handle, fault| unsafe {
+            ssz_gindex(
+                handle,
+                self.number,
+                path.as_ptr(),
+                path.len(),
+                &mut index,
+                fault,
+            )
+        })?;
+        Ok(u128::from(index.high) << 64 | u128::from(index.low))
+    }
+
+    /// The encoding of the part at a path of the value that the bytes encode.
+    pub fn part(&self, bytes: &[u8], path: &str) -> Result<Vec<u8>, Error> {
+        // It is no longer than the whole, but for a bit and a length.
+        let mut room = vec![0; bytes.len().max(8)];
+        let mut len = 0;
+        self.schema.call(|handle, fault| unsafe {
+            ssz_part(
+                handle,
+                self.number,
+                bytes.as_ptr(),
+                bytes.len(),
+                path.as_ptr(),
+                path.len(),
+                room.as_mut_ptr(),
+                room.len(),
+                &mut len,
+                fault,
+            )
+        })?;
+        room.truncate(len as usize);
+        Ok(room)
+    }
+}
+
+/// Whether the multiproof that a text says leads to the root.
+pub fn verify(root: &[u8; 32], proof: &[u8]) -> Result<bool, Error> {
+    let status = unsafe { ssz_verify(root, proof.as_ptr(), proof.len()) };
+    match error(status, &Fault::default()) {
+        Ok(()) => Ok(true),
+        Err(Error {
+            status: Status::Unlike,
+            ..
+        }) => Ok(false),
+        Err(why) => Err(why),
+    }
+}
