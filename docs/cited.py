@@ -18,7 +18,7 @@ import sys
 
 TOP = os.path.join(os.path.dirname(os.path.abspath(__file__)), "..")
 IMPORT = re.compile(r"^\s*ghost use Rattle\.(ssz_\w+)\.specs\.([\w.]+)\.(?:\{(.*)\}|([^.{};]+));", re.M)
-FUNCTION = re.compile(r"^(    )?(pub |pub\(crate\) )?(?:const |unsafe )*fn (\w+)")
+FUNCTION = re.compile(r'^(    )?(pub |pub\(crate\) )?(?:const |unsafe |extern "C" )*fn (\w+)')
 OWNER = re.compile(r"^(?:unsafe )?impl\b(?:<[^{]*?>)? (?:(?P<trait>[\w:]+(?:<[^{]*>)?) for )?(?P<type>&?\w+)")
 TYPE = re.compile(r"^pub (?:struct|enum|trait|union) (\w+)")
 CLAUSE = re.compile(r"^ *(?:requires|ensures)\b[^{]*\{|^    ghost (?!use\b|coded\b|inverse\b)\w+ ?[:=] \{")
@@ -34,7 +34,7 @@ def exported(root):
     names = set()
     for listed in re.findall(r"^pub use [\w:]*?(?:\{([^}]*)\}|(\w+));", root, re.M):
         names.update(re.findall(r"(?:\w+ as )?(\w+)", listed[0] or listed[1]))
-    names.update(re.findall(r"^pub (?:fn|struct|enum|trait|const) (\w+)", root, re.M))
+    names.update(re.findall(r'^pub (?:extern "C" )?(?:fn|struct|enum|trait|const) (\w+)', root, re.M))
     return names
 
 
