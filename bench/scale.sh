@@ -1,0 +1,182 @@
+#!/bin/sh
+# Processor time and peak of memory of whole states: deneb's BeaconState of some numbers of
+# validators, through `root`, through scripts that load it, set a thousand fields with a root after
+# each, prove a hundred fields and save it, and through a weave of ten writers; each as a ratio to
+# as many pairs in a bare loop as it hashes. The first root is compared with one by hashlib.
+# Run it after 'rt run' in crates/ssz_cli and in crates/bench_pairs, which build the programs:
+# bench/scale.sh [VALIDATORS..]
+set -eu
+cd "$(dirname "$0")/.."
+exec python3 - "$@" <<'PY'
+import hashlib, json, os, random, subprocess, sys, tempfile
+
+SIZES = [int(word) for word in sys.argv[1:]] or [1 << 14, 1 << 17, 1 << 20]
+SSZ, PAIRS = (os.path.abspath(f"crates/{it}/out/{it}") for it in ("ssz_cli", "bench_pairs"))
+SCHEMA = os.path.abspath("examples/ethereum/deneb.json")
+TYPES = dict(json.load(open(SCHEMA))["types"])
+UINTS = {"uint%d" % bits: bits // 8 for bits in (8, 16, 32, 64, 128, 256)}
+UINTS |= {"byte": 1, "boolean": 1}
+FAR = 2654435761
+# How many elements a list of this name has, where it is not a list of all validators.
+FEW = {"historical_roots": 700, "eth1_data_votes": 1000, "historical_summaries": 300,
+       "extra_data": 20}
+
+def form(one):
+    while isinstance(one, str) and one in TYPES:
+        one = TYPES[one]
+    return one
+
+def fixed(one):
+    """The size of a type of fixed size, or None."""
+    one = form(one)
+    if isinstance(one, str):
+        return UINTS[one]
+    (kind, rest), = one.items()
+    if kind == "bitvector":
+        return (rest + 7) // 8
+    if kind == "vector":
+        return fixed(rest[0]) * rest[1]
+    sizes = [fixed(part) for _, part in rest] if kind == "container" else [None]
+    return None if None in sizes else sum(sizes)
+
+def drawn(one, name, count):
+    """The encoding of a value of a type, drawn at random."""
+    one = form(one)
+    if isinstance(one, str):
+        return b"\0" if one == "boolean" else random.randbytes(UINTS[one])
+    (kind, rest), = one.items()
+    if kind == "bitvector":
+        return bytes(fixed(one))
+    if kind in ("vector", "list"):
+        length = rest[1] if kind == "vector" else FEW.get(name, count)
+        if isinstance(form(rest[0]), str):
+            return random.randbytes(length * fixed(rest[0]))
+        return b"".join([drawn(rest[0], name, count) for _ in range(length)])
+    parts = [(fixed(part), drawn(part, field, count)) for field, part in rest]
+    heads, bodies, at = [], [], sum(size or 4 for size, _ in parts)
+    for size, part in parts:
+        heads.append(part if size else (at + sum(map(len, bodies))).to_bytes(4, "little"))
+        bodies += [] if size else [part]
+    return b"".join(heads + bodies)
+
+def pair(left, right):
+    return hashlib.sha256(left + right).digest()
+
+ZEROS = [bytes(32)]
+for _ in range(64):
+    ZEROS.append(pair(ZEROS[-1], ZEROS[-1]))
+
+def merkleize(chunks, limit):
+    for level in range((limit - 1).bit_length()):
+        if len(chunks) % 2:
+            chunks.append(ZEROS[level])
+        chunks = [pair(chunks[i], chunks[i + 1]) for i in range(0, len(chunks), 2)]
+        chunks = chunks or [ZEROS[level + 1]]
+    return chunks[0] if chunks else ZEROS[0]
+
+def packed(data):
+    return [data[at:at + 32].ljust(32, b"\0") for at in range(0, len(data), 32)]
+
+def root(one, data):
+    """hash_tree_root of the value with this encoding, by simple-serialize.md."""
+    one = form(one)
+    if isinstance(one, str):
+        return data.ljust(32, b"\0")
+    (kind, rest), = one.items()
+    if kind == "bitvector":
+        return merkleize(packed(data), (rest + 255) // 256)
+    if kind in ("vector", "list"):
+        size, limit = fixed(rest[0]), rest[1]
+        if isinstance(form(rest[0]), str):
+            made = merkleize(packed(data), (limit * size + 31) // 32)
+        else:
+            parts = range(0, len(data), size)
+            made = merkleize([root(rest[0], data[at:at + size]) for at in parts], limit)
+        return made if kind == "vector" else pair(made, (len(data) // size).to_bytes(32, "little"))
+    places, at = [], 0
+    for _, part in rest:
+        size = fixed(part)
+        start = at if size else int.from_bytes(data[at:at + 4], "little")
+        places.append((start, start + size if size else None))
+        at += size or 4
+    starts = [start for start, end in places if end is None] + [len(data)]
+    ends = iter(starts[1:])
+    return merkleize([root(part, data[start:end if end is not None else next(ends)])
+                      for (_, part), (start, end) in zip(rest, places)], len(rest))
+
+def run(*words):
+    """Processor time in seconds, the peak of memory in MiB, and the lines."""
+    ran = subprocess.run(["/usr/bin/time", "-f", "%U %S %M", "-o", "took", *words],
+                         capture_output=True, text=True, check=True)
+    user, system, kib = open("took").read().split()
+    return float(user) + float(system), int(kib) / 1024, ran.stdout.split("\n")[:-1]
+
+def script(name, *lines):
+    with open(name, "w") as file:
+        file.writelines(line + "\n" for line in lines)
+
+def sets(version, count, first=0):
+    """As many balances of all over the list set, with a root after each."""
+    for i in range(first, first + 1000):
+        yield "set %s /balances/%d 0x%016x" % (version, i * FAR % count, i)
+        yield "root %s" % version
+
+# What a script does after the load and the root, and what it is called.
+JOBS = [
+    ("load", lambda count: []),
+    ("a thousand set, root", lambda count: sets("S", count)),
+    ("prove of a hundred", lambda count: ["prove S " + " ".join(
+        "/validators/%d/effective_balance" % (i * FAR % count) for i in range(100))]),
+    ("save", lambda count: ["save S saved"]),
+]
+
+def row(count, what, taken, pairs, base=0.0):
+    bare = run(PAIRS, str(pairs))[0] if pairs else 0
+    seconds = taken[0] - base
+    print("%-8d %-22s %9.3f %10d %8.3f %6s %9.1f" % (
+        count, what, seconds, pairs, bare, "%.2f" % (seconds / bare) if bare > 0.05 else "",
+        taken[1]), flush=True)
+
+def weave(count, base):
+    """Ten writers, each with a thousand sets on its own fork of the base's state, in turns."""
+    script("base", "load S BeaconState state", "root S")
+    names = []
+    for writer in range(10):
+        names.append("w%d" % writer)
+        script(names[-1], "fork S T", *sets("T", count, 1000 * writer))
+    taken = run(SSZ, "weave", SCHEMA, "base", "0123456789" * 2001, *names)
+    return taken[0] - base, taken[1]
+
+print("load", " ".join("%.1f" % load for load in os.getloadavg()))
+print("%-8s %-22s %9s %10s %8s %6s %9s"
+      % ("count", "what", "seconds", "pairs", "bare", "ratio", "peak MiB"))
+with tempfile.TemporaryDirectory() as room:
+    os.chdir(room)
+    for count in SIZES:
+        random.seed(count)
+        state = drawn("BeaconState", "", count)
+        with open("state", "wb") as file:
+            file.write(state)
+        wanted = ["root 0x" + root("BeaconState", state).hex()]
+        taken = run(SSZ, "root", SCHEMA, "BeaconState", "state")
+        if taken[2] != wanted:
+            sys.exit("another root: %s, and not %s" % (taken[2], wanted))
+        first = ["load S BeaconState state", "root S"]
+        for what, lines in JOBS:
+            script("script", *first, *lines(count), "hashes")
+            job = run(SSZ, "run", SCHEMA, "script")
+            pairs = int(job[2][-1].split()[1])
+            if what == "load":
+                base, all_pairs = job[0], pairs
+                row(count, "root", taken, pairs + 126)
+                row(count, "run, load and root", job, pairs + 126)
+            else:
+                row(count, "run, " + what, job, pairs - all_pairs, base)
+            if job[2][1:2] != wanted:
+                sys.exit("another root")
+        if open("saved", "rb").read() != state:
+            sys.exit("another state saved")
+        seconds, peak = weave(count, base)
+        print("%-8d %-22s %9.3f %36.1f" % (count, "weave, ten thousand", seconds, peak), flush=True)
+print("load", " ".join("%.1f" % load for load in os.getloadavg()))
+PY
