@@ -1,0 +1,4 @@
+pub mod Answers
+pub mod SameType
+pub mod Taking
+pub mod Upgrades

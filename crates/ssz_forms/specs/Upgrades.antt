@@ -1,0 +1,56 @@
+-- A container that takes over the fields of another (this project's).
+use Rattle.std.specs.Prelude.{ℕ, ◌+◌, if◌then◌else◌, List, [], ◌∷◌, Option, Some, None, option_and_then, Result, Ok, Err, slice_index_or}
+use Rattle.ssz_chunk.specs.Tree.{grow}
+use Rattle.ssz_schema.specs.Types.{SszType, Fields, container, no_fields, field}
+use Rattle.ssz_schema.specs.Sizes.{depth, field_count}
+use Rattle.ssz_schema.specs.Paths.{field_type, field_number}
+use Rattle.ssz_value.specs.Values.{SszValue, sequence, values}
+use Rattle.ssz_value.specs.Shapes.{parts_of}
+use Rattle.ssz_value.specs.Defaults.{default_of}
+use Rattle.ssz_value.specs.Pairs.{pairs}
+use Rattle.ssz_forms.specs.declared.upgrade_fault.UpgradeFault.{UpgradeFault}
+use Rattle.ssz_forms.specs.declared.upgrade_fault.UpgradeFault.TheVariants.{NotContainer}
+use Rattle.ssz_forms.specs.SameType.{same_type}
+
+-- the number of the field of this name, where it has an equal type
+abbrev pub taken : Fields → List ℕ → SszType → Option ℕ
+taken old name t =
+    option_and_then (λ u. if same_type u t then Some (field_number old name) else None)
+    (field_type old name)
+
+-- for each new field the number of the old one that it takes
+abbrev pub all_taken : Fields → Fields → List (Option ℕ)
+all_taken old no_fields = []
+all_taken old (field name t fs) = taken old name t ∷ all_taken old fs
+
+-- the value of a new field: the one that it takes, or its default
+abbrev pub field_value : List SszValue → SszType → Option ℕ → SszValue
+field_value vs t (Some k) = slice_index_or vs k (default_of t)
+field_value vs t None = default_of t
+
+abbrev pub upgraded_fields : Fields → List SszValue → Fields → List SszValue
+upgraded_fields old vs no_fields = []
+upgraded_fields old vs (field name t fs) =
+    field_value vs t (taken old name t) ∷ upgraded_fields old vs fs
+
+-- the value of the second type that takes the fields of this value of the first
+abbrev pub upgraded : SszType → SszValue → SszType → Result SszValue UpgradeFault
+upgraded (container old) v (container new) =
+    Ok (sequence (values (upgraded_fields old (parts_of v) new)))
+upgraded _ v _ = Err NotContainer
+
+-- the pairs of a field that gets its default
+abbrev pub default_pairs : SszType → Option ℕ → ℕ
+default_pairs t (Some k) = 0
+default_pairs t None = pairs t (default_of t)
+
+abbrev pub defaulted_pairs : Fields → Fields → ℕ
+defaulted_pairs old no_fields = 0
+defaulted_pairs old (field name t fs) =
+    default_pairs t (taken old name t) + defaulted_pairs old fs
+
+-- the pairs that are made for it: those above the fields, and those of each default
+abbrev pub upgrade_charge : SszType → SszType → ℕ
+upgrade_charge (container old) (container new) =
+    grow (depth (container new)) (field_count new) + defaulted_pairs old new
+upgrade_charge _ _ = 0
