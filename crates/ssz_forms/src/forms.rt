@@ -20,14 +20,32 @@ struct Answer {
 /// What was found out so far of the types of one schema. An answer is kept under the text of the
 /// two types, since a type has no order of its own.
 #[derive(Drop)]
-pub struct Forms {
+pub(crate) struct Forms {
     alloc: Global,
     answers: BTreeMap<String, Answer>,
 }
 
+/// Whether two types are equal as trees (simple-serialize.md, Typing): the same form of the same
+/// parts, with the same field names and limits, whatever the names of their definitions. No two types
+/// are compared twice. Fails for want of memory alone.
+pub fn same_type(
+    alloc: Global,
+    schema: &Schema,
+    first: TypeId,
+    second: TypeId,
+) -> Result<bool, AllocError>
+    requires first { first < length schema.now.trees }
+    requires second { second < length schema.now.trees }
+    ensures { IfOk result (λ same.
+        same ≡ same_type (type_of schema.now first) (type_of schema.now second)) }
+{
+    let mut forms = Forms::new(alloc);
+    forms.same(schema, first, second)
+}
+
 impl Forms {
     /// Nothing is found out yet.
-    pub fn new(alloc: Global) -> Self
+    pub(crate) fn new(alloc: Global) -> Self
         ensures { (types : Types) → AreRight types result }
     {
         Forms {
@@ -38,7 +56,7 @@ impl Forms {
 
     /// Whether the two types are the same tree. It fails for want of memory alone.
     #[cycle(same)]
-    pub fn same(
+    pub(crate) fn same(
         &mut self,
         schema: &Schema,
         first: TypeId,
