@@ -14,7 +14,8 @@
  *
  * What the library keeps: it frees all that it took at ssz_schema_free, it keeps no pointer that it
  * was given after the call has ended, and it never reads behind a length. Under any status but SSZ_OK
- * what stands behind a result's pointer is as it was.
+ * what stands behind a result's pointer is as it was; but SSZ_NO_ROOM comes with a length, and after
+ * SSZ_NO_MEMORY nothing is said of what ssz_gindex and ssz_part left there.
  */
 #ifndef SSZ_H
 #define SSZ_H
@@ -72,8 +73,8 @@ uint32_t ssz_schema_read(ssz_schema *schema, const uint8_t *bytes, size_t len, s
 /* Frees what the handle holds. SSZ_NO_HANDLE where it holds nothing, as after a first free. */
 uint32_t ssz_schema_free(ssz_schema *schema);
 
-/* The number of the type of a name, for the calls below; the same name has one number as long as the
- * handle lives. SSZ_NO_HANDLE, SSZ_NO_TYPE, SSZ_NO_MEMORY. */
+/* The number of the type of a name, for the calls below: it stands for this type until the handle is
+ * read into again or freed. SSZ_NO_HANDLE, SSZ_NO_TYPE, SSZ_NO_MEMORY. */
 uint32_t ssz_type(ssz_schema *schema, const uint8_t *name, size_t len, uint64_t *type,
                   ssz_fault *fault);
 
