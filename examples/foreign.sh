@@ -1,7 +1,8 @@
 #!/bin/sh
 # Builds the static library and the examples of C, Python and Rust, runs each over the same inputs as the
-# program `ssz`, and compares what they print. It needs what README's set-up installs, and says which
-# example it left out for want of a compiler or an interpreter. The last line is 'N compared, M differ'.
+# program `ssz`, and compares what they print; examples/c/statuses.c leads each call to its statuses. It
+# needs the kit that README names, and says which example it left out for want of a compiler or an
+# interpreter. The last line is 'N compared, M differ'.
 set -eu
 cd "$(dirname "$0")/.."
 out=$(mktemp -d)
