@@ -27,7 +27,7 @@ use std::alloc::{AllocError, Global};
 
 impl Generator {
     /// What is drawn at the part of this type that the node has.
-    pub fn turn<H: PairHash>(
+    pub(crate) fn turn<H: PairHash>(
         &mut self,
         alloc: Global,
         arena: &Arena<H>,
