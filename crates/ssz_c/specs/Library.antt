@@ -1,5 +1,5 @@
 -- A schema as C knows it: its types by the numbers that were given out.
-use Rattle.std.specs.Prelude.{◌≡◌, ◌⊎◌, ℕ, nat_lt, if◌then◌else◌, ◌<◌, List, [], ◌++◌, length, slice_index_or, Option, Some, None, Result, Ok, Err}
+use Rattle.std.specs.Prelude.{◌≡◌, ◌⊎◌, ℕ, nat_lt, if◌then◌else◌, ◌<◌, ◌≤◌, false, List, [], ◌++◌, length, slice_index_or, Option, Some, None, Result, Ok, Err}
 use Rattle.std.specs.Str.{is_utf8}
 use Rattle.ssz_schema.specs.FaultCodes.{code_of}
 use Rattle.ssz_schema.specs.Types.{SszType}
@@ -36,17 +36,28 @@ abbrev pub IsFound : List ℕ → ℕ → Option ℕ → Type 0
 IsFound found id None = Unit {0}
 IsFound found id (Some k) = (k < length found) × (slice_index_or found k 0 ≡ id)
 
--- a schema that the bytes define, with no number given out, or why there is none
-abbrev pub ReadsLibrary : Outcome Library → List ℕ → Type 0
-ReadsLibrary (Ok library) bytes =
+-- what there is in bytes that are not too many
+abbrev pub ReadsText : Outcome Library → List ℕ → Type 0
+ReadsText (Ok library) bytes =
     Reads (Ok library.schema) (schema_of_bytes bytes) × (library.found.items ≡ [])
-ReadsLibrary (Err fault) bytes =
-    (fault ≡ too_long) × (MOST_TEXT < length bytes)
-    ⊎ (why : SchemaRead) × (fault ≡ fault_of_read why) × Reads (Err why) (schema_of_bytes bytes)
+ReadsText (Err fault) bytes =
+    (why : SchemaRead) × (fault ≡ fault_of_read why) × Reads (Err why) (schema_of_bytes bytes)
+
+-- a schema that the bytes define, with no number given out, or why there is none
+pub record ReadsLibrary (result : Outcome Library) (bytes : List ℕ) : Type 0 where
+  pub long : MOST_TEXT < length bytes → result ≡ Err too_long
+  pub short : length bytes ≤ MOST_TEXT → ReadsText result bytes
+
+-- why a name has no number: no type has it, or memory ran out
+abbrev pub IsUnnamed : List ℕ → Types → SszFault → Type 0
+IsUnnamed name types fault =
+    (fault ≡ refused NO_MEMORY)
+    ⊎ (fault ≡ refused NO_TYPE) × ((is_utf8 name ≡ false) ⊎ (number_of types name ≡ None))
 
 -- the name's type has the number; numbers that were given out stay
 abbrev pub Names : List ℕ → Library → Library → Outcome ℕ → Type 0
 Names name old new (Ok number) =
     ((id : ℕ) × (number_of old.schema name ≡ Some id) × (type_in new number ≡ Ok id))
     × ((more : List ℕ) × (new.found.items ≡ old.found.items ++ more))
-Names name old new (Err fault) = new.found.items ≡ old.found.items
+Names name old new (Err fault) =
+    (new.found.items ≡ old.found.items) × IsUnnamed name old.schema fault
