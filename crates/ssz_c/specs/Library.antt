@@ -1,6 +1,6 @@
 -- A schema as C knows it: its types by the numbers that were given out.
-use Rattle.std.specs.Prelude.{◌≡◌, ◌⊎◌, ℕ, nat_lt, if◌then◌else◌, ◌<◌, ◌≤◌, false, List, [], ◌++◌, length, slice_index_or, Option, Some, None, Result, Ok, Err}
-use Rattle.std.specs.Str.{is_utf8}
+use Rattle.std.specs.Prelude.{◌≡◌, ◌⊎◌, ℕ, nat_lt, if◌then◌else◌, ◌<◌, ◌≤◌, List, [], ◌++◌, length, slice_index_or, Option, Some, None, Result, Ok, Err}
+use Rattle.std.specs.Str.{IsUtf8}
 use Rattle.ssz_schema.specs.FaultCodes.{code_of}
 use Rattle.ssz_schema.specs.Types.{SszType}
 use Rattle.ssz_schema.specs.Unfolding.{Types, number_of, type_of}
@@ -52,7 +52,7 @@ pub record ReadsLibrary (result : Outcome Library) (bytes : List ℕ) : Type 0 w
 abbrev pub IsUnnamed : List ℕ → Types → SszFault → Type 0
 IsUnnamed name types fault =
     (fault ≡ refused NO_MEMORY)
-    ⊎ (fault ≡ refused NO_TYPE) × ((is_utf8 name ≡ false) ⊎ (number_of types name ≡ None))
+    ⊎ (fault ≡ refused NO_TYPE) × ((¬ IsUtf8 name) ⊎ (number_of types name ≡ None))
 
 -- the name's type has the number; numbers that were given out stay
 abbrev pub Names : List ℕ → Library → Library → Outcome ℕ → Type 0

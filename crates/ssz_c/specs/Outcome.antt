@@ -55,10 +55,11 @@ abbrev pub IsSaid : {A : Type 0} → SszFault → Outcome A → Type 0
 IsSaid fault (Ok x) = fault ≡ done
 IsSaid fault (Err why) = fault ≡ why
 
--- the same as IsGiven, unless memory runs out
-abbrev pub IsGivenUnlessMemory : {A : Type 0} → A → A → SszFault → Outcome A → Type 0
-IsGivenUnlessMemory old new fault meant =
-    fault ≢ refused NO_MEMORY → IsGiven old new fault meant
+-- the same as IsGiven, unless memory runs out, which leaves what stood there
+pub record IsGivenUnlessMemory {A : Type 0} (old new : A) (fault : SszFault) (meant : Outcome A)
+    : Type 0 where
+  pub memory : fault ≡ refused NO_MEMORY → new ≡ old
+  pub given : fault ≢ refused NO_MEMORY → IsGiven old new fault meant
 
 -- the room and the length behind two pointers after a call, and the fault: bytes in front of what
 -- stood there, where there is room for them, and in any case their length
@@ -70,7 +71,8 @@ IsCopied old new before len fault (Ok bytes) =
     × (length bytes ≤ length old
     → (new ≡ bytes ++ drop (length bytes) old) × (fault ≡ done))
 
--- the same, unless memory runs out
-abbrev pub IsCopiedUnlessMemory : List ℕ → List ℕ → ℕ → ℕ → SszFault → Outcome (List ℕ) → Type 0
-IsCopiedUnlessMemory old new before len fault meant =
-    fault ≢ refused NO_MEMORY → IsCopied old new before len fault meant
+-- the same, unless memory runs out, which leaves what stood there
+pub record IsCopiedUnlessMemory (old new : List ℕ) (before len : ℕ) (fault : SszFault)
+    (meant : Outcome (List ℕ)) : Type 0 where
+  pub memory : fault ≡ refused NO_MEMORY → (new ≡ old) × (len ≡ before)
+  pub copied : fault ≢ refused NO_MEMORY → IsCopied old new before len fault meant
