@@ -14,8 +14,7 @@
  *
  * What the library keeps: it frees all that it took at ssz_schema_free, it keeps no pointer that it
  * was given after the call has ended, and it never reads behind a length. Under any status but SSZ_OK
- * what stands behind a result's pointer is as it was; but SSZ_NO_ROOM comes with a length, and after
- * SSZ_NO_MEMORY nothing is said of what ssz_gindex and ssz_part left there.
+ * what stands behind a result's pointer is as it was; but SSZ_NO_ROOM comes with a length.
  */
 #ifndef SSZ_H
 #define SSZ_H
