@@ -109,7 +109,7 @@ fn decide_alone<'a, H: PairHash>(
             choose(engine, writer, v, path.as_slice(), *selector, literal)
         }
         Statement::Prove(v, indices) => prove(engine, writer, v, indices, hasher),
-        // No script has this yet.
+        // Refused as no statement until upgrades come.
         Statement::Upgrade(_, _, _) => Ok(Decision::Refused(Reply::SYNTAX)),
         Statement::Load(_, _, _) => unreachable!(),
         Statement::LoadJson(_, _, _) => unreachable!(),
