@@ -3,18 +3,18 @@
  * Every call answers a status, SSZ_OK or why not, and does nothing undefined for any bytes and any
  * number. What the caller keeps:
  *
- *  - A pointer is not null, and has room for what it points to, or so many bytes as its length says.
- *    For no bytes at all, pass a length of 0 and any pointer that is not null ("" will do).
- *  - During a call nothing else reads or writes what the call's pointers lead to, and no two of them
- *    that the call writes through overlap another.
- *  - A handle is a variable of type ssz_schema. It begins as SSZ_SCHEMA_NONE and is changed by calls
- *    alone; it is neither copied nor moved while it holds something. One thread at a time uses it. Two
- *    handles know nothing of one another, and there is no state beside them.
+ *  - A pointer is not null, and has room for what it points to, or so many bytes as its length
+ *    says. For no bytes at all, pass a length of 0 and any pointer that is not null ("" will do).
+ *  - During a call nothing else reads or writes what the call's pointers lead to, and what one
+ *    pointer leads to that the call writes through overlaps nothing that another one leads to.
+ *  - A handle is a variable of type ssz_schema. It begins as SSZ_SCHEMA_NONE and is changed by
+ *    calls alone; it is neither copied nor moved while it holds something. One thread at a time
+ *    uses it. Two handles know nothing of one another, and there is no state beside them.
  *  - malloc, realloc and free are those of one allocator; no call is made from a signal handler.
  *
  * What the library keeps: it frees all that it took at ssz_schema_free, it keeps no pointer that it
- * was given after the call has ended, and it never reads behind a length. Under any status but SSZ_OK
- * what stands behind a result's pointer is as it was; but SSZ_NO_ROOM comes with a length.
+ * was given after the call has ended, and it never reads behind a length. Under any status but
+ * SSZ_OK what stands behind a result's pointer is as it was; but SSZ_NO_ROOM comes with a length.
  */
 #ifndef SSZ_H
 #define SSZ_H
@@ -72,8 +72,8 @@ uint32_t ssz_schema_read(ssz_schema *schema, const uint8_t *bytes, size_t len, s
 /* Frees what the handle holds. SSZ_NO_HANDLE where it holds nothing, as after a first free. */
 uint32_t ssz_schema_free(ssz_schema *schema);
 
-/* The number of the type of a name, for the calls below: it stands for this type until the handle is
- * read into again or freed. SSZ_NO_HANDLE, SSZ_NO_TYPE, SSZ_NO_MEMORY. */
+/* The number of the type of a name, for the calls below: it stands for this type until the handle
+ * is read into again or freed. SSZ_NO_HANDLE, SSZ_NO_TYPE, SSZ_NO_MEMORY. */
 uint32_t ssz_type(ssz_schema *schema, const uint8_t *name, size_t len, uint64_t *type,
                   ssz_fault *fault);
 
@@ -87,8 +87,9 @@ uint32_t ssz_check(ssz_schema *schema, uint64_t type, const uint8_t *bytes, size
 uint32_t ssz_root(ssz_schema *schema, uint64_t type, const uint8_t *bytes, size_t len,
                   uint8_t root[32], ssz_fault *fault);
 
-/* The generalized index of the part that a path leads to, as "/validators/7/slashed" or "/list/#len".
- * SSZ_NO_HANDLE, SSZ_NO_TYPE, SSZ_TOO_LONG, SSZ_SYNTAX, SSZ_BAD_PATH, SSZ_NO_MEMORY. */
+/* The generalized index of the part that a path leads to, as "/validators/7/slashed" or
+ * "/list/#len". SSZ_NO_HANDLE, SSZ_NO_TYPE, SSZ_TOO_LONG, SSZ_SYNTAX, SSZ_BAD_PATH,
+ * SSZ_NO_MEMORY. */
 uint32_t ssz_gindex(ssz_schema *schema, uint64_t type, const uint8_t *path, size_t len,
                     ssz_index *index, ssz_fault *fault);
 
@@ -96,11 +97,11 @@ uint32_t ssz_gindex(ssz_schema *schema, uint64_t type, const uint8_t *path, size
  * SSZ_UNLIKE, SSZ_BAD_PROOF, SSZ_TOO_LONG, SSZ_NO_MEMORY. */
 uint32_t ssz_verify(const uint8_t root[32], const uint8_t *proof, size_t len);
 
-/* The encoding of the part at a path, in bytes that encode a value of the type: copied to room, which
- * has room_len bytes, and its length in part_len. SSZ_NO_ROOM where there is too little room: then only
- * part_len is written. A part's encoding is no longer than the whole, but for a bit, which is one byte,
- * and a length ("/list/#len"), which is eight. SSZ_NO_HANDLE, SSZ_NO_TYPE, SSZ_TOO_LONG, SSZ_SYNTAX,
- * SSZ_INVALID, SSZ_BAD_PATH, SSZ_ABSENT, SSZ_NO_MEMORY. */
+/* The encoding of the part at a path, in bytes that encode a value of the type: copied to room,
+ * which has room_len bytes, and its length in part_len. SSZ_NO_ROOM where there is too little room:
+ * then only part_len is written, and says how much is wanted. A bit is one byte, a length
+ * ("/list/#len") eight. SSZ_NO_HANDLE, SSZ_NO_TYPE, SSZ_TOO_LONG, SSZ_SYNTAX, SSZ_INVALID,
+ * SSZ_BAD_PATH, SSZ_ABSENT, SSZ_NO_MEMORY. */
 uint32_t ssz_part(ssz_schema *schema, uint64_t type, const uint8_t *bytes, size_t len,
                   const uint8_t *path, size_t path_len, uint8_t *room, size_t room_len,
                   uint64_t *part_len, ssz_fault *fault);
