@@ -17,6 +17,7 @@ typedef struct {
 /* The bytes of a file. */
 static bytes read_file(const char *name) {
     bytes all = {malloc(1), 0};
+    if (!all.at) exit(6);
     FILE *file = fopen(name, "rb");
     if (!file) {
         perror(name);
@@ -24,8 +25,9 @@ static bytes read_file(const char *name) {
     }
     uint8_t block[65536];
     for (size_t got; (got = fread(block, 1, sizeof block, file)) > 0; all.len += got) {
-        all.at = realloc(all.at, all.len + got);
-        if (!all.at) exit(6);
+        uint8_t *more = realloc(all.at, all.len + got);
+        if (!more) exit(6);
+        all.at = more;
         memcpy(all.at + all.len, block, got);
     }
     fclose(file);
@@ -88,7 +90,8 @@ int main(int count, char **words) {
     size_t room = value.len < 8 ? 8 : value.len;
     uint8_t *part = malloc(room);
     if (!part) return 6;
-    expect(ssz_part(&schema, type, value.at, value.len, path, path_len, part, room, &part_len, &fault),
+    expect(ssz_part(&schema, type, value.at, value.len, path, path_len, part, room, &part_len,
+                    &fault),
            &fault);
     print_hex("bytes", part, part_len);
     uint32_t verdict = ssz_verify(root, proof.at, proof.len);

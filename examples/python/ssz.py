@@ -10,7 +10,8 @@
         slot = state.part(encoded, "/slot")
     library.verify(root, proof_text)
 
-A call that is refused raises an SszError, which carries the status, the fault's code and its position.
+A call that is refused raises an SszError, which carries the status, the fault's code and its
+position.
 """
 
 from __future__ import annotations
@@ -42,8 +43,8 @@ class Status(IntEnum):
 class SszError(Exception):
     """Why a call did not do what it was asked.
 
-    Of INVALID the code is 1 to 11 for F1 to F11 and the position a byte; of BAD_SCHEMA the code is that
-    of S1 to S15 and the position the number of a definition. Else both are 0.
+    Of INVALID the code is 1 to 11 for F1 to F11 and the position a byte; of BAD_SCHEMA the code is
+    1 to 15 for S1 to S15 and the position the number of a definition. Else both are 0.
     """
 
     def __init__(self, status: Status, code: int = 0, position: int = 0) -> None:
@@ -188,7 +189,7 @@ class SszType:
     def part(self, encoded: bytes, path: str) -> bytes:
         """The encoding of the part at a path of the value that the bytes encode."""
         text = path.encode()
-        # A part's encoding is no longer than the whole, but for a bit and a length.
+        # Room for a slice of the whole, a bit or a length; too little would raise NO_ROOM.
         room = ctypes.create_string_buffer(max(8, len(encoded)))
         count = ctypes.c_uint64()
         self._schema._call(

@@ -219,7 +219,7 @@ impl Type<'_> {
 
     /// The encoding of the part at a path of the value that the bytes encode.
     pub fn part(&self, bytes: &[u8], path: &str) -> Result<Vec<u8>, Error> {
-        // It is no longer than the whole, but for a bit and a length.
+        // Room for a slice of the whole, a bit or a length; too little would be NO_ROOM.
         let mut room = vec![0; bytes.len().max(8)];
         let mut len = 0;
         self.schema.call(|handle, fault| unsafe {
