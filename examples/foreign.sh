@@ -1,8 +1,8 @@
 #!/bin/sh
 # Builds the static library and the examples of C, Python and Rust, runs each over the same inputs as the
-# program `ssz`, and compares what they print; examples/c/statuses.c leads each call to its statuses. It
-# needs the kit that README names, and says which example it left out for want of a compiler or an
-# interpreter. The last line is 'N compared, M differ'.
+# program `ssz`, and compares what they print; examples/c/statuses.c leads each call to its statuses,
+# under valgrind where that is there. It needs the kit that README names, and says what it left out for
+# want of a compiler, an interpreter or valgrind. The last line is 'N compared, M differ'.
 set -eu
 cd "$(dirname "$0")/.."
 out=$(mktemp -d)
@@ -20,7 +20,12 @@ ways=
 if command -v cc >/dev/null; then
     cc -std=c11 -O2 -Wall -Wextra -Iinclude -o "$out/c" examples/c/example.c $library
     cc -std=c11 -O2 -Wall -Wextra -Iinclude -o "$out/statuses" examples/c/statuses.c $library
-    "$out/statuses"
+    if command -v valgrind >/dev/null; then
+        valgrind -q --leak-check=full --error-exitcode=9 "$out/statuses"
+    else
+        echo "left out: valgrind"
+        "$out/statuses"
+    fi
     ways="$ways c"
     if command -v python3 >/dev/null; then
         cc -shared -o "$out/libssz_c.so" -Wl,--whole-archive $library -Wl,--no-whole-archive
