@@ -23,10 +23,10 @@ mod naming;
 mod status;
 mod verdict;
 
-use calls::SszIndex;
-use fault::SszFault;
+pub use calls::SszIndex;
+pub use fault::SszFault;
 use giving::{copy, fail, give, say};
-use handle::SszSchema;
+pub use handle::SszSchema;
 use library::Library;
 use std::alloc::Global;
 

@@ -9,7 +9,7 @@ pub const NO_HANDLE: u32 = 1;
 /// There is no type of this name or number.
 pub const NO_TYPE: u32 = 2;
 
-/// More bytes than are taken: 2^32 of a value, 2^26 of a text.
+/// Too many bytes: a value has fewer than 2^32, a text at most 2^26.
 pub const TOO_LONG: u32 = 3;
 
 /// The bytes encode no value; the code is 1 to 11 for F1 to F11.
