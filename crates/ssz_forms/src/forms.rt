@@ -26,8 +26,8 @@ pub(crate) struct Forms {
 }
 
 /// Whether two types are equal as trees (simple-serialize.md, Typing): the same form of the same
-/// parts, with the same field names and limits, whatever the names of their definitions. No two types
-/// are compared twice. Fails for want of memory alone.
+/// parts, with the same field names and limits, whatever the names of their definitions. No two
+/// types are compared twice. Fails for want of memory alone.
 pub fn same_type(
     alloc: Global,
     schema: &Schema,
