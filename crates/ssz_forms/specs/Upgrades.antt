@@ -1,13 +1,10 @@
 -- A container that takes over the fields of another (this project's).
-use Rattle.std.specs.Prelude.{ℕ, ◌+◌, if◌then◌else◌, List, [], ◌∷◌, Option, Some, None, option_and_then, Result, Ok, Err, slice_index_or}
-use Rattle.ssz_chunk.specs.Tree.{grow}
+use Rattle.std.specs.Prelude.{ℕ, if◌then◌else◌, List, [], ◌∷◌, Option, Some, None, option_and_then, Result, Ok, Err, slice_index_or}
 use Rattle.ssz_schema.specs.Types.{SszType, Fields, container, no_fields, field}
-use Rattle.ssz_schema.specs.Sizes.{depth, field_count}
 use Rattle.ssz_schema.specs.Paths.{field_type, field_number}
 use Rattle.ssz_value.specs.Values.{SszValue, sequence, values}
 use Rattle.ssz_value.specs.Shapes.{parts_of}
 use Rattle.ssz_value.specs.Defaults.{default_of}
-use Rattle.ssz_value.specs.Pairs.{pairs}
 use Rattle.ssz_forms.specs.declared.upgrade_fault.UpgradeFault.{UpgradeFault}
 use Rattle.ssz_forms.specs.declared.upgrade_fault.UpgradeFault.TheVariants.{NotContainer}
 use Rattle.ssz_forms.specs.SameType.{same_type}
@@ -37,20 +34,6 @@ upgraded_fields old vs (field name t fs) =
 abbrev pub upgraded : SszType → SszValue → SszType → Result SszValue UpgradeFault
 upgraded (container old) v (container new) =
     Ok (sequence (values (upgraded_fields old (parts_of v) new)))
-upgraded _ v _ = Err NotContainer
-
--- the pairs of a field that gets its default
-abbrev pub default_pairs : SszType → Option ℕ → ℕ
-default_pairs t (Some k) = 0
-default_pairs t None = pairs t (default_of t)
-
-abbrev pub defaulted_pairs : Fields → Fields → ℕ
-defaulted_pairs old no_fields = 0
-defaulted_pairs old (field name t fs) =
-    default_pairs t (taken old name t) + defaulted_pairs old fs
-
--- the pairs that are made for it: those above the fields, and those of each default
-abbrev pub upgrade_charge : SszType → SszType → ℕ
-upgrade_charge (container old) (container new) =
-    grow (depth (container new)) (field_count new) + defaulted_pairs old new
-upgrade_charge _ _ = 0
+-- where one of the two types is no container, there is none
+upgraded (container old) v t = Err NotContainer
+upgraded s v t = Err NotContainer
