@@ -4,12 +4,9 @@ use Rattle.std.proofs.lemmas.Bool.{and_from}
 use Rattle.ssz_schema.specs.Types.{SszType}
 use Rattle.ssz_schema.specs.Unfolding.{tree_at, fields_over, options_over}
 use Rattle.ssz_schema.proofs.WalkFields.{drop_at}
+use Rattle.ssz_value.proofs.PartLemmas.{Part}
 use Rattle.ssz_forms.specs.Answers.{same_option}
 use Rattle.ssz_forms.specs.SameType.{same_type, same_fields, same_options}
-
--- a field: its name, and the number of its type
-abbrev pub Part : Type 0
-Part = List ℕ × ℕ
 
 abbrev pub fields_alike : List SszType → List Part → List Part → Bool
 fields_alike trees xs ys = same_fields (fields_over trees xs) (fields_over trees ys)

@@ -1,4 +1,4 @@
-ghost use Rattle.std.specs.Prelude.{◌≡◌, ◌==◌, ◌<◌, length, IfOk, IfSome};
+ghost use Rattle.std.specs.Prelude.{◌≡◌, ◌<◌, length, IfOk, IfSome};
 ghost use Rattle.std.specs.List.{AllByRecursion};
 ghost use Rattle.ssz_schema.specs.Types.{uint, boolean, container, vector, list, bitvector, bitlist, union};
 ghost use Rattle.ssz_schema.specs.Unfolding.{Types, type_of, fields_over, options_over, IsBelow};
