@@ -1,21 +1,26 @@
 -- The fields of an upgraded value, one after another.
 use Rattle.std.proofs.Common.{ℕ, suc, ◌+◌, ◌<◌, ◌≤◌, ◌≡◌, Bool, true, false, List, [], ◌∷◌, ◌++◌, length, map, get_or, drop, Option, Some, None, refl, sym, ap, ap₂, ◌∙◌, cond, subst, arith, bytes_eq, append_assoc, Vec, Global}
-use Rattle.std.specs.Prelude.{Ok}
+use Rattle.std.specs.Prelude.{Result, Ok, IfOk}
+use Rattle.std.specs.declared.alloc.AllocError.{AllocError}
+use Rattle.std.proofs.lemmas.Result.{IfOk-weaker}
 use Rattle.std.specs.Option.{option_and_then}
 use Rattle.std.proofs.lemmas.List.{append-nil, drop_all}
-use Rattle.std.proofs.lemmas.Option.{same_Some}
+use Rattle.std.proofs.lemmas.Option.{same_Some, slice_get_read}
 use Rattle.ssz_schema.specs.Types.{SszType, Fields, container, no_fields, field}
-use Rattle.ssz_schema.specs.Unfolding.{tree_at, fields_over}
+use Rattle.ssz_schema.specs.Unfolding.{Types, tree_at, fields_over}
+use Rattle.ssz_schema.specs.Legal.{IsLegal}
 use Rattle.ssz_schema.specs.Paths.{field_type, field_number}
 use Rattle.ssz_schema.proofs.WalkFields.{drop_at}
 use Rattle.ssz_value.specs.declared.value.Value.{Value}
 use Rattle.ssz_value.specs.declared.value.Value.TheVariants.{Seq}
-use Rattle.ssz_value.specs.Values.{sequence, values}
-use Rattle.ssz_value.specs.Standing.{value_of, IsFormed, FieldsFormed, IsValue, Stands}
+use Rattle.ssz_value.specs.Values.{sequence, values, Fits}
+use Rattle.ssz_value.specs.Standing.{value_of, IsValue, Stands, IsCopy}
+use Rattle.ssz_value.specs.Defaults.{default_of}
 use Rattle.ssz_value.specs.Shapes.{AreFields}
 use Rattle.ssz_value.proofs.PartLemmas.{Part, values_push}
-use Rattle.ssz_value.proofs.FormLemmas.{fields_push, seq_formed_fields}
+use Rattle.ssz_value.proofs.FitLemmas.{seq_container}
 use Rattle.ssz_value.proofs.ValueLemmas.{seq_is}
+use Rattle.ssz_value.proofs.SizeLaw.{default_fits}
 use Rattle.ssz_value.proofs.Sequences.{items-values}
 use Rattle.ssz_forms.specs.SameType.{same_type}
 use Rattle.ssz_forms.specs.Taking.{IsTaken, AreUpgraded, StandsUpgraded}
@@ -28,24 +33,21 @@ pub record UpgradedSoFar (trees : List SszType) (old : List Part) (parts : List 
   pub value : map value_of made ++ upgraded_fields (fields_over trees old) (map value_of parts)
       (fields_over trees (drop i new))
       ≡ upgraded_fields (fields_over trees old) (map value_of parts) (fields_over trees new)
-  pub formed : FieldsFormed (fields_over trees new) made
-  pub count : length made ≡ i
+  pub are : (rest : List Value) → AreFields (fields_over trees (drop i new)) rest
+      → AreFields (fields_over trees new) (made ++ rest)
 
 pub UpgradedSoFar-start : (trees : List SszType) (old : List Part) (parts : List Value)
     (new : List Part) → UpgradedSoFar trees old parts new 0 []
-UpgradedSoFar-start trees old parts new = record { value = refl; formed = none new; count = refl }
-  where
-    none : (new : List Part) → FieldsFormed (fields_over trees new) []
-    none [] = tt
-    none (p ∷ ps) = tt
+UpgradedSoFar-start trees old parts new = record { value = refl; are = λ rest all. all }
 
 pub UpgradedSoFar-more : (trees : List SszType) (old : List Part) (parts : List Value)
     (new : List Part) (i : ℕ) (made more : List Value) (part : Part) (v : Value)
     → UpgradedSoFar trees old parts new i made → i < length new → part ≡ get_or new i part
-    → Stands (tree_at trees part.1) (field_value (map value_of parts) (tree_at trees part.1)
-    (taken (fields_over trees old) part.0 (tree_at trees part.1))) v
+    → value_of v ≡ field_value (map value_of parts) (tree_at trees part.1)
+    (taken (fields_over trees old) part.0 (tree_at trees part.1))
+    → IsValue (tree_at trees part.1) v
     → more ≡ made ++ v ∷ [] → UpgradedSoFar trees old parts new (i + 1) more
-UpgradedSoFar-more trees old parts new i made more part v h below e s is =
+UpgradedSoFar-more trees old parts new i made more part v h below e stands fit is =
     let here = ap (λ ps. upgraded_fields (fields_over trees old) (map value_of parts)
     (fields_over trees ps)) (drop_at new i part below e) in
     record {
@@ -55,16 +57,13 @@ UpgradedSoFar-more trees old parts new i made more part v h below e s is =
           (upgraded_fields (fields_over trees old) (map value_of parts)
           (fields_over trees (drop (i + 1) new)))
           ∙ ap (λ x. map value_of made ++ x ∷ upgraded_fields (fields_over trees old)
-          (map value_of parts) (fields_over trees (drop (i + 1) new))) s.value
+          (map value_of parts) (fields_over trees (drop (i + 1) new))) stands
           ∙ sym (ap (λ xs. map value_of made ++ xs) here) ∙ h.value;
-      formed = subst (FieldsFormed (fields_over trees new)) (sym is)
-          (fields_push trees new made i part v h.formed h.count below e s.formed);
-      count = ap length is ∙ push_length made v ∙ ap (λ n. n + 1) h.count;
+      are = λ rest all. subst (AreFields (fields_over trees new))
+          (sym (ap (λ vs. vs ++ rest) is ∙ append_assoc made (v ∷ []) rest))
+          (h.are (v ∷ rest) (subst (λ (ps : List Part). AreFields (fields_over trees ps) (v ∷ rest))
+          (sym (drop_at new i part below e)) (fit, all)));
     }
-  where
-    push_length : (vs : List Value) (v : Value) → length (vs ++ v ∷ []) ≡ length vs + 1
-    push_length [] v = refl
-    push_length (w ∷ vs) v = omega (arith, push_length vs v)
 
 pub UpgradedSoFar-end : (trees : List SszType) (old : List Part) (parts : List Value)
     (new : List Part) (i : ℕ) (made : List Value) → UpgradedSoFar trees old parts new i made
@@ -74,7 +73,9 @@ UpgradedSoFar-end trees old parts new i made h all = record {
   value = sym (append-nil (map value_of made))
       ∙ sym (ap (λ ps. map value_of made ++ upgraded_fields (fields_over trees old)
       (map value_of parts) (fields_over trees ps)) (drop_all i new all)) ∙ h.value;
-  formed = h.formed;
+  are = subst (AreFields (fields_over trees new)) (append-nil made)
+      (h.are [] (subst (λ (ps : List Part). AreFields (fields_over trees ps) [])
+      (sym (drop_all i new all)) tt));
 }
 
 -- a field that is taken is one of the values, and is one of the new field's type
@@ -126,6 +127,26 @@ plain_done s t old new value parts made is_old is_new is done = record {
       (items-values (map value_of parts.items))
       ∙ ap (λ vs. Ok (sequence (values vs))) (sym done.value)
       ∙ ap Ok (sym (seq_is made));
-  formed = subst (λ x. IsFormed x (Seq made)) (sym is_new)
-      (seq_formed_fields new made done.formed);
+  is = subst (λ x. IsValue x (Seq made)) (sym is_new) (seq_container new made done.are);
 }
+
+-- a copy of a part that is taken is one of the new field's type
+pub copy_is : (parts : List Value) (t : SszType) (k : ℕ) (v : Value)
+    → IsTaken parts t (Some k) → v ≡ get_or parts k v → (result : Result Value AllocError)
+    → IfOk result (IsCopy v) → IfOk result (IsValue t)
+copy_is parts t k v is at result copied =
+    let old = is.1 v (slice_get_read parts (length parts) k v refl is.0 at) in
+    IfOk-weaker result (IsCopy v) (IsValue t) (λ new same. record {
+      fits = subst (Fits t) (sym same.value) old.fits;
+      formed = same.formed t old.formed;
+    }) copied
+
+-- a default is a value of its type
+pub default_is : (types : Types) (t : SszType) → IsLegal types.format t
+    → (result : Result Value AllocError) → IfOk result (Stands t (default_of t))
+    → IfOk result (IsValue t)
+default_is types t legal result made =
+    IfOk-weaker result (Stands t (default_of t)) (IsValue t) (λ new stands. record {
+      fits = subst (Fits t) (sym stands.value) (default_fits types.format t legal);
+      formed = stands.formed;
+    }) made

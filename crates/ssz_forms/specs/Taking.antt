@@ -10,7 +10,8 @@ use Rattle.ssz_schema.specs.Lookup.{lookup_name}
 use Rattle.ssz_schema.specs.NameTables.{names_in}
 use Rattle.ssz_value.specs.declared.value.Value.{Value}
 use Rattle.ssz_value.specs.Values.{SszValue}
-use Rattle.ssz_value.specs.Standing.{value_of, IsFormed, FieldsFormed, IsValue}
+use Rattle.ssz_value.specs.Standing.{value_of, IsValue}
+use Rattle.ssz_value.specs.Shapes.{AreFields}
 use Rattle.ssz_forms.specs.declared.upgrade_fault.UpgradeFault.{UpgradeFault}
 use Rattle.ssz_forms.specs.declared.upgrade_fault.UpgradeFault.TheVariants.{NotContainer, Memory}
 use Rattle.ssz_forms.specs.declared.forms.Forms.{Forms}
@@ -34,16 +35,16 @@ IsTaken parts t None = Unit {0}
 IsTaken parts t (Some k) =
     (k < length parts) × ((v : Value) → slice_get parts k ≡ Some v → IsValue t v)
 
--- the values stand for the upgraded fields, each in the form that its type wants
+-- the values stand for the upgraded fields, and each is one of its type
 pub record AreUpgraded (old : Fields) (vs : List SszValue) (new : Fields) (made : List Value)
     : Type 0 where
   pub value : map value_of made ≡ upgraded_fields old vs new
-  pub formed : FieldsFormed new made
+  pub are : AreFields new made
 
--- the value stands for the upgraded one, in the form that the type wants
+-- the value stands for the upgraded one, and is one of the type
 pub record StandsUpgraded (s : SszType) (v : SszValue) (t : SszType) (new : Value) : Type 0 where
   pub value : upgraded s v t ≡ Ok (value_of new)
-  pub formed : IsFormed t new
+  pub is : IsValue t new
 
 -- the upgraded value, or why there is none
 abbrev pub Upgrades : SszType → SszValue → SszType → Result Value UpgradeFault → Type 0

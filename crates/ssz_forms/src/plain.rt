@@ -84,9 +84,11 @@ fn upgraded_part(
 ) -> Result<Value, AllocError>
     requires known { id < length schema.now.trees }
     requires taken { IsTaken parts.now (type_of schema.now id) taken }
-    ensures { let t = type_of schema.now id in
+    ensures stands { let t = type_of schema.now id in
         IfOk result (Stands t (field_value (map value_of parts.now) t taken)) }
+    ensures is { IfOk result (IsValue (type_of schema.now id)) }
 {
+    let _legal = schema.ty(id);
     match taken {
         Some(number) => copy(alloc, &parts[number]),
         None => default_of(alloc, schema, id),

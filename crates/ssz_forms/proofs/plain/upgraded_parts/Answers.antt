@@ -1,11 +1,11 @@
 use Rattle.std.proofs.Common.{◌≡◌, ◌∙◌, ℕ, List, Option, None, length, map, sym, ap, subst, arith}
 use Rattle.std.specs.Prelude.{slice_index_or}
 use Rattle.ssz_schema.specs.Unfolding.{tree_at, fields_over}
-use Rattle.ssz_value.specs.Standing.{value_of, Stands}
+use Rattle.ssz_value.specs.Standing.{value_of}
 use Rattle.ssz_forms.specs.Taking.{IsTaken}
 use Rattle.ssz_forms.specs.Upgrades.{taken, field_value}
 use Rattle.ssz_forms.proofs.Taken.{taken_at, taken_many}
-use Rattle.ssz_forms.proofs.Upgrading.{UpgradedSoFar-more, taken_part}
+use Rattle.ssz_forms.proofs.Upgrading.{UpgradedSoFar-more, UpgradedSoFar-end, taken_part}
 use Rattle.ssz_forms.proofs.plain.upgraded_parts.Goals as goal
 
 pub bounds-taken-i : goal.bounds-taken-i
@@ -41,6 +41,12 @@ loop-i-preserved c =
     UpgradedSoFar-more trees c.args.old.now c.args.parts.now c.args.new.now c.loop-i.i
     c.loop-i.made.items c.push.new.self.items part c.in_ok-part.part c.loop-i.invariant
     c.loop-i-test.true c.index-new-i.is
-    (subst (λ (k : Option ℕ). Stands t (field_value (map value_of c.args.parts.now) t k)
-    c.in_ok-part.part) number c.in_ok-part.ensures)
+    (c.in_ok-part.ensures.stands.value
+    ∙ ap (field_value (map value_of c.args.parts.now) t) number)
+    c.in_ok-part.ensures.is
     c.in_ok-push.ensures.items
+
+pub returns : goal.returns
+returns c =
+    UpgradedSoFar-end c.args.schema.now.trees c.args.old.now c.args.parts.now c.args.new.now
+    c.loop-i.i c.loop-i.made.items c.loop-i.invariant (omega arith)
