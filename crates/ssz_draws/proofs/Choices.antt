@@ -7,16 +7,11 @@ use Rattle.ssz_schema.specs.Types.{SszType, Options, union, no_options, none_opt
 use Rattle.ssz_schema.specs.Paths.{Path, option_type}
 use Rattle.ssz_schema.specs.Sizes.{option_count}
 use Rattle.ssz_schema.specs.Unfolding.{Types, type_of, tree_at, options_over}
+use Rattle.ssz_schema.proofs.OptionLemmas.{option_count-over}
 use Rattle.ssz_script.specs.declared.statement.Statement.TheVariants as edit
 use Rattle.ssz_value.specs.Values.{SszValue, chosen, chosen_none, FitsOption, IsNoneOption}
 use Rattle.ssz_machine.specs.Drawing.{walk, walk_option, comes_to, worked, drawn, next_seed, seed_after}
 use Rattle.ssz_draws.specs.Turns.{IsChosen, GoesOn}
-
-pub count_options : (trees : List SszType) (ids : List (Option ℕ))
-    → option_count (options_over trees ids) ≡ length ids
-count_options trees [] = refl
-count_options trees (None ∷ ids) = omega (arith, count_options trees ids)
-count_options trees (Some id ∷ ids) = omega (arith, count_options trees ids)
 
 -- an option that is a type, of this number
 pub typed_option : (trees : List SszType) (ids : List (Option ℕ)) (k part : ℕ)
@@ -93,11 +88,11 @@ chosen_edit trees ids k x (chosen j v) (inl other) is path =
     (comes_to (edit.Choose worked path (drawn (option_count (options_over trees ids)) (next_seed x))
     None) (seed_after 2 x))) (ne_eqb (drawn 2 x) 1 other)
     ∙ ap (λ n. comes_to (edit.Choose worked path (drawn n (next_seed x)) None) (seed_after 2 x))
-    (count_options trees ids)
+    (option_count-over trees ids)
 chosen_edit trees ids k x (chosen j v) (inr none) is path =
     let valued = valued_option trees ids j v is.0 in
     absurd (none valued.0 (subst (λ n. slice_get ids n ≡ Some (Some valued.0)) is.1 valued.1))
 chosen_edit trees ids k x (chosen_none j) why is path =
     ap (λ n. comes_to (edit.Choose worked path (drawn n (next_seed x)) None) (seed_after 2 x))
-    (count_options trees ids)
+    (option_count-over trees ids)
 chosen_edit trees ids k x _ why is path = absurd is.1

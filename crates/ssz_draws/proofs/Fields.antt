@@ -6,19 +6,11 @@ use Rattle.std.proofs.lemmas.Slice.Eq.{bytes_eq-Decides}
 use Rattle.ssz_schema.specs.declared.path.PathStep.TheVariants.{Field}
 use Rattle.ssz_schema.specs.Types.{SszType, Fields, field}
 use Rattle.ssz_schema.specs.Legal.{field_names}
-use Rattle.ssz_schema.specs.Sizes.{field_count}
 use Rattle.ssz_schema.specs.Paths.{Path, field_type, field_number}
 use Rattle.ssz_schema.specs.Unfolding.{tree_at, fields_over}
+use Rattle.ssz_schema.proofs.SumLemmas.{Part}
 use Rattle.ssz_value.specs.Values.{SszValue, FitFields}
 use Rattle.ssz_machine.specs.Drawing.{walk, walk_field}
-
-abbrev pub Part : Type 0
-Part = List ℕ × ℕ
-
-pub count_fields : (trees : List SszType) (parts : List Part)
-    → field_count (fields_over trees parts) ≡ length parts
-count_fields trees [] = refl
-count_fields trees (p ∷ parts) = omega (arith, count_fields trees parts)
 
 -- the field of number i is found by its name
 pub record IsNamed (fs : Fields) (i : ℕ) (name : List ℕ) (t : SszType) : Type 0 where

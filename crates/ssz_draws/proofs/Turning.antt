@@ -18,13 +18,14 @@ use Rattle.ssz_places.specs.PlaceLaws.{IsTreeOf}
 use Rattle.ssz_places.proofs.Parts.{FitsOption-below, IsNoneOption-below}
 use Rattle.ssz_places.proofs.Steps.{limits_small}
 use Rattle.ssz_schema.proofs.StepLemmas.{part_below}
+use Rattle.ssz_schema.proofs.SumLemmas.{field_count-over, Part}
 use Rattle.ssz_machine.specs.Drawing.{walk_field, comes_to, worked, change_of, changes_one, drawn, drawn_below, drawn_bit, next_seed, seed_after}
 use Rattle.ssz_draws.specs.declared.turn.Turn.{Turn}
 use Rattle.ssz_draws.specs.declared.turn.Turn.TheVariants.{On, Set, SetBit, Pop, Append, Choose, Stop}
 use Rattle.ssz_draws.specs.Turns.{IsTurn, IsSeen, GoesOn, HasLength, IsChosen}
 use Rattle.ssz_draws.proofs.Lengths.{bits_edit, list_on, vector_on}
 use Rattle.ssz_draws.proofs.Choices.{chosen_edit}
-use Rattle.ssz_draws.proofs.Fields.{Part, named, field_walk, count_fields}
+use Rattle.ssz_draws.proofs.Fields.{named, field_walk}
 
 -- what is known of a value may be more than is asked
 pub turn_known : (types : Types) (before : ℕ) (t : SszType) (Asked Known : SszValue → Type 0)
@@ -69,7 +70,7 @@ field_on types before parts part x i all format legal is below at =
         let name = named types.trees parts i part below at legal.2 in
         let way = field_walk types.trees parts (items vs) i part fit below at in
         let count : drawn (field_count fs) x ≡ i =
-        ap (λ n. drawn n x) (count_fields types.trees parts) ∙ sym is in
+        ap (λ n. drawn n x) (field_count-over types.trees parts) ∙ sym is in
         record {
           value = way.value;
           fits = name.type_at;

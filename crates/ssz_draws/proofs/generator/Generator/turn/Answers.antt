@@ -3,14 +3,14 @@ use Rattle.ssz_schema.specs.declared.path.PathStep.TheVariants.{Index}
 use Rattle.ssz_schema.specs.Types.{SszType, container, vector, list, bitvector, bitlist, union}
 use Rattle.ssz_schema.specs.Legal.{IsLegal}
 use Rattle.ssz_schema.specs.Unfolding.{type_of, tree_over, fields_over, options_over, AreBelow}
+use Rattle.ssz_schema.proofs.OptionLemmas.{option_count-over}
+use Rattle.ssz_schema.proofs.SumLemmas.{Part}
 use Rattle.ssz_value.specs.Values.{Fits}
 use Rattle.ssz_arena.specs.Content.{tree_of}
 use Rattle.ssz_machine.specs.Drawing.{drawn_below, drawn_bit, next_seed, seed_after}
 use Rattle.ssz_draws.specs.declared.turn.Turn.{Turn}
 use Rattle.ssz_draws.specs.declared.turn.Turn.TheVariants.{On, SetBit}
 use Rattle.ssz_draws.specs.Turns.{IsTurn, IsSeen, IsChosen, HasLength}
-use Rattle.ssz_draws.proofs.Choices.{count_options}
-use Rattle.ssz_draws.proofs.Fields.{Part}
 use Rattle.ssz_draws.proofs.Turning.{answer_of_type, turn_of_type, turn_known, vector_turn, vector_bit, if_ok, list_seen, bits_seen, union_seen}
 use Rattle.ssz_draws.proofs.generator.Generator.turn.Goals as goal
 
@@ -25,7 +25,7 @@ turn_of_union-requires-clause-few g c =
     ∙ sym (ap (tree_over types.trees) c.in-Union.is) ∙ c.ty.ensures.form in
     let legal : IsLegal types.format t =
     subst (IsLegal types.format) (sym same) c.ty.ensures.legal in
-    omega (arith, legal.1, count_options types.trees ids)
+    omega (arith, legal.1, option_count-over types.trees ids)
 
 pub returns-in-Container : goal.returns-in-Container
 returns-in-Container g c =

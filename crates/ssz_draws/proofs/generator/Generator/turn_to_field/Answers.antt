@@ -2,11 +2,11 @@ use Rattle.std.proofs.Common.{◌≡◌, ◌∙◌, ℕ, List, sym, subst}
 use Rattle.ssz_schema.specs.declared.path.PathStep.TheVariants.{Field}
 use Rattle.ssz_schema.specs.Types.{SszType, container}
 use Rattle.ssz_schema.specs.Unfolding.{fields_over}
+use Rattle.ssz_schema.proofs.SumLemmas.{Part}
 use Rattle.ssz_value.specs.Values.{Fits}
 use Rattle.ssz_machine.specs.Drawing.{next_seed}
 use Rattle.ssz_draws.specs.declared.turn.Turn.TheVariants.{On}
 use Rattle.ssz_draws.specs.Turns.{IsTurn}
-use Rattle.ssz_draws.proofs.Fields.{Part}
 use Rattle.ssz_draws.proofs.Turning.{field_on}
 use Rattle.ssz_draws.proofs.generator.Generator.turn_to_field.Goals as goal
 
