@@ -7,7 +7,7 @@ use std::marker::Model;
 
 /// A generator of numbers that are all determined by the one that it begins with. It is seen as its
 /// state.
-#[derive(Debug)]
+#[derive(Clone, Copy, Debug)]
 pub struct Generator {
     state: u64,
 }
@@ -18,6 +18,8 @@ impl Model for Generator {
     ghost Value = { ℕ };
 
     ghost view = { λ a. a.state };
+
+    ghost inverse = { λ n. record { state = n } };
 }
 
 // The greatest number below which one draw is spread.

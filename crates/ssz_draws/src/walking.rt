@@ -1,5 +1,5 @@
 // From the node of a value to the edit of a part.
-ghost use Rattle.std.specs.Prelude.{◌≡◌, ◌<◌, [], ◌∷◌, ◌++◌, length, IfOk, IfSome, Some, None};
+ghost use Rattle.std.specs.Prelude.{◌≡◌, ◌<◌, [], ◌∷◌, ◌++◌, length, IfOk, OnErr, IfSome, Some, None};
 ghost use Rattle.ssz_schema.specs.declared.path.PathStep.TheVariants.{Index};
 ghost use Rattle.ssz_schema.specs.Unfolding.{type_of};
 ghost use Rattle.ssz_arena.specs.Content.{IsNodeOf, tree_of};
@@ -22,8 +22,31 @@ use std::alloc::{AllocError, Global};
 impl Generator {
     /// The edit of the version `w` that a walk comes to from the node of a value of the type, or
     /// None where it comes to none, with its draws taken from this generator: for each value with
-    /// the node's tree what the walk over the value comes to. It fails for want of memory alone.
+    /// the node's tree what the walk over the value comes to. It fails for want of memory alone,
+    /// and then it has drawn nothing.
     pub fn walk<H: PairHash>(
+        &mut self,
+        alloc: Global,
+        arena: &Arena<H>,
+        schema: &Schema,
+        id: TypeId,
+        node: NodeId,
+    ) -> Result<Option<Statement>, AllocError>
+        requires known { id < length schema.now.trees }
+        requires node { IsNodeOf arena.now node }
+        ensures walked { IfOk result (IsWalked (type_of schema.now id) (tree_of arena.now node)
+            self.old self.new) }
+        ensures edits { IfOk result (λ edit. IfSome edit IsEdit) }
+        ensures err { OnErr result (self.new ≡ self.old) }
+    {
+        let mut walking = *self;
+        let edit = walking.walk_on(alloc, arena, schema, id, node)?;
+        *self = walking;
+        Ok(edit)
+    }
+
+    // The same, but after want of memory some of the draws are taken.
+    fn walk_on<H: PairHash>(
         &mut self,
         alloc: Global,
         arena: &Arena<H>,

@@ -12,7 +12,7 @@ use Rattle.ssz_draws.specs.Turns.{IsTurn, IsSeen, edit_at}
 use Rattle.ssz_draws.specs.Walked.{IsWalked, IsEdit}
 use Rattle.ssz_draws.proofs.Turning.{ok_so}
 use Rattle.ssz_draws.proofs.Ways.{IsOn, edits_are, walk_ends, walk_goes_on, walk_leads}
-use Rattle.ssz_draws.proofs.generator.Generator.walk.Goals as goal
+use Rattle.ssz_draws.proofs.generator.Generator.walk_on.Goals as goal
 
 pub returns-in_default-step_place-clause-walked : goal.returns-in_default-step_place-clause-walked
 returns-in_default-step_place-clause-walked g c = λ v of.

@@ -1,5 +1,5 @@
 use Rattle.ssz_draws.proofs.Ways.{IsOn}
-use Rattle.ssz_draws.proofs.generator.Generator.walk.Given as goal
+use Rattle.ssz_draws.proofs.generator.Generator.walk_on.Given as goal
 
 abbrev pub invariant-loop-path : goal.invariant-loop-path
 invariant-loop-path g l = record {
