@@ -34,7 +34,7 @@ impl Generator {
     }
 
     /// The next number below k, of the highest 31 bits of the next state.
-    pub fn draw(&mut self, k: u64) -> u64
+    pub(crate) fn draw(&mut self, k: u64) -> u64
         requires { 0 < k }
         ensures drawn { result ≡ drawn k self.old }
         ensures next { self.new ≡ next_seed self.old }
@@ -48,7 +48,7 @@ impl Generator {
     }
 
     /// The next number below n, of which the first 2^31 alone are drawn.
-    pub fn draw_below(&mut self, n: u64) -> u64
+    pub(crate) fn draw_below(&mut self, n: u64) -> u64
         requires { 0 < n }
         ensures drawn { result ≡ drawn_below n self.old }
         ensures next { self.new ≡ next_seed self.old }
@@ -58,7 +58,7 @@ impl Generator {
     }
 
     /// So many bytes, one draw each.
-    pub fn draw_bytes(&mut self, alloc: Global, count: u64) -> Result<ByteRun, AllocError>
+    pub(crate) fn draw_bytes(&mut self, alloc: Global, count: u64) -> Result<ByteRun, AllocError>
         ensures drawn { IfOk result (λ run. run ≡ drawn_bytes count self.old) }
         ensures next { OnOk result (self.new ≡ seed_after count self.old) }
     {
@@ -70,7 +70,7 @@ impl Generator {
     }
 
     /// The byte of a drawn bit.
-    pub fn draw_bit(&mut self, alloc: Global) -> Result<ByteRun, AllocError>
+    pub(crate) fn draw_bit(&mut self, alloc: Global) -> Result<ByteRun, AllocError>
         ensures drawn { IfOk result (λ run. run ≡ drawn_bit self.old) }
         ensures next { OnOk result (self.new ≡ next_seed self.old) }
     {
