@@ -14,7 +14,7 @@ use Rattle.ssz_value.specs.Parts.{step_part}
 use Rattle.ssz_places.specs.PlaceLaws.{IsTreeOf}
 use Rattle.ssz_machine.specs.Drawing.{Change, changes_one, takes_last, adds_one, stays, walk, worked}
 use Rattle.ssz_draws.specs.declared.turn.Turn.{Turn}
-use Rattle.ssz_draws.specs.declared.turn.Turn.TheVariants.{On, Set, SetBit, Pop, Append, Choose}
+use Rattle.ssz_draws.specs.declared.turn.Turn.TheVariants.{On, Set, SetBit, Pop, Append, Choose, Stop}
 use Rattle.ssz_draws.specs.declared.turn.Change.{Change as Changed}
 use Rattle.ssz_draws.specs.declared.turn.Change.TheVariants.{One, Taken, Added, Nothing}
 
@@ -32,7 +32,8 @@ edit_at (SetBit i bytes) path = Some (edit.Set worked (path ++ Index i ∷ []) b
 edit_at Pop path = Some (edit.Pop worked path)
 edit_at (Append bytes) path = Some (edit.Append worked path bytes)
 edit_at (Choose selector) path = Some (edit.Choose worked path selector None)
-edit_at _ path = None
+edit_at (On part step) path = None
+edit_at Stop path = None
 
 -- The value of a part, as far as a walk looks at it: of a number or a boolean it sees nothing, of
 -- any other part the tree.

@@ -5,7 +5,7 @@ ghost use Rattle.ssz_chunk.specs.Tree.{Tree};
 ghost use Rattle.ssz_schema.specs.Types.{list, bitlist, union, container};
 ghost use Rattle.ssz_schema.specs.Legal.{IsLegal};
 ghost use Rattle.ssz_schema.specs.Unfolding.{Types, type_of, fields_over, options_over, IsBelow};
-ghost use Rattle.ssz_value.specs.Values.{SszValue, Fits};
+ghost use Rattle.ssz_value.specs.Values.{Fits};
 ghost use Rattle.ssz_value.specs.Defaults.{default_of};
 ghost use Rattle.ssz_value.specs.Encoding.{enc};
 ghost use Rattle.ssz_value.specs.Trees.{mixed_in};
