@@ -19,7 +19,7 @@ use super::turn::{Change, Turn};
 use ssz_arena::{Arena, NodeId};
 use ssz_bytes::ByteRun;
 use ssz_chunk::PairHash;
-use ssz_codec::encode;
+use ssz_codec::{EncodeFault, encode};
 use ssz_schema::{Name, PathStep, Schema, Ty, TypeId};
 use ssz_value::default_of;
 use ssz_walk::mixed_in;
@@ -219,9 +219,10 @@ fn default_bytes(alloc: Global, schema: &Schema, id: TypeId) -> Result<ByteRun, 
     let _legal = schema.ty(id);
     let value = default_of(alloc, schema, id)?;
     let mut bytes = Vec::new(alloc);
-    // No default has more bytes.
+    // The default of a legal type has at most 2^24 bytes.
     match encode(schema, id, &value, u32::MAX, &mut bytes) {
         Ok(()) => Ok(ByteRun::from_bytes(bytes)),
-        Err(_) => Err(AllocError),
+        Err(EncodeFault::Memory) => Err(AllocError),
+        Err(EncodeFault::TooLong) => unreachable!(),
     }
 }
