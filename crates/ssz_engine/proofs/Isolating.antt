@@ -29,8 +29,10 @@ use Rattle.ssz_engine.specs.Weaves.{AreFirst, EndsWeave, IsolatesFrom, IsolatesW
 first_whole : (j : ℕ) (lines : List (List ℕ)) → AreFirst (take j lines) lines
 first_whole zero lines = tt
 first_whole (suc j) [] = tt
-first_whole (suc zero) (line ∷ lines) = (length line, sym (take_all (length line) line (omega arith)))
-first_whole (suc (suc j)) (line ∷ []) = (length line, sym (take_all (length line) line (omega arith)))
+first_whole (suc zero) (line ∷ lines) =
+    (length line, sym (take_all (length line) line (omega arith)))
+first_whole (suc (suc j)) (line ∷ []) =
+    (length line, sym (take_all (length line) line (omega arith)))
 first_whole (suc (suc j)) (line ∷ next ∷ lines) = (refl, first_whole (suc j) (next ∷ lines))
 
 -- whole lines, and a part of the next one
@@ -129,7 +131,8 @@ module _ (rules : Rules) (base order : List ℕ) (scripts : List (List ℕ)) (fi
         → Finishes (weave_job rules first base order scripts) ended old new held
         → IsolatesFrom rules base scripts first ended old new
     at_end ended finishes =
-        let every : take (length turns) turns ≡ turns = take_all (length turns) turns (omega arith) in
+        let every : take (length turns) turns ≡ turns = take_all (length turns) turns (omega arith)
+        in
         record {
           pieces = shown_all Weave (take (length turns) turns);
           given = finishes.last.printed;

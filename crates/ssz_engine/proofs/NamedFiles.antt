@@ -12,7 +12,8 @@ named_behind_first : (P : Name → Type 0) (lines : List Line) → AreNamedReada
 named_behind_first P [] all = tt
 named_behind_first P (line ∷ lines) all = behind P (file_named line.1) (files_named lines) all
 
-pub named_later : (P Q : Name → Type 0) → ((name : Name) → P name → Q name) → (scripts : List (List Line))
+pub named_later : (P Q : Name → Type 0) → ((name : Name) → P name → Q name) →
+    (scripts : List (List Line))
     → AllByRecursion (AreNamedReadable P) scripts → AllByRecursion (AreNamedReadable Q) scripts
 named_later P Q more [] all = tt
 named_later P Q more (lines ∷ scripts) all =

@@ -66,7 +66,8 @@ reached_of_rules-accepted held args meant names is = rw is refl
 taken_next : (names : List (List ℕ)) (i : ℕ) (name : List ℕ) → i < length names
     → name ≡ get_or names i name → take (i + 1) names ≡ take i names ++ name ∷ []
 taken_next [] i name within is = absurd (omega arith)
-taken_next (first ∷ names) zero name within is = let same : first ≡ name = cc in ap (λ n. n ∷ []) same
+taken_next (first ∷ names) zero name within is = let same : first ≡ name = cc in ap (λ n. n ∷ [])
+    same
 taken_next (first ∷ names) (suc i) name within is =
     let next : suc i + 1 ≡ suc (i + 1) = omega arith in
     rw next (ap (λ ns. first ∷ ns) (taken_next names i name (omega arith) is))

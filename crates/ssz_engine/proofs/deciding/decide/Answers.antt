@@ -62,7 +62,8 @@ returns-in-LoadJson-clause-decides g c =
     c.args.engine.now c.load-in-LoadJson.new.engine (g.H.PairHash.pairs c.args.hasher.now)
     (g.F.Files.content c.args.files.now) c.in-LoadJson.file
     (λ bytes rules versions. loadjson rules versions c.in-LoadJson.v c.in-LoadJson.t bytes)
-    (puts c.in-LoadJson.v) c.args.statement.now _ c.load-in-LoadJson.result c.in-LoadJson.is (λ files. refl)
+    (puts c.in-LoadJson.v) c.args.statement.now _ c.load-in-LoadJson.result c.in-LoadJson.is
+    (λ files. refl)
     refl c.load-in-LoadJson.ensures.answers
 
 pub returns-in-LoadJson-clause-asked : goal.returns-in-LoadJson-clause-asked

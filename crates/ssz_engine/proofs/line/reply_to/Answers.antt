@@ -26,7 +26,8 @@ returns-clause-does g c = λ was is.
     } in
     let step = c.step.ensures in
     subst (λ (statement : Option Statement). DoesLine g.H.PairHash.pair_of c.args.place
-    c.args.writer.0 (c.args.line.now.line, statement) c.step.result before after c.args.out.now.items
+    c.args.writer.0 (c.args.line.now.line, statement) c.step.result before after
+    c.args.out.now.items
     c.step.new.out.items) (sym c.in-Some.is)
     (step_does g.H.PairHash.pair_of c.args.place c.args.writer.0 c.args.line.now.line
     c.in-Some.statement before after

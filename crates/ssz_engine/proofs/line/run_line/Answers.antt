@@ -45,7 +45,8 @@ returns-in-Ok-clause-goes g c =
     c.push_front.ensures (sym c.is_err.ensures.value ∙ c.if-is_err.false) in
     let fronted : c.push_front.new.out.items ≡ front c.args.place c.args.writer.0 =
     made ∙ ap (λ text. text ++ front c.args.place c.args.writer.0) c.new-text.ensures.items in
-    subst (λ (b : Bool). Goes g.H.PairHash.pair_of c.args.place (says c.args.writer.0 line ∷ []) c.print.result
+    subst (λ (b : Bool). Goes g.H.PairHash.pair_of c.args.place (says c.args.writer.0 line ∷ [])
+    c.print.result
     c.args.refused.now (b || c.args.refused.now) before after) (sym c.is_refusal.ensures)
     (print_goes g.H.PairHash.pair_of c.args.place c.args.writer.0 line c.args.refused.now before
     after c.push_front.new.out.items c.reply_to.new.out.items c.print.result c.in-Ok.made
@@ -68,9 +69,11 @@ returns-clause-goes g c =
       pieces = g.S.Sink.pieces c.args.out.now;
     } in
     let line : Line = (c.args.line.now.line, c.args.line.now.statement) in
-    subst (λ (ended : Status). Goes g.H.PairHash.pair_of c.args.place (says c.args.writer.0 line ∷ []) (Err ended)
+    subst (λ (ended : Status). Goes g.H.PairHash.pair_of c.args.place
+    (says c.args.writer.0 line ∷ []) (Err ended)
     c.args.refused.now c.args.refused.now before after) (sym c.status_of.ensures.value)
-    (stop_goes g.H.PairHash.pair_of c.args.place c.args.writer.0 line c.args.refused.now before after
+    (stop_goes g.H.PairHash.pair_of c.args.place c.args.writer.0 line c.args.refused.now before
+    after
     c.push_front.new.out.items c.reply_to.new.out.items c.in-Err.fault
     (c.in-Err.ensures.does before.pieces after.pieces) refl
     (record { rises = c.reply_to.ensures.rises; most = c.reply_to.ensures.hashed }))

@@ -16,7 +16,8 @@ use Rattle.ssz_engine.proofs.run.run_lines.Goals as goal
 
 pub returns-in-Err-clause-goes : goal.returns-in-Err-clause-goes
 returns-in-Err-clause-goes g c =
-    leads_memory g.H.PairHash.pair_of c.args.place (all_of c.args.writer.0 c.args.lines.now) (all_of c.args.writer.0 c.loop-line.lines)
+    leads_memory g.H.PairHash.pair_of c.args.place (all_of c.args.writer.0 c.args.lines.now)
+    (all_of c.args.writer.0 c.loop-line.lines)
     c.args.refused.now c.loop-line.refused _ _ c.loop-line.invariant.leads
     c.loop-line.invariant.readable
 
@@ -100,14 +101,17 @@ returns-in_err-ran-in-Ok-Some-clause-goes g c =
     c.in-Ok-Some.ensures.ok in
     let exit = err_from_is_err_and c.from_residual.result c.from_residual.ensures.1 in
     let these = all_of c.args.writer.0 c.args.lines.now in
-    let done : Goes g.H.PairHash.pair_of c.args.place (says c.args.writer.0 line ∷ []) (Err exit.0) c.loop-line.refused
+    let done : Goes g.H.PairHash.pair_of c.args.place (says c.args.writer.0 line ∷ []) (Err exit.0)
+    c.loop-line.refused
     c.run_line-ran.new.refused mid after =
-    subst (λ (ended : Status). Goes g.H.PairHash.pair_of c.args.place (says c.args.writer.0 line ∷ []) (Err ended)
+    subst (λ (ended : Status). Goes g.H.PairHash.pair_of c.args.place
+    (says c.args.writer.0 line ∷ []) (Err ended)
     c.loop-line.refused c.run_line-ran.new.refused mid after) (sym exit.2)
     c.in_err-ran-in-Ok-Some.ensures.goes in
     subst (λ (r : Result (Unit {0}) Status). Goes g.H.PairHash.pair_of c.args.place these r
     c.args.refused.now c.run_line-ran.new.refused before after) (sym exit.1)
-    (leads_stops g.H.PairHash.pair_of c.args.place these c.args.writer.0 c.loop-line.lines c.next.new.self line
+    (leads_stops g.H.PairHash.pair_of c.args.place these c.args.writer.0 c.loop-line.lines
+    c.next.new.self line
     c.args.refused.now c.loop-line.refused c.run_line-ran.new.refused before mid after
     c.loop-line.invariant.leads taken exit.0 done c.loop-line.invariant.readable)
 

@@ -20,9 +20,11 @@ use Rattle.ssz_engine.proofs.weave.run_base.Goals as goal
 pub returns-in_err-run_lines-clause-goes : goal.returns-in_err-run_lines-clause-goes
 returns-in_err-run_lines-clause-goes g c = λ scripts count.
     let before : Scene = scene c.args.engine.now (g.H.PairHash.pairs c.args.hasher.now)
-    (g.F.Files.content c.args.files.now) (g.F.Files.readable c.args.files.now) (g.S.Sink.pieces c.args.out.now) in
+    (g.F.Files.content c.args.files.now) (g.F.Files.readable c.args.files.now)
+    (g.S.Sink.pieces c.args.out.now) in
     let after : Scene = scene c.run_lines.new.engine (g.H.PairHash.pairs c.run_lines.new.hasher)
-    (g.F.Files.content c.run_lines.new.files) (g.F.Files.readable c.run_lines.new.files) (g.S.Sink.pieces c.run_lines.new.out) in
+    (g.F.Files.content c.run_lines.new.files) (g.F.Files.readable c.run_lines.new.files)
+    (g.S.Sink.pieces c.run_lines.new.out) in
     let exit = err_from_is_err_and c.from_residual.result c.from_residual.ensures.1 in
     let lines = all_of base_writer (statements_in c.args.base.now) in
     let goes : Goes g.H.PairHash.pair_of Weave lines (Err exit.0) c.args.refused.now
@@ -41,11 +43,14 @@ returns-in_err-run_lines-clause-goes g c = λ scripts count.
 pub returns-in-Ok-clause-goes : goal.returns-in-Ok-clause-goes
 returns-in-Ok-clause-goes g c = λ scripts count.
     let before : Scene = scene c.args.engine.now (g.H.PairHash.pairs c.args.hasher.now)
-    (g.F.Files.content c.args.files.now) (g.F.Files.readable c.args.files.now) (g.S.Sink.pieces c.args.out.now) in
+    (g.F.Files.content c.args.files.now) (g.F.Files.readable c.args.files.now)
+    (g.S.Sink.pieces c.args.out.now) in
     let mid : Scene = scene c.run_lines.new.engine (g.H.PairHash.pairs c.run_lines.new.hasher)
-    (g.F.Files.content c.run_lines.new.files) (g.F.Files.readable c.run_lines.new.files) (g.S.Sink.pieces c.run_lines.new.out) in
+    (g.F.Files.content c.run_lines.new.files) (g.F.Files.readable c.run_lines.new.files)
+    (g.S.Sink.pieces c.run_lines.new.out) in
     let after : Scene = scene c.adopt_all.new.engine (g.H.PairHash.pairs c.run_lines.new.hasher)
-    (g.F.Files.content c.run_lines.new.files) (g.F.Files.readable c.run_lines.new.files) (g.S.Sink.pieces c.run_lines.new.out) in
+    (g.F.Files.content c.run_lines.new.files) (g.F.Files.readable c.run_lines.new.files)
+    (g.S.Sink.pieces c.run_lines.new.out) in
     let lines = all_of base_writer (statements_in c.args.base.now) in
     let begins = subst (λ (left : List Line). Goes g.H.PairHash.pair_of Weave
     (all_of base_writer left) (Ok tt) c.args.refused.now c.run_lines.new.refused before mid)
@@ -63,11 +68,14 @@ returns-in-Ok-clause-goes g c = λ scripts count.
 pub returns-in-Err-clause-goes : goal.returns-in-Err-clause-goes
 returns-in-Err-clause-goes g c = λ scripts count.
     let before : Scene = scene c.args.engine.now (g.H.PairHash.pairs c.args.hasher.now)
-    (g.F.Files.content c.args.files.now) (g.F.Files.readable c.args.files.now) (g.S.Sink.pieces c.args.out.now) in
+    (g.F.Files.content c.args.files.now) (g.F.Files.readable c.args.files.now)
+    (g.S.Sink.pieces c.args.out.now) in
     let mid : Scene = scene c.run_lines.new.engine (g.H.PairHash.pairs c.run_lines.new.hasher)
-    (g.F.Files.content c.run_lines.new.files) (g.F.Files.readable c.run_lines.new.files) (g.S.Sink.pieces c.run_lines.new.out) in
+    (g.F.Files.content c.run_lines.new.files) (g.F.Files.readable c.run_lines.new.files)
+    (g.S.Sink.pieces c.run_lines.new.out) in
     let after : Scene = scene c.adopt_all.new.engine (g.H.PairHash.pairs c.run_lines.new.hasher)
-    (g.F.Files.content c.run_lines.new.files) (g.F.Files.readable c.run_lines.new.files) (g.S.Sink.pieces c.run_lines.new.out) in
+    (g.F.Files.content c.run_lines.new.files) (g.F.Files.readable c.run_lines.new.files)
+    (g.S.Sink.pieces c.run_lines.new.out) in
     let lines = all_of base_writer (statements_in c.args.base.now) in
     let begins = subst (λ (left : List Line). Goes g.H.PairHash.pair_of Weave
     (all_of base_writer left) (Ok tt) c.args.refused.now c.run_lines.new.refused before mid)

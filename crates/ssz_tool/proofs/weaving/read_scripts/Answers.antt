@@ -21,7 +21,8 @@ loop-name-preserved g c =
     let now = g.F.Files.readable loop.files in
     let later = g.F.Files.readable c.load.new.files in
     let pushed : c.push.new.self.items ≡ loop.scripts.items ++ c.in-Ok-Whole.script.items ∷ [] =
-    c.in-Ok.ensures.items ∙ ap (λ (s : List ℕ). loop.scripts.items ++ s ∷ []) c.from_bytes.ensures in
+    c.in-Ok.ensures.items ∙ ap (λ (s : List ℕ). loop.scripts.items ++ s ∷ []) c.from_bytes.ensures
+    in
     record {
       read = λ held told.
           let loaded = rw (c.in-Ok-Whole.field-0-is, c.as_str.ensures) at

@@ -16,7 +16,8 @@ returns-in-Ok-clause-read g c = λ held told.
     let whole = rw (c.in-Ok-Some.field-0-is, c.as_slice.ensures) at
     (c.in-Ok-Some.ensures.read held told) in
     let order : c.extend_from_slice.new.self.items ≡ c.args.args.now.order =
-    c.in-Ok.ensures.items ∙ ap (λ (xs : List ℕ). xs ++ c.writers.result.now) c.new-order.ensures.items
+    c.in-Ok.ensures.items ∙ ap (λ (xs : List ℕ). xs ++ c.writers.result.now)
+    c.new-order.ensures.items
     ∙ c.writers.ensures in
     rw (order, whole.0) (task_of_scripts-whole (known_in c.args.schema)
     c.args.args.now.max_bytes c.args.base.items c.args.args.now.order
@@ -27,7 +28,8 @@ pub returns-in-Ok-clause-ready : goal.returns-in-Ok-clause-ready
 returns-in-Ok-clause-ready g c =
     let count = rw (c.in-Ok-Some.field-0-is, c.as_slice.ensures) at c.in-Ok-Some.ensures.count in
     let order : c.extend_from_slice.new.self.items ≡ c.args.args.now.order =
-    c.in-Ok.ensures.items ∙ ap (λ (xs : List ℕ). xs ++ c.writers.result.now) c.new-order.ensures.items
+    c.in-Ok.ensures.items ∙ ap (λ (xs : List ℕ). xs ++ c.writers.result.now)
+    c.new-order.ensures.items
     ∙ c.writers.ensures in
     rw order (weave_of_many c.args.args.now.scripts c.in-Ok-Some.scripts.items
     c.args.args.now.order count c.requires.order)
