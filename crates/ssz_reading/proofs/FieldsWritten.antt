@@ -1,7 +1,7 @@
 -- Encodings of fields that are written one after another, and of each form of a type.
 use Rattle.std.proofs.Common.{ℕ, zero, suc, ◌+◌, ◌-◌, ◌/◌, ◌%◌, ◌^◌, ◌<◌, ◌≤◌, ◌≡◌, min, Bool, List, [], ◌∷◌, ◌++◌, length, map, drop, get_or, slice_get, Option, Some, None, Result, OnOk, inl, inr, refl, sym, ap, ap₂, ◌∙◌, subst, arith, append_assoc}
 use Rattle.std.proofs.lemmas.List.{drop_all}
-use Rattle.ssz_chunk.specs.Tree.{Tree, full}
+use Rattle.ssz_chunk.specs.Tree.{Tree}
 use Rattle.ssz_schema.specs.declared.format.Format.{Format}
 use Rattle.ssz_schema.specs.Types.{SszType, Fields, container, vector, list, bitvector, bitlist, union}
 use Rattle.ssz_schema.specs.Sizes.{fixed_size, head_size, part_sizes, depth}
@@ -9,55 +9,48 @@ use Rattle.ssz_bytes.specs.Bytes.{le_bytes, number_of_bits}
 use Rattle.ssz_schema.specs.Unfolding.{tree_at, fields_over, options_over}
 use Rattle.ssz_schema.specs.Legal.{IsLegal, AreLegalFields}
 use Rattle.ssz_value.specs.Values.{SszValue, bits, items, FitFields}
-use Rattle.ssz_value.specs.Encoding.{enc, heads, bodies, joined, joined_alike, field_encodings, option_encoding}
+use Rattle.ssz_value.specs.Encoding.{enc, heads_length, heads, bodies, joined, joined_alike, field_encodings, option_encoding}
 use Rattle.ssz_bytes.proofs.Numbers.{length-le_bytes}
 use Rattle.ssz_value.proofs.ExactLaw.{fields_agree}
 use Rattle.ssz_schema.proofs.WalkFields.{drop_at}
 use Rattle.ssz_value.proofs.PartLemmas.{Part, size_at}
 use Rattle.ssz_places.proofs.BitPacking.{bit_bytes}
-use Rattle.ssz_arena.specs.declared.node.NodeId.{NodeId}
-use Rattle.ssz_arena.specs.Content.{Content, tree_of}
-use Rattle.ssz_reading.specs.Ahead.{Ahead, Holds}
 use Rattle.ssz_places.specs.PlaceLaws.{IsTreeOf}
 use Rattle.ssz_parts.specs.Encoded.{head_of, body_of}
 use Rattle.ssz_value.specs.Written.{capped}
-use Rattle.ssz_reading.specs.Shown.{ForValue, AreElements, AreFields, AreBits, AreCountedBits, ArePacked, ForElements, ForFields, Adds, room_of, rooms, delimited_bytes}
-use Rattle.ssz_reading.proofs.Rooms.{rooms_step, Filled, Filled-start, Filled-more, Filled-end, joined_adds}
-use Rattle.ssz_reading.proofs.Walked.{Takes, FieldsLeft, FieldsLeft-start, FieldsLeft-first}
+use Rattle.ssz_reading.specs.Shown.{ForValue, ForPlace, AreElements, AreFields, AreBits, AreCountedBits, ArePacked, ForElements, ForFields, Adds, room_of, rooms, delimited_bytes}
+use Rattle.ssz_reading.proofs.Rooms.{rooms_step, fixed_rooms, Filled, Filled-start, Filled-more, Filled-end, joined_adds}
+use Rattle.ssz_reading.proofs.Walked.{FieldsLeft, FieldsLeft-start, FieldsLeft-first}
 use Rattle.ssz_reading.proofs.Formed.{IsVector, vector_elements, IsList, list_elements, IsContainer, container_fields, IsBitvector, bitvector_bits, IsBitlist, bitlist_bits, IsUnion, union_option, Unmixes}
 use Rattle.ssz_reading.proofs.Written.{on_ok}
 
 -- the fixed parts of the fields from i on are still to be written
-pub record FieldHeads (arena : Content) (trees : List SszType) (fields : List Part) (i : ℕ)
-    (all out : List ℕ) (places : Ahead) : Type 0 where
+pub record FieldHeads (trees : List SszType) (fields : List Part) (i depth : ℕ)
+    (all out : List ℕ) (node : Tree) : Type 0 where
   pub rest : List SszValue
-  pub left : FieldsLeft arena trees fields i rest places
+  pub left : FieldsLeft trees fields i depth rest node
   pub is : out ++ rooms (part_sizes (fields_over trees (drop i fields)))
       (field_encodings (fields_over trees (drop i fields)) rest) ≡ all
 
-pub FieldHeads-start : (arena : Content) (trees : List SszType) (fields : List Part)
-    (depth : ℕ) (vs : List SszValue) (out : List ℕ) (node : NodeId) (places : Ahead)
-    → AreFields (fields_over trees fields) depth vs (tree_of arena node)
-    → ((ts : List Tree) → length ts ≤ 2 ^ depth → tree_of arena node ≡ full depth ts
-    → Holds arena ts places)
-    → FieldHeads arena trees fields 0 (out ++ rooms (part_sizes (fields_over trees fields))
-    (field_encodings (fields_over trees fields) vs)) out places
-FieldHeads-start arena trees fields depth vs out node places are holds = record {
+pub FieldHeads-start : (trees : List SszType) (fields : List Part) (depth : ℕ)
+    (vs : List SszValue) (out : List ℕ) (node : Tree)
+    → AreFields (fields_over trees fields) depth vs node
+    → FieldHeads trees fields 0 depth (out ++ rooms (part_sizes (fields_over trees fields))
+    (field_encodings (fields_over trees fields) vs)) out node
+FieldHeads-start trees fields depth vs out node are = record {
   rest = vs;
-  left = FieldsLeft-start arena trees fields depth vs node places are holds;
+  left = FieldsLeft-start trees fields depth vs node are;
   is = refl;
 }
 
-pub FieldHeads-more : (arena : Content) (trees : List SszType) (fields : List Part)
-    (i : ℕ) (part : Part) (all out written : List ℕ) (old new : Ahead) (node : NodeId)
-    → FieldHeads arena trees fields i all out old → i < length fields
-    → part ≡ get_or fields i part → Takes arena old new node
-    → ForValue (tree_at trees part.1) (tree_of arena node)
+pub FieldHeads-more : (trees : List SszType) (fields : List Part) (i depth : ℕ) (part : Part)
+    (all out written : List ℕ) (node : Tree) → FieldHeads trees fields i depth all out node
+    → i < length fields → part ≡ get_or fields i part
+    → ForPlace (tree_at trees part.1) depth i node
     (λ v. written ≡ out ++ room_of (size_at trees part) (enc (tree_at trees part.1) v))
-    → FieldHeads arena trees fields (i + 1) all written new
-FieldHeads-more arena trees fields i part all out written old new node h below e takes head =
-    let first = FieldsLeft-first arena trees fields i part h.rest old new node h.left below e
-    takes in
+    → FieldHeads trees fields (i + 1) depth all written node
+FieldHeads-more trees fields i depth part all out written node h below e head =
+    let first = FieldsLeft-first trees fields i depth part h.rest node h.left below e in
     let here = drop_at fields i part below e in
     record {
       rest = first.others;
@@ -75,51 +68,48 @@ FieldHeads-more arena trees fields i part all out written old new node h below e
     }
 
 -- their variable parts
-pub record FieldBodies (arena : Content) (trees : List SszType) (fields : List Part)
-    (i start room : ℕ) (all out : List ℕ) (places : Ahead) : Type 0 where
+pub record FieldBodies (trees : List SszType) (fields : List Part) (i depth start room : ℕ)
+    (all out : List ℕ) (node : Tree) : Type 0 where
   pub rest : List SszValue
-  pub left : FieldsLeft arena trees fields i rest places
+  pub left : FieldsLeft trees fields i depth rest node
   pub filled : Filled (part_sizes (fields_over trees (drop i fields)))
       (field_encodings (fields_over trees (drop i fields)) rest) start room all out
 
-pub FieldBodies-start : (arena : Content) (format : Format) (trees : List SszType)
-    (fields : List Part) (depth start : ℕ) (vs : List SszValue) (front out : List ℕ)
-    (node : NodeId) (places : Ahead) → AreLegalFields format (fields_over trees fields)
-    → AreFields (fields_over trees fields) depth vs (tree_of arena node)
-    → ((ts : List Tree) → length ts ≤ 2 ^ depth → tree_of arena node ≡ full depth ts
-    → Holds arena ts places)
+pub FieldBodies-start : (format : Format) (trees : List SszType) (fields : List Part)
+    (depth start : ℕ) (vs : List SszValue) (front out : List ℕ) (node : Tree)
+    → AreLegalFields format (fields_over trees fields)
+    → AreFields (fields_over trees fields) depth vs node
     → start < 2 ^ 64 → length front ≡ start
     → out ≡ front ++ rooms (part_sizes (fields_over trees fields))
     (field_encodings (fields_over trees fields) vs)
-    → FieldBodies arena trees fields 0 start start
+    → FieldBodies trees fields 0 depth start start
     (front ++ heads (part_sizes (fields_over trees fields))
     (field_encodings (fields_over trees fields) vs) (length out - start)
     ++ bodies (part_sizes (fields_over trees fields))
-    (field_encodings (fields_over trees fields) vs)) out places
-FieldBodies-start arena format trees fields depth start vs front out node places legal are holds
-    small at is = record {
+    (field_encodings (fields_over trees fields) vs)) out node
+FieldBodies-start format trees fields depth start vs front out node legal are small at is =
+    record {
       rest = vs;
-      left = FieldsLeft-start arena trees fields depth vs node places are holds;
+      left = FieldsLeft-start trees fields depth vs node are;
       filled = Filled-start (part_sizes (fields_over trees fields))
           (field_encodings (fields_over trees fields) vs) start front out
           ((fields_agree format (fields_over trees fields) legal).sized vs are.fit) small at is;
     }
 
-pub FieldBodies-more : (arena : Content) (trees : List SszType) (fields : List Part)
-    (i start room next : ℕ) (part : Part) (all out written : List ℕ) (old new : Ahead)
-    (node : NodeId) → FieldBodies arena trees fields i start room all out old → i < length fields
-    → part ≡ get_or fields i part → Takes arena old new node
+pub FieldBodies-more : (trees : List SszType) (fields : List Part)
+    (i depth start room next : ℕ) (part : Part) (all out written : List ℕ) (node : Tree)
+    → FieldBodies trees fields i depth start room all out node → i < length fields
+    → part ≡ get_or fields i part
     → next ≡ min (room + head_size (size_at trees part)) (2 ^ 64 - 1)
-    → ForValue (tree_at trees part.1) (tree_of arena node) (λ v. (front back : List ℕ)
+    → ForPlace (tree_at trees part.1) depth i node (λ v. (front back : List ℕ)
     → room ≡ capped (length front)
     → out ≡ front ++ room_of (size_at trees part) (enc (tree_at trees part.1) v) ++ back
     → written ≡ front ++ head_of (size_at trees part) (enc (tree_at trees part.1) v)
     (length out - start) ++ back ++ body_of (size_at trees part) (enc (tree_at trees part.1) v))
-    → FieldBodies arena trees fields (i + 1) start next all written new
-FieldBodies-more arena trees fields i start room next part all out written old new node h below e
-    takes is body =
-    let first = FieldsLeft-first arena trees fields i part h.rest old new node h.left below e
-    takes in
+    → FieldBodies trees fields (i + 1) depth start next all written node
+FieldBodies-more trees fields i depth start room next part all out written node h below e is
+    body =
+    let first = FieldsLeft-first trees fields i depth part h.rest node h.left below e in
     let here = drop_at fields i part below e in
     record {
       rest = first.others;
@@ -138,10 +128,10 @@ FieldBodies-more arena trees fields i start room next part all out written old n
           is (body first.value first.is);
     }
 
-pub FieldBodies-end : (arena : Content) (trees : List SszType) (fields : List Part)
-    (i start room : ℕ) (all out : List ℕ) (places : Ahead)
-    → FieldBodies arena trees fields i start room all out places → length fields ≤ i → out ≡ all
-FieldBodies-end arena trees fields i start room all out places h past =
+pub FieldBodies-end : (trees : List SszType) (fields : List Part) (i depth start room : ℕ)
+    (all out : List ℕ) (node : Tree) → FieldBodies trees fields i depth start room all out node
+    → length fields ≤ i → out ≡ all
+FieldBodies-end trees fields i depth start room all out node h past =
     end h.rest (subst (λ (ps : List Part). FitFields (fields_over trees ps) h.rest)
     (drop_all i fields past) h.left.fit)
     (subst (λ (ps : List Part). Filled (part_sizes (fields_over trees ps))
@@ -153,6 +143,15 @@ FieldBodies-end arena trees fields i start room all out places h past =
         (field_encodings (fields_over trees []) rest) start room all out → out ≡ all
     end [] fit filled = Filled-end start room all out filled
     end (v ∷ rest) fit filled = absurd fit
+
+-- where all fields are of fixed size
+pub fixed_fields_add : (fs : Fields) (z : ℕ) (vs : List SszValue) (old new : List ℕ)
+    → fixed_size (container fs) ≡ Some z
+    → new ≡ old ++ rooms (part_sizes fs) (field_encodings fs vs)
+    → new ≡ old ++ joined (part_sizes fs) (field_encodings fs vs)
+fixed_fields_add fs z vs old new fixed is =
+    is ∙ ap (λ xs. old ++ xs)
+    (fixed_rooms (part_sizes fs) (field_encodings fs vs) z (heads_length (part_sizes fs)) fixed)
 
 pub fields_adds : (format : Format) (fs : Fields) (start : ℕ) (vs : List SszValue)
     (old mid new : List ℕ) → AreLegalFields format fs → FitFields fs vs → start ≡ length old

@@ -30,7 +30,7 @@ use Rattle.ssz_arena.specs.declared.node.NodeId.{NodeId}
 use Rattle.ssz_arena.specs.Content.{Content, tree_of}
 use Rattle.ssz_reading.specs.Ahead.{Ahead, Holds}
 use Rattle.ssz_places.specs.PlaceLaws.{IsTreeOf}
-use Rattle.ssz_reading.specs.Shown.{ForValue, AreElements, AreFields, AreBits, ForElements, ForFields, basic_type}
+use Rattle.ssz_reading.specs.Shown.{ForValue, ForPlace, AreElements, AreFields, AreBits, ForElements, ForFields, basic_type}
 use Rattle.ssz_reading.specs.declared.basics.Basic.{Basic}
 use Rattle.ssz_reading.specs.declared.basics.Basic.TheVariants.{Number, Flag}
 use Rattle.ssz_reading.proofs.Walked.{Takes, Left, Left-first, AreElements-trees, FieldsLeft, FieldsLeft-start, FieldsLeft-first}
@@ -94,37 +94,33 @@ ElementsRead-end arena t vs i parts places h all =
     whole (v ∷ rest) count same = absurd (omega (arith, count))
 
 -- the values of fields, so far
-pub record FieldsRead (arena : Content) (trees : List SszType) (fields : List Part)
-    (vs : List SszValue) (i : ℕ) (parts : List Value) (places : Ahead) : Type 0 where
+pub record FieldsRead (trees : List SszType) (fields : List Part) (vs : List SszValue)
+    (i depth : ℕ) (parts : List Value) (node : Tree) : Type 0 where
   pub rest : List SszValue
-  pub left : FieldsLeft arena trees fields i rest places
+  pub left : FieldsLeft trees fields i depth rest node
   pub count : length parts ≡ i
   pub all : map value_of parts ++ rest ≡ vs
   pub formed : FieldsFormed (fields_over trees fields) parts
 
-pub FieldsRead-start : (arena : Content) (trees : List SszType) (fields : List Part) (depth : ℕ)
-    (vs : List SszValue) (node : NodeId) (places : Ahead)
-    → AreFields (fields_over trees fields) depth vs (tree_of arena node)
-    → ((ts : List Tree) → length ts ≤ 2 ^ depth → tree_of arena node ≡ full depth ts
-    → Holds arena ts places)
-    → FieldsRead arena trees fields vs 0 [] places
-FieldsRead-start arena trees fields depth vs node places are holds = record {
+pub FieldsRead-start : (trees : List SszType) (fields : List Part) (depth : ℕ)
+    (vs : List SszValue) (node : Tree) → AreFields (fields_over trees fields) depth vs node
+    → FieldsRead trees fields vs 0 depth [] node
+FieldsRead-start trees fields depth vs node are = record {
   rest = vs;
-  left = FieldsLeft-start arena trees fields depth vs node places are holds;
+  left = FieldsLeft-start trees fields depth vs node are;
   count = refl;
   all = refl;
   formed = no_fields_formed (fields_over trees fields);
 }
 
-pub FieldsRead-more : (arena : Content) (trees : List SszType) (fields : List Part)
-    (vs : List SszValue) (i : ℕ) (part : Part) (parts next : List Value) (v : Value)
-    (old new : Ahead) (node : NodeId) → FieldsRead arena trees fields vs i parts old
-    → i < length fields → part ≡ get_or fields i part → Takes arena old new node
-    → ForValue (tree_at trees part.1) (tree_of arena node) (λ w. Stands (tree_at trees part.1) w v)
-    → next ≡ parts ++ v ∷ [] → FieldsRead arena trees fields vs (i + 1) next new
-FieldsRead-more arena trees fields vs i part parts next v old new node h below e takes read is =
-    let first = FieldsLeft-first arena trees fields i part h.rest old new node h.left below e
-    takes in
+pub FieldsRead-more : (trees : List SszType) (fields : List Part) (vs : List SszValue)
+    (i depth : ℕ) (part : Part) (parts next : List Value) (v : Value) (node : Tree)
+    → FieldsRead trees fields vs i depth parts node → i < length fields
+    → part ≡ get_or fields i part
+    → ForPlace (tree_at trees part.1) depth i node (λ w. Stands (tree_at trees part.1) w v)
+    → next ≡ parts ++ v ∷ [] → FieldsRead trees fields vs (i + 1) depth next node
+FieldsRead-more trees fields vs i depth part parts next v node h below e read is =
+    let first = FieldsLeft-first trees fields i depth part h.rest node h.left below e in
     let stands : Stands (tree_at trees part.1) first.value v = read first.value first.is in
     record {
       rest = first.others;
@@ -140,11 +136,11 @@ FieldsRead-more arena trees fields vs i part parts next v old new node h below e
           (fields_push trees fields parts i part v h.formed h.count below e stands.formed);
     }
 
-pub FieldsRead-end : (arena : Content) (trees : List SszType) (fields : List Part)
-    (vs : List SszValue) (i : ℕ) (parts : Vec Value Global) (places : Ahead)
-    → FieldsRead arena trees fields vs i parts.items places → length fields ≤ i
+pub FieldsRead-end : (trees : List SszType) (fields : List Part) (vs : List SszValue)
+    (i depth : ℕ) (parts : Vec Value Global) (node : Tree)
+    → FieldsRead trees fields vs i depth parts.items node → length fields ≤ i
     → Stands (container (fields_over trees fields)) (sequence (values vs)) (Seq parts)
-FieldsRead-end arena trees fields vs i parts places h all = record {
+FieldsRead-end trees fields vs i depth parts node h all = record {
   value = seq_is parts ∙ ap (λ ws. sequence (values ws))
       (whole h.rest
       (subst (λ (fs : List Part). FitFields (fields_over trees fs) h.rest)

@@ -1,14 +1,16 @@
 -- Fixed parts that are written with room for the offsets, and offsets that are written into it.
-use Rattle.std.proofs.Common.{ℕ, zero, suc, ◌+◌, ◌-◌, ◌^◌, ◌<◌, ◌≤◌, ◌≡◌, min, List, [], ◌∷◌, ◌++◌, length, take, replicate, Option, Some, None, refl, sym, ap, ap₂, ◌∙◌, arith, append_assoc, length-append}
+use Rattle.std.proofs.Common.{ℕ, zero, suc, ◌+◌, ◌-◌, ◌^◌, ◌<◌, ◌≤◌, ◌≡◌, min, List, [], ◌∷◌, ◌++◌, length, take, replicate, true, false, Option, Some, None, refl, sym, ap, ap₂, ◌∙◌, arith, append_assoc, length-append}
+use Rattle.std.specs.Prelude.{is_none}
 use Rattle.std.proofs.lemmas.List.{append-nil}
 use Rattle.std.proofs.Math.Seq.{take-append-add}
-use Rattle.ssz_schema.specs.Sizes.{head_size}
+use Rattle.ssz_schema.specs.Sizes.{head_size, total_size}
 use Rattle.ssz_bytes.specs.Bytes.{offset_bytes}
 use Rattle.ssz_value.specs.Encoding.{heads_length, heads, bodies, joined}
 use Rattle.ssz_value.proofs.Cut.{AreParts}
+use Rattle.ssz_value.proofs.Sequences.{fixed_rest}
 use Rattle.ssz_parts.specs.Encoded.{head_of, body_of}
 use Rattle.ssz_value.specs.Written.{capped}
-use Rattle.ssz_reading.specs.Shown.{Extends, room_of, rooms}
+use Rattle.ssz_reading.specs.Shown.{Extends, room_of, rooms, offset_rooms}
 
 -- rooms are as long as what comes into them
 length-rooms : (sizes : List (Option ℕ)) (parts : List (List ℕ)) → AreParts sizes parts
@@ -154,6 +156,43 @@ fixed_filled size z n offset parts front e =
         ap (λ xs. p ++ xs) (go (Some y) n parts e)
         ∙ sym (append_assoc p (heads (replicate n (Some y)) parts offset)
         (bodies (replicate n (Some y)) parts))
+
+-- parts that are all of fixed size are as they are joined
+pub fixed_rooms : (sizes : List (Option ℕ)) (parts : List (List ℕ)) (z offset : ℕ)
+    → total_size sizes ≡ Some z
+    → rooms sizes parts ≡ heads sizes parts offset ++ bodies sizes parts
+fixed_rooms [] parts z offset e = refl
+fixed_rooms (None ∷ sizes) parts z offset e = cc
+fixed_rooms (Some y ∷ sizes) [] z offset e = refl
+fixed_rooms (Some y ∷ sizes) (p ∷ parts) z offset e =
+    let rest = fixed_rest y z (total_size sizes) e in
+    ap (λ xs. p ++ xs) (fixed_rooms sizes parts rest.0 offset rest.1)
+    ∙ sym (append_assoc p (heads sizes parts offset) (bodies sizes parts))
+
+-- parts that are all of variable size have room for their offsets alone
+pub variable_rooms : (parts : List (List ℕ))
+    → rooms (replicate (length parts) None) parts ≡ offset_rooms (length parts)
+variable_rooms [] = refl
+variable_rooms (p ∷ parts) = ap (λ xs. offset_bytes 0 ++ xs) (variable_rooms parts)
+
+-- the fixed part of a part of fixed size is the part
+pub fixed_room : (size : Option ℕ) (bytes : List ℕ) → is_none size ≡ false
+    → bytes ≡ room_of size bytes
+fixed_room None bytes e = cc
+fixed_room (Some z) bytes e = refl
+
+pub no_size : (size : Option ℕ) → is_none size ≡ true → size ≡ None
+no_size None e = refl
+no_size (Some z) e = cc
+
+-- room for one more, of so many that are left
+pub offset_rooms_step : (left next : ℕ) (out new all : List ℕ) → left ≡ suc next
+    → out ++ offset_rooms left ≡ all → new ≡ out ++ offset_bytes 0
+    → new ++ offset_rooms next ≡ all
+offset_rooms_step left next out new all one is adds =
+    ap (λ xs. xs ++ offset_rooms next) adds
+    ∙ append_assoc out (offset_bytes 0) (offset_rooms next)
+    ∙ ap (λ k. out ++ offset_rooms k) (sym one) ∙ is
 
 -- the fixed parts, then the variable parts
 pub joined_adds : (sizes : List (Option ℕ)) (parts : List (List ℕ)) (start : ℕ)

@@ -1,6 +1,6 @@
 -- How the next place is taken: the lowest subtree that is left is opened down to its first place.
 use Rattle.std.proofs.Common.{◌≡◌, ◌≢◌, ℕ, zero, suc, ◌+◌, ◌-◌, ◌*◌, ◌/◌, ◌%◌, ◌^◌, ◌<◌, ◌≤◌, List, ◌∷◌, length, take, drop, set, replicate, refl, sym, ap, ap₂, ◌∙◌, subst, ⊎_elim, arith, inl, inr, get_or-set_same, get_or-set_other, length-set}
-use Rattle.std.specs.Int.{bit_at, trailing_zeros, w128}
+use Rattle.std.specs.Int.{bit_at, trailing_zeros, w64}
 use Rattle.std.proofs.Math.Nat.{pow-suc}
 use Rattle.std.proofs.lemmas.Bool.{cases_lt}
 use Rattle.std.proofs.lemmas.Nat.{pow_pos, mod-mul-add}
@@ -22,23 +22,23 @@ pub record Ends (n level : ℕ) : Type 0 where
   pub zeros : (i : ℕ) → i < level → bit_at n i ≡ 0
   pub some : 0 < n
 
-pub ends : (n : ℕ) → 0 < n → n ≤ 2 ^ 126 → Ends n (trailing_zeros w128 n)
+pub ends : (n : ℕ) → 0 < n → n ≤ 2 ^ 63 → Ends n (trailing_zeros w64 n)
 ends n some few =
-    let digits : (trailing_zeros w128 n < 128) × (bit_at n (trailing_zeros w128 n) ≡ 1)
-    × ((i : ℕ) → i < trailing_zeros w128 n → bit_at n i ≡ 0) =
-    bit_at-trailing_zeros w128 n some (omega arith) in
+    let digits : (trailing_zeros w64 n < 64) × (bit_at n (trailing_zeros w64 n) ≡ 1)
+    × ((i : ℕ) → i < trailing_zeros w64 n → bit_at n i ≡ 0) =
+    bit_at-trailing_zeros w64 n some (omega arith) in
     record { one = digits.1; zeros = digits.2; some = some }
 
--- no number up to 2 ^ 126 ends with more than 126 zeros
-pub ends_within : (n level : ℕ) → n ≤ 2 ^ 126 → Ends n level → level ≤ 126
+-- no number up to 2 ^ 63 ends with more than 63 zeros
+pub ends_within : (n level : ℕ) → n ≤ 2 ^ 63 → Ends n level → level ≤ 63
 ends_within n level few h = ⊎_elim
-    (λ (deep : 126 < level). absurd (omega (
+    (λ (deep : 63 < level). absurd (omega (
       arith,
       h.one,
-      bit_at_above n 127 level (omega arith) (omega arith),
+      bit_at_above n 64 level (omega arith) (omega arith),
     )))
-    (λ (within : level ≤ 126). within)
-    (cases_lt 126 level)
+    (λ (within : level ≤ 63). within)
+    (cases_lt 63 level)
 
 module _ (n level : ℕ) (h : Ends n level) where
   whole : (k : ℕ) → k ≤ level → n ≡ n / 2 ^ k * 2 ^ k
@@ -196,17 +196,17 @@ Opened-rest arena tree trees left level node old nodes is held h = record {
 }
 
 -- all places of a full tree
-pub Holds-whole : (arena : Content) (trees : List Tree) (node : NodeId) (depth : ℕ) → depth ≤ 126
+pub Holds-whole : (arena : Content) (trees : List Tree) (node : NodeId) (depth : ℕ) → depth < 64
     → length trees ≤ 2 ^ depth → tree_of arena node ≡ full depth trees
-    → Holds arena trees (record { left = 2 ^ depth; nodes = replicate 127 node })
+    → Holds arena trees (record { left = 2 ^ depth; nodes = replicate 64 node })
 Holds-whole arena trees node depth shallow few is = record {
   few = few;
   nodes = λ k one. ⊎_elim
       (λ (same : k ≡ depth).
       let none : 2 ^ depth % 2 ^ depth ≡ 0 = no_rest (2 ^ depth) (pow_pos depth) in
-      subst (λ (j : ℕ). tree_of arena (node_of (replicate 127 node) j)
+      subst (λ (j : ℕ). tree_of arena (node_of (replicate 64 node) j)
       ≡ full j (take (2 ^ j) (drop (2 ^ depth % 2 ^ j) trees))) (sym same)
-      (ap (tree_of arena) (get_or-replicate 127 depth node (record { 0 = 0 }) (omega arith))
+      (ap (tree_of arena) (get_or-replicate 64 depth node (record { 0 = 0 }) (omega arith))
       ∙ is ∙ ap (full depth) (sym (take_all (2 ^ depth) trees few))
       ∙ ap (λ n. full depth (take (2 ^ depth) (drop n trees))) (sym none)))
       (λ (other : k ≢ depth). absurd (omega (arith, one, bit_at-pow_other depth k other)))
@@ -221,13 +221,13 @@ Holds-whole arena trees node depth shallow few is = record {
 pub record Opening (arena : Content) (left level now : ℕ) (node : NodeId)
     (old nodes : List NodeId) : Type 0 where
   pub inside : IsNodeOf arena node
-  pub count : length nodes ≡ 127
+  pub count : length nodes ≡ 64
   pub all : All (IsNodeOf arena) nodes
   pub each : (trees : List Tree) → Holds arena trees (record { left = left; nodes = old })
       → Opened arena trees level now node old nodes
 
 pub Opening-start : (arena : Content) (left level : ℕ) (node : NodeId) (nodes : List NodeId)
-    → Ends left level → left ≤ 2 ^ 126 → length nodes ≡ 127 → All (IsNodeOf arena) nodes
+    → Ends left level → left ≤ 2 ^ 63 → length nodes ≡ 64 → All (IsNodeOf arena) nodes
     → node ≡ node_of nodes level → Opening arena left level level node nodes nodes
 Opening-start arena left level node nodes is few count all here = record {
   inside = subst (IsNodeOf arena) (sym here)
@@ -239,7 +239,7 @@ Opening-start arena left level node nodes is few count all here = record {
 }
 
 pub Opening-more : (arena : Content) (left level now : ℕ) (node first second : NodeId)
-    (old nodes : List NodeId) → now < level → level ≤ 126
+    (old nodes : List NodeId) → now < level → level ≤ 63
     → Opening arena left level (suc now) node old nodes
     → IsNodeOf arena first → IsNodeOf arena second
     → ((left right : Tree) → tree_of arena node ≡ pair left right → tree_of arena first ≡ left)

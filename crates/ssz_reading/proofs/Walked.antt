@@ -1,9 +1,10 @@
 -- The values of the places that are still to come.
-use Rattle.std.proofs.Common.{ℕ, suc, ◌+◌, ◌-◌, ◌^◌, ◌<◌, ◌≤◌, ◌≡◌, min, List, [], ◌∷◌, length, map, drop, get_or, sum_by, Option, Some, None, refl, ap, ◌∙◌, subst, arith}
+use Rattle.std.proofs.Common.{ℕ, suc, ◌+◌, ◌-◌, ◌^◌, ◌<◌, ◌≤◌, ◌≡◌, min, List, [], ◌∷◌, length, map, drop, get_or, sum_by, Option, Some, None, refl, sym, ap, ◌∙◌, subst, arith}
 use Rattle.std.specs.List.{AllByRecursion}
-use Rattle.std.proofs.lemmas.List.{length-map, drop_all}
+use Rattle.std.proofs.lemmas.List.{length-map, length-drop, drop_all, drop_more}
 use Rattle.std.proofs.lemmas.List.Sums.{sum_by-cons}
-use Rattle.ssz_chunk.specs.Tree.{Tree, full}
+use Rattle.ssz_chunk.specs.Chunk.{zero_chunk}
+use Rattle.ssz_chunk.specs.Tree.{Tree, leaf, full, place}
 use Rattle.ssz_schema.specs.Types.{SszType, Fields, uint, boolean, container, vector, list, bitvector, bitlist, union, no_fields, field}
 use Rattle.ssz_schema.specs.Sizes.{fixed_size, basic_size, element_chunks, part_length}
 use Rattle.ssz_value.specs.Encoding.{enc}
@@ -18,7 +19,7 @@ use Rattle.ssz_arena.specs.Content.{Content, tree_of}
 use Rattle.ssz_reading.specs.Ahead.{Ahead, Holds}
 use Rattle.ssz_places.specs.PlaceLaws.{IsTreeOf}
 use Rattle.ssz_value.specs.Written.{capped}
-use Rattle.ssz_reading.specs.Shown.{ForValue, AreElements, AreFields}
+use Rattle.ssz_reading.specs.Shown.{ForValue, ForPlace, IsAtPlace, AreElements, AreFields}
 
 -- a node was taken as the next place: it has the first tree, and the others are left
 pub record Takes (arena : Content) (old new : Ahead) (node : NodeId) : Type 0 where
@@ -135,47 +136,88 @@ Sums-end arena t vs i total places h all = end h.rest h.count h.sum
     end [] count sum = omega (arith, sum, h.small)
     end (v ∷ rest) count sum = absurd (omega (arith, count))
 
--- Values of the fields from i on that are still to come.
-pub record FieldsLeft (arena : Content) (trees : List SszType) (fields : List Part) (i : ℕ)
-    (rest : List SszValue) (places : Ahead) : Type 0 where
-  pub fit : FitFields (fields_over trees (drop i fields)) rest
-  pub holds : Holds arena (field_trees (fields_over trees (drop i fields)) rest) places
+-- the next of some trees, by their place
+record NextTree (all : List Tree) (i : ℕ) (next : Tree) (others : List Tree) : Type 0 where
+  inside : i < length all
+  here : place all i ≡ next
+  behind : drop (i + 1) all ≡ others
 
-pub record FirstField (arena : Content) (trees : List SszType) (fields : List Part) (i : ℕ)
-    (part : Part) (rest : List SszValue) (node : NodeId) (places : Ahead) : Type 0 where
+next_tree : (all : List Tree) (i : ℕ) (next : Tree) (others : List Tree)
+    → drop i all ≡ next ∷ others → NextTree all i next others
+next_tree all i next others e =
+    let inside : i < length all =
+    omega (arith, length-drop i all, ap (λ (ts : List Tree). length ts) e) in
+    let both : place all i ∷ drop (i + 1) all ≡ next ∷ others =
+    sym (drop_more all i (leaf zero_chunk) inside) ∙ e in
+    record { inside = inside; here = cc; behind = cc }
+
+-- Values of the fields from i on that are still to come, in a full tree of this depth.
+pub record FieldsLeft (trees : List SszType) (fields : List Part) (i depth : ℕ)
+    (rest : List SszValue) (node : Tree) : Type 0 where
+  pub fit : FitFields (fields_over trees (drop i fields)) rest
+  pub all : List Tree
+  pub few : length all ≤ 2 ^ depth
+  pub whole : node ≡ full depth all
+  pub ahead : drop i all ≡ field_trees (fields_over trees (drop i fields)) rest
+
+pub record FirstField (trees : List SszType) (fields : List Part) (i depth : ℕ) (part : Part)
+    (rest : List SszValue) (node : Tree) : Type 0 where
   pub value : SszValue
   pub others : List SszValue
   pub are : rest ≡ value ∷ others
-  pub is : IsTreeOf (tree_at trees part.1) value (tree_of arena node)
-  pub left : FieldsLeft arena trees fields (i + 1) others places
+  pub is : IsAtPlace (tree_at trees part.1) depth i value node
+  pub left : FieldsLeft trees fields (i + 1) depth others node
 
-pub FieldsLeft-first : (arena : Content) (trees : List SszType) (fields : List Part) (i : ℕ)
-    (part : Part) (rest : List SszValue) (old new : Ahead) (node : NodeId)
-    → FieldsLeft arena trees fields i rest old → i < length fields → part ≡ get_or fields i part
-    → Takes arena old new node → FirstField arena trees fields i part rest node new
-FieldsLeft-first arena trees fields i part rest old new node h below e takes =
+pub FieldsLeft-first : (trees : List SszType) (fields : List Part) (i depth : ℕ) (part : Part)
+    (rest : List SszValue) (node : Tree) → FieldsLeft trees fields i depth rest node
+    → i < length fields → part ≡ get_or fields i part
+    → FirstField trees fields i depth part rest node
+FieldsLeft-first trees fields i depth part rest node h below e =
     let here = drop_at fields i part below e in
     go rest (subst (λ (fs : List Part). FitFields (fields_over trees fs) rest) here h.fit)
-    (subst (λ (fs : List Part). Holds arena (field_trees (fields_over trees fs) rest) old) here
-    h.holds)
+    (h.ahead ∙ ap (λ (fs : List Part). field_trees (fields_over trees fs) rest) here)
   where
     go : (rest : List SszValue)
         → FitFields (fields_over trees (part ∷ drop (i + 1) fields)) rest
-        → Holds arena (field_trees (fields_over trees (part ∷ drop (i + 1) fields)) rest) old
-        → FirstField arena trees fields i part rest node new
-    go [] fit holds = absurd fit
-    go (v ∷ vs) fit holds = record {
-      value = v;
-      others = vs;
-      are = refl;
-      is = record { fits = fit.0; is = takes.tree _ _ holds };
-      left = record { fit = fit.1; holds = takes.rest _ _ holds };
-    }
+        → drop i h.all ≡ field_trees (fields_over trees (part ∷ drop (i + 1) fields)) rest
+        → FirstField trees fields i depth part rest node
+    go [] fit ahead = absurd fit
+    go (v ∷ vs) fit ahead =
+        let next = next_tree h.all i _ _ ahead in
+        record {
+          value = v;
+          others = vs;
+          are = refl;
+          is = record {
+            fits = fit.0;
+            inside = omega (arith, next.inside, h.few);
+            trees = h.all;
+            whole = h.whole;
+            here = next.here;
+          };
+          left = record {
+            fit = fit.1;
+            all = h.all;
+            few = h.few;
+            whole = h.whole;
+            ahead = next.behind;
+          };
+        }
 
-pub record FieldSums (arena : Content) (trees : List SszType) (fields : List Part)
-    (vs : List SszValue) (i total : ℕ) (places : Ahead) : Type 0 where
+-- the node that was come down to at its place has its tree
+pub at_place : (t : SszType) (depth i : ℕ) (v : SszValue) (node here : Tree)
+    → IsAtPlace t depth i v node
+    → ((trees : List Tree) → i < 2 ^ depth → node ≡ full depth trees → here ≡ place trees i)
+    → IsTreeOf t v here
+at_place t depth i v node here h found = record {
+  fits = h.fits;
+  is = found h.trees h.inside h.whole ∙ h.here;
+}
+
+pub record FieldSums (trees : List SszType) (fields : List Part) (vs : List SszValue)
+    (i total depth : ℕ) (node : Tree) : Type 0 where
   pub rest : List SszValue
-  pub left : FieldsLeft arena trees fields i rest places
+  pub left : FieldsLeft trees fields i depth rest node
   pub sum : capped (total + fields_size (fields_over trees (drop i fields)) rest)
       ≡ capped (fields_size (fields_over trees fields) vs)
   pub small : total < 2 ^ 64
@@ -187,44 +229,38 @@ length-field_trees no_fields (v ∷ vs) fit = absurd fit
 length-field_trees (field name t fs) [] fit = absurd fit
 length-field_trees (field name t fs) (v ∷ vs) fit = ap suc (length-field_trees fs vs fit.1)
 
-pub FieldsLeft-start : (arena : Content) (trees : List SszType) (fields : List Part) (depth : ℕ)
-    (vs : List SszValue) (node : NodeId) (places : Ahead)
-    → AreFields (fields_over trees fields) depth vs (tree_of arena node)
-    → ((ts : List Tree) → length ts ≤ 2 ^ depth → tree_of arena node ≡ full depth ts
-    → Holds arena ts places)
-    → FieldsLeft arena trees fields 0 vs places
-FieldsLeft-start arena trees fields depth vs node places are holds = record {
+pub FieldsLeft-start : (trees : List SszType) (fields : List Part) (depth : ℕ)
+    (vs : List SszValue) (node : Tree) → AreFields (fields_over trees fields) depth vs node
+    → FieldsLeft trees fields 0 depth vs node
+FieldsLeft-start trees fields depth vs node are = record {
   fit = are.fit;
-  holds = holds (field_trees (fields_over trees fields) vs)
-      (omega (arith, length-field_trees (fields_over trees fields) vs are.fit, are.few)) are.tree;
+  all = field_trees (fields_over trees fields) vs;
+  few = omega (arith, length-field_trees (fields_over trees fields) vs are.fit, are.few);
+  whole = are.tree;
+  ahead = refl;
 }
 
-pub FieldSums-start : (arena : Content) (trees : List SszType) (fields : List Part) (depth : ℕ)
-    (vs : List SszValue) (node : NodeId) (places : Ahead)
-    → AreFields (fields_over trees fields) depth vs (tree_of arena node)
-    → ((ts : List Tree) → length ts ≤ 2 ^ depth → tree_of arena node ≡ full depth ts
-    → Holds arena ts places)
-    → FieldSums arena trees fields vs 0 0 places
-FieldSums-start arena trees fields depth vs node places are holds = record {
+pub FieldSums-start : (trees : List SszType) (fields : List Part) (depth : ℕ)
+    (vs : List SszValue) (node : Tree) → AreFields (fields_over trees fields) depth vs node
+    → FieldSums trees fields vs 0 0 depth node
+FieldSums-start trees fields depth vs node are = record {
   rest = vs;
-  left = FieldsLeft-start arena trees fields depth vs node places are holds;
+  left = FieldsLeft-start trees fields depth vs node are;
   sum = ap capped (let e : 0 + fields_size (fields_over trees fields) vs
       ≡ fields_size (fields_over trees fields) vs = omega arith in e);
   small = omega arith;
 }
 
-pub FieldSums-more : (arena : Content) (trees : List SszType) (fields : List Part)
-    (vs : List SszValue) (i total len next : ℕ) (part : Part) (old new : Ahead) (node : NodeId)
-    → FieldSums arena trees fields vs i total old → i < length fields → part ≡ get_or fields i part
-    → Takes arena old new node
-    → ForValue (tree_at trees part.1) (tree_of arena node)
+pub FieldSums-more : (trees : List SszType) (fields : List Part) (vs : List SszValue)
+    (i total depth len next : ℕ) (part : Part) (node : Tree)
+    → FieldSums trees fields vs i total depth node → i < length fields
+    → part ≡ get_or fields i part
+    → ForPlace (tree_at trees part.1) depth i node
     (λ v. len ≡ capped (part_length (size_at trees part) (size (tree_at trees part.1) v)))
     → next ≡ min (total + len) (2 ^ 64 - 1)
-    → FieldSums arena trees fields vs (i + 1) next new
-FieldSums-more arena trees fields vs i total len next part old new node h below e takes measured
-    is =
-    let first = FieldsLeft-first arena trees fields i part h.rest old new node h.left below e
-    takes in
+    → FieldSums trees fields vs (i + 1) next depth node
+FieldSums-more trees fields vs i total depth len next part node h below e measured is =
+    let first = FieldsLeft-first trees fields i depth part h.rest node h.left below e in
     let sum : fields_size (fields_over trees (drop i fields)) h.rest
     ≡ part_length (size_at trees part) (size (tree_at trees part.1) first.value)
     + fields_size (fields_over trees (drop (i + 1) fields)) first.others =
@@ -237,11 +273,11 @@ FieldSums-more arena trees fields vs i total len next part old new node h below 
       small = omega (arith, is);
     }
 
-pub FieldSums-end : (arena : Content) (trees : List SszType) (fields : List Part)
-    (vs : List SszValue) (i total : ℕ) (places : Ahead)
-    → FieldSums arena trees fields vs i total places → length fields ≤ i
+pub FieldSums-end : (trees : List SszType) (fields : List Part) (vs : List SszValue)
+    (i total depth : ℕ) (node : Tree) → FieldSums trees fields vs i total depth node
+    → length fields ≤ i
     → total ≡ capped (fields_size (fields_over trees fields) vs)
-FieldSums-end arena trees fields vs i total places h all =
+FieldSums-end trees fields vs i total depth node h all =
     let none : fields_size (fields_over trees (drop i fields)) h.rest ≡ 0 =
     ap (λ fs. fields_size (fields_over trees fs) h.rest) (drop_all i fields all) in
     omega (arith, h.sum, h.small, none)

@@ -26,8 +26,8 @@ use Rattle.ssz_reading.specs.declared.basics.Basic.TheVariants.{Number, Flag}
 use Rattle.ssz_reading.specs.Ahead.{Ahead, Holds}
 use Rattle.ssz_parts.specs.Encoded.{head_of, body_of}
 use Rattle.ssz_value.specs.Written.{capped}
-use Rattle.ssz_reading.specs.Shown.{ForValue, AreElements, ArePacked, ForElements, Adds, room_of, rooms, basic_type}
-use Rattle.ssz_reading.proofs.Rooms.{rooms_step, Filled, Filled-start, Filled-more, joined_adds}
+use Rattle.ssz_reading.specs.Shown.{ForValue, AreElements, ArePacked, ForElements, Adds, room_of, rooms, offset_rooms, basic_type}
+use Rattle.ssz_reading.proofs.Rooms.{rooms_step, variable_rooms, Filled, Filled-start, Filled-more, joined_adds}
 use Rattle.ssz_reading.proofs.Walked.{Takes, Left, Left-first, AreElements-trees, composite}
 use Rattle.ssz_reading.proofs.PackedParts.{length-encodings}
 
@@ -80,6 +80,14 @@ HeadsSoFar-more arena t vs i all out written old new node h below takes head =
           (head first.value first.is);
     }
 
+-- room for the offsets of elements of variable size
+pub element_rooms : (t : SszType) (count : ℕ) (vs : List SszValue) → fixed_size t ≡ None
+    → length vs ≡ count → offset_rooms count ≡ rooms (alike t vs) (map (enc t) vs)
+element_rooms t count vs none many =
+    let long : length (map (enc t) vs) ≡ length vs = length-map vs (enc t) in
+    ap offset_rooms (sym (long ∙ many)) ∙ sym (variable_rooms (map (enc t) vs))
+    ∙ ap₂ (λ n size. rooms (replicate n size) (map (enc t) vs)) long (sym none)
+
 pub record BodiesSoFar (arena : Content) (t : SszType) (vs : List SszValue) (i start room : ℕ)
     (all out : List ℕ) (places : Ahead) : Type 0 where
   pub rest : List SszValue
@@ -122,9 +130,9 @@ pub BodiesSoFar-more : (arena : Content) (t : SszType) (vs : List SszValue)
     → BodiesSoFar arena t vs i start room all out old → i < length vs → fixed_size t ≡ None
     → Takes arena old new node → next ≡ min (room + 4) (2 ^ 64 - 1)
     → ForValue t (tree_of arena node) (λ v. (front back : List ℕ) → room ≡ capped (length front)
-    → out ≡ front ++ room_of (fixed_size t) (enc t v) ++ back
-    → written ≡ front ++ head_of (fixed_size t) (enc t v) (length out - start) ++ back
-    ++ body_of (fixed_size t) (enc t v))
+    → out ≡ front ++ room_of None (enc t v) ++ back
+    → written ≡ front ++ head_of None (enc t v) (length out - start) ++ back
+    ++ body_of None (enc t v))
     → BodiesSoFar arena t vs (i + 1) start next all written new
 BodiesSoFar-more arena t vs i start room next all out written old new node h below none takes is
     body =
@@ -138,7 +146,10 @@ BodiesSoFar-more arena t vs i start room next all out written old new node h bel
           (subst (λ ws. Filled (alike t ws) (map (enc t) ws) start room all out) first.are
           h.filled)
           (is ∙ ap (λ size. min (room + head_size size) (2 ^ 64 - 1)) (sym none))
-          (body first.value first.is);
+          (subst (λ (size : Option ℕ). (front back : List ℕ) → room ≡ capped (length front)
+          → out ≡ front ++ room_of size (enc t first.value) ++ back
+          → written ≡ front ++ head_of size (enc t first.value) (length out - start) ++ back
+          ++ body_of size (enc t first.value)) (sym none) (body first.value first.is));
     }
 
 pub elements_adds : (format : Format) (t : SszType) (start : ℕ) (vs : List SszValue)

@@ -1,7 +1,7 @@
 -- The values whose trees nodes have.
-use Rattle.std.specs.Prelude.{ℕ, ◌-◌, ◌^◌, ◌<◌, ◌≤◌, ◌≡◌, ◌==◌, ◌*◌, ◌/◌, ◌%◌, slice_index, drop, Bool, true, List, [], ◌∷◌, ◌++◌, length, map, Option, Some, None, Result, OnOk}
+use Rattle.std.specs.Prelude.{ℕ, ◌-◌, ◌^◌, ◌<◌, ◌≤◌, ◌≡◌, ◌==◌, ◌*◌, ◌/◌, ◌%◌, slice_index, drop, Bool, true, List, [], ◌∷◌, ◌++◌, length, map, replicate, Option, Some, None, Result, OnOk}
 use Rattle.std.specs.List.{AllByRecursion}
-use Rattle.ssz_chunk.specs.Tree.{Tree, leaf, full}
+use Rattle.ssz_chunk.specs.Tree.{Tree, leaf, full, place}
 use Rattle.ssz_schema.specs.Types.{SszType, Fields, uint, boolean}
 use Rattle.ssz_schema.specs.Sizes.{basic_size, element_chunks}
 use Rattle.ssz_bytes.specs.Bytes.{le_bytes, offset_bytes, number_of_bits, delimited, bits_size}
@@ -41,6 +41,17 @@ pub record AreFields (fs : Fields) (depth : ℕ) (vs : List SszValue) (node : Tr
 
 abbrev pub ForFields : Fields → ℕ → Tree → (List SszValue → Type 0) → Type 0
 ForFields fs depth node P = (vs : List SszValue) → AreFields fs depth vs node → P vs
+
+-- a value whose tree stands at place i of a full tree of this depth
+pub record IsAtPlace (t : SszType) (depth i : ℕ) (v : SszValue) (node : Tree) : Type 0 where
+  pub fits : Fits t v
+  pub inside : i < 2 ^ depth
+  pub trees : List Tree
+  pub whole : node ≡ full depth trees
+  pub here : place trees i ≡ tree t v
+
+abbrev pub ForPlace : SszType → ℕ → ℕ → Tree → (SszValue → Type 0) → Type 0
+ForPlace t depth i node P = (v : SszValue) → IsAtPlace t depth i v node → P v
 
 -- so many bytes, packed in chunks in a full tree of this depth
 pub record ArePacked (depth len : ℕ) (bytes : List ℕ) (node : Tree) : Type 0 where
@@ -95,6 +106,10 @@ room_of None bytes = offset_bytes 0
 abbrev pub rooms : List (Option ℕ) → List (List ℕ) → List ℕ
 rooms (size ∷ sizes) (p ∷ parts) = room_of size p ++ rooms sizes parts
 rooms _ _ = []
+
+-- room for so many offsets
+abbrev pub offset_rooms : ℕ → List ℕ
+offset_rooms n = rooms (replicate n None) (replicate n [])
 
 -- what began both goes on beginning them, as far as this place
 abbrev pub KeepsUpTo : ℕ → List ℕ → List ℕ → Type 0

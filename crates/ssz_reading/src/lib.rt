@@ -1,8 +1,9 @@
 //! Values, and their encodings, read back from the nodes of an arena.
 //!
 //! The node of a value has its tree, so that the value can be read from it, or its encoding can be
-//! written with no value made. Each call goes over the places of a full tree from left to right
-//! with a `Places`, which keeps the subtrees still to come, one for each level at most.
+//! written with no value made. Each call goes over the elements of a list from left to right with a
+//! `Places`, which keeps the subtrees still to come, one for each level at most. It comes down to a
+//! field of a container from the root of all.
 //!
 //! No call but `read_value` and `write_encoding` takes memory. None asks anything of the tree of
 //! the node that it is handed: what it answers is said of a node that has the tree of a value.

@@ -1,6 +1,5 @@
 ghost use Rattle.std.specs.Prelude.{◌≡◌, ◌<◌, ◌≤◌, ◌^◌, length, Option};
 ghost use Rattle.std.specs.List.{AllByRecursion, sum_by};
-ghost use Rattle.ssz_chunk.specs.declared.TheConstants.{LEVELS};
 ghost use Rattle.ssz_schema.specs.Types.{container, union};
 ghost use Rattle.ssz_schema.specs.Sizes.{fixed_size, part_length};
 ghost use Rattle.ssz_schema.specs.Unfolding.{type_of, fields_over, options_over, IsBelow};
@@ -8,10 +7,10 @@ ghost use Rattle.ssz_value.specs.Encoding.{enc};
 ghost use Rattle.ssz_value.specs.Sizes.{size, fields_size};
 ghost use Rattle.ssz_arena.specs.Content.{IsNodeOf, tree_of};
 ghost use Rattle.ssz_value.specs.Written.{capped};
-ghost use Rattle.ssz_reading.specs.Shown.{ForValue, ForElements, ForFields};
+ghost use Rattle.ssz_reading.specs.Shown.{ForValue, ForPlace, ForElements, ForFields};
 
 use super::nodes::mixed_in;
-use super::places::Places;
+use super::places::{Places, node_of_place};
 use ssz_arena::{Arena, NodeId};
 use ssz_chunk::PairHash;
 use ssz_schema::{Name, Schema, Ty, TypeId};
@@ -78,7 +77,7 @@ fn elements_len<H: PairHash>(
     node: NodeId,
 ) -> u64
     requires known { elem < length schema.now.trees }
-    requires depth { depth ≤ LEVELS }
+    requires depth { depth < 64 }
     requires node { IsNodeOf arena.now node }
     ensures { let t = type_of schema.now elem in
         ForElements t depth count (tree_of arena.now node)
@@ -111,34 +110,43 @@ fn fields_len<H: PairHash>(
 ) -> u64
     requires known { id < length schema.now.trees }
     requires before { AllByRecursion (λ part. part.1 < id) fields.now }
-    requires depth { depth ≤ LEVELS }
+    requires depth { depth < 64 }
     requires node { IsNodeOf arena.now node }
     ensures { let fs = fields_over schema.now.trees fields.now in
         ForFields fs depth (tree_of arena.now node) (λ vs. result ≡ capped (fields_size fs vs)) }
 {
-    let mut places = Places::new(node, depth);
     let mut total = 0u64;
-    for field in fields {
-        let part = places.next(arena);
-        total = total.saturating_add(added_len(arena, schema, field.1, part));
+    for (i, field) in fields.iter().enumerate() {
+        total = total.saturating_add(field_len(arena, schema, field.1, depth, i, node));
     }
     total
 }
 
-// What a part adds to the whole: its length, and an offset where it is variable-size.
+// What field i adds to the whole: its length, and an offset where it is variable-size.
 #[cycle(length)]
-fn added_len<H: PairHash>(arena: &Arena<H>, schema: &Schema, id: TypeId, node: NodeId) -> u64
+fn field_len<H: PairHash>(
+    arena: &Arena<H>,
+    schema: &Schema,
+    id: TypeId,
+    depth: u32,
+    i: usize,
+    node: NodeId,
+) -> u64
     requires known { id < length schema.now.trees }
+    requires depth { depth < 64 }
     requires node { IsNodeOf arena.now node }
     ensures { let t = type_of schema.now id in
-        ForValue t (tree_of arena.now node)
+        ForPlace t depth i (tree_of arena.now node)
         (λ v. result ≡ capped (part_length (fixed_size t) (size t v))) }
 {
     // Every type of a schema is legal.
     let _legal = schema.ty(id);
     match schema.fixed_size(id) {
         Some(size) => size,
-        None => variable_len(arena, schema, id, node).saturating_add(4),
+        None => {
+            let part = node_of_place(arena, depth, i, node);
+            variable_len(arena, schema, id, part).saturating_add(4)
+        }
     }
 }
 

@@ -1,7 +1,6 @@
 //! Basic values and bits that are packed in the chunks of a full tree.
 ghost use Rattle.std.specs.Prelude.{ℕ, ◌≡◌, ◌+◌, ◌*◌, ◌<◌, ◌≤◌, ◌^◌, ◌++◌, Bool, false, List, length, map, take, drop, slice_index_or, IfOk, OnOk, Some};
 ghost use Rattle.std.specs.List.{AllByRecursion, concat};
-ghost use Rattle.ssz_chunk.specs.declared.TheConstants.{LEVELS};
 ghost use Rattle.ssz_schema.specs.declared.width.Width.TheVariants.{W8};
 ghost use Rattle.ssz_schema.specs.Types.{uint};
 ghost use Rattle.ssz_schema.specs.Sizes.{basic_size};
@@ -29,7 +28,7 @@ pub fn read_bytes<H: PairHash>(
     count: u64,
     node: NodeId,
 ) -> Result<ByteRun, AllocError>
-    requires depth { depth ≤ LEVELS }
+    requires depth { depth < 64 }
     requires node { IsNodeOf arena.now node }
     ensures { ForElements (uint W8) depth count (tree_of arena.now node)
         (λ vs. IfOk result (λ run. map number run ≡ vs)) }
@@ -48,7 +47,7 @@ pub fn read_packed<H: PairHash>(
     count: u64,
     node: NodeId,
 ) -> Result<Vec<Value>, AllocError>
-    requires depth { depth ≤ LEVELS }
+    requires depth { depth < 64 }
     requires node { IsNodeOf arena.now node }
     ensures { ForElements (basic_type basic) depth count (tree_of arena.now node)
         (λ vs. IfOk result (λ parts. map value_of parts.items ≡ vs)) }
@@ -96,7 +95,7 @@ pub fn read_bits<H: PairHash>(
     count: u64,
     node: NodeId,
 ) -> Result<BitRun, AllocError>
-    requires depth { depth ≤ LEVELS }
+    requires depth { depth < 64 }
     requires node { IsNodeOf arena.now node }
     ensures { (bs : List Bool) → AreBits depth count bs (tree_of arena.now node)
         → IfOk result (λ run. run ≡ bs) }

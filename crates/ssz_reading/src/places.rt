@@ -1,22 +1,22 @@
-ghost use Rattle.std.specs.Prelude.{ℕ, ◌≡◌, ◌<◌, ◌≤◌, ◌^◌, List, ◌∷◌, length, All};
-ghost use Rattle.ssz_chunk.specs.declared.TheConstants.{LEVELS};
-ghost use Rattle.ssz_chunk.specs.Tree.{Tree, full};
+ghost use Rattle.std.specs.Prelude.{ℕ, ◌≡◌, ◌<◌, ◌≤◌, ◌/◌, ◌%◌, ◌^◌, List, ◌∷◌, length, All};
+ghost use Rattle.ssz_chunk.specs.Tree.{Tree, pair, full, place};
 ghost use Rattle.ssz_arena.specs.Content.{Content, IsNodeOf, tree_of};
 ghost use Rattle.ssz_reading.specs.Ahead.{Holds};
 
 use super::nodes::halves;
 use ssz_arena::{Arena, NodeId};
-use ssz_chunk::{LEVELS, PairHash};
+use ssz_chunk::PairHash;
 use std::marker::Model;
 
-// A subtree for each level, the whole tree included.
-const SUBTREES: usize = LEVELS as usize + 1;
+// A subtree for each level, the whole tree included: no type's content is deeper than 62, so that a
+// u64 counts its places.
+const SUBTREES: usize = 64;
 
 /// The places of a full tree that are still to come, from left to right, by the roots of the whole
 /// subtrees that they make: one for each binary digit 1 of their number, the lowest first.
 #[derive(Drop)]
 pub struct Places {
-    left: u128,
+    left: u64,
     nodes: [NodeId; SUBTREES],
 }
 
@@ -29,13 +29,13 @@ impl Model for Places {
 
     ghost view = { λ places. record { left = places.left; nodes = places.nodes } };
 
-    ghost invariant = { λ places. (places.left ≤ 2 ^ 126) × (length places.nodes ≡ 127) };
+    ghost invariant = { λ places. (places.left ≤ 2 ^ 63) × (length places.nodes ≡ 64) };
 }
 
 impl Places {
-    /// All places of the full tree of this depth, which is at most LEVELS.
+    /// All places of the full tree of this depth.
     pub fn new(node: NodeId, depth: u32) -> Self
-        requires { depth ≤ LEVELS }
+        requires { depth < 64 }
         ensures nodes { (arena : Content) → IsNodeOf arena node
             → All (IsNodeOf arena) result.nodes }
         ensures holds { (arena : Content) (trees : List Tree) → length trees ≤ 2 ^ depth
@@ -70,4 +70,37 @@ impl Places {
         self.left -= 1;
         node
     }
+}
+
+// The half of a pair in which place i stands, where each half has 2^level places.
+fn half_of<H: PairHash>(arena: &Arena<H>, node: NodeId, i: usize, level: u32) -> NodeId
+    requires level { level < 64 }
+    requires node { IsNodeOf arena.now node }
+    ensures node { IsNodeOf arena.now result }
+    ensures left { (left right : Tree) → tree_of arena.now node ≡ pair left right
+        → i / 2 ^ level % 2 ≡ 0 → tree_of arena.now result ≡ left }
+    ensures right { (left right : Tree) → tree_of arena.now node ≡ pair left right
+        → i / 2 ^ level % 2 ≡ 1 → tree_of arena.now result ≡ right }
+{
+    let (left, right) = halves(arena, node);
+    if (i >> level) % 2 == 1 {
+        return right;
+    }
+    left
+}
+
+/// The node of place i of a full tree of this depth, come down to from its root: for a tree of few
+/// places, where a `Places` would cost more to make.
+pub fn node_of_place<H: PairHash>(arena: &Arena<H>, depth: u32, i: usize, node: NodeId) -> NodeId
+    requires depth { depth < 64 }
+    requires node { IsNodeOf arena.now node }
+    ensures node { IsNodeOf arena.now result }
+    ensures tree { (trees : List Tree) → i < 2 ^ depth → tree_of arena.now node ≡ full depth trees
+        → tree_of arena.now result ≡ place trees i }
+{
+    let mut here = node;
+    for level in (0..depth).rev() {
+        here = half_of(arena, here, i, level);
+    }
+    here
 }

@@ -1,6 +1,5 @@
 ghost use Rattle.std.specs.Prelude.{◌≡◌, ◌<◌, ◌≤◌, ◌^◌, length, IfOk, None, Option};
 ghost use Rattle.std.specs.List.{AllByRecursion};
-ghost use Rattle.ssz_chunk.specs.declared.TheConstants.{LEVELS};
 ghost use Rattle.ssz_schema.specs.Types.{container, union, vector};
 ghost use Rattle.ssz_schema.specs.Unfolding.{type_of, fields_over, options_over, IsBelow};
 ghost use Rattle.ssz_schema.specs.Sizes.{basic_size};
@@ -13,7 +12,7 @@ ghost use Rattle.ssz_reading.specs.Shown.{ForValue, ForElements, ForFields};
 use super::basics::Basic;
 use super::nodes::{chunk_of, mixed_in};
 use super::packed::{read_bits, read_bytes, read_packed};
-use super::places::Places;
+use super::places::{Places, node_of_place};
 use ssz_arena::{Arena, NodeId};
 use ssz_chunk::PairHash;
 use ssz_schema::{Name, Schema, Ty, TypeId};
@@ -67,7 +66,7 @@ fn read_sequence<H: PairHash>(
     node: NodeId,
 ) -> Result<Value, AllocError>
     requires known { elem < length schema.now.trees }
-    requires depth { depth ≤ LEVELS }
+    requires depth { depth < 64 }
     requires node { IsNodeOf arena.now node }
     ensures { let t = type_of schema.now elem in
         ForElements t depth count (tree_of arena.now node)
@@ -102,7 +101,7 @@ fn read_elements<H: PairHash>(
 ) -> Result<Vec<Value>, AllocError>
     requires known { elem < length schema.now.trees }
     requires composite { basic_size (type_of schema.now elem) ≡ None }
-    requires depth { depth ≤ LEVELS }
+    requires depth { depth < 64 }
     requires node { IsNodeOf arena.now node }
     ensures { let t = type_of schema.now elem in
         ForElements t depth count (tree_of arena.now node)
@@ -130,16 +129,15 @@ fn read_fields<H: PairHash>(
 ) -> Result<Value, AllocError>
     requires known { id < length schema.now.trees }
     requires before { AllByRecursion (λ part. part.1 < id) fields.now }
-    requires depth { depth ≤ LEVELS }
+    requires depth { depth < 64 }
     requires node { IsNodeOf arena.now node }
     ensures { let fs = fields_over schema.now.trees fields.now in
         ForFields fs depth (tree_of arena.now node)
         (λ vs. IfOk result (Stands (container fs) (sequence (values vs)))) }
 {
     let mut parts = Vec::with_capacity(alloc, fields.len())?;
-    let mut places = Places::new(node, depth);
-    for field in fields {
-        let part = places.next(arena);
+    for (i, field) in fields.iter().enumerate() {
+        let part = node_of_place(arena, depth, i, node);
         parts.push(read_value(alloc, arena, schema, field.1, part)?)?;
     }
     Ok(Value::Seq(parts))

@@ -1,7 +1,6 @@
 ghost use Rattle.std.specs.Prelude.{ℕ, ◌≡◌, ◌<◌, ◌≤◌, ◌++◌, Bool, List, length, map, replicate, Option, None, OnOk};
 ghost use Rattle.std.specs.List.{AllByRecursion};
-ghost use Rattle.ssz_chunk.specs.declared.TheConstants.{LEVELS};
-ghost use Rattle.ssz_schema.specs.Types.{union};
+ghost use Rattle.ssz_schema.specs.Types.{container, union};
 ghost use Rattle.ssz_schema.specs.declared.format.Format.{Format};
 ghost use Rattle.ssz_schema.specs.Sizes.{basic_size, fixed_size, part_sizes};
 ghost use Rattle.ssz_schema.specs.Unfolding.{type_of, fields_over, options_over, IsBelow};
@@ -10,13 +9,13 @@ ghost use Rattle.ssz_bytes.specs.Bytes.{offset_bytes};
 ghost use Rattle.ssz_value.specs.Encoding.{enc, joined, joined_alike, field_encodings};
 ghost use Rattle.ssz_arena.specs.Content.{IsNodeOf, tree_of};
 ghost use Rattle.ssz_value.specs.Written.{Appends, capped};
-ghost use Rattle.ssz_reading.specs.Shown.{ForValue, ForElements, ForFields, AreCountedBits, delimited_bytes, Adds, Extends, KeepsUpTo, room_of, rooms, Fills, FillsAll, basic_type};
+ghost use Rattle.ssz_reading.specs.Shown.{ForValue, ForPlace, ForElements, ForFields, AreCountedBits, delimited_bytes, Adds, Extends, KeepsUpTo, room_of, rooms, offset_rooms, Fills, FillsAll, basic_type};
 
 use super::basics::Basic;
 use super::chunks::append_chunks;
 use super::measuring::part_len;
 use super::nodes::{chunk_of, mixed_in};
-use super::places::Places;
+use super::places::{Places, node_of_place};
 use ssz_arena::{Arena, NodeId};
 use ssz_basic::put_uint;
 use ssz_chunk::PairHash;
@@ -115,7 +114,7 @@ fn append_bitlist<H: PairHash>(
     node: NodeId,
     out: &mut Vec<u8>,
 ) -> Result<(), AllocError>
-    requires depth { depth ≤ LEVELS }
+    requires depth { depth < 64 }
     requires node { IsNodeOf arena.now node }
     ensures kept { Extends out.old.items out.new.items }
     ensures value { (bs : List Bool) → AreCountedBits depth bs (tree_of arena.now node)
@@ -146,7 +145,7 @@ fn append_sequence<H: PairHash>(
     out: &mut Vec<u8>,
 ) -> Result<(), AllocError>
     requires known { elem < length schema.now.trees }
-    requires depth { depth ≤ LEVELS }
+    requires depth { depth < 64 }
     requires node { IsNodeOf arena.now node }
     ensures kept { Extends out.old.items out.new.items }
     ensures value { let t = type_of schema.now elem in
@@ -182,7 +181,7 @@ fn append_heads<H: PairHash>(
 ) -> Result<(), AllocError>
     requires known { elem < length schema.now.trees }
     requires composite { basic_size (type_of schema.now elem) ≡ None }
-    requires depth { depth ≤ LEVELS }
+    requires depth { depth < 64 }
     requires node { IsNodeOf arena.now node }
     ensures kept { Extends out.old.items out.new.items }
     ensures value { let t = type_of schema.now elem in
@@ -190,10 +189,24 @@ fn append_heads<H: PairHash>(
         (λ vs. Adds (rooms (replicate (length vs) (fixed_size t)) (map (enc t) vs)) out.old.items
         out.new.items result) }
 {
+    if schema.is_variable(elem) {
+        return append_rooms(count, out);
+    }
     let mut places = Places::new(node, depth);
     for _i in 0..count {
         let part = places.next(arena);
-        append_head(arena, schema, elem, part, out)?;
+        append_value(arena, schema, elem, part, out)?;
+    }
+    Ok(())
+}
+
+// Room for so many offsets.
+fn append_rooms(count: u64, out: &mut Vec<u8>) -> Result<(), AllocError>
+    ensures kept { Extends out.old.items out.new.items }
+    ensures rooms { Adds (offset_rooms count) out.old.items out.new.items result }
+{
+    for _i in 0..count {
+        out.extend_from_slice(&[0; 4])?;
     }
     Ok(())
 }
@@ -213,7 +226,7 @@ fn append_bodies<H: PairHash>(
 ) -> Result<(), AllocError>
     requires known { elem < length schema.now.trees }
     requires composite { basic_size (type_of schema.now elem) ≡ None }
-    requires depth { depth ≤ LEVELS }
+    requires depth { depth < 64 }
     requires node { IsNodeOf arena.now node }
     ensures kept { KeepsUpTo start out.old.items out.new.items }
     ensures value { let t = type_of schema.now elem in
@@ -234,32 +247,7 @@ fn append_bodies<H: PairHash>(
     Ok(())
 }
 
-// The fixed part of a part, or room for its offset.
-#[cycle(append)]
-fn append_head<H: PairHash>(
-    arena: &Arena<H>,
-    schema: &Schema,
-    id: TypeId,
-    node: NodeId,
-    out: &mut Vec<u8>,
-) -> Result<(), AllocError>
-    requires known { id < length schema.now.trees }
-    requires node { IsNodeOf arena.now node }
-    ensures kept { Extends out.old.items out.new.items }
-    ensures value { let t = type_of schema.now id in
-        ForValue t (tree_of arena.now node)
-        (λ v. Adds (room_of (fixed_size t) (enc t v)) out.old.items out.new.items result) }
-{
-    match schema.fixed_size(id) {
-        Some(_) => append_value(arena, schema, id, node, out),
-        None => {
-            out.extend_from_slice(&[0; 4])?;
-            Ok(())
-        }
-    }
-}
-
-// The variable part of a part, and its offset, counted from start, into the room that was kept.
+// A part of variable size, and its offset, counted from start, into the room that was kept.
 #[cycle(append)]
 fn append_body<H: PairHash>(
     arena: &Arena<H>,
@@ -276,16 +264,11 @@ fn append_body<H: PairHash>(
     ensures kept { KeepsUpTo start out.old.items out.new.items }
     ensures value { let t = type_of schema.now id in
         ForValue t (tree_of arena.now node)
-        (λ v. Fills (fixed_size t) (enc t v) start room out.old.items out.new.items result) }
+        (λ v. Fills None (enc t v) start room out.old.items out.new.items result) }
 {
-    match schema.fixed_size(id) {
-        Some(_) => Ok(()),
-        None => {
-            let offset = out.len().saturating_sub(start);
-            put_offset(room, offset, out.as_mut_slice());
-            append_value(arena, schema, id, node, out)
-        }
-    }
+    let offset = out.len().saturating_sub(start);
+    put_offset(room, offset, out.as_mut_slice());
+    append_value(arena, schema, id, node, out)
 }
 
 // Writes the offset into its room, if there are so many bytes.
@@ -318,8 +301,9 @@ fn append_fields<H: PairHash>(
     out: &mut Vec<u8>,
 ) -> Result<(), AllocError>
     requires known { id < length schema.now.trees }
+    requires form { type_of schema.now id ≡ container (fields_over schema.now.trees fields.now) }
     requires before { AllByRecursion (λ part. part.1 < id) fields.now }
-    requires depth { depth ≤ LEVELS }
+    requires depth { depth < 64 }
     requires node { IsNodeOf arena.now node }
     ensures kept { Extends out.old.items out.new.items }
     ensures value { let fs = fields_over schema.now.trees fields.now in
@@ -329,6 +313,9 @@ fn append_fields<H: PairHash>(
 {
     let start = out.len();
     append_field_heads(arena, schema, id, depth, fields, node, out)?;
+    if let Some(_) = schema.fixed_size(id) {
+        return Ok(());
+    }
     append_field_bodies(arena, schema, id, depth, fields, node, start, out)
 }
 
@@ -345,7 +332,7 @@ fn append_field_heads<H: PairHash>(
 ) -> Result<(), AllocError>
     requires known { id < length schema.now.trees }
     requires before { AllByRecursion (λ part. part.1 < id) fields.now }
-    requires depth { depth ≤ LEVELS }
+    requires depth { depth < 64 }
     requires node { IsNodeOf arena.now node }
     ensures kept { Extends out.old.items out.new.items }
     ensures value { let fs = fields_over schema.now.trees fields.now in
@@ -353,12 +340,41 @@ fn append_field_heads<H: PairHash>(
         (λ vs. Adds (rooms (part_sizes fs) (field_encodings fs vs)) out.old.items out.new.items
         result) }
 {
-    let mut places = Places::new(node, depth);
-    for field in fields {
-        let part = places.next(arena);
-        append_head(arena, schema, field.1, part, out)?;
+    for (i, field) in fields.iter().enumerate() {
+        append_field_head(arena, schema, field.1, depth, i, node, out)?;
     }
     Ok(())
+}
+
+// The fixed part of field i, or room for its offset.
+#[cycle(append)]
+fn append_field_head<H: PairHash>(
+    arena: &Arena<H>,
+    schema: &Schema,
+    id: TypeId,
+    depth: u32,
+    i: usize,
+    node: NodeId,
+    out: &mut Vec<u8>,
+) -> Result<(), AllocError>
+    requires known { id < length schema.now.trees }
+    requires depth { depth < 64 }
+    requires node { IsNodeOf arena.now node }
+    ensures kept { Extends out.old.items out.new.items }
+    ensures value { let t = type_of schema.now id in
+        ForPlace t depth i (tree_of arena.now node)
+        (λ v. Adds (room_of (fixed_size t) (enc t v)) out.old.items out.new.items result) }
+{
+    match schema.fixed_size(id) {
+        Some(_) => {
+            let part = node_of_place(arena, depth, i, node);
+            append_value(arena, schema, id, part, out)
+        }
+        None => {
+            out.extend_from_slice(&[0; 4])?;
+            Ok(())
+        }
+    }
 }
 
 // The variable parts of fields, and the offsets of these, counted from start, from where the fixed
@@ -376,7 +392,7 @@ fn append_field_bodies<H: PairHash>(
 ) -> Result<(), AllocError>
     requires known { id < length schema.now.trees }
     requires before { AllByRecursion (λ part. part.1 < id) fields.now }
-    requires depth { depth ≤ LEVELS }
+    requires depth { depth < 64 }
     requires node { IsNodeOf arena.now node }
     ensures kept { KeepsUpTo start out.old.items out.new.items }
     ensures value { let fs = fields_over schema.now.trees fields.now in
@@ -384,14 +400,43 @@ fn append_field_bodies<H: PairHash>(
         (λ vs. FillsAll (part_sizes fs) (field_encodings fs vs) start out.old.items out.new.items
         result) }
 {
-    let mut places = Places::new(node, depth);
     let mut room = start;
-    for field in fields {
-        let part = places.next(arena);
-        append_body(arena, schema, field.1, part, start, room, out)?;
+    for (i, field) in fields.iter().enumerate() {
+        append_field_body(arena, schema, field.1, depth, i, node, start, room, out)?;
         room = room.saturating_add(head_len(schema.fixed_size(field.1)) as usize);
     }
     Ok(())
+}
+
+// The variable part of field i, and its offset, counted from start, into the room that was kept.
+#[cycle(append)]
+fn append_field_body<H: PairHash>(
+    arena: &Arena<H>,
+    schema: &Schema,
+    id: TypeId,
+    depth: u32,
+    i: usize,
+    node: NodeId,
+    start: usize,
+    room: usize,
+    out: &mut Vec<u8>,
+) -> Result<(), AllocError>
+    requires known { id < length schema.now.trees }
+    requires depth { depth < 64 }
+    requires node { IsNodeOf arena.now node }
+    requires behind { start ≤ room }
+    ensures kept { KeepsUpTo start out.old.items out.new.items }
+    ensures value { let t = type_of schema.now id in
+        ForPlace t depth i (tree_of arena.now node)
+        (λ v. Fills (fixed_size t) (enc t v) start room out.old.items out.new.items result) }
+{
+    match schema.fixed_size(id) {
+        Some(_) => Ok(()),
+        None => {
+            let part = node_of_place(arena, depth, i, node);
+            append_body(arena, schema, id, part, start, room, out)
+        }
+    }
 }
 
 // Of a union of these options, whose types stand before id.

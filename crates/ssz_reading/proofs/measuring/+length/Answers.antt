@@ -1,6 +1,5 @@
 use Rattle.std.proofs.Common.{◌+◌, ◌*◌, ◌%◌, ◌<◌, ◌≤◌, ◌≡◌, ◌/◌, refl, length, slice_get, Some, None, sym, ap, ◌∙◌, subst, arith, rules}
 use Rattle.std.specs.List.{AllByRecursion}
-use Rattle.ssz_chunk.specs.declared.TheConstants.{LEVELS}
 use Rattle.ssz_value.proofs.PartLemmas.{Part}
 use Rattle.ssz_schema.specs.Types.{container, vector, list, bitlist, union}
 use Rattle.ssz_schema.specs.Sizes.{fixed_size, depth}
@@ -10,14 +9,14 @@ use Rattle.ssz_value.specs.Sizes.{size}
 use Rattle.ssz_arena.specs.Content.{tree_of}
 use Rattle.ssz_value.specs.Written.{capped}
 use Rattle.ssz_reading.specs.Shown.{ForValue}
-use Rattle.ssz_reading.proofs.Walked.{composite, Sums-start, Sums-more, Sums-end, FieldSums-start, FieldSums-more, FieldSums-end}
+use Rattle.ssz_reading.proofs.Walked.{composite, at_place, Sums-start, Sums-more, Sums-end, FieldSums-start, FieldSums-more, FieldSums-end}
 use Rattle.ssz_reading.proofs.Formed.{union_few}
 use Rattle.ssz_parts.proofs.PartSizes.{fixed_length, fixed_part, variable_part}
 use Rattle.ssz_reading.proofs.Lengths.{fixed_sum, vector_len, list_len, container_len, bitlist_len, option_len, none_len}
 use Rattle.ssz_reading.proofs.measuring.+length.Goals as goal
 
-pub added_len-returns-in-Some : goal.added_len-returns-in-Some
-added_len-returns-in-Some g t c = λ v h.
+pub field_len-returns-in-Some : goal.field_len-returns-in-Some
+field_len-returns-in-Some g t c = λ v h.
     let fixed : fixed_size (type_of c.args.schema.now c.args.id) ≡ Some c.in-Some.size =
     sym c.fixed_size.ensures.exact ∙ c.in-Some.is in
     let part = fixed_part c.args.schema.now.format (type_of c.args.schema.now c.args.id)
@@ -114,30 +113,33 @@ elements_len-returns g t c = λ vs are.
     c.loop-i.total c.loop-i.places (c.loop-i.invariant.1 vs are)
     (omega (arith, are.many, c.loop-i-test.false))
 
-pub fields_len-loop-field-init : goal.fields_len-loop-field-init
-fields_len-loop-field-init g t c = (
-  c.new-places.ensures.nodes c.args.arena.now c.requires.node,
-  λ vs are. FieldSums-start c.args.arena.now c.args.schema.now.trees c.args.fields.now
-      c.args.depth vs c.args.node c.new-places.result are
-      (c.new-places.ensures.holds c.args.arena.now),
-)
+pub field_len-returns-in-None : goal.field_len-returns-in-None
+field_len-returns-in-None g t c = λ v h.
+    let none : fixed_size (type_of c.args.schema.now c.args.id) ≡ None =
+    sym c.fixed_size.ensures.exact ∙ c.in-None.is in
+    let part = variable_part (type_of c.args.schema.now c.args.id) v none in
+    let stands = at_place (type_of c.args.schema.now c.args.id) c.args.depth c.args.i v
+    (tree_of c.args.arena.now c.args.node) (tree_of c.args.arena.now c.node_of_place-part.result)
+    h c.node_of_place-part.ensures.tree in
+    omega (arith, c.saturating_add.ensures, c.variable_len.ensures v stands, part)
 
-pub fields_len-loop-field-preserved : goal.fields_len-loop-field-preserved
-fields_len-loop-field-preserved g t c = (
-  c.next-part.ensures.nodes,
-  λ vs are. FieldSums-more c.args.arena.now c.args.schema.now.trees c.args.fields.now vs
-      c.loop-field.field-index c.loop-field.total c.added_len.result c.saturating_add-total.result
-      c.field-item.result c.loop-field.places c.next-part.new.self c.next-part.result
-      (c.loop-field.invariant.1 vs are) c.loop-field-test.true c.field-item.is
-      (record { tree = c.next-part.ensures.tree; rest = c.next-part.ensures.rest })
-      c.added_len.ensures c.saturating_add-total.ensures,
-)
+pub fields_len-loop-i-init : goal.fields_len-loop-i-init
+fields_len-loop-i-init g t c = λ vs are.
+    FieldSums-start c.args.schema.now.trees c.args.fields.now c.args.depth vs
+    (tree_of c.args.arena.now c.args.node) are
+
+pub fields_len-loop-i-preserved : goal.fields_len-loop-i-preserved
+fields_len-loop-i-preserved g t c = λ vs are.
+    FieldSums-more c.args.schema.now.trees c.args.fields.now vs c.loop-i.i c.loop-i.total
+    c.args.depth c.field_len.result c.saturating_add-total.result c.index-fields-i.result
+    (tree_of c.args.arena.now c.args.node) (c.loop-i.invariant vs are) c.loop-i-test.true
+    c.index-fields-i.is c.field_len.ensures c.saturating_add-total.ensures
 
 pub fields_len-returns : goal.fields_len-returns
 fields_len-returns g t c = λ vs are.
-    FieldSums-end c.args.arena.now c.args.schema.now.trees c.args.fields.now vs
-    c.loop-field.field-index c.loop-field.total c.loop-field.places
-    (c.loop-field.invariant.1 vs are) c.loop-field-test.false
+    FieldSums-end c.args.schema.now.trees c.args.fields.now vs c.loop-i.i c.loop-i.total
+    c.args.depth (tree_of c.args.arena.now c.args.node) (c.loop-i.invariant vs are)
+    c.loop-i-test.false
 
 pub variable_len-chosen_len-requires : goal.variable_len-chosen_len-requires
 variable_len-chosen_len-requires g t c =
@@ -152,7 +154,7 @@ variable_len-chosen_len-requires g t c =
 
 pub variable_len-fields_len-requires : goal.variable_len-fields_len-requires
 variable_len-fields_len-requires g t c =
-    let few : c.depth-depth.result ≤ LEVELS = omega (arith, c.depth-depth.ensures.at_most) in
+    let few : c.depth-depth.result < 64 = omega (arith, c.depth-depth.ensures.at_most) in
     let before : AllByRecursion (λ (part : Part). part.1 < c.args.id)
     c.as_slice-in-Container.result.now =
     subst (AllByRecursion (λ (part : Part). part.1 < c.args.id))

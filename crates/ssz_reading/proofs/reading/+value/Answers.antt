@@ -1,6 +1,5 @@
 use Rattle.std.proofs.Common.{◌%◌, ◌<◌, ◌≤◌, ◌≡◌, length, slice_get, List, Some, None, refl, sym, ap, ◌∙◌, subst, arith, rules}
 use Rattle.std.specs.List.{AllByRecursion}
-use Rattle.ssz_chunk.specs.declared.TheConstants.{LEVELS}
 use Rattle.ssz_schema.specs.Types.{container, vector, list, bitvector, bitlist, union, uint}
 use Rattle.ssz_schema.specs.Sizes.{depth, byte_count}
 use Rattle.ssz_schema.specs.Unfolding.{type_of, tree_over, fields_over, options_over, AreBelow}
@@ -12,6 +11,7 @@ use Rattle.ssz_value.proofs.PartLemmas.{Part, part_known}
 use Rattle.ssz_arena.specs.Content.{tree_of}
 use Rattle.ssz_reading.specs.Shown.{ForValue, basic_type}
 use Rattle.ssz_reading.proofs.Formed.{union_few}
+use Rattle.ssz_reading.proofs.Walked.{at_place}
 use Rattle.ssz_reading.proofs.Parts.{Reads, ElementsRead, ElementsRead-start, ElementsRead-more, ElementsRead-end, FieldsRead, FieldsRead-start, FieldsRead-more, FieldsRead-end, vector_read, list_read, container_read, bitvector_read, bitlist_read, basic_read, packed_read, basic_formed, option_read, none_read}
 use Rattle.ssz_reading.proofs.reading.+value.Goals as goal
 
@@ -26,16 +26,12 @@ read_elements-loop-i-init g t c = (
       (c.new-places.ensures.holds c.args.arena.now)),
 )
 
-pub read_fields-loop-field-init : goal.read_fields-loop-field-init
-read_fields-loop-field-init g t c = (
-  c.new-places.ensures.nodes c.args.arena.now c.requires.node,
-  λ vs are. subst (λ (parts : List Value). FieldsRead c.args.arena.now c.args.schema.now.trees
-      c.args.fields.now vs 0 parts c.new-places.result)
-      (sym c.in_ok-parts.ensures.items)
-      (FieldsRead-start c.args.arena.now c.args.schema.now.trees c.args.fields.now
-      c.args.depth vs c.args.node c.new-places.result are
-      (c.new-places.ensures.holds c.args.arena.now)),
-)
+pub read_fields-loop-i-init : goal.read_fields-loop-i-init
+read_fields-loop-i-init g t c = λ vs are.
+    subst (λ (parts : List Value). FieldsRead c.args.schema.now.trees c.args.fields.now vs 0
+    c.args.depth parts (tree_of c.args.arena.now c.args.node)) (sym c.in_ok-parts.ensures.items)
+    (FieldsRead-start c.args.schema.now.trees c.args.fields.now c.args.depth vs
+    (tree_of c.args.arena.now c.args.node) are)
 
 pub read_elements-loop-i-preserved : goal.read_elements-loop-i-preserved
 read_elements-loop-i-preserved g t c = (
@@ -56,29 +52,30 @@ read_elements-returns g t c = λ vs are.
 
 pub read_fields-read_value-requires : goal.read_fields-read_value-requires
 read_fields-read_value-requires g t c =
-    let below : c.field-item.result.1 < c.args.id =
-    part_known c.args.id c.args.fields.now c.loop-field.field-index c.field-item.result
-    c.loop-field-test.true c.field-item.is c.requires.before in
-    let known : c.field-item.result.1 < length c.args.schema.now.trees =
+    let below : c.index-fields-i.result.1 < c.args.id =
+    part_known c.args.id c.args.fields.now c.loop-i.i c.index-fields-i.result c.loop-i-test.true
+    c.index-fields-i.is c.requires.before in
+    let known : c.index-fields-i.result.1 < length c.args.schema.now.trees =
     omega (arith, below, c.requires.known) in
     search rules
 
-pub read_fields-loop-field-preserved : goal.read_fields-loop-field-preserved
-read_fields-loop-field-preserved g t c = (
-  c.next-part.ensures.nodes,
-  λ vs are. FieldsRead-more c.args.arena.now c.args.schema.now.trees c.args.fields.now vs
-      c.loop-field.field-index c.field-item.result c.loop-field.parts.items
-      c.push.new.self.items c.in_ok-read_value.field-0 c.loop-field.places c.next-part.new.self
-      c.next-part.result (c.loop-field.invariant.1 vs are) c.loop-field-test.true c.field-item.is
-      (record { tree = c.next-part.ensures.tree; rest = c.next-part.ensures.rest })
-      c.in_ok-read_value.ensures c.in_ok-push.ensures.items,
-)
+pub read_fields-loop-i-preserved : goal.read_fields-loop-i-preserved
+read_fields-loop-i-preserved g t c = λ vs are.
+    FieldsRead-more c.args.schema.now.trees c.args.fields.now vs c.loop-i.i c.args.depth
+    c.index-fields-i.result c.loop-i.parts.items c.push.new.self.items
+    c.in_ok-read_value.field-0 (tree_of c.args.arena.now c.args.node) (c.loop-i.invariant vs are)
+    c.loop-i-test.true c.index-fields-i.is
+    (λ v h. c.in_ok-read_value.ensures v
+    (at_place (type_of c.args.schema.now c.index-fields-i.result.1) c.args.depth c.loop-i.i v
+    (tree_of c.args.arena.now c.args.node) (tree_of c.args.arena.now c.node_of_place-part.result)
+    h c.node_of_place-part.ensures.tree))
+    c.in_ok-push.ensures.items
 
 pub read_fields-returns : goal.read_fields-returns
 read_fields-returns g t c = λ vs are.
-    FieldsRead-end c.args.arena.now c.args.schema.now.trees c.args.fields.now vs
-    c.loop-field.field-index c.loop-field.parts c.loop-field.places
-    (c.loop-field.invariant.1 vs are) c.loop-field-test.false
+    FieldsRead-end c.args.schema.now.trees c.args.fields.now vs c.loop-i.i c.args.depth
+    c.loop-i.parts (tree_of c.args.arena.now c.args.node) (c.loop-i.invariant vs are)
+    c.loop-i-test.false
 
 pub read_sequence-returns-in_ok-parts-in-Some : goal.read_sequence-returns-in_ok-parts-in-Some
 read_sequence-returns-in_ok-parts-in-Some g t c =
@@ -139,7 +136,7 @@ read_value-read_chosen-requires g t c =
 
 pub read_value-read_fields-requires : goal.read_value-read_fields-requires
 read_value-read_fields-requires g t c =
-    let few : c.depth-depth.result ≤ LEVELS = omega (arith, c.depth-depth.ensures.at_most) in
+    let few : c.depth-depth.result < 64 = omega (arith, c.depth-depth.ensures.at_most) in
     let before : AllByRecursion (λ (part : Part). part.1 < c.args.id)
     c.as_slice-in-Container.result.now =
     subst (AllByRecursion (λ (part : Part). part.1 < c.args.id))

@@ -1,6 +1,5 @@
 use Rattle.std.proofs.Common.{◌+◌, ◌-◌, ◌*◌, ◌^◌, ◌%◌, ◌/◌, ◌<◌, ◌≤◌, ◌≡◌, ◌++◌, min, length, map, slice_get, Some, None, sym, ap, ◌∙◌, subst, arith, rules}
 use Rattle.std.specs.List.{AllByRecursion}
-use Rattle.ssz_chunk.specs.declared.TheConstants.{LEVELS}
 use Rattle.ssz_schema.specs.Types.{container, vector, list, bitvector, bitlist, union}
 use Rattle.ssz_schema.specs.Sizes.{depth, fixed_size, head_size, part_sizes}
 use Rattle.ssz_schema.specs.Unfolding.{type_of, tree_over, fields_over, options_over, AreBelow}
@@ -8,12 +7,13 @@ use Rattle.ssz_schema.specs.Legal.{IsLegal}
 use Rattle.ssz_value.specs.Encoding.{enc, heads, bodies, field_encodings}
 use Rattle.ssz_value.proofs.PartLemmas.{Part}
 use Rattle.ssz_arena.specs.Content.{tree_of}
-use Rattle.ssz_reading.specs.Shown.{ForValue, Adds, rooms}
+use Rattle.ssz_reading.specs.Shown.{ForValue, Adds, Fills, room_of, rooms}
 use Rattle.ssz_reading.proofs.Formed.{union_few}
 use Rattle.ssz_reading.proofs.Chunked.{Extends-same, Extends-trans}
-use Rattle.ssz_reading.proofs.Written.{on_ok, alike, HeadsSoFar-start, HeadsSoFar-more, BodiesSoFar-start, BodiesSoFar-more, elements_adds, packed_adds}
-use Rattle.ssz_reading.proofs.Rooms.{fixed_filled}
-use Rattle.ssz_reading.proofs.FieldsWritten.{FieldHeads-start, FieldHeads-more, FieldBodies-start, FieldBodies-more, FieldBodies-end, fields_adds, vector_adds, list_adds, container_adds, bitvector_adds, bitlist_adds, option_adds, none_adds}
+use Rattle.ssz_reading.proofs.Walked.{at_place}
+use Rattle.ssz_reading.proofs.Written.{on_ok, alike, element_rooms, HeadsSoFar-start, HeadsSoFar-more, BodiesSoFar-start, BodiesSoFar-more, elements_adds, packed_adds}
+use Rattle.ssz_reading.proofs.Rooms.{fixed_filled, fixed_room, no_size}
+use Rattle.ssz_reading.proofs.FieldsWritten.{FieldHeads-start, FieldHeads-more, FieldBodies-start, FieldBodies-more, FieldBodies-end, fixed_fields_add, fields_adds, vector_adds, list_adds, container_adds, bitvector_adds, bitlist_adds, option_adds, none_adds}
 use Rattle.ssz_reading.proofs.writing.+append.Goals as goal
 
 pub append_heads-loop-i-init : goal.append_heads-loop-i-init
@@ -29,17 +29,20 @@ append_heads-loop-i-init g t c = (
 pub append_heads-loop-i-preserved : goal.append_heads-loop-i-preserved
 append_heads-loop-i-preserved g t c = (
   c.next-part.ensures.nodes,
-  Extends-trans c.args.out.now.items c.loop-i.out.items c.append_head.new.out.items
-      c.loop-i.invariant.1 c.append_head.ensures.kept,
+  Extends-trans c.args.out.now.items c.loop-i.out.items c.append_value.new.out.items
+      c.loop-i.invariant.1 c.append_value.ensures.kept,
   λ vs are. HeadsSoFar-more c.args.arena.now (type_of c.args.schema.now c.args.elem) vs
       c.loop-i._i
       (c.args.out.now.items ++ rooms (alike (type_of c.args.schema.now c.args.elem) vs)
       (map (enc (type_of c.args.schema.now c.args.elem)) vs))
-      c.loop-i.out.items c.append_head.new.out.items c.loop-i.places c.next-part.new.self
+      c.loop-i.out.items c.append_value.new.out.items c.loop-i.places c.next-part.new.self
       c.next-part.result (c.loop-i.invariant.2 vs are)
       (omega (arith, are.many, c.loop-i-test.true))
       (record { tree = c.next-part.ensures.tree; rest = c.next-part.ensures.rest })
-      c.in_ok-append_head.ensures.value,
+      (λ v h. c.in_ok-append_value.ensures.value v h ∙ ap (λ xs. c.loop-i.out.items ++ xs)
+      (fixed_room (fixed_size (type_of c.args.schema.now c.args.elem))
+      (enc (type_of c.args.schema.now c.args.elem) v)
+      (sym c.is_variable.ensures ∙ c.if-is_variable.false))),
 )
 
 pub append_bodies-loop-i-init : goal.append_bodies-loop-i-init
@@ -75,74 +78,94 @@ append_bodies-loop-i-preserved g t c = (
       c.saturating_add-room.ensures c.in_ok-append_body.ensures.value,
 )
 
-pub append_field_heads-loop-field-init : goal.append_field_heads-loop-field-init
-append_field_heads-loop-field-init g t c = (
-  c.new-places.ensures.nodes c.args.arena.now c.requires.node,
+pub append_heads-returns-then-is_variable-clause-value :
+    goal.append_heads-returns-then-is_variable-clause-value
+append_heads-returns-then-is_variable-clause-value g t c = λ vs are.
+    on_ok c.append_rooms.result
+    (λ is. is ∙ ap (λ xs. c.args.out.now.items ++ xs)
+    (element_rooms (type_of c.args.schema.now c.args.elem) c.args.count vs
+    (no_size (fixed_size (type_of c.args.schema.now c.args.elem))
+    (sym c.is_variable.ensures ∙ c.if-is_variable.true)) are.many))
+    c.append_rooms.ensures.rooms
+
+pub append_field_head-returns-in-Some-clause-value :
+    goal.append_field_head-returns-in-Some-clause-value
+append_field_head-returns-in-Some-clause-value g t c = λ v h.
+    let ty = type_of c.args.schema.now c.args.id in
+    let stands = at_place ty c.args.depth c.args.i v (tree_of c.args.arena.now c.args.node)
+    (tree_of c.args.arena.now c.node_of_place-part.result) h c.node_of_place-part.ensures.tree in
+    subst (λ size. Adds (room_of size (enc ty v)) c.args.out.now.items
+    c.append_value.new.out.items c.append_value.result)
+    (sym c.in-Some.is ∙ c.fixed_size.ensures.exact) (c.append_value.ensures.value v stands)
+
+pub append_field_body-returns-in-None-clause-value :
+    goal.append_field_body-returns-in-None-clause-value
+append_field_body-returns-in-None-clause-value g t c = λ v h.
+    let ty = type_of c.args.schema.now c.args.id in
+    let stands = at_place ty c.args.depth c.args.i v (tree_of c.args.arena.now c.args.node)
+    (tree_of c.args.arena.now c.node_of_place-part.result) h c.node_of_place-part.ensures.tree in
+    subst (λ size. Fills size (enc ty v) c.args.start c.args.room c.args.out.now.items
+    c.append_body.new.out.items c.append_body.result)
+    (sym c.in-None.is ∙ c.fixed_size.ensures.exact) (c.append_body.ensures.value v stands)
+
+pub append_field_heads-loop-i-init : goal.append_field_heads-loop-i-init
+append_field_heads-loop-i-init g t c = (
   Extends-same c.args.out.now.items,
-  λ vs are. FieldHeads-start c.args.arena.now c.args.schema.now.trees c.args.fields.now
-      c.args.depth vs c.args.out.now.items c.args.node c.new-places.result are
-      (c.new-places.ensures.holds c.args.arena.now),
+  λ vs are. FieldHeads-start c.args.schema.now.trees c.args.fields.now c.args.depth vs
+      c.args.out.now.items (tree_of c.args.arena.now c.args.node) are,
 )
 
-pub append_field_heads-loop-field-preserved : goal.append_field_heads-loop-field-preserved
-append_field_heads-loop-field-preserved g t c = (
-  c.next-part.ensures.nodes,
-  Extends-trans c.args.out.now.items c.loop-field.out.items c.append_head.new.out.items
-      c.loop-field.invariant.1 c.append_head.ensures.kept,
-  λ vs are. FieldHeads-more c.args.arena.now c.args.schema.now.trees c.args.fields.now
-      c.loop-field.field-index c.field-item.result
+pub append_field_heads-loop-i-preserved : goal.append_field_heads-loop-i-preserved
+append_field_heads-loop-i-preserved g t c = (
+  Extends-trans c.args.out.now.items c.loop-i.out.items c.append_field_head.new.out.items
+      c.loop-i.invariant.0 c.append_field_head.ensures.kept,
+  λ vs are. FieldHeads-more c.args.schema.now.trees c.args.fields.now c.loop-i.i c.args.depth
+      c.index-fields-i.result
       (c.args.out.now.items
       ++ rooms (part_sizes (fields_over c.args.schema.now.trees c.args.fields.now))
       (field_encodings (fields_over c.args.schema.now.trees c.args.fields.now) vs))
-      c.loop-field.out.items c.append_head.new.out.items c.loop-field.places
-      c.next-part.new.self c.next-part.result (c.loop-field.invariant.2 vs are)
-      c.loop-field-test.true c.field-item.is
-      (record { tree = c.next-part.ensures.tree; rest = c.next-part.ensures.rest })
-      c.in_ok-append_head.ensures.value,
+      c.loop-i.out.items c.append_field_head.new.out.items
+      (tree_of c.args.arena.now c.args.node) (c.loop-i.invariant.1 vs are) c.loop-i-test.true
+      c.index-fields-i.is c.in_ok-append_field_head.ensures.value,
 )
 
-pub append_field_bodies-loop-field-init : goal.append_field_bodies-loop-field-init
-append_field_bodies-loop-field-init g t c = (
-  c.new-places.ensures.nodes c.args.arena.now c.requires.node,
+pub append_field_bodies-loop-i-init : goal.append_field_bodies-loop-i-init
+append_field_bodies-loop-i-init g t c = (
   omega arith,
   λ front within kept. kept,
-  λ format legal vs are front at is. FieldBodies-start c.args.arena.now format
-      c.args.schema.now.trees c.args.fields.now c.args.depth c.args.start vs front
-      c.args.out.now.items c.args.node c.new-places.result legal are
-      (c.new-places.ensures.holds c.args.arena.now) (omega arith) at is,
+  λ format legal vs are front at is. FieldBodies-start format c.args.schema.now.trees
+      c.args.fields.now c.args.depth c.args.start vs front c.args.out.now.items
+      (tree_of c.args.arena.now c.args.node) legal are (omega arith) at is,
 )
 
-pub append_field_bodies-loop-field-preserved : goal.append_field_bodies-loop-field-preserved
-append_field_bodies-loop-field-preserved g t c = (
-  c.next-part.ensures.nodes,
-  omega (arith, c.loop-field.invariant.1),
-  λ front within kept. c.append_body.ensures.kept front within
-      (c.loop-field.invariant.2 front within kept),
-  λ format legal vs are front at is. FieldBodies-more c.args.arena.now
-      c.args.schema.now.trees c.args.fields.now c.loop-field.field-index c.args.start
-      c.loop-field.room _ c.field-item.result
+pub append_field_bodies-loop-i-preserved : goal.append_field_bodies-loop-i-preserved
+append_field_bodies-loop-i-preserved g t c = (
+  omega (arith, c.loop-i.invariant.0),
+  λ front within kept. c.append_field_body.ensures.kept front within
+      (c.loop-i.invariant.1 front within kept),
+  λ format legal vs are front at is. FieldBodies-more c.args.schema.now.trees
+      c.args.fields.now c.loop-i.i c.args.depth c.args.start c.loop-i.room _
+      c.index-fields-i.result
       (front ++ heads (part_sizes (fields_over c.args.schema.now.trees c.args.fields.now))
       (field_encodings (fields_over c.args.schema.now.trees c.args.fields.now) vs)
       (length c.args.out.now.items - c.args.start)
       ++ bodies (part_sizes (fields_over c.args.schema.now.trees c.args.fields.now))
       (field_encodings (fields_over c.args.schema.now.trees c.args.fields.now) vs))
-      c.loop-field.out.items c.append_body.new.out.items c.loop-field.places
-      c.next-part.new.self c.next-part.result
-      (c.loop-field.invariant.3 format legal vs are front at is)
-      c.loop-field-test.true c.field-item.is
-      (record { tree = c.next-part.ensures.tree; rest = c.next-part.ensures.rest })
+      c.loop-i.out.items c.append_field_body.new.out.items
+      (tree_of c.args.arena.now c.args.node)
+      (c.loop-i.invariant.2 format legal vs are front at is)
+      c.loop-i-test.true c.index-fields-i.is
       (c.saturating_add-room.ensures
-      ∙ ap (λ n. min (c.loop-field.room + n) (2 ^ 64 - 1))
+      ∙ ap (λ n. min (c.loop-i.room + n) (2 ^ 64 - 1))
       (c.head_len.ensures ∙ ap head_size c.fixed_size.ensures.exact))
-      c.in_ok-append_body.ensures.value,
+      c.in_ok-append_field_body.ensures.value,
 )
 
 pub append_field_bodies-returns-clause-value : goal.append_field_bodies-returns-clause-value
 append_field_bodies-returns-clause-value g t c = λ format legal vs are front at is.
-    FieldBodies-end c.args.arena.now c.args.schema.now.trees c.args.fields.now
-    c.loop-field.field-index c.args.start c.loop-field.room _ c.loop-field.out.items
-    c.loop-field.places (c.loop-field.invariant.3 format legal vs are front at is)
-    (omega (arith, c.loop-field-test.false))
+    FieldBodies-end c.args.schema.now.trees c.args.fields.now c.loop-i.i c.args.depth c.args.start
+    c.loop-i.room _ c.loop-i.out.items (tree_of c.args.arena.now c.args.node)
+    (c.loop-i.invariant.2 format legal vs are front at is) (omega (arith, c.loop-i-test.false))
 
 pub append_bodies-returns-in-Some-clause-value : goal.append_bodies-returns-in-Some-clause-value
 append_bodies-returns-in-Some-clause-value g t c = λ vs are front at is.
@@ -196,6 +219,13 @@ append_chosen-returns-in-None-clause-value g t c =
     sym c.in-None.is ∙ c.option_at.ensures ∙ e in cc)
     c.in_ok-push.ensures.items
 
+pub append_fields-returns-in-Some-clause-value : goal.append_fields-returns-in-Some-clause-value
+append_fields-returns-in-Some-clause-value g t c = λ format legal vs are.
+    fixed_fields_add (fields_over c.args.schema.now.trees c.args.fields.now) c.in-Some.field-0 vs
+    c.args.out.now.items c.append_field_heads.new.out.items
+    (ap fixed_size (sym c.requires.form) ∙ sym c.fixed_size.ensures.exact ∙ c.in-Some.is)
+    (c.in_ok-append_field_heads.ensures.value vs are)
+
 pub append_fields-returns-clause-value : goal.append_fields-returns-clause-value
 append_fields-returns-clause-value g t c = λ format legal vs are.
     let start : c.len-start.result ≡ length c.args.out.now.items =
@@ -242,7 +272,12 @@ append_value-append_chosen-requires g t c =
 
 pub append_value-append_fields-requires : goal.append_value-append_fields-requires
 append_value-append_fields-requires g t c =
-    let few : c.depth-depth.result ≤ LEVELS = omega (arith, c.depth-depth.ensures.at_most) in
+    let few : c.depth-depth.result < 64 = omega (arith, c.depth-depth.ensures.at_most) in
+    let form : type_of c.args.schema.now c.args.id
+    ≡ container (fields_over c.args.schema.now.trees c.as_slice-in-Container.result.now) =
+    sym (ap (λ fs. container (fields_over c.args.schema.now.trees fs))
+    c.as_slice-in-Container.ensures.value
+    ∙ ap (tree_over c.args.schema.now.trees) (sym c.in-Container.is) ∙ c.ty.ensures.form) in
     let before : AllByRecursion (λ (part : Part). part.1 < c.args.id)
     c.as_slice-in-Container.result.now =
     subst (AllByRecursion (λ (part : Part). part.1 < c.args.id))

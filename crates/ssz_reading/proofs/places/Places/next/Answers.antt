@@ -1,6 +1,6 @@
 use Rattle.std.proofs.Common.{ℕ, ◌≡◌, ◌≤◌, ◌^◌, ◌-◌, ◌∷◌, List, suc, refl, sym, subst, arith}
 use Rattle.std.specs.List.{All}
-use Rattle.std.specs.Int.{trailing_zeros, w128}
+use Rattle.std.specs.Int.{trailing_zeros, w64}
 use Rattle.ssz_chunk.specs.Tree.{Tree}
 use Rattle.ssz_arena.specs.declared.node.NodeId.{NodeId}
 use Rattle.ssz_arena.specs.Content.{Content, IsNodeOf, tree_of}
@@ -10,16 +10,16 @@ use Rattle.ssz_reading.proofs.places.Places.next.Goals as goal
 
 pub bounds-self-inside-level : goal.bounds-self-inside-level
 bounds-self-inside-level g c =
-    let is : Ends c.self.inside.left (trailing_zeros w128 c.self.inside.left) =
+    let is : Ends c.self.inside.left (trailing_zeros w64 c.self.inside.left) =
     ends c.self.inside.left (omega (arith, c.if-self-eq0.false)) c.self.invariant.0 in
     omega (arith, ends_within _ _ c.self.invariant.0 is)
 
 pub loop-below-init : goal.loop-below-init
 loop-below-init g c =
-    let is : Ends c.self.inside.left (trailing_zeros w128 c.self.inside.left) =
+    let is : Ends c.self.inside.left (trailing_zeros w64 c.self.inside.left) =
     ends c.self.inside.left (omega (arith, c.if-self-eq0.false)) c.self.invariant.0 in (
       refl,
-      Opening-start c.args.arena.now c.self.inside.left (trailing_zeros w128 c.self.inside.left)
+      Opening-start c.args.arena.now c.self.inside.left (trailing_zeros w64 c.self.inside.left)
           _ c.self.inside.nodes is c.self.invariant.0 c.self.invariant.1
           (subst (λ (ahead : Ahead). All (IsNodeOf c.args.arena.now) ahead.nodes)
           (sym c.self.view_is)
@@ -28,18 +28,18 @@ loop-below-init g c =
 
 pub loop-below-preserved : goal.loop-below-preserved
 loop-below-preserved g c =
-    let is : Ends c.self.inside.left (trailing_zeros w128 c.self.inside.left) =
+    let is : Ends c.self.inside.left (trailing_zeros w64 c.self.inside.left) =
     ends c.self.inside.left (omega (arith, c.if-self-eq0.false)) c.self.invariant.0 in
     let now : c.loop-below.below ≡ suc (c.loop-below.below - 1) =
     omega (arith, c.loop-below-test.true) in (
       c.loop-below.invariant.0,
       Opening-more c.args.arena.now c.loop-below.self-inside.left
-          (trailing_zeros w128 c.self.inside.left) (c.loop-below.below - 1) c.loop-below.node
+          (trailing_zeros w64 c.self.inside.left) (c.loop-below.below - 1) c.loop-below.node
           c.halves.result.0 c.halves.result.1 c.self.inside.nodes c.loop-below.self-inside.nodes
           (omega (arith, c.loop-below.auto.below, c.loop-below-test.true))
           (ends_within _ _ c.self.invariant.0 is)
           (subst (λ n. Opening c.args.arena.now c.loop-below.self-inside.left
-          (trailing_zeros w128 c.self.inside.left) n c.loop-below.node c.self.inside.nodes
+          (trailing_zeros w64 c.self.inside.left) n c.loop-below.node c.self.inside.nodes
           c.loop-below.self-inside.nodes) now c.loop-below.invariant.1)
           c.halves.ensures.left c.halves.ensures.right c.halves.ensures.left_tree
           c.halves.ensures.right_tree,
@@ -47,7 +47,7 @@ loop-below-preserved g c =
 
 -- the next place, and the others, once the loop has come down to it
 module _ (arena : Content) (tree : Tree) (trees : List Tree) (left now level below : ℕ)
-    (node : NodeId) (old nodes : List NodeId) (few : left ≤ 2 ^ 126) (is : Ends left level)
+    (node : NodeId) (old nodes : List NodeId) (few : left ≤ 2 ^ 63) (is : Ends left level)
     (same : now ≡ left) (down : below ≡ 0)
     (held : Holds arena (tree ∷ trees) (record { left = left; nodes = old }))
     (h : Opening arena now level below node old nodes) where
@@ -69,7 +69,7 @@ returns-clause-tree g c = λ tree trees held.
     (record { left = c.self.inside.left; nodes = c.self.inside.nodes }) =
     subst (Holds c.args.arena.now (tree ∷ trees)) (sym c.self.view_is) held in
     next_tree c.args.arena.now tree trees c.self.inside.left c.loop-below.self-inside.left
-    (trailing_zeros w128 c.self.inside.left) c.loop-below.below c.loop-below.node
+    (trailing_zeros w64 c.self.inside.left) c.loop-below.below c.loop-below.node
     c.self.inside.nodes c.loop-below.self-inside.nodes c.self.invariant.0
     (ends c.self.inside.left (omega (arith, c.if-self-eq0.false)) c.self.invariant.0)
     c.loop-below.invariant.0 (omega (arith, c.loop-below-test.false)) inside
@@ -81,7 +81,7 @@ returns-clause-rest g c = λ tree trees held.
     (record { left = c.self.inside.left; nodes = c.self.inside.nodes }) =
     subst (Holds c.args.arena.now (tree ∷ trees)) (sym c.self.view_is) held in
     next_rest c.args.arena.now tree trees c.self.inside.left c.loop-below.self-inside.left
-    (trailing_zeros w128 c.self.inside.left) c.loop-below.below c.loop-below.node
+    (trailing_zeros w64 c.self.inside.left) c.loop-below.below c.loop-below.node
     c.self.inside.nodes c.loop-below.self-inside.nodes c.self.invariant.0
     (ends c.self.inside.left (omega (arith, c.if-self-eq0.false)) c.self.invariant.0)
     c.loop-below.invariant.0 (omega (arith, c.loop-below-test.false)) inside
