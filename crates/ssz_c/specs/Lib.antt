@@ -1,4 +1,5 @@
 pub mod Outcome
+pub mod Numbers
 pub mod Library
 pub mod Calls
 pub mod Verdict

@@ -1,5 +1,5 @@
 -- A schema as C knows it: its types by the numbers that were given out.
-use Rattle.std.specs.Prelude.{◌≡◌, ◌⊎◌, ℕ, nat_lt, if◌then◌else◌, ◌<◌, ◌≤◌, List, [], ◌++◌, length, slice_index_or, Option, Some, None, Result, Ok, Err}
+use Rattle.std.specs.Prelude.{◌≡◌, ◌≢◌, ◌⊎◌, ℕ, nat_lt, if◌then◌else◌, ◌<◌, ◌≤◌, List, [], ◌∷◌, ◌++◌, length, slice_index_or, Option, Some, None, Result, Ok, Err}
 use Rattle.std.specs.Str.{IsUtf8}
 use Rattle.ssz_schema.specs.FaultCodes.{code_of}
 use Rattle.ssz_schema.specs.Types.{SszType}
@@ -10,6 +10,7 @@ use Rattle.ssz_schema_json.specs.Schema.{Reads, schema_of_bytes}
 use Rattle.ssz_c.specs.declared.fault.SszFault.{SszFault}
 use Rattle.ssz_c.specs.declared.library.Library.{Library}
 use Rattle.ssz_c.specs.declared.status.TheConstants.{NO_TYPE, BAD_SCHEMA, NO_MEMORY, MOST_TEXT}
+use Rattle.ssz_c.specs.Numbers.{Gives}
 use Rattle.ssz_c.specs.Outcome.{Outcome, refused}
 
 -- the type of a number that was given out
@@ -31,22 +32,22 @@ fault_of_read Memory = refused NO_MEMORY
 abbrev pub too_long : SszFault
 too_long = record { status = BAD_SCHEMA; code = 15; position = 0 }
 
--- the place of a type in a list, where it has one
-abbrev pub IsFound : List ℕ → ℕ → Option ℕ → Type 0
-IsFound found id None = Unit {0}
-IsFound found id (Some k) = (k < length found) × (slice_index_or found k 0 ≡ id)
-
 -- what there is in bytes that are not too many
-abbrev pub ReadsText : Outcome Library → List ℕ → Type 0
-ReadsText (Ok library) bytes =
-    Reads (Ok library.schema) (schema_of_bytes bytes) × (library.found.items ≡ [])
+abbrev pub ReadsText : Outcome Types → List ℕ → Type 0
+ReadsText (Ok types) bytes = Reads (Ok types) (schema_of_bytes bytes)
 ReadsText (Err fault) bytes =
     (why : SchemaRead) × (fault ≡ fault_of_read why) × Reads (Err why) (schema_of_bytes bytes)
 
--- a schema that the bytes define, with no number given out, or why there is none
-pub record ReadsLibrary (result : Outcome Library) (bytes : List ℕ) : Type 0 where
+-- the types that the bytes define, or why there are none
+pub record ReadsTypes (result : Outcome Types) (bytes : List ℕ) : Type 0 where
   pub long : MOST_TEXT < length bytes → result ≡ Err too_long
   pub short : length bytes ≤ MOST_TEXT → ReadsText result bytes
+
+-- the same, with no number given out
+abbrev pub ReadsLibrary : Outcome Library → List ℕ → Type 0
+ReadsLibrary (Ok library) bytes =
+    ReadsTypes (Ok library.schema) bytes × (library.found.items ≡ [])
+ReadsLibrary (Err fault) bytes = ReadsTypes (Err fault) bytes
 
 -- why a name has no number: no type has it, or memory ran out
 abbrev pub IsUnnamed : List ℕ → Types → SszFault → Type 0
@@ -54,10 +55,11 @@ IsUnnamed name types fault =
     (fault ≡ refused NO_MEMORY)
     ⊎ (fault ≡ refused NO_TYPE) × ((¬ IsUtf8 name) ⊎ (number_of types name ≡ None))
 
--- the name's type has the number; numbers that were given out stay
+-- The name's type has the number, and no type has two, so that a name has one number; numbers that
+-- were given out stay.
 abbrev pub Names : List ℕ → Library → Library → Outcome ℕ → Type 0
 Names name old new (Ok number) =
-    ((id : ℕ) × (number_of old.schema name ≡ Some id) × (type_in new number ≡ Ok id))
-    × ((more : List ℕ) × (new.found.items ≡ old.found.items ++ more))
+    (id : ℕ) × (number_of old.schema name ≡ Some id) × (type_in new number ≡ Ok id)
+    × Gives old.found.items new.found.items id number
 Names name old new (Err fault) =
     (new.found.items ≡ old.found.items) × IsUnnamed name old.schema fault

@@ -1,5 +1,6 @@
 // What a handle of C holds.
 ghost use Rattle.std.specs.Prelude.{ℕ, ◌<◌, length, slice_index_or};
+ghost use Rattle.ssz_c.specs.Numbers.{EachOnce};
 
 use ssz_chunk::{ShaPair, ZeroTable};
 use ssz_schema::{Schema, TypeId};
@@ -13,4 +14,5 @@ pub struct Library {
     pub zeros: ZeroTable<ShaPair>,
     pub ghost known: { (k : ℕ) → k < length found.items
         → slice_index_or found.items k 0 < length schema.trees },
+    pub ghost once: { EachOnce found.items },
 }

@@ -1,7 +1,8 @@
 // A schema of C: read, and its types by name and by number.
 ghost use Rattle.std.specs.Prelude.{◌≡◌, [], ◌∷◌, ◌++◌, ◌<◌, length, IfOk, OnErr};
 ghost use Rattle.std.specs.Result.{result_map_both};
-ghost use Rattle.ssz_c.specs.Library.{type_in, IsFound, ReadsLibrary, Names, fault_of_read};
+ghost use Rattle.ssz_c.specs.Numbers.{IsFound, IsNew};
+ghost use Rattle.ssz_c.specs.Library.{Names, ReadsLibrary, ReadsTypes, fault_of_read, type_in};
 
 use super::fault::SszFault;
 use super::library::Library;
@@ -10,6 +11,23 @@ use ssz_chunk::{ShaPair, ZeroTable};
 use ssz_schema::{Schema, TypeId};
 use ssz_schema_json::{SchemaRead, read_schema};
 use std::alloc::{AllocError, Global};
+
+/// The types that the bytes of a schema file define.
+pub fn read_types(alloc: Global, bytes: &[u8]) -> Result<Schema, SszFault>
+    ensures { ReadsTypes result bytes.now }
+{
+    if bytes.len() > status::MOST_TEXT {
+        return Err(SszFault {
+            status: status::BAD_SCHEMA,
+            code: 15,
+            position: 0,
+        });
+    }
+    match read_schema(alloc, bytes) {
+        Ok(schema) => Ok(schema),
+        Err(fault) => Err(schema_fault(fault)),
+    }
+}
 
 impl Library {
     // With no type asked for yet.
@@ -29,22 +47,16 @@ impl Library {
     pub fn read(alloc: Global, bytes: &[u8]) -> Result<Library, SszFault>
         ensures { ReadsLibrary result bytes.now }
     {
-        if bytes.len() > status::MOST_TEXT {
-            return Err(SszFault {
-                status: status::BAD_SCHEMA,
-                code: 15,
-                position: 0,
-            });
-        }
-        match read_schema(alloc, bytes) {
+        match read_types(alloc, bytes) {
             Ok(schema) => Ok(Library::of_schema(alloc, schema)),
-            Err(fault) => Err(schema_fault(fault)),
+            Err(fault) => Err(fault),
         }
     }
 
     /// The same in a box.
     pub fn boxed(alloc: Global, bytes: &[u8]) -> Result<Box<Library, Global>, SszFault>
-        ensures { ReadsLibrary (result_map_both (λ library. library.value) (λ fault. fault) result) bytes.now }
+        ensures { ReadsLibrary (result_map_both (λ library. library.value) (λ fault. fault) result)
+            bytes.now }
     {
         match Library::read(alloc, bytes) {
             Ok(library) => match Box::new(alloc, library) {
@@ -88,7 +100,8 @@ impl Library {
 
     // Gives a type the next number.
     fn add(&mut self, id: TypeId) -> Result<u64, AllocError>
-        requires { id < length self.old.schema.trees }
+        requires known { id < length self.old.schema.trees }
+        requires fresh { IsNew self.old.found.items id }
         ensures added { IfOk result (λ number.
             (number ≡ length self.old.found.items)
             × (self.new.found.items ≡ self.old.found.items ++ id ∷ [])) }
