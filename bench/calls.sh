@@ -18,7 +18,10 @@ least() {
     done | awk '{ t = $1 + $2; if (NR == 1 || t < m) m = t } END { printf "%.2f", m }'
 }
 
-echo "ssz root: $(least crates/ssz_cli/out/ssz_cli root "$out/l.json" L "$out/l.ssz") s"
-echo "library:  $(least "$out/calls" "$out/l.json" L "$out/l.ssz") s"
+program=$(least crates/ssz_cli/out/ssz_cli root "$out/l.json" L "$out/l.ssz")
+library=$(least "$out/calls" "$out/l.json" L "$out/l.ssz")
+echo "ssz root: $program s"
+echo "library:  $library s"
+awk -v p="$program" -v l="$library" 'BEGIN { printf "the library beside ssz root: %+.1f %%\n", (l / p - 1) * 100 }'
 echo "the call alone: $("$out/calls" "$out/l.json" L "$out/l.ssz")"
 echo "a small call: $("$out/calls" "$out/l.json")"
