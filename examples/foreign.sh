@@ -1,8 +1,8 @@
 #!/bin/sh
 # Builds the static library and the examples of C, Python and Rust, runs each over the same inputs as the
-# program `ssz`, and compares what they print; examples/c/statuses.c leads each call to its statuses,
-# under valgrind where that is there. It needs the kit that README names, and says what it left out for
-# want of a compiler, an interpreter or valgrind. The last line is 'N compared, M differ'.
+# program `ssz`, and compares what they print, of sessions beside `ssz run` too; examples/c/statuses.c leads
+# each call to its statuses, under valgrind where that is there. It needs the kit that README names, and says
+# what it left out for want of a compiler, an interpreter or valgrind. The last line is 'N compared, M differ'.
 set -eu
 cd "$(dirname "$0")/.."
 out=$(mktemp -d)
@@ -66,19 +66,31 @@ by_program() {
 
 compared=0
 differ=0
-# SCHEMA TYPE FILE PATH: the proof is that of the part, where there is one.
-compare() {
-    printf 'load V %s %s\nprove V %s\n' "$2" "$3" "$4" >"$out/script"
-    "$ssz" run "$1" "$out/script" | sed -n 2p >"$out/proof" || true
-    by_program "$1" "$2" "$3" "$4" "$out/proof" >"$out/wanted" 2>&1
+# WORDS: each way prints of them what is wanted.
+each_way() {
     for way in $ways; do
-        run "$way" "$1" "$2" "$3" "$4" "$out/proof" >"$out/said" 2>&1 || true
+        run "$way" "$@" >"$out/said" 2>&1 || true
         compared=$((compared + 1))
         cmp -s "$out/wanted" "$out/said" && continue
         differ=$((differ + 1))
         echo "$way differs on $*"
         diff "$out/wanted" "$out/said" || true
     done
+}
+
+# SCHEMA TYPE FILE PATH: the proof is that of the part, where there is one.
+compare() {
+    printf 'load V %s %s\nprove V %s\n' "$2" "$3" "$4" >"$out/script"
+    "$ssz" run "$1" "$out/script" | sed -n 2p >"$out/proof" || true
+    by_program "$1" "$2" "$3" "$4" "$out/proof" >"$out/wanted" 2>&1
+    each_way "$1" "$2" "$3" "$4" "$out/proof"
+}
+
+# SCHEMA: the lines of the script that comes in, by a session and by `ssz run`.
+compare_lines() {
+    cat >"$out/lines"
+    "$ssz" run "$1" "$out/lines" >"$out/wanted" 2>&1 || true
+    each_way "$1" "$out/lines"
 }
 
 # So many bytes of this value, an octal number.
@@ -120,6 +132,54 @@ compare "$deneb" BeaconState "$out/state" /finalized_checkpoint/root
 compare "$deneb" BeaconState "$out/state" '/validators/#len'
 compare "$deneb" BeaconState "$out/state" /validators/7/slashed
 compare "$deneb" BeaconState "$out/state" /justification_bits/1
+
+compare_lines "$out/m.json" <<'LINES'
+# a version, edits, and what is shown of it
+new V M
+new V M
+
+  lit W M 0xaabb060000000102
+lit X M 0xaabb
+set W /a 0x0100
+append W /b 0x09
+append W /b 0x09
+append W /b 0x09
+pop V /b
+fork W U
+root W
+root U
+bytes W /b
+json W /
+len W /b
+len W /a
+set W /c 0x00
+gindex M /b/#len
+prove W /a
+prove W 4 3
+hashes
+compact
+list
+drop W
+list
+nothing of the grammar
+LINES
+compare_lines "$deneb" <<'LINES'
+new S BeaconState
+root S
+set S /slot 0x4000000000000000
+set S /finalized_checkpoint/epoch 0x0200000000000000
+append S /balances 0x0040597307000000
+append S /validators 0x00
+root S
+prove S /finalized_checkpoint/root
+prove S /slot
+len S /balances
+bytes S /fork
+hashes
+LINES
+compare_lines "$out/16" <<'LINES'
+list
+LINES
 
 echo "$compared compared, $differ differ"
 [ "$differ" -eq 0 ]

@@ -1,7 +1,9 @@
 /* The calls of ssz.h over files: the root of a value, the generalized index of a part, the part's
- * bytes, and whether a proof leads to the root, as the program `ssz` prints them.
+ * bytes, and whether a proof leads to the root, as the program `ssz` prints them; and the replies
+ * of a session to the lines of a script.
  *
  *     example SCHEMA TYPE FILE PATH PROOF
+ *     example SCHEMA SCRIPT
  */
 #include <stdio.h>
 #include <stdlib.h>
@@ -66,9 +68,42 @@ static void print_index(ssz_index index) {
     printf("gindex %s\n", at);
 }
 
+/* Does the line in a session and prints the reply; answers whether it was refused. */
+static int run_line(ssz_session *session, const uint8_t *line, size_t line_len) {
+    ssz_fault fault;
+    uint64_t len;
+    uint32_t status = ssz_session_run(session, line, line_len, &len, &fault);
+    if (status != SSZ_REFUSED) expect(status, &fault);
+    uint8_t *reply = malloc(len + 1);
+    if (!reply) exit(6);
+    expect(ssz_session_reply(session, reply, len, &len, &fault), &fault);
+    fwrite(reply, 1, len, stdout);
+    free(reply);
+    return status == SSZ_REFUSED;
+}
+
+static int run_script(const char *schema, const char *script) {
+    bytes text = read_file(schema), lines = read_file(script);
+    ssz_session session = SSZ_SESSION_NONE;
+    ssz_fault fault;
+    int refused = 0;
+    expect(ssz_session_start(&session, text.at, text.len, &fault), &fault);
+    for (size_t from = 0, to; from < lines.len; from = to + 1) {
+        for (to = from; to < lines.len && lines.at[to] != '\n';) to++;
+        refused |= run_line(&session, lines.at + from, to - from);
+    }
+    if (ssz_session_end(&session) != SSZ_OK) return 7;
+    free(text.at);
+    free(lines.at);
+    return refused;
+}
+
 int main(int count, char **words) {
+    if (count == 3) return run_script(words[1], words[2]);
     if (count != 6) {
-        fputs("usage: example SCHEMA TYPE FILE PATH PROOF\n", stderr);
+        fputs("usage: example SCHEMA TYPE FILE PATH PROOF\n"
+              "       example SCHEMA SCRIPT\n",
+              stderr);
         return 2;
     }
     bytes text = read_file(words[1]), value = read_file(words[3]), proof = read_file(words[5]);

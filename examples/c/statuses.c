@@ -1,6 +1,8 @@
-/* Each call of ssz.h with each of its statuses but SSZ_NO_MEMORY, and two handles side by side. */
+/* Each call of ssz.h with each of its statuses but SSZ_NO_MEMORY, and two handles of each kind side
+ * by side. */
 #include <stdio.h>
 #include <stdlib.h>
+#include <string.h>
 
 #include "ssz.h"
 
@@ -126,6 +128,106 @@ static void proofs(void) {
     want("another root", ssz_verify(root, TEXT(PROOF)), SSZ_UNLIKE);
 }
 
+/* A line of a session: its status, its number where it was not done, and its reply. */
+static void line_is(ssz_session *session, const char *line, uint32_t status, uint64_t position,
+                    const char *reply) {
+    static char said[512];
+    uint64_t reply_len, again;
+    want(line, ssz_session_run(session, (const uint8_t *)line, strlen(line), &reply_len, &fault),
+         status);
+    fault_is(line, status, 0, position);
+    want(line, ssz_session_reply(session, (uint8_t *)said, sizeof said, &again, &fault), SSZ_OK);
+    want(line, again == reply_len && again == strlen(reply) && !memcmp(said, reply, again), 1);
+}
+
+/* A version is edited, and a field of it is proved. */
+static void edit_and_prove(ssz_session *session) {
+    static uint8_t said[512];
+    uint64_t reply_len;
+    want("prove", ssz_root(&schema, p, (const uint8_t *)"\x09\0\0\0\0\0\0\0\x01", 9, root, &fault),
+         SSZ_OK);
+    line_is(session, "lit V P 0x070000000000000001", SSZ_OK, 0, "ok\n");
+    line_is(session, "set V /a 0x0900000000000000", SSZ_OK, 0, "ok\n");
+    want("prove", ssz_session_run(session, TEXT("prove V /a"), &reply_len, &fault), SSZ_OK);
+    want("prove", ssz_session_reply(session, said, sizeof said, &reply_len, &fault), SSZ_OK);
+    want("prove", ssz_verify(root, said, reply_len), SSZ_OK);
+}
+
+/* Two sessions side by side. */
+static void sessions(void) {
+    ssz_session one = SSZ_SESSION_NONE, two = SSZ_SESSION_NONE;
+    uint64_t reply_len = 5;
+    want("none", ssz_session_run(&one, TEXT("list"), &reply_len, &fault), SSZ_NO_HANDLE);
+    fault_is("none", SSZ_NO_HANDLE, 0, 0);
+    want("none", ssz_session_reply(&one, room, 9, &reply_len, &fault), SSZ_NO_HANDLE);
+    want("as before", reply_len == 5, 1);
+    want("none", ssz_session_end(&one), SSZ_NO_HANDLE);
+    want("taken", ssz_session_start(&one, TEXT(TWICE), &fault), SSZ_BAD_SCHEMA);
+    fault_is("taken", SSZ_BAD_SCHEMA, 4, 1);
+    want("start", ssz_session_start(&one, TEXT(PAIR), &fault), SSZ_OK);
+    want("start", ssz_session_start(&two, TEXT(PAIR), &fault), SSZ_OK);
+
+    line_is(&one, "new V P", SSZ_OK, 0, "ok\n");
+    line_is(&one, "new V P", SSZ_REFUSED, 2, "refused 2 4 NameTaken\n");
+    line_is(&two, "set V /a 0x01", SSZ_REFUSED, 1, "refused 1 3 NoVersion\n");
+    line_is(&one, "# a comment", SSZ_OK, 0, "");
+    line_is(&one, "no statement", SSZ_REFUSED, 4, "refused 4 1 Syntax\n");
+    line_is(&one, "lit W P 0x02", SSZ_REFUSED, 5, "refused 5 11 BadLiteral F1 0\n");
+    line_is(&one, "load W P file", SSZ_NO_READ, 6, "");
+    line_is(&one, "save V file", SSZ_NO_WRITE, 7, "");
+    line_is(&one, "list\n", SSZ_REFUSED, 8, "refused 8 1 Syntax\n");
+    line_is(&one, "list", SSZ_OK, 0, "list V\n");
+    line_is(&two, "list", SSZ_OK, 0, "list\n");
+    want("room", ssz_session_reply(&two, room, 4, &reply_len, &fault), SSZ_NO_ROOM);
+    want("room", reply_len == 5, 1);
+    edit_and_prove(&two);
+
+    want("end", ssz_session_end(&one), SSZ_OK);
+    want("end again", ssz_session_end(&one), SSZ_NO_HANDLE);
+    want("ended", ssz_session_run(&one, TEXT("list"), &reply_len, &fault), SSZ_NO_HANDLE);
+    line_is(&two, "bytes V /a", SSZ_OK, 0, "bytes 0x0900000000000000\n");
+    want("end", ssz_session_end(&two), SSZ_OK);
+}
+
+/* A null pointer in each place of each call. */
+static void nulls(void) {
+    ssz_session session = SSZ_SESSION_NONE;
+    uint64_t n;
+    want("null", ssz_schema_read(NULL, TEXT(PAIR), &fault), SSZ_NULL);
+    fault_is("null", SSZ_NULL, 0, 0);
+    want("null", ssz_schema_read(&schema, NULL, 0, &fault), SSZ_NULL);
+    want("null", ssz_schema_read(&schema, TEXT(PAIR), NULL), SSZ_NULL);
+    want("null", ssz_schema_free(NULL), SSZ_NULL);
+    want("null", ssz_type(NULL, TEXT("P"), &n, &fault), SSZ_NULL);
+    want("null", ssz_type(&schema, NULL, 0, &n, &fault), SSZ_NULL);
+    want("null", ssz_type(&schema, TEXT("P"), NULL, &fault), SSZ_NULL);
+    want("null", ssz_check(NULL, p, value, 9, &fault), SSZ_NULL);
+    want("null", ssz_check(&schema, p, NULL, 0, &fault), SSZ_NULL);
+    want("null", ssz_check(&schema, p, value, 9, NULL), SSZ_NULL);
+    want("null", ssz_root(NULL, p, value, 9, root, &fault), SSZ_NULL);
+    want("null", ssz_root(&schema, p, NULL, 0, root, &fault), SSZ_NULL);
+    want("null", ssz_root(&schema, p, value, 9, NULL, &fault), SSZ_NULL);
+    want("null", ssz_gindex(NULL, p, TEXT("/a"), &index_of, &fault), SSZ_NULL);
+    want("null", ssz_gindex(&schema, p, NULL, 0, &index_of, &fault), SSZ_NULL);
+    want("null", ssz_gindex(&schema, p, TEXT("/a"), NULL, &fault), SSZ_NULL);
+    want("null", ssz_verify(NULL, TEXT(PROOF)), SSZ_NULL);
+    want("null", ssz_verify(root, NULL, 0), SSZ_NULL);
+    want("null", part(p, NULL, 0, TEXT("/a")), SSZ_NULL);
+    want("null", part(p, value, 9, NULL, 0), SSZ_NULL);
+    want("null", ssz_part(NULL, p, value, 9, TEXT("/a"), room, 9, &n, &fault), SSZ_NULL);
+    want("null", ssz_part(&schema, p, value, 9, TEXT("/a"), NULL, 0, &n, &fault), SSZ_NULL);
+    want("null", ssz_part(&schema, p, value, 9, TEXT("/a"), room, 9, NULL, &fault), SSZ_NULL);
+    want("null", ssz_session_start(NULL, TEXT(PAIR), &fault), SSZ_NULL);
+    want("null", ssz_session_start(&session, NULL, 0, &fault), SSZ_NULL);
+    want("null", ssz_session_run(NULL, TEXT("list"), &n, &fault), SSZ_NULL);
+    want("null", ssz_session_run(&session, NULL, 0, &n, &fault), SSZ_NULL);
+    want("null", ssz_session_run(&session, TEXT("list"), NULL, &fault), SSZ_NULL);
+    want("null", ssz_session_reply(NULL, room, 9, &n, &fault), SSZ_NULL);
+    want("null", ssz_session_reply(&session, NULL, 0, &n, &fault), SSZ_NULL);
+    want("null", ssz_session_reply(&session, room, 9, NULL, &fault), SSZ_NULL);
+    want("null", ssz_session_end(NULL), SSZ_NULL);
+}
+
 /* Too many bytes, whatever they are: a text's and a value's. */
 static void long_text(const uint8_t *text) {
     want("long", ssz_verify(root, text, TOO_MUCH_TEXT), SSZ_TOO_LONG);
@@ -133,12 +235,21 @@ static void long_text(const uint8_t *text) {
     want("long", part(p, value, 9, text, TOO_MUCH_TEXT), SSZ_TOO_LONG);
     want("long", ssz_schema_read(&other, text, TOO_MUCH_TEXT, &fault), SSZ_BAD_SCHEMA);
     fault_is("long", SSZ_BAD_SCHEMA, 15, 0);
+    ssz_session session = SSZ_SESSION_NONE;
+    want("long", ssz_session_start(&session, text, TOO_MUCH_TEXT, &fault), SSZ_BAD_SCHEMA);
+    fault_is("long", SSZ_BAD_SCHEMA, 15, 0);
 }
 
 static void long_value(const uint8_t *bytes, size_t bytes_len) {
     want("long", ssz_check(&schema, p, bytes, bytes_len, &fault), SSZ_TOO_LONG);
     want("long", ssz_root(&schema, p, bytes, bytes_len, root, &fault), SSZ_TOO_LONG);
     want("long", part(p, bytes, bytes_len, TEXT("/a")), SSZ_TOO_LONG);
+    ssz_session session = SSZ_SESSION_NONE;
+    uint64_t reply_len;
+    want("long", ssz_session_start(&session, TEXT(PAIR), &fault), SSZ_OK);
+    want("long", ssz_session_run(&session, bytes, bytes_len, &reply_len, &fault), SSZ_TOO_LONG);
+    fault_is("long", SSZ_TOO_LONG, 0, 1);
+    want("long", ssz_session_end(&session), SSZ_OK);
 }
 
 int main(void) {
@@ -148,6 +259,8 @@ int main(void) {
     values();
     parts();
     proofs();
+    sessions();
+    nulls();
 
     uint8_t *text = calloc(1, TOO_MUCH_TEXT);
     if (!text) return 6;

@@ -1,12 +1,14 @@
-"""The calls of ssz.py over files, printed as the program `ssz` prints them.
+"""The calls of ssz.py over files, printed as the program `ssz` prints them; and the replies of a
+session to the lines of a script.
 
     example.py LIBRARY SCHEMA TYPE FILE PATH PROOF
+    example.py LIBRARY SCHEMA SCRIPT
 """
 
 import sys
 from pathlib import Path
 
-from ssz import Library, SszError, Status
+from ssz import Library, Refused, SszError, Status
 
 REFUSED = {
     Status.NO_TYPE: "refused 0 2 NoType",
@@ -26,24 +28,43 @@ def line_of(error: SszError) -> str:
     return REFUSED.get(error.status, f"status {int(error.status)}")
 
 
-def main(library: str, schema: str, name: str, file: str, path: str, proof: str) -> int:
+def show(library: str, schema: str, name: str, file: str, path: str, proof: str) -> int:
     """Prints the root, the index, the part and the verdict."""
     calls = Library(library)
     encoded = Path(file).read_bytes()
+    with calls.schema(Path(schema).read_bytes()) as types:
+        kind = types.type(name)
+        kind.check(encoded)
+        root = kind.root(encoded)
+        print(f"root 0x{root.hex()}")
+        print(f"gindex {kind.gindex(path)}")
+        print(f"bytes 0x{kind.part(encoded, path).hex()}")
+    holds = calls.verify(root, Path(proof).read_bytes())
+    print("valid" if holds else "unlike")
+    return 0 if holds else 1
+
+
+def run(library: str, schema: str, script: str) -> int:
+    """Prints the replies of a session to the lines of a script."""
+    status = 0
+    with Library(library).session(Path(schema).read_bytes()) as session:
+        for line in Path(script).read_text().split("\n"):
+            try:
+                reply = session.run(line)
+            except Refused as refusal:
+                reply, status = refusal.reply, 1
+            if reply:
+                print(reply)
+    return status
+
+
+def main(*words: str) -> int:
+    """Does what the words ask for."""
     try:
-        with calls.schema(Path(schema).read_bytes()) as types:
-            kind = types.type(name)
-            kind.check(encoded)
-            root = kind.root(encoded)
-            print(f"root 0x{root.hex()}")
-            print(f"gindex {kind.gindex(path)}")
-            print(f"bytes 0x{kind.part(encoded, path).hex()}")
-        holds = calls.verify(root, Path(proof).read_bytes())
+        return run(*words) if len(words) == 3 else show(*words)
     except SszError as error:
         print(line_of(error))
         return 3 if error.status == Status.BAD_SCHEMA else 1
-    print("valid" if holds else "unlike")
-    return 0 if holds else 1
 
 
 if __name__ == "__main__":

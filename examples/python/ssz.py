@@ -10,6 +10,11 @@
         slot = state.part(encoded, "/slot")
     library.verify(root, proof_text)
 
+    with library.session(schema_bytes) as session:
+        session.run("new S BeaconState")
+        session.run("set S /slot 0x0100000000000000")
+        proof_text = session.run("prove S /slot")
+
 A call that is refused raises an SszError, which carries the status, the fault's code and its
 position.
 """
@@ -38,13 +43,17 @@ class Status(IntEnum):
     UNLIKE = 10
     NO_MEMORY = 11
     NO_ROOM = 12
+    REFUSED = 13
+    NO_READ = 14
+    NO_WRITE = 15
 
 
 class SszError(Exception):
     """Why a call did not do what it was asked.
 
     Of INVALID the code is 1 to 11 for F1 to F11 and the position a byte; of BAD_SCHEMA the code is
-    1 to 15 for S1 to S15 and the position the number of a definition. Else both are 0.
+    1 to 15 for S1 to S15 and the position the number of a definition; of what a session did not do
+    the position is the number of the line. Else both are 0.
     """
 
     def __init__(self, status: Status, code: int = 0, position: int = 0) -> None:
@@ -52,6 +61,17 @@ class SszError(Exception):
         self.status = status
         self.code = code
         self.position = position
+
+
+class Refused(SszError):
+    """A session refused a line: the code is that of the reply, 1 to 18, and the position the line's
+    number. The reply, as "refused 2 4 NameTaken", says the first fault of bytes too."""
+
+    def __init__(self, reply: str) -> None:
+        words = reply.split(" ")
+        super().__init__(Status.REFUSED, int(words[2]), int(words[1]))
+        self.name = words[3]
+        self.reply = reply
 
 
 class _Fault(ctypes.Structure):
@@ -62,7 +82,7 @@ class _Fault(ctypes.Structure):
     ]
 
 
-class _Schema(ctypes.Structure):
+class _Handle(ctypes.Structure):
     _fields_ = [("live", ctypes.c_uint64), ("held", ctypes.c_void_p)]
 
 
@@ -71,25 +91,24 @@ class _Index(ctypes.Structure):
 
 
 _BYTES = [ctypes.c_char_p, ctypes.c_size_t]
-_HANDLE = [ctypes.POINTER(_Schema)]
+_HANDLE = [ctypes.POINTER(_Handle)]
 _FAULT = [ctypes.POINTER(_Fault)]
 _NUMBER = [ctypes.c_uint64]
+_LENGTH = [ctypes.POINTER(ctypes.c_uint64)]
 
 _CALLS = {
     "ssz_schema_read": _HANDLE + _BYTES + _FAULT,
     "ssz_schema_free": _HANDLE,
-    "ssz_type": _HANDLE + _BYTES + [ctypes.POINTER(ctypes.c_uint64)] + _FAULT,
+    "ssz_type": _HANDLE + _BYTES + _LENGTH + _FAULT,
     "ssz_check": _HANDLE + _NUMBER + _BYTES + _FAULT,
     "ssz_root": _HANDLE + _NUMBER + _BYTES + [ctypes.POINTER(ctypes.c_uint8 * 32)] + _FAULT,
     "ssz_gindex": _HANDLE + _NUMBER + _BYTES + [ctypes.POINTER(_Index)] + _FAULT,
     "ssz_verify": [ctypes.c_char_p] + _BYTES,
-    "ssz_part": _HANDLE
-    + _NUMBER
-    + _BYTES
-    + _BYTES
-    + _BYTES
-    + [ctypes.POINTER(ctypes.c_uint64)]
-    + _FAULT,
+    "ssz_part": _HANDLE + _NUMBER + _BYTES + _BYTES + _BYTES + _LENGTH + _FAULT,
+    "ssz_session_start": _HANDLE + _BYTES + _FAULT,
+    "ssz_session_run": _HANDLE + _BYTES + _LENGTH + _FAULT,
+    "ssz_session_reply": _HANDLE + _BYTES + _LENGTH + _FAULT,
+    "ssz_session_end": _HANDLE,
 }
 
 
@@ -107,6 +126,10 @@ class Library:
         """The schema that the bytes of a schema file define."""
         return Schema(self._calls, text)
 
+    def session(self, schema: bytes) -> Session:
+        """A session over the schema that the bytes of a schema file define."""
+        return Session(self._calls, schema)
+
     def verify(self, root: bytes, proof: bytes) -> bool:
         """Whether the multiproof that the text says leads to the root of 32 bytes."""
         if len(root) != 32:
@@ -117,13 +140,16 @@ class Library:
         raise SszError(status)
 
 
-class Schema:
-    """A schema, which is freed by `close` or at the end of a `with`."""
+class _Held:
+    """What a handle holds, which is given up by `close` or at the end of a `with`."""
+
+    _begin: str
+    _end: str
 
     def __init__(self, calls: ctypes.CDLL, text: bytes) -> None:
         self._calls = calls
-        self._handle = _Schema(0, None)
-        self._call("ssz_schema_read", text, len(text))
+        self._handle = _Handle(0, None)
+        self._call(self._begin, text, len(text))
 
     def _call(self, name: str, *words: object) -> None:
         fault = _Fault()
@@ -132,16 +158,26 @@ class Schema:
         if status != Status.OK:
             raise SszError(status, fault.code, fault.position)
 
+    def close(self) -> None:
+        """Frees what is held; a later call raises NO_HANDLE."""
+        getattr(self._calls, self._end)(ctypes.byref(self._handle))
+
+    def __del__(self) -> None:
+        self.close()
+
+
+class Schema(_Held):
+    """A schema, which is freed by `close` or at the end of a `with`."""
+
+    _begin = "ssz_schema_read"
+    _end = "ssz_schema_free"
+
     def type(self, name: str) -> SszType:
         """The type of this name."""
         text = name.encode()
         number = ctypes.c_uint64()
         self._call("ssz_type", text, len(text), ctypes.byref(number))
         return SszType(self, number.value)
-
-    def close(self) -> None:
-        """Frees the schema; a call of one of its types then raises NO_HANDLE."""
-        self._calls.ssz_schema_free(ctypes.byref(self._handle))
 
     def __enter__(self) -> Schema:
         return self
@@ -154,7 +190,45 @@ class Schema:
     ) -> None:
         self.close()
 
-    def __del__(self) -> None:
+
+class Session(_Held):
+    """Versions of values under names, edited by statements, one line at a time; ended by `close` or
+    at the end of a `with`."""
+
+    _begin = "ssz_session_start"
+    _end = "ssz_session_end"
+
+    def run(self, line: str) -> str:
+        """Does the statement that a line says, and returns the reply without its line feed: the line
+        that `ssz run` prints, or nothing for a line that is blank or a comment.
+
+        Raises Refused where the statement is refused, and SszError with NO_READ or NO_WRITE where it
+        comes to read or to write a file, which a session does not have. No version is then changed.
+        """
+        text = line.encode()
+        count = ctypes.c_uint64()
+        try:
+            self._call("ssz_session_run", text, len(text), ctypes.byref(count))
+        except SszError as error:
+            if error.status == Status.REFUSED:
+                raise Refused(self._reply(count.value)) from None
+            raise
+        return self._reply(count.value)
+
+    def _reply(self, count: int) -> str:
+        room = ctypes.create_string_buffer(max(1, count))
+        self._call("ssz_session_reply", room, count, ctypes.byref(ctypes.c_uint64()))
+        return room.raw[:count].decode().rstrip("\n")
+
+    def __enter__(self) -> Session:
+        return self
+
+    def __exit__(
+        self,
+        kind: Optional[Type[BaseException]],
+        error: Optional[BaseException],
+        trace: Optional[TracebackType],
+    ) -> None:
         self.close()
 
 

@@ -1,13 +1,16 @@
-//! The calls of ssz.rs over files, printed as the program `ssz` prints them.
+//! The calls of ssz.rs over files, printed as the program `ssz` prints them; and the replies of a
+//! session to the lines of a script.
 //!
 //!     example SCHEMA TYPE FILE PATH PROOF
+//!     example SCHEMA SCRIPT
 
 mod ssz;
 
+use std::io::{self, Write};
 use std::process::ExitCode;
 use std::{env, fs};
 
-use ssz::{Error, Schema, Status, verify};
+use ssz::{Error, Schema, Session, Status, verify};
 
 fn hex(bytes: &[u8]) -> String {
     bytes.iter().map(|byte| format!("{byte:02x}")).collect()
@@ -32,8 +35,8 @@ fn line_of(error: Error) -> String {
     }
 }
 
-// Prints the root, the index, the part and the verdict.
-fn run(schema: &[u8], name: &str, value: &[u8], path: &str, proof: &[u8]) -> Result<bool, Error> {
+// Prints the root, the index, the part and the verdict, and answers whether the proof holds.
+fn show(schema: &[u8], name: &str, value: &[u8], path: &str, proof: &[u8]) -> Result<bool, Error> {
     let schema = Schema::read(schema)?;
     let kind = schema.find(name)?;
     kind.check(value)?;
@@ -41,21 +44,46 @@ fn run(schema: &[u8], name: &str, value: &[u8], path: &str, proof: &[u8]) -> Res
     println!("root 0x{}", hex(&root));
     println!("gindex {}", kind.gindex(path)?);
     println!("bytes 0x{}", hex(&kind.part(value, path)?));
-    verify(&root, proof)
+    let holds = verify(&root, proof)?;
+    println!("{}", if holds { "valid" } else { "unlike" });
+    Ok(holds)
+}
+
+// Prints the replies of a session to the lines of a script, and answers whether none was refused.
+fn run(schema: &[u8], script: &[u8]) -> Result<bool, Error> {
+    let mut session = Session::start(schema)?;
+    let mut accepted = true;
+    for line in script.split(|byte| *byte == b'\n') {
+        match session.run(line) {
+            Ok(()) => {}
+            Err(Error {
+                status: Status::Refused,
+                ..
+            }) => accepted = false,
+            Err(why) => return Err(why),
+        }
+        io::stdout().write_all(&session.reply()?).expect("stdout");
+    }
+    Ok(accepted)
 }
 
 fn main() -> ExitCode {
     let words: Vec<String> = env::args().collect();
-    let [_, schema, name, file, path, proof] = &words[..] else {
-        eprintln!("usage: example SCHEMA TYPE FILE PATH PROOF");
-        return ExitCode::from(2);
-    };
     let read = |name: &String| fs::read(name).expect(name);
-    match run(&read(schema), name, &read(file), path, &read(proof)) {
-        Ok(holds) => {
-            println!("{}", if holds { "valid" } else { "unlike" });
-            ExitCode::from(u8::from(!holds))
+    let done = match &words[..] {
+        [_, schema, script] => run(&read(schema), &read(script)),
+        [_, schema, name, file, path, proof] => {
+            show(&read(schema), name, &read(file), path, &read(proof))
         }
+        _ => {
+            eprintln!("usage: example SCHEMA TYPE FILE PATH PROOF");
+            eprintln!("       example SCHEMA SCRIPT");
+            return ExitCode::from(2);
+        }
+    };
+    match done {
+        Ok(true) => ExitCode::SUCCESS,
+        Ok(false) => ExitCode::from(1),
         Err(error) => {
             println!("{}", line_of(error));
             ExitCode::from(if error.status == Status::BadSchema { 3 } else { 1 })

@@ -8,7 +8,7 @@ pub struct Error {
     pub status: Status,
     /// Of `Invalid` 1 to 11 for F1 to F11, of `BadSchema` 1 to 15 for S1 to S15, else 0.
     pub code: u32,
-    /// The byte, or the number of the definition.
+    /// The byte, the number of the definition, or that of a session's line.
     pub position: u64,
 }
 
@@ -27,9 +27,12 @@ pub enum Status {
     Unlike,
     NoMemory,
     NoRoom,
+    Refused,
+    NoRead,
+    NoWrite,
 }
 
-const STATUSES: [Status; 12] = [
+const STATUSES: [Status; 15] = [
     Status::NoHandle,
     Status::NoType,
     Status::TooLong,
@@ -42,6 +45,9 @@ const STATUSES: [Status; 12] = [
     Status::Unlike,
     Status::NoMemory,
     Status::NoRoom,
+    Status::Refused,
+    Status::NoRead,
+    Status::NoWrite,
 ];
 
 #[repr(C)]
@@ -111,6 +117,27 @@ unsafe extern "C" {
         fault: *mut Fault,
     ) -> u32;
     fn ssz_verify(root: *const [u8; 32], proof: *const u8, len: usize) -> u32;
+    fn ssz_session_start(
+        session: *mut Handle,
+        schema: *const u8,
+        len: usize,
+        fault: *mut Fault,
+    ) -> u32;
+    fn ssz_session_run(
+        session: *mut Handle,
+        line: *const u8,
+        len: usize,
+        reply_len: *mut u64,
+        fault: *mut Fault,
+    ) -> u32;
+    fn ssz_session_reply(
+        session: *mut Handle,
+        room: *mut u8,
+        room_len: usize,
+        reply_len: *mut u64,
+        fault: *mut Fault,
+    ) -> u32;
+    fn ssz_session_end(session: *mut Handle) -> u32;
 }
 
 fn error(status: u32, fault: &Fault) -> Result<(), Error> {
@@ -124,6 +151,13 @@ fn error(status: u32, fault: &Fault) -> Result<(), Error> {
     })
 }
 
+fn no_handle() -> Box<Handle> {
+    Box::new(Handle {
+        live: 0,
+        held: std::ptr::null_mut(),
+    })
+}
+
 /// A schema, which is freed with it. The handle is boxed, so that it does not move.
 pub struct Schema {
     handle: RefCell<Box<Handle>>,
@@ -132,10 +166,7 @@ pub struct Schema {
 impl Schema {
     /// The schema that the bytes of a schema file define.
     pub fn read(text: &[u8]) -> Result<Schema, Error> {
-        let mut handle = Box::new(Handle {
-            live: 0,
-            held: std::ptr::null_mut(),
-        });
+        let mut handle = no_handle();
         let mut fault = Fault::default();
         let status =
             unsafe { ssz_schema_read(&mut *handle, text.as_ptr(), text.len(), &mut fault) };
@@ -251,5 +282,68 @@ pub fn verify(root: &[u8; 32], proof: &[u8]) -> Result<bool, Error> {
             ..
         }) => Ok(false),
         Err(why) => Err(why),
+    }
+}
+
+/// Versions of values under names, edited by statements, one line at a time; freed with it. The
+/// handle is boxed, so that it does not move.
+pub struct Session {
+    handle: Box<Handle>,
+    reply_len: u64,
+}
+
+impl Session {
+    /// A session over the schema that the bytes of a schema file define, with no version.
+    pub fn start(schema: &[u8]) -> Result<Session, Error> {
+        let mut handle = no_handle();
+        let mut fault = Fault::default();
+        let status =
+            unsafe { ssz_session_start(&mut *handle, schema.as_ptr(), schema.len(), &mut fault) };
+        error(status, &fault)?;
+        Ok(Session {
+            handle,
+            reply_len: 0,
+        })
+    }
+
+    /// Does the statement that a line says, without its line feed. `Refused` is a refusal, and
+    /// `NoRead` and `NoWrite` that it comes to read or to write a file, which a session does not
+    /// have: then no version has changed, and the position is the line's number.
+    pub fn run(&mut self, line: &[u8]) -> Result<(), Error> {
+        let mut fault = Fault::default();
+        let status = unsafe {
+            ssz_session_run(
+                &mut *self.handle,
+                line.as_ptr(),
+                line.len(),
+                &mut self.reply_len,
+                &mut fault,
+            )
+        };
+        error(status, &fault)
+    }
+
+    /// The reply to the last line, with its line feed: the line that `ssz run` prints, a refusal
+    /// too; or nothing.
+    pub fn reply(&mut self) -> Result<Vec<u8>, Error> {
+        let mut room = vec![0; self.reply_len as usize];
+        let mut fault = Fault::default();
+        let status = unsafe {
+            ssz_session_reply(
+                &mut *self.handle,
+                room.as_mut_ptr(),
+                room.len(),
+                &mut self.reply_len,
+                &mut fault,
+            )
+        };
+        error(status, &fault)?;
+        Ok(room)
+    }
+}
+
+impl Drop for Session {
+    fn drop(&mut self) {
+        unsafe { ssz_session_end(&mut *self.handle) };
     }
 }

@@ -1,6 +1,8 @@
 -- What is held and its parts own what a box at the same types owns.
 use mir.Syntax.{impl, tnil, dnil}
 use mathlib.Core.List.{[]}
+use denote.Param.Laws.{Laws}
+use denote.RattleType.{RattleType}
 use denote.Signature.{Slot, plain}
 use Rattle.std_alloc.proofs.BoxSteps.Form.{Bx}
 use Rattle.std_heap.specs.contracts.Global as Heap
@@ -8,14 +10,40 @@ use Rattle.std_heap.specs.contracts.GlobalAllocator.TheImpl.{ghosts, dict}
 use Rattle.std_heap.proofs.Global.TheLaws as heap
 use Rattle.ssz_c.specs.contracts.library.Library as Home
 use Rattle.ssz_c.proofs.library.Library.TheLaws as home
-use Rattle.ssz_c.specs.contracts.held.parts.Parts as Parts
+use Rattle.ssz_c.specs.contracts.session.Session as Session
+use Rattle.ssz_c.proofs.session.Session.TheLaws as session
+use Rattle.ssz_c.specs.contracts.parts.Parts as Parts
 use Rattle.ssz_c.specs.contracts.held.Held as Held
+use Rattle.ssz_c.specs.contracts.held_session.HeldSession as HeldSession
+
+-- a box of the type, over C's allocator
+abbrev pub boxed : (R : RattleType) → Laws R → Bx
+boxed R laws = record {
+  row = R;
+  laws = laws;
+  al = record {
+    row = Heap.the_row;
+    laws = heap.the_row_laws;
+    g = ghosts;
+    d = dict;
+    drops = impl [] tnil dnil;
+  };
+}
 
 abbrev pub E : Bx
-E = record { row = Home.the_row; laws = home.the_row_laws; al = record { row = Heap.the_row; laws = heap.the_row_laws; g = ghosts; d = dict; drops = impl [] tnil dnil } }
+E = boxed Home.the_row home.the_row_laws
+
+abbrev pub SessionBox : Bx
+SessionBox = boxed Session.the_row session.the_row_laws
 
 abbrev pub FromParts : Slot 0
 FromParts = plain (λ _. Parts.the_row Home.the_row Heap.the_row ghosts)
 
 abbrev pub FromHeld : Slot 0
 FromHeld = plain (λ _. Held.the_row)
+
+abbrev pub FromSessionParts : Slot 0
+FromSessionParts = plain (λ _. Parts.the_row Session.the_row Heap.the_row ghosts)
+
+abbrev pub FromHeldSession : Slot 0
+FromHeldSession = plain (λ _. HeldSession.the_row)

@@ -5,3 +5,4 @@ pub mod Calls
 pub mod Verdict
 pub mod Held
 pub mod Reading
+pub mod Session

@@ -12,9 +12,9 @@ IsRead (Some library) fault bytes = ReadsLibrary (Ok library) bytes × (fault �
 IsRead None fault bytes = ReadsLibrary (Err fault) bytes
 
 -- the status of what is freed
-abbrev pub freed : Option Library → ℕ
+abbrev pub freed : {A : Type 0} → Option A → ℕ
 freed None = NO_HANDLE
-freed (Some library) = OK
+freed (Some held) = OK
 
 -- what a name's number comes to in a handle, where another number stood before
 abbrev pub IsNumbered : List ℕ → Option Library → Option Library → ℕ → ℕ → SszFault → Type 0

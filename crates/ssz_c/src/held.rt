@@ -1,12 +1,10 @@
 // A box behind a pointer that C keeps, and none where the pointer is null.
 ghost use Rattle.std.specs.Prelude.{◌≡◌, Option, Some, None, IsSome};
 ghost use Rattle.ssz_c.specs.declared.library.Library.{Library};
-ghost use Rattle.ssz_c.specs.Held.{held_owns, library_coded};
-
-mod parts;
+ghost use Rattle.ssz_c.specs.Held.{library_coded, schema_owns};
 
 use super::library::Library;
-use parts::Parts;
+use super::parts::Parts;
 use std::alloc::Global;
 use std::marker::Model;
 use std::ptr::null_mut;
@@ -21,7 +19,7 @@ pub struct Held {
 }
 
 impl Model for Held {
-    ghost also_owns = { λ held. held_owns held.alloc held.at held.value };
+    ghost also_owns = { λ held. schema_owns held.alloc held.at held.value };
 }
 
 impl Held {

@@ -1,16 +1,17 @@
 //! The calls of C (`include/ssz.h`): schemas, first faults, roots, generalized indices, proofs and
-//! parts of encoded bytes.
+//! parts of encoded bytes; and sessions, which do the statements of scripts.
 //!
 //! Each export takes what its handle holds, calls a library of this repository, and puts it back.
 //! A handle is a struct of two words that C keeps and hands in by its address; the second is a
-//! pointer to a box, of which `held` alone knows. Every call says how it ended by a number
-//! (`status`), and writes what it found behind the pointers that it was given.
+//! pointer to a box, of which `held` and `held_session` alone know. Every call says how it ended by
+//! a number (`status`), and writes what it found behind the pointers that it was given.
 #![tactic(auto)]
 
 ghost use Rattle.std.specs.Prelude.{◌≡◌, None};
 ghost use Rattle.ssz_c.specs.Calls.{checked_in, root_in, gindex_in, held_in, part_in};
-ghost use Rattle.ssz_c.specs.Outcome.{IsCopiedUnlessMemory, IsGiven, IsGivenUnlessMemory, IsSaid};
+ghost use Rattle.ssz_c.specs.Outcome.{IsCopied, IsCopiedUnlessMemory, IsGiven, IsGivenUnlessMemory, IsSaid};
 ghost use Rattle.ssz_c.specs.Reading.{IsRead, IsNumbered, freed};
+ghost use Rattle.ssz_c.specs.Session.{IsRun, IsStarted, reply_in};
 ghost use Rattle.ssz_c.specs.Verdict.{IsVerdict};
 
 mod calls;
@@ -18,8 +19,15 @@ mod fault;
 mod giving;
 mod handle;
 mod held;
+mod held_session;
 mod library;
 mod naming;
+mod no_files;
+mod parts;
+mod ran;
+mod running;
+mod session;
+mod session_handle;
 mod status;
 mod verdict;
 
@@ -28,6 +36,8 @@ pub use fault::SszFault;
 use giving::{copy, fail, give, say};
 pub use handle::SszSchema;
 use library::Library;
+use session::Session;
+pub use session_handle::SszSession;
 use std::alloc::Global;
 
 /// Reads a schema. What the handle held before is freed.
@@ -195,4 +205,89 @@ pub extern "C" fn ssz_verify(alloc: Global, root: &[u8; 32], proof: &[u8]) -> u3
     ensures { IsVerdict result root.now proof.now }
 {
     verdict::judge(alloc, root, proof).status()
+}
+
+/// Begins a session over the schema that the bytes of a schema file define, with no version. What
+/// the handle held before is freed.
+#[unsafe(no_mangle)]
+pub extern "C" fn ssz_session_start(
+    alloc: Global,
+    handle: &mut SszSession,
+    schema: &[u8],
+    fault: &mut SszFault,
+) -> u32
+    ensures started { IsStarted handle.new.held.value fault.new schema.now }
+    ensures status { result ≡ fault.new.status }
+{
+    drop(handle.take(alloc));
+    match Session::boxed(alloc, schema) {
+        Ok(session) => {
+            handle.put(session);
+            fail(status::OK, fault)
+        }
+        Err(why) => {
+            *fault = why;
+            why.status
+        }
+    }
+}
+
+/// Does the statement that a line says, and keeps the reply.
+#[unsafe(no_mangle)]
+pub extern "C" fn ssz_session_run(
+    alloc: Global,
+    handle: &mut SszSession,
+    line: &[u8],
+    reply_len: &mut u64,
+    fault: &mut SszFault,
+) -> u32
+    ensures ran { IsRun line.now handle.old.held.value handle.new.held.value reply_len.old
+        reply_len.new fault.new }
+    ensures status { result ≡ fault.new.status }
+{
+    let Some(mut session) = handle.take(alloc) else {
+        return fail(status::NO_HANDLE, fault);
+    };
+    let ran = session.run(alloc, line);
+    *reply_len = session.reply.len() as u64;
+    *fault = ran.fault(session.lines);
+    handle.put(session);
+    fault.status
+}
+
+/// The reply to the last line.
+#[unsafe(no_mangle)]
+pub extern "C" fn ssz_session_reply(
+    alloc: Global,
+    handle: &mut SszSession,
+    room: &mut [u8],
+    reply_len: &mut u64,
+    fault: &mut SszFault,
+) -> u32
+    ensures held { handle.new.held.value ≡ handle.old.held.value }
+    ensures reply { IsCopied room.old room.new reply_len.old reply_len.new fault.new
+        (reply_in handle.old.held.value) }
+    ensures status { result ≡ fault.new.status }
+{
+    let Some(session) = handle.take(alloc) else {
+        return fail(status::NO_HANDLE, fault);
+    };
+    let status = copy(session.reply.as_slice(), room, reply_len, fault);
+    handle.put(session);
+    status
+}
+
+/// Ends the session and frees what it holds.
+#[unsafe(no_mangle)]
+pub extern "C" fn ssz_session_end(alloc: Global, handle: &mut SszSession) -> u32
+    ensures empty { handle.new.held.value ≡ None }
+    ensures status { result ≡ freed handle.old.held.value }
+{
+    match handle.take(alloc) {
+        Some(session) => {
+            drop(session);
+            status::OK
+        }
+        None => status::NO_HANDLE,
+    }
 }

@@ -9,7 +9,7 @@ pub const NO_HANDLE: u32 = 1;
 /// There is no type of this name or number.
 pub const NO_TYPE: u32 = 2;
 
-/// Too many bytes: a value has fewer than 2^32, a text at most 2^26.
+/// Too many bytes: a value or a line has fewer than 2^32, a text at most 2^26.
 pub const TOO_LONG: u32 = 3;
 
 /// The bytes encode no value; the code is 1 to 11 for F1 to F11.
@@ -39,8 +39,20 @@ pub const NO_MEMORY: u32 = 11;
 /// There is too little room for what was found.
 pub const NO_ROOM: u32 = 12;
 
-/// The most bytes of a value.
+/// The session refused the line: the reply says why.
+pub const REFUSED: u32 = 13;
+
+/// The line's statement reads a file, and a session has none.
+pub const NO_READ: u32 = 14;
+
+/// The line's statement writes a file, and a session has none.
+pub const NO_WRITE: u32 = 15;
+
+/// The most bytes of a value, and of a session's line.
 pub const MOST_BYTES: usize = 0xffff_ffff;
 
 /// The most bytes of a schema, a path or a proof.
 pub const MOST_TEXT: usize = 1 << 26;
+
+/// The most bytes of a part that a session shows, as in the program where no limit is given.
+pub const MOST_SHOWN: u32 = 1 << 28;
