@@ -1,20 +1,19 @@
 -- What the steps of an engine make of the lines of a session.
-use Rattle.std.proofs.Common.{◌≡◌, ℕ, ◌-◌, ◌<◌, Bool, true, false, List, [], ◌++◌, length, Option, Some, None, refl, sym, ap, ◌∙◌, subst, inl, inr}
+use Rattle.std.proofs.Common.{◌≡◌, ℕ, ◌-◌, false, List, [], ◌++◌, Some, None, refl, sym, ap, ◌∙◌, subst, inl, inr}
 use Rattle.std.specs.Prelude.{Result, Ok, Err, IfOk, IfErr, OnErr, is_some}
 use Rattle.ssz_chunk.specs.Chunk.{sha_pair}
-use Rattle.ssz_arena.specs.Content.{Content as Nodes, KeepsNodes}
+use Rattle.ssz_arena.specs.Content.{KeepsNodes}
 use Rattle.ssz_outside.specs.Content.{Content as Files}
 use Rattle.ssz_script.specs.declared.statement.Statement.{Statement}
 use Rattle.ssz_script.specs.Grammar.{statements, line_of}
 use Rattle.ssz_script.specs.Texts.{reply_line}
 use Rattle.ssz_machine.specs.declared.place.Place.TheVariants as place
 use Rattle.ssz_machine.specs.State.{Versions}
-use Rattle.ssz_machine.specs.Machine.{Turn, reply_of, save_of}
-use Rattle.ssz_versions.specs.Content.{Entries}
+use Rattle.ssz_machine.specs.Machine.{Turn, reply_of}
 use Rattle.ssz_engine.specs.Compacting.{compacted}
 use Rattle.ssz_engine.specs.Content.{Content as Engine}
 use Rattle.ssz_engine.specs.Standing.{StandsFor, StandsForVersions}
-use Rattle.ssz_engine.specs.Steps.{DoesStep, IsShort, Keeps, Leaves, SavesPart, Stops, is_refusal, turn_at}
+use Rattle.ssz_engine.specs.Steps.{DoesStep, Keeps, Leaves, SavesPart, Stops, is_refusal, turn_at}
 use Rattle.ssz_engine.specs.declared.outcome.Outcome.{Outcome}
 use Rattle.ssz_engine.specs.declared.outcome.Outcome.TheVariants.{Accepted, Refused}
 use Rattle.ssz_engine.specs.declared.fault.EngineFault.{EngineFault}
@@ -22,7 +21,7 @@ use Rattle.ssz_engine.specs.declared.fault.EngineFault.TheVariants.{Read, Write,
 use Rattle.ssz_engine.proofs.Standing.{stand-kept}
 use Rattle.ssz_c.specs.declared.ran.Ran.{Ran}
 use Rattle.ssz_c.specs.declared.ran.Ran.TheVariants as ran
-use Rattle.ssz_c.specs.Session.{Answers, Does, DoesLine, DoesSaid, Refuses, Rests, Scene, Takes, no_files, ran_of, turn_of}
+use Rattle.ssz_c.specs.Session.{Does, DoesLine, DoesSaid, Refuses, Rests, Scene, Takes, no_files, ran_of}
 
 -- an engine with the same types and entries, in which each node is kept, stands for the same
 pub stands-kept : (old new : Engine) → Keeps old new → new.entries ≡ old.entries

@@ -1,5 +1,5 @@
 -- What the calls answer, over what a handle holds.
-use Rattle.std.specs.Prelude.{ℕ, ◌*◌, ◌/◌, ◌%◌, ◌^◌, List, Option, None, Some, Result, Ok, Err}
+use Rattle.std.specs.Prelude.{ℕ, ◌/◌, ◌%◌, ◌^◌, List, Option, None, Some, Result, Ok, Err}
 use Rattle.ssz_bytes.specs.declared.fault.Fault.{Fault}
 use Rattle.ssz_chunk.specs.Chunk.{sha_pair}
 use Rattle.ssz_line.specs.Paths.{path}

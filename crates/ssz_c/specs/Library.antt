@@ -1,9 +1,8 @@
 -- A schema as C knows it: its types by the numbers that were given out.
-use Rattle.std.specs.Prelude.{◌≡◌, ◌≢◌, ◌⊎◌, ℕ, nat_lt, if◌then◌else◌, ◌<◌, ◌≤◌, List, [], ◌∷◌, ◌++◌, length, slice_index_or, Option, Some, None, Result, Ok, Err}
+use Rattle.std.specs.Prelude.{◌≡◌, ◌⊎◌, ℕ, nat_lt, if◌then◌else◌, ◌<◌, ◌≤◌, List, [], length, slice_index_or, Some, None, Ok, Err}
 use Rattle.std.specs.Str.{IsUtf8}
 use Rattle.ssz_schema.specs.FaultCodes.{code_of}
-use Rattle.ssz_schema.specs.Types.{SszType}
-use Rattle.ssz_schema.specs.Unfolding.{Types, number_of, type_of}
+use Rattle.ssz_schema.specs.Unfolding.{Types, number_of}
 use Rattle.ssz_schema_json.specs.declared.fault.SchemaRead.{SchemaRead}
 use Rattle.ssz_schema_json.specs.declared.fault.SchemaRead.TheVariants.{NotJson, Shape, Def, Memory}
 use Rattle.ssz_schema_json.specs.Schema.{Reads, schema_of_bytes}

@@ -1,5 +1,5 @@
 -- What a session answers to a line: as the plain machine does, which keeps whole values.
-use Rattle.std.specs.Prelude.{◌≡◌, ◌⊎◌, ◌<◌, ◌-◌, ℕ, IsSome, Bool, true, false, List, [], length, Option, Some, None, option_map, Result, Ok, Err}
+use Rattle.std.specs.Prelude.{◌≡◌, ◌⊎◌, ◌<◌, ◌-◌, ℕ, IsSome, Bool, true, false, List, [], length, Option, Some, None, Result, Ok, Err}
 use Rattle.std.specs.FinMap as map
 use Rattle.ssz_chunk.specs.Chunk.{sha_pair}
 use Rattle.ssz_outside.specs.Content.{Content as Files, absent}

@@ -1,6 +1,6 @@
 use Rattle.std.proofs.Common.{sym, subst}
 use Rattle.ssz_c.specs.Session.{Does, Scene}
-use Rattle.ssz_c.proofs.LineSteps.{rests-same, step-does}
+use Rattle.ssz_c.proofs.LineSteps.{step-does}
 use Rattle.ssz_c.proofs.running.run_statement.Goals as goal
 
 pub returns-clause-does : goal.returns-clause-does
