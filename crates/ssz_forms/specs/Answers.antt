@@ -1,22 +1,23 @@
 -- What was found out of two types, and what is kept of it.
 use Rattle.std.specs.Prelude.{ℕ, ◌≡◌, Bool, true, false, List, Option, Some, None, Result, IfOk}
-use Rattle.std.specs.BTreeMap.{get_by_text}
+use Rattle.std.specs.BTreeMap.{get}
+use Rattle.std.specs.declared.cmp.Ordering.{Ordering}
+use Rattle.std.specs.Ordering.{ordering_then, nat_cmp}
 use Rattle.std.specs.declared.alloc.AllocError.{AllocError}
 use Rattle.ssz_schema.specs.Types.{SszType}
 use Rattle.ssz_schema.specs.Unfolding.{Types, type_of, tree_at}
-use Rattle.ssz_forms.specs.declared.forms.Answer.{Answer}
 use Rattle.ssz_forms.specs.declared.forms.Forms.{Forms}
 use Rattle.ssz_forms.specs.SameType.{same_type}
 
--- the answer is right of the types of this schema
-abbrev pub IsRight : Types → Answer → Type 0
-IsRight types answer =
-    answer.same ≡ same_type (type_of types answer.first) (type_of types answer.second)
+-- pairs of types, by the first and then by the second
+abbrev pub by_both : ℕ × ℕ → ℕ × ℕ → Ordering
+by_both x y = ordering_then (nat_cmp x.0 y.0) (nat_cmp x.1 y.1)
 
 -- each answer that is kept is right of the types of this schema
-abbrev pub AreRight : Types → Forms → Type 0
-AreRight types forms = (key : List ℕ) (answer : Answer)
-    → get_by_text forms.answers key ≡ Some answer → IsRight types answer
+pub record AreRight (types : Types) (forms : Forms) : Type 0 where
+  pub each : (first second : ℕ) (same : Bool)
+      → get by_both forms.answers (first, second) ≡ Some same
+      → same ≡ same_type (type_of types first) (type_of types second)
 
 -- two options, each None or a type, are the same
 abbrev pub same_option : List SszType → Option ℕ → Option ℕ → Bool

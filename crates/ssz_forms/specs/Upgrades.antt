@@ -1,10 +1,13 @@
 -- A container that takes over the fields of another (this project's).
-use Rattle.std.specs.Prelude.{ℕ, if◌then◌else◌, List, [], ◌∷◌, Option, Some, None, option_and_then, Result, Ok, Err, slice_index_or}
+use Rattle.std.specs.Prelude.{ℕ, ◌+◌, if◌then◌else◌, List, [], ◌∷◌, Option, Some, None, option_and_then, Result, Ok, Err, slice_index_or}
+use Rattle.ssz_chunk.specs.Tree.{grow}
 use Rattle.ssz_schema.specs.Types.{SszType, Fields, container, no_fields, field}
+use Rattle.ssz_schema.specs.Sizes.{depth, field_count}
 use Rattle.ssz_schema.specs.Paths.{field_type, field_number}
 use Rattle.ssz_value.specs.Values.{SszValue, sequence, values}
 use Rattle.ssz_value.specs.Shapes.{parts_of}
 use Rattle.ssz_value.specs.Defaults.{default_of}
+use Rattle.ssz_value.specs.Pairs.{pairs}
 use Rattle.ssz_forms.specs.declared.upgrade_fault.UpgradeFault.{UpgradeFault}
 use Rattle.ssz_forms.specs.declared.upgrade_fault.UpgradeFault.TheVariants.{NotContainer}
 use Rattle.ssz_forms.specs.SameType.{same_type}
@@ -37,3 +40,18 @@ upgraded (container old) v (container new) =
 -- where one of the two types is no container, there is none
 upgraded (container old) v t = Err NotContainer
 upgraded s v t = Err NotContainer
+
+-- the pairs of a new field's default; a field that is taken brings none
+abbrev pub brought : SszType → Option ℕ → ℕ
+brought t (Some k) = 0
+brought t None = pairs t (default_of t)
+
+abbrev pub brought_fields : Fields → Fields → ℕ
+brought_fields old no_fields = 0
+brought_fields old (field name t fs) = brought t (taken old name t) + brought_fields old fs
+
+-- what an upgrade is charged: the pairs above the new fields, and those of the defaults
+abbrev pub upgrade_charge : SszType → SszType → ℕ
+upgrade_charge (container old) (container new) =
+    grow (depth (container new)) (field_count new) + brought_fields old new
+upgrade_charge s t = 0

@@ -9,20 +9,10 @@ use ssz_schema::{Name, Schema, Ty, TypeId, Width};
 use std::alloc::{AllocError, Global};
 use std::collections::BTreeMap;
 
-// Whether these two types are the same.
-#[derive(Clone, Copy, Drop)]
-struct Answer {
-    first: TypeId,
-    second: TypeId,
-    same: bool,
-}
-
-/// What was found out so far of the types of one schema. An answer is kept under the text of the
-/// two types, since a type has no order of its own.
+/// What was found out so far of the types of one schema: whether these two are the same.
 #[derive(Drop)]
 pub(crate) struct Forms {
-    alloc: Global,
-    answers: BTreeMap<String, Answer>,
+    answers: BTreeMap<(TypeId, TypeId), bool>,
 }
 
 /// Whether two types are equal as trees (simple-serialize.md, Typing): the same form of the same
@@ -49,7 +39,6 @@ impl Forms {
         ensures { (types : Types) → AreRight types result }
     {
         Forms {
-            alloc,
             answers: BTreeMap::new(alloc),
         }
     }
@@ -71,8 +60,7 @@ impl Forms {
         if first == second {
             return Ok(true);
         }
-        let known = self.find(first, second)?;
-        match known {
+        match self.find(first, second) {
             Some(same) => Ok(same),
             None => {
                 let same = self.compare(schema, first, second)?;
@@ -302,20 +290,11 @@ impl Forms {
     }
 
     // What is kept of the two types.
-    fn find(&self, first: TypeId, second: TypeId) -> Result<Option<bool>, AllocError>
-        ensures { (types : Types) → AreRight types self.now → IfOk result (λ known.
-            IfSome known (λ same. same ≡ same_type (type_of types first) (type_of types second))) }
+    fn find(&self, first: TypeId, second: TypeId) -> Option<bool>
+        ensures { (types : Types) → AreRight types self.now → IfSome result (λ same.
+            same ≡ same_type (type_of types first) (type_of types second)) }
     {
-        let key = self.key(first, second)?;
-        match self.answers.get(key.as_str()).copied() {
-            Some(answer) => {
-                if answer.first != first || answer.second != second {
-                    return Ok(None);
-                }
-                Ok(Some(answer.same))
-            }
-            None => Ok(None),
-        }
+        self.answers.get(&(first, second)).copied()
     }
 
     // Keeps what was found out of the two types.
@@ -324,19 +303,8 @@ impl Forms {
             → same ≡ same_type (type_of types first) (type_of types second)
             → AreRight types self.new }
     {
-        let key = self.key(first, second)?;
-        let answer = Answer {
-            first,
-            second,
-            same,
-        };
-        self.answers.insert(key, answer)?;
+        self.answers.insert((first, second), same)?;
         Ok(())
-    }
-
-    // The text of the two types.
-    fn key(&self, first: TypeId, second: TypeId) -> Result<String, AllocError> {
-        format!(in self.alloc; "{first:?} {second:?}")
     }
 }
 

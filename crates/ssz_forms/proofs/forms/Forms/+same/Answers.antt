@@ -31,9 +31,9 @@ same-returns-then-eq t c = record {
 
 pub same-returns-in-Some : goal.same-returns-in-Some
 same-returns-in-Some t c = record {
-  answer = known_answer c.in_ok-known.known c.in-Some.same
+  answer = known_answer c.find.result c.in-Some.same
       (same_type (type_of c.args.schema.now c.args.first)
       (type_of c.args.schema.now c.args.second))
-      c.in-Some.is (c.in_ok-known.ensures c.args.schema.now c.requires.right);
+      c.in-Some.is (c.find.ensures c.args.schema.now c.requires.right);
   right = c.requires.right;
 }
