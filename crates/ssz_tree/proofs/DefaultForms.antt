@@ -173,46 +173,10 @@ container-default form fs d e deep =
     ap (λ k. whole k (field_parts fs (default_fields fs))) (deep ∙ ap depth e)
     ∙ container-part fs (default_fields fs) (length-defaults fs) ∙ ap default_part (sym e)
 
-pub many_defaults : (trees : List SszType) (parts : List FieldPart)
-    → length (field_parts (fields_over trees parts) (default_fields (fields_over trees parts)))
-    ≡ length parts
-many_defaults trees [] = refl
-many_defaults trees (p ∷ parts) = omega (arith, many_defaults trees parts)
-
 pub count-fields : (trees : List SszType) (parts : List FieldPart)
     → field_count (fields_over trees parts) ≡ length parts
 count-fields trees [] = refl
 count-fields trees (p ∷ parts) = omega (arith, count-fields trees parts)
-
--- the default of field i
-pub default-at : (trees : List SszType) (parts : List FieldPart) (i : ℕ) (entry : FieldPart)
-    → i < length parts → entry ≡ get_or parts i entry
-    → IsAt (field_parts (fields_over trees parts) (default_fields (fields_over trees parts))) i
-    (default_part (tree_at trees entry.1))
-default-at trees [] i entry below e = absurd (omega arith)
-default-at trees (p ∷ parts) zero entry below e =
-    let same : default_part (tree_at trees p.1) ≡ default_part (tree_at trees entry.1) =
-    ap (λ (q : FieldPart). default_part (tree_at trees q.1)) (sym e) in
-    record { below = omega arith; more = ap (λ q. q ∷ []) same }
-default-at trees (p ∷ parts) (suc i) entry below e =
-    IsAt-cons _ _ i _ (default-at trees parts i entry (omega arith) e)
-
--- the nodes of the fields before i, and of the others
-pub record UsesFields (trees : List SszType) (parts : List FieldPart) (i used : ℕ) : Type 0 where
-  pub left : used + shared_fields (fields_over trees (drop i parts))
-      ≡ shared_fields (fields_over trees parts)
-
-pub UsesFields-more : (trees : List SszType) (parts : List FieldPart) (i used : ℕ)
-    (entry : FieldPart) → UsesFields trees parts i used → i < length parts
-    → entry ≡ get_or parts i entry
-    → UsesFields trees parts (i + 1) (used + shared (tree_at trees entry.1))
-UsesFields-more trees parts i used entry h below e = record {
-  left = omega (
-    arith,
-    h.left,
-    ap (λ ps. shared_fields (fields_over trees ps)) (drop_at parts i entry below e),
-  );
-}
 
 -- unions
 pub union-default : (trees : List SszType) (ids : List (Option ℕ)) (id : ℕ)

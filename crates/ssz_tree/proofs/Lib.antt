@@ -3,6 +3,7 @@ pub mod Blocks
 pub mod Holding
 pub mod Carrying
 pub mod Gathering
+pub mod GivenGathering
 pub mod NodeCounts
 pub mod FewNodes
 pub mod Alike
@@ -16,4 +17,5 @@ pub mod FieldGathering
 pub mod Copies
 pub mod Zeros
 pub mod DefaultForms
-pub mod DefaultGathering
+pub mod FieldPieces
+pub mod GivenFields

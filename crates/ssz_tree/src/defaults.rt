@@ -5,13 +5,15 @@ ghost use Rattle.ssz_chunk.specs.Tree.{grow};
 ghost use Rattle.ssz_schema.specs.Types.{union};
 ghost use Rattle.ssz_schema.specs.Sizes.{basic_size, element_chunks};
 ghost use Rattle.ssz_schema.specs.Unfolding.{type_of, fields_over, options_over, IsBelow};
-ghost use Rattle.ssz_value.specs.Defaults.{default_of, default_fields};
+ghost use Rattle.ssz_value.specs.Defaults.{default_of};
 ghost use Rattle.ssz_value.specs.Pairs.{pairs};
-ghost use Rattle.ssz_tree.specs.Added.{Adds, IsPart, whole};
-ghost use Rattle.ssz_tree.specs.Built.{elements_part, field_parts};
+ghost use Rattle.ssz_tree.specs.Added.{Adds, IsPart};
+ghost use Rattle.ssz_tree.specs.Built.{elements_part};
+ghost use Rattle.ssz_tree.specs.Given.{IsGiven, MakesFields, left_fields, made_at, part_at};
 ghost use Rattle.ssz_tree.specs.Shared.{MakesWith, default_part, empty_part, shared, shared_fields, shared_vector};
 
 use super::builder::Builder;
+use super::given::given_at;
 use super::room::reserve_nodes;
 use super::shared_nodes::shared_nodes;
 use ssz_arena::{Arena, NodeId};
@@ -56,7 +58,7 @@ fn default_node<H: PairHash>(arena: &mut Arena<H>, schema: &Schema, id: TypeId) 
         Ty::List(_, _) => empty_node(arena, schema.depth(id)),
         Ty::Vector(elem, count) => vector_node(arena, schema, *elem, schema.depth(id), *count),
         Ty::Container(fields) => {
-            container_node(arena, schema, id, schema.depth(id), fields.as_slice())
+            container_node(arena, schema, id, schema.depth(id), fields.as_slice(), &[])
         }
         Ty::Union(options) => union_node(arena, schema, id, options.as_slice()),
     }
@@ -102,31 +104,53 @@ fn vector_node<H: PairHash>(
     }
 }
 
-// Of a container of these fields, whose types stand before id.
+/// Of a container of these fields, whose types stand before id: each at the node that is given for
+/// it, or its default.
 #[cycle(default)]
-fn container_node<H: PairHash>(
+pub fn container_node<H: PairHash>(
     arena: &mut Arena<H>,
     schema: &Schema,
     id: TypeId,
     depth: u32,
     fields: &[(Name, TypeId)],
+    given: &[Option<NodeId>],
 ) -> NodeId
     requires known { id < length schema.now.trees }
     requires before { AllByRecursion (λ part. part.1 < id) fields.now }
     requires depth { depth ≤ LEVELS }
     requires few { length fields.now ≤ 2 ^ depth }
-    requires room { grow depth (length fields.now)
-        + shared_fields (fields_over schema.now.trees fields.now) ≤ arena.old.spare }
-    ensures { let fs = fields_over schema.now.trees fields.now in
-        MakesWith (grow depth (length fields.now) + shared_fields fs) arena.old arena.new
-        (whole depth (field_parts fs (default_fields fs))) result }
+    requires given { AllByRecursion (IsGiven arena.old) given.now }
+    requires room { let left = left_fields (fields_over schema.now.trees fields.now) given.now in
+        grow depth (length fields.now) + shared_fields left ≤ arena.old.spare }
+    ensures { MakesFields arena.old arena.new depth (fields_over schema.now.trees fields.now)
+        given.now result }
 {
     let mut nodes = Builder::new(arena, depth);
-    for field in fields {
-        let node = default_node(arena, schema, field.1);
+    for (i, field) in fields.iter().enumerate() {
+        let node = field_node(arena, schema, field.1, given_at(given, i));
         nodes.push(arena, node);
     }
     nodes.finish(arena)
+}
+
+// Of a field of this type: the node that is given, or its default.
+#[cycle(default)]
+fn field_node<H: PairHash>(
+    arena: &mut Arena<H>,
+    schema: &Schema,
+    id: TypeId,
+    given: Option<NodeId>,
+) -> NodeId
+    requires known { id < length schema.now.trees }
+    requires given { IsGiven arena.old given }
+    requires room { made_at (type_of schema.now id) given ≤ arena.old.spare }
+    ensures { let t = type_of schema.now id in
+        MakesWith (made_at t given) arena.old arena.new (part_at arena.old t given) result }
+{
+    match given {
+        Some(node) => node,
+        None => default_node(arena, schema, id),
+    }
 }
 
 // Of a union of these options, whose types stand before id.

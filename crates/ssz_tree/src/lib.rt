@@ -2,7 +2,8 @@
 //!
 //! `build` makes the node of a value, `build_bytes` that of the value which some bytes encode, with
 //! no value made, and `build_default` that of the default of a type, whose equal elements share one
-//! node. No call hashes: the roots are asked of the arena.
+//! node. `build_fields` is for a container of which some fields stand at nodes that are there
+//! (`specs/Given.antt`). No call hashes: the roots are asked of the arena.
 //!
 //! Each call first counts how many nodes it makes at most, takes room for them at once, and then
 //! makes them without taking memory: after want of memory the arena is as it was. What a call adds
@@ -18,6 +19,8 @@
 mod builder;
 mod bytes;
 mod defaults;
+mod fields;
+mod given;
 mod packed;
 mod packed_values;
 mod room;
@@ -29,6 +32,7 @@ mod values;
 
 pub use bytes::build_bytes;
 pub use defaults::build_default;
+pub use fields::build_fields;
 pub use room::reserve_nodes;
 pub use tally_values::nodes_needed;
 pub use values::{build, value_node};

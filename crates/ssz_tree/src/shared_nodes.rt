@@ -5,8 +5,11 @@ ghost use Rattle.ssz_schema.specs.Types.{union};
 ghost use Rattle.ssz_schema.specs.Sizes.{basic_size};
 ghost use Rattle.ssz_schema.specs.Unfolding.{type_of, fields_over, options_over, IsBelow};
 ghost use Rattle.ssz_tree.specs.Shared.{shared, shared_fields, shared_vector};
+ghost use Rattle.ssz_tree.specs.Given.{left_fields, made_at};
 
+use super::given::given_at;
 use super::room::pairs_above;
+use ssz_arena::NodeId;
 use ssz_schema::{Name, Schema, Ty, TypeId};
 use ssz_value::option_at;
 
@@ -25,7 +28,7 @@ pub fn shared_nodes(schema: &Schema, id: TypeId) -> u64
         Ty::List(_, _) => 1,
         Ty::Vector(elem, _) => vector_nodes(schema, *elem, schema.depth(id)),
         Ty::Container(fields) => {
-            container_nodes(schema, id, schema.depth(id), fields.as_slice())
+            container_nodes(schema, id, schema.depth(id), fields.as_slice(), &[])
         }
         Ty::Union(options) => union_nodes(schema, id, options.as_slice()),
     }
@@ -46,19 +49,37 @@ fn vector_nodes(schema: &Schema, elem: TypeId, depth: u32) -> u64
     }
 }
 
-// Of a container of these fields, whose types stand before id.
+/// Of a container of these fields, whose types stand before id, where the nodes of some are given.
 #[cycle(count)]
-fn container_nodes(schema: &Schema, id: TypeId, depth: u32, fields: &[(Name, TypeId)]) -> u64
+pub fn container_nodes(
+    schema: &Schema,
+    id: TypeId,
+    depth: u32,
+    fields: &[(Name, TypeId)],
+    given: &[Option<NodeId>],
+) -> u64
     requires known { id < length schema.now.trees }
     requires before { AllByRecursion (λ part. part.1 < id) fields.now }
-    ensures { result ≡ min (grow depth (length fields.now)
-        + shared_fields (fields_over schema.now.trees fields.now)) (2 ^ 64 - 1) }
+    ensures { let left = left_fields (fields_over schema.now.trees fields.now) given.now in
+        result ≡ min (grow depth (length fields.now) + shared_fields left) (2 ^ 64 - 1) }
 {
     let mut nodes = pairs_above(depth, fields.len() as u64);
-    for field in fields {
-        nodes = nodes.saturating_add(shared_nodes(schema, field.1));
+    for (i, field) in fields.iter().enumerate() {
+        nodes = nodes.saturating_add(field_nodes(schema, field.1, given_at(given, i)));
     }
     nodes
+}
+
+// Of a field of this type: none where its node is given.
+#[cycle(count)]
+fn field_nodes(schema: &Schema, id: TypeId, given: Option<NodeId>) -> u64
+    requires { id < length schema.now.trees }
+    ensures { result ≡ min (made_at (type_of schema.now id) given) (2 ^ 64 - 1) }
+{
+    match given {
+        Some(_) => 0,
+        None => shared_nodes(schema, id),
+    }
 }
 
 // Of a union of these options, whose types stand before id.

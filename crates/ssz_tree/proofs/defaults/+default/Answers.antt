@@ -1,4 +1,4 @@
-use Rattle.std.proofs.Common.{rules, ◌≡◌, ◌∙◌, ◌+◌, ◌-◌, ◌*◌, ◌<◌, ◌≤◌, ◌^◌, ℕ, List, length, replicate, slice_get, Option, Some, None, refl, sym, ap, subst, arith}
+use Rattle.std.proofs.Common.{rules, ◌≡◌, ◌∙◌, ◌+◌, ◌-◌, ◌*◌, ◌<◌, ◌≤◌, ◌^◌, ℕ, List, [], length, replicate, slice_get, Option, Some, None, refl, sym, ap, subst, arith}
 use Rattle.std.specs.List.{AllByRecursion}
 use Rattle.ssz_chunk.specs.Tree.{grow}
 use Rattle.ssz_schema.specs.Types.{container, union}
@@ -16,57 +16,97 @@ use Rattle.ssz_packing.proofs.Options.{below_at}
 use Rattle.ssz_tree.specs.Added.{Adds, IsPart, whole}
 use Rattle.ssz_tree.specs.Built.{elements_part}
 use Rattle.ssz_tree.specs.Shared.{shared, shared_fields, shared_vector, default_part}
+use Rattle.ssz_tree.specs.Given.{IsGiven, made_at, left_fields}
 use Rattle.ssz_tree.proofs.Adding.{makes_pair}
 use Rattle.ssz_tree.proofs.Copies.{grow-few}
-use Rattle.ssz_tree.proofs.DefaultForms.{MakesWith-zero, MakesWith-same, MakesWith-joined, MakesWith-copies, zero-leaf, copies_room, basic-default, bitvector-default, list-default, bitlist-default, elements-zeros, elements-copies, vector-default, container-default, union-default, union-none, shared-chosen, shared-none, shared-empty, shared-container, shared-of-vector}
-use Rattle.ssz_tree.proofs.DefaultGathering.{HasDefaultRoom, FirstDefaults-start, FirstDefaults-room, FirstDefaults-push, FirstDefaults-more, FirstDefaults-finish, FirstDefaults-done}
+use Rattle.ssz_tree.proofs.DefaultForms.{MakesWith-zero, MakesWith-same, MakesWith-joined, MakesWith-copies, zero-leaf, copies_room, basic-default, bitvector-default, list-default, bitlist-default, elements-zeros, elements-copies, vector-default, container-default, union-default, union-none, shared-chosen, shared-none, shared-empty, shared-container, shared-of-vector, count-fields}
+use Rattle.ssz_tree.proofs.FieldPieces.{pieces, pieces-many, piece-stands, given_there, given-kept, field-made, taken_there, nothing_given}
+use Rattle.ssz_tree.proofs.GivenGathering.{FirstPieces-start, FirstPieces-room, FirstPieces-push, FirstPieces-more, FirstPieces-finish, FirstPieces-done, fields_room, fields_made, default_made}
 use Rattle.ssz_tree.proofs.defaults.+default.Goals as goal
 
 -- fields
 
-pub container_node-loop-field-init : goal.container_node-loop-field-init
-container_node-loop-field-init g t c = FirstDefaults-start _ _ _ _ _ c.new-nodes.ensures.depth
+pub container_node-loop-i-init : goal.container_node-loop-i-init
+container_node-loop-i-init g t c = FirstPieces-start _ _ _ _ c.new-nodes.ensures.depth
     c.new-nodes.ensures.holds
 
-pub container_node-default_node-node-requires : goal.container_node-default_node-node-requires
-container_node-default_node-node-requires g t c κs within =
-    let before : c.field-item.result.1 < c.args.id =
-    part_known c.args.id c.args.fields.now c.loop-field.field-index c.field-item.result
-    c.loop-field-test.true c.field-item.is c.requires.before in
-    let room : HasDefaultRoom c.args.arena.now c.args.depth c.args.schema.now.trees
-    c.args.fields.now = record { few = c.requires.few; room = c.requires.room } in
-    let spare : shared (tree_at c.args.schema.now.trees c.field-item.result.1)
-    ≤ c.loop-field.arena.spare =
-    FirstDefaults-room _ _ _ _ _ _ _ c.field-item.result c.loop-field.invariant
-    c.loop-field-test.true c.field-item.is room in
+pub container_node-field_node-node-requires : goal.container_node-field_node-node-requires
+container_node-field_node-node-requires g t c κs within =
+    let trees = c.args.schema.now.trees in
+    let field = c.index-fields-i.result in
+    let before : field.1 < c.args.id =
+    part_known c.args.id c.args.fields.now c.loop-i.i field c.loop-i-test.true
+    c.index-fields-i.is c.requires.before in
+    let room = fields_room c.args.arena.now c.args.depth trees c.args.fields.now c.args.given.now
+    c.requires.few c.requires.room in
+    let stands = piece-stands c.args.arena.now trees c.args.fields.now c.args.given.now c.loop-i.i
+    field c.loop-i-test.true c.index-fields-i.is in
+    let node : IsGiven c.loop-i.arena c.given_at.result =
+    subst (IsGiven c.loop-i.arena) (sym c.given_at.ensures)
+    (given-kept c.args.arena.now c.loop-i.arena _ c.loop-i.invariant.adds.keeps
+    (given_there c.args.arena.now c.args.given.now c.loop-i.i c.requires.given)) in
+    let spare : made_at (tree_at trees field.1) c.given_at.result ≤ c.loop-i.arena.spare =
+    subst (λ node. made_at (tree_at trees field.1) node ≤ c.loop-i.arena.spare)
+    (sym c.given_at.ensures) (FirstPieces-room _ _ _ _ _ _ _ c.loop-i.invariant stands room) in
     search rules
 
 pub container_node-push-requires-clause-room : goal.container_node-push-requires-clause-room
 container_node-push-requires-clause-room g t c =
-    let room : HasDefaultRoom c.args.arena.now c.args.depth c.args.schema.now.trees
-    c.args.fields.now = record { few = c.requires.few; room = c.requires.room } in
-    (FirstDefaults-push _ _ _ _ _ _ _ _ c.field-item.result _ c.loop-field.invariant
-    c.loop-field-test.true c.field-item.is room c.default_node-node.ensures).room
+    let trees = c.args.schema.now.trees in
+    let field = c.index-fields-i.result in
+    let room = fields_room c.args.arena.now c.args.depth trees c.args.fields.now c.args.given.now
+    c.requires.few c.requires.room in
+    let stands = piece-stands c.args.arena.now trees c.args.fields.now c.args.given.now c.loop-i.i
+    field c.loop-i-test.true c.index-fields-i.is in
+    let made = field-made c.args.arena.now c.loop-i.arena c.field_node-node.new.arena
+    (tree_at trees field.1) c.args.given.now c.loop-i.i c.given_at.result c.field_node-node.result
+    c.loop-i.invariant.adds.keeps c.requires.given c.given_at.ensures c.field_node-node.ensures in
+    (FirstPieces-push _ _ _ _ _ _ _ _ _ c.loop-i.invariant stands room made).room
 
-pub container_node-loop-field-preserved : goal.container_node-loop-field-preserved
-container_node-loop-field-preserved g t c =
-    FirstDefaults-more _ _ _ _ _ _ _ _ _ _ c.field-item.result _ c.loop-field.invariant
-    c.loop-field-test.true c.field-item.is c.default_node-node.ensures c.push.ensures.depth
+pub container_node-loop-i-preserved : goal.container_node-loop-i-preserved
+container_node-loop-i-preserved g t c =
+    let trees = c.args.schema.now.trees in
+    let field = c.index-fields-i.result in
+    let stands = piece-stands c.args.arena.now trees c.args.fields.now c.args.given.now c.loop-i.i
+    field c.loop-i-test.true c.index-fields-i.is in
+    let made = field-made c.args.arena.now c.loop-i.arena c.field_node-node.new.arena
+    (tree_at trees field.1) c.args.given.now c.loop-i.i c.given_at.result c.field_node-node.result
+    c.loop-i.invariant.adds.keeps c.requires.given c.given_at.ensures c.field_node-node.ensures in
+    FirstPieces-more _ _ _ _ _ _ _ _ _ _ _ c.loop-i.invariant stands made c.push.ensures.depth
     c.push.ensures.holds c.push.ensures.adds
 
 pub container_node-finish-requires-clause-room : goal.container_node-finish-requires-clause-room
 container_node-finish-requires-clause-room g t c =
-    let room : HasDefaultRoom c.args.arena.now c.args.depth c.args.schema.now.trees
-    c.args.fields.now = record { few = c.requires.few; room = c.requires.room } in
-    let last : c.loop-field.field-index ≡ length c.args.fields.now = omega arith in
-    (FirstDefaults-finish c.args.arena.now c.loop-field.arena _ _ _ _ _ c.loop-field.invariant last
-    room).room
+    let trees = c.args.schema.now.trees in
+    let room = fields_room c.args.arena.now c.args.depth trees c.args.fields.now c.args.given.now
+    c.requires.few c.requires.room in
+    let last : c.loop-i.i ≡ length (pieces c.args.arena.now trees c.args.fields.now
+    c.args.given.now) =
+    omega (
+      arith,
+      pieces-many c.args.arena.now trees c.args.fields.now c.args.given.now,
+      c.loop-i.invariant.within,
+    ) in
+    (FirstPieces-finish c.args.arena.now c.loop-i.arena _ _ _ _ c.loop-i.invariant last room).room
 
 pub container_node-returns : goal.container_node-returns
 container_node-returns g t c =
-    let last : c.loop-field.field-index ≡ length c.args.fields.now = omega arith in
-    FirstDefaults-done c.args.arena.now c.loop-field.arena _ _ _ _ _ _ _ c.loop-field.invariant
-    last c.finish.ensures.part c.finish.ensures.adds
+    let trees = c.args.schema.now.trees in
+    let last : c.loop-i.i ≡ length (pieces c.args.arena.now trees c.args.fields.now
+    c.args.given.now) =
+    omega (
+      arith,
+      pieces-many c.args.arena.now trees c.args.fields.now c.args.given.now,
+      c.loop-i.invariant.within,
+    ) in
+    fields_made c.args.arena.now _ c.args.depth trees c.args.fields.now c.args.given.now _
+    (FirstPieces-done c.args.arena.now c.loop-i.arena _ _ _ _ _ _ c.loop-i.invariant last
+    c.finish.ensures.part c.finish.ensures.adds)
+
+pub field_node-returns-in-Some : goal.field_node-returns-in-Some
+field_node-returns-in-Some g t c =
+    taken_there c.args.arena.now (type_of c.args.schema.now c.args.id) c.args.given
+    c.in-Some.node c.in-Some.is c.requires.given
 
 -- elements
 
@@ -266,10 +306,12 @@ default_node-container_node-requires g t c κs within =
     c.in-Container.is c.ty.ensures.before in
     let known : P c.as_slice.result.now = subst P fields all in
     let room : grow c.depth-in-Container.result (length c.as_slice.result.now)
-    + shared_fields (fields_over trees c.as_slice.result.now) ≤ c.args.arena.now.spare =
+    + shared_fields (left_fields (fields_over trees c.as_slice.result.now) [])
+    ≤ c.args.arena.now.spare =
     omega (
       arith,
       c.requires.room,
+      ap shared_fields (nothing_given (fields_over trees c.as_slice.result.now)),
       shared-container (type_of c.args.schema.now c.args.id) trees
           c.as_slice.result.now c.depth-in-Container.result form c.depth-in-Container.ensures.exact,
     ) in
@@ -283,11 +325,16 @@ default_node-returns-in-Container g t c =
     let form = sym c.ty.ensures.form ∙ ap (tree_over trees) c.in-Container.is
     ∙ ap (λ (parts : List (List ℕ × ℕ)). container (fields_over trees parts)) fields in
     MakesWith-same _ _ _ _ _ _ _
-    (shared-container (type_of c.args.schema.now c.args.id) trees c.as_slice.result.now
+    (ap (λ n. grow c.depth-in-Container.result n
+    + shared_fields (fields_over trees c.as_slice.result.now))
+    (count-fields trees c.as_slice.result.now)
+    ∙ shared-container (type_of c.args.schema.now c.args.id) trees c.as_slice.result.now
     c.depth-in-Container.result form c.depth-in-Container.ensures.exact)
     (container-default (type_of c.args.schema.now c.args.id)
     (fields_over trees c.as_slice.result.now) c.depth-in-Container.result form
-    c.depth-in-Container.ensures.exact) c.container_node.ensures
+    c.depth-in-Container.ensures.exact)
+    (default_made _ _ c.depth-in-Container.result (fields_over trees c.as_slice.result.now) _
+    c.container_node.ensures)
 
 pub default_node-returns-in-Uint : goal.default_node-returns-in-Uint
 default_node-returns-in-Uint g t c =

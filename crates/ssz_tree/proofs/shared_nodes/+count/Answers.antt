@@ -1,19 +1,29 @@
-use Rattle.std.proofs.Common.{◌≡◌, ◌∙◌, ◌+◌, ℕ, List, slice_get, Some, None, sym, ap, arith}
+use Rattle.std.proofs.Common.{◌≡◌, ◌∙◌, ◌+◌, ◌-◌, ◌^◌, ℕ, min, List, slice_get, Some, None, sym, ap, arith}
 use Rattle.ssz_schema.specs.Types.{container}
 use Rattle.ssz_schema.specs.Unfolding.{type_of, tree_at, tree_over, fields_over}
-use Rattle.ssz_tree.specs.Shared.{shared}
-use Rattle.ssz_tree.proofs.DefaultForms.{UsesFields-more, shared-chosen, shared-none, shared-empty, shared-container}
+use Rattle.ssz_tree.specs.Shared.{shared_fields}
+use Rattle.ssz_tree.specs.Given.{made_at}
+use Rattle.ssz_tree.proofs.FieldPieces.{CountsPieces-start, CountsPieces-more, CountsPieces-end, nothing_given}
+use Rattle.ssz_tree.proofs.DefaultForms.{shared-chosen, shared-none, shared-empty, shared-container}
 use Rattle.ssz_tree.proofs.shared_nodes.+count.Goals as goal
 
-pub container_nodes-loop-field-preserved : goal.container_nodes-loop-field-preserved
-container_nodes-loop-field-preserved t c =
-    let h = c.loop-field.invariant in
-    record {
-      used = h.used + shared (tree_at c.args.schema.now.trees c.field-item.result.1);
-      uses = UsesFields-more c.args.schema.now.trees c.args.fields.now c.loop-field.field-index
-          h.used c.field-item.result h.uses c.loop-field-test.true c.field-item.is;
-      counted = omega (arith, h.counted, c.shared_nodes.ensures, c.saturating_add-nodes.ensures);
-    }
+pub container_nodes-loop-i-init : goal.container_nodes-loop-i-init
+container_nodes-loop-i-init t c = CountsPieces-start c.args.schema.now.trees c.args.fields.now
+    c.args.given.now c.args.depth c.pairs_above-nodes.result c.pairs_above-nodes.ensures
+
+pub container_nodes-loop-i-preserved : goal.container_nodes-loop-i-preserved
+container_nodes-loop-i-preserved t c =
+    CountsPieces-more c.args.schema.now.trees c.args.fields.now c.args.given.now c.args.depth
+    c.loop-i.i c.loop-i.nodes c.index-fields-i.result c.field_nodes.result _ c.loop-i.invariant
+    c.loop-i-test.true c.index-fields-i.is
+    (c.field_nodes.ensures ∙ ap (λ given. min (made_at (tree_at c.args.schema.now.trees
+    c.index-fields-i.result.1) given) (2 ^ 64 - 1)) c.given_at.ensures)
+    c.saturating_add-nodes.ensures
+
+pub container_nodes-returns : goal.container_nodes-returns
+container_nodes-returns t c =
+    CountsPieces-end c.args.schema.now.trees c.args.fields.now c.args.given.now c.args.depth
+    c.loop-i.i c.loop-i.nodes c.loop-i.invariant (λ h. omega arith)
 
 pub shared_nodes-returns-in-Container : goal.shared_nodes-returns-in-Container
 shared_nodes-returns-in-Container t c =
@@ -25,6 +35,7 @@ shared_nodes-returns-in-Container t c =
     omega (
       arith,
       c.container_nodes.ensures,
+      ap shared_fields (nothing_given (fields_over trees c.as_slice.result.now)),
       shared-container (type_of c.args.schema.now c.args.id) trees c.as_slice.result.now
           c.depth-in-Container.result form c.depth-in-Container.ensures.exact,
     )
