@@ -5,6 +5,8 @@
 #[cfg(test)]
 mod reading;
 #[cfg(test)]
+mod upgrading;
+#[cfg(test)]
 mod versions;
 #[cfg(test)]
 mod views;

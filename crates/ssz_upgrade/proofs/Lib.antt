@@ -1,0 +1,4 @@
+pub mod Weighing
+pub mod Picking
+pub mod Walking
+pub mod Upgraded
