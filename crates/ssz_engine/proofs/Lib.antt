@@ -17,6 +17,8 @@ pub mod EditRows
 pub mod Tested
 pub mod Chosen
 pub mod Edited
+pub mod UpgradeRows
+pub mod UpgradeSteps
 pub mod Stepping
 pub mod Moving
 pub mod Paying

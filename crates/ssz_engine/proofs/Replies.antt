@@ -5,7 +5,7 @@ use Rattle.ssz_chunk.specs.declared.Chunk.{Chunk}
 use Rattle.ssz_schema.specs.Types.{SszType}
 use Rattle.ssz_script.specs.declared.reply.Reply.TheVariants.{Done, List as Listed, Root as RootIs, Bytes as BytesAre, Len as LenIs, Gindex as GindexIs, Proof as ProofIs, Hashes as Hashed, Json as JsonIs}
 use Rattle.ssz_script.specs.declared.statement.Statement.{Statement}
-use Rattle.ssz_script.specs.declared.statement.Statement.TheVariants.{New, Lit, Load, Fork, Drop, List as ListNames, Set, Append, Pop, Choose, Root, Bytes, Len, Save, Gindex, Prove, Hashes, Json, LoadJson, Compact}
+use Rattle.ssz_script.specs.declared.statement.Statement.TheVariants.{New, Lit, Load, Fork, Drop, List as ListNames, Set, Append, Pop, Choose, Root, Bytes, Len, Save, Gindex, Prove, Hashes, Upgrade, Json, LoadJson, Compact}
 use Rattle.ssz_value.specs.Values.{SszValue}
 use Rattle.ssz_machine.specs.declared.place.Place.{Place}
 use Rattle.ssz_machine.specs.State.{Name, Versions, State, View, view_of}
@@ -66,9 +66,6 @@ save_says : {number : ℕ} (file : Name) (versions : Versions) (bytes : List ℕ
     }))
 save_says file versions bytes = record { is = λ n says. cc }
 
-refused_says : {number : ℕ} (refusal : Refusal) → Does (Says number) (Err refusal)
-refused_says refusal = record { is = tt }
-
 row_says : (rules : Rules) (place : Place) (number : ℕ) (view : View) (statement : Statement)
     → Does (Says number) (effect rules place number view statement)
 row_says rules place number view (New v t) = search (given, passed, made_says) depth 12
@@ -95,7 +92,8 @@ row_says rules place number view Hashes = search (passed, hashes_say) depth 12
 row_says rules place number view (Json v path) = search (given, passed, json_says) depth 12
 row_says rules place number view (LoadJson v t x) = search (given, passed, made_says) depth 12
 row_says rules place number view Compact = done_says _
-row_says rules place number view other = refused_says _
+row_says rules place number view (Upgrade v w t) =
+    search (given, passed, made_says) depth 12
 
 by_row : (number line : ℕ) (row : Row) → IfOk row (Says number) → (n : ℕ)
     → number_said (reply_in line row) ≡ Some n → n ≡ number

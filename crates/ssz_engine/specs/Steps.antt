@@ -5,9 +5,11 @@ use Rattle.ssz_outside.specs.Job.{Save}
 use Rattle.ssz_outside.specs.Outcome.{Tears}
 use Rattle.ssz_arena.specs.Content.{todo, unhashed}
 use Rattle.ssz_arena.specs.declared.node.NodeId.{NodeId}
+use Rattle.ssz_schema.specs.Unfolding.{type_of}
+use Rattle.ssz_forms.specs.Upgrades.{upgrade_charge}
 use Rattle.ssz_proof.specs.Calculation.{PairOf}
 use Rattle.ssz_script.specs.declared.statement.Statement.{Statement}
-use Rattle.ssz_script.specs.declared.statement.Statement.TheVariants.{Lit, Load, LoadJson, Fork, Set, Append, Choose}
+use Rattle.ssz_script.specs.declared.statement.Statement.TheVariants.{Lit, Load, LoadJson, Fork, Upgrade, Set, Append, Choose}
 use Rattle.ssz_script.specs.declared.reply.Reply.{Reply}
 use Rattle.ssz_script.specs.declared.reply.Reply.TheVariants as reply
 use Rattle.ssz_script.specs.declared.reply.TheConstants.Reply.{BAD_LITERAL}
@@ -122,6 +124,36 @@ MakesFork (Fork v w) writer entries (decision.Made name id node) =
     (name.now ≡ w) × (held_at entries writer v ≡ Some (id, node))
 MakesFork (Fork v w) writer entries _ = ⊥
 MakesFork _ writer entries made = Unit {0}
+
+-- For what an upgrade makes no more is to be hashed than for what it takes the fields of, and the
+-- charge.
+abbrev pub Upgrades : Statement → ℕ → Content → Content → Type 0
+Upgrades (Upgrade v w t) writer old new =
+    (was is : Held) → held_at old.entries writer v ≡ Some was
+    → held_at new.entries writer w ≡ Some is
+    → todo new.arena is.1 ≤ todo old.arena was.1
+    + upgrade_charge (type_of old.types was.0) (type_of old.types is.0)
+Upgrades _ writer old new = Unit {0}
+
+abbrev pub UpgradesWhere : Outcome → Statement → ℕ → Content → Content → Type 0
+UpgradesWhere Accepted statement writer old new = Upgrades statement writer old new
+UpgradesWhere Refused statement writer old new = Unit {0}
+
+-- a node that an upgrade makes, under its name
+pub record IsUpgradeOf (v w : Name) (writer : ℕ) (old new : Content) (name : Name) (id : ℕ)
+    (node : NodeId) : Type 0 where
+  pub named : name ≡ w
+  pub due : (was : Held) → held_at old.entries writer v ≡ Some was
+      → todo new.arena node ≤ todo old.arena was.1
+      + upgrade_charge (type_of old.types was.0) (type_of old.types id)
+
+-- an upgrade is found to come to that, or is refused
+abbrev pub MakesUpgrade : Statement → ℕ → Content → Content → Decision → Type 0
+MakesUpgrade (Upgrade v w t) writer old new (decision.Refused code) = Unit {0}
+MakesUpgrade (Upgrade v w t) writer old new (decision.Made name id node) =
+    IsUpgradeOf v w writer old new name.now id node
+MakesUpgrade (Upgrade v w t) writer old new _ = ⊥
+MakesUpgrade _ writer old new made = Unit {0}
 
 -- the turn of the machine for a statement, where the writers have these versions and the files hold
 -- this

@@ -4,7 +4,7 @@ ghost use Rattle.ssz_machine.specs.Counts.{asks_root};
 ghost use Rattle.ssz_engine.specs.Compacting.{is_compact};
 ghost use Rattle.ssz_engine.specs.Content.{Grows};
 ghost use Rattle.ssz_engine.specs.Outside.{CountsReads};
-ghost use Rattle.ssz_engine.specs.Steps.{CanAsk, Decides, DecidesAlone, IsShort, MakesFork, file_read, outcome_of};
+ghost use Rattle.ssz_engine.specs.Steps.{CanAsk, Decides, DecidesAlone, IsShort, MakesFork, MakesUpgrade, file_read, outcome_of};
 ghost use Rattle.ssz_engine.specs.declared.outcome.Outcome.TheVariants.{Refused};
 
 use super::asking::{gindex, hashes, root};
@@ -18,10 +18,11 @@ use super::loading::load;
 use super::making::{drop, fork, list, lit, new};
 use super::proving::prove;
 use super::shown::{bytes, json, save};
+use super::upgrading::upgrade;
 use ssz_chunk::PairHash;
 use ssz_machine::Place;
 use ssz_outside::Files;
-use ssz_script::{Reply, Statement};
+use ssz_script::Statement;
 use ssz_versions::Writer;
 
 /// Finds what a statement other than `compact` comes to. Nothing is changed but that the arena may
@@ -48,6 +49,7 @@ pub(crate) fn decide<'a, F: Files, H: PairHash>(
     ensures refused { IfOk result (λ made. outcome_of made ≡ Refused → hasher.new ≡ hasher.old) }
     ensures still { asks_root (Some statement.now) ≡ false → hasher.new ≡ hasher.old }
     ensures forks { IfOk result (MakesFork statement.now writer.0 engine.old.entries) }
+    ensures upgrades { IfOk result (MakesUpgrade statement.now writer.0 engine.old engine.new) }
     ensures content { F.content files.new ≡ F.content files.old }
     ensures fails { (name : List ℕ) → file_read statement.now ≡ Some name
         → F.readable files.old name → result ≢ Err EngineFault.Read }
@@ -84,6 +86,7 @@ fn decide_alone<'a, H: PairHash>(
     ensures refused { IfOk result (λ made. outcome_of made ≡ Refused → hasher.new ≡ hasher.old) }
     ensures still { asks_root (Some statement.now) ≡ false → hasher.new ≡ hasher.old }
     ensures forks { IfOk result (MakesFork statement.now writer.0 engine.old.entries) }
+    ensures upgrades { IfOk result (MakesUpgrade statement.now writer.0 engine.old engine.new) }
 {
     match statement {
         Statement::New(v, t) => new(engine, writer, v, t),
@@ -109,8 +112,7 @@ fn decide_alone<'a, H: PairHash>(
             choose(engine, writer, v, path.as_slice(), *selector, literal)
         }
         Statement::Prove(v, indices) => prove(engine, writer, v, indices, hasher),
-        // Refused as no statement until upgrades come.
-        Statement::Upgrade(_, _, _) => Ok(Decision::Refused(Reply::SYNTAX)),
+        Statement::Upgrade(v, w, t) => upgrade(engine, writer, v, w, t),
         Statement::Load(_, _, _) => unreachable!(),
         Statement::LoadJson(_, _, _) => unreachable!(),
         Statement::Compact => unreachable!(),

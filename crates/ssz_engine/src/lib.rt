@@ -35,6 +35,7 @@ mod refusals;
 mod run;
 mod shown;
 mod turns;
+mod upgrading;
 mod weave;
 
 pub use engine::Engine;

@@ -85,6 +85,20 @@ types_M = (
 abbrev type_U : SszType
 type_U = union (none_option (option (uint W64) no_options))
 
+-- a container with one field of P, one of another type, and one more; and a union
+abbrev types_PN : Types
+types_PN = (
+  codes "P",
+  container (field (codes "a") (uint W64) (field (codes "b") (uint W64) no_fields)),
+)
+    ∷ (
+      codes "N",
+      container (field (codes "b") (uint W64)
+          (field (codes "a") (uint W8) (field (codes "c") (uint W64) no_fields))),
+    )
+    ∷ (codes "U", type_U)
+    ∷ []
+
 -- a line that is no statement
 pub no_statement : (held : Content)
     → run [] held (codes "frob\n")
@@ -99,12 +113,28 @@ pub empty_script : (held : Content)
 unfolding computes
 empty_script held = refl
 
--- statements that are still to come
-pub statements_to_come : (held : Content)
-    → run types_P held (codes "new V P\nupgrade V W P\nlist\n")
-    ≡ codes "ok\nrefused 2 1 Syntax\nlist V\n"
+-- a field of an equal type is taken, one of another type is its default, and so is one that is new
+pub upgraded_fields_kept : (held : Content)
+    → run types_PN held
+    (codes "lit V P 0x01000000000000000200000000000000\nupgrade V W N\nbytes W /\nroot W\n"
+    ++ codes "upgrade V X U\nupgrade V W N\nroot V\n")
+    ≡ codes "ok\nok\nbytes 0x0200000000000000000000000000000000\n"
+    ++ codes "root 0x0000000000000000000000000000000000000000000000000000000000000200\n"
+    ++ codes "refused 5 16 NotContainer\nrefused 6 4 NameTaken\n"
+    ++ codes "root 0x0200000000000000000000000000000000000000000000000000000000000001\n"
 unfolding computes
-statements_to_come held = refl
+upgraded_fields_kept held = refl
+
+-- the type is tested first, then the version, then the new name, and the two types last
+pub upgrade_refusals : (held : Content)
+    → run types_PN held
+    (codes "new V P\nnew X U\nupgrade V V N\nupgrade V V Z\nupgrade Y V Z\nupgrade Y V N\n"
+    ++ codes "upgrade X V P\nupgrade X W P\nupgrade V W U\nupgrade V W P\nlist\n")
+    ≡ codes "ok\nok\nrefused 3 4 NameTaken\nrefused 4 2 NoType\nrefused 5 2 NoType\n"
+    ++ codes "refused 6 3 NoVersion\nrefused 7 4 NameTaken\nrefused 8 16 NotContainer\n"
+    ++ codes "refused 9 16 NotContainer\nok\nlist V W X\n"
+unfolding computes
+upgrade_refusals held = refl
 
 -- no version changes where memory is given up
 pub compacted : (held : Content)

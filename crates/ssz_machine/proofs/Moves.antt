@@ -110,7 +110,9 @@ row_changes rules place number view ListNames =
 row_changes rules place number view (Drop v) = search (given, drop_changes) depth 12
 row_changes rules place number view (SaveInto v file) =
     search (given, passed, save_changes) depth 12
-row_changes rules place number view (Upgrade v w t) = record { is = tt }
+row_changes rules place number view (Upgrade v w t) =
+    let is : Puts (Upgrade v w t) w = record { entry = refl; files = refl } in
+    search (given, passed, made_changes, is) depth 12
 row_changes rules place number view (Json v path) =
     let is : Asks (Json v path) = record { entry = refl; files = refl } in
     search (given, passed, told_changes, is) depth 12

@@ -81,7 +81,8 @@ module _ (rules : Rules) where
   replies_fit place number view named (Prove v indices) =
       search (given, passed, fits_proof) depth 12
   replies_fit place number view named Hashes = search (passed, fits_told) depth 12
-  replies_fit place number view named (Upgrade v w t) = record { is = tt }
+  replies_fit place number view named (Upgrade v w t) =
+      search (given, passed, fits_made) depth 12
   replies_fit place number view named (Json v path) =
       search (given, passed, fits_json) depth 12
   replies_fit place number view named (LoadJson v t x) =

@@ -2,7 +2,7 @@
 use Rattle.std.specs.Prelude.{ℕ, ◌≡◌, ◌≢◌, true, Option, None, IsSomeAnd, IfOk}
 use Rattle.ssz_outside.specs.Job.{Save}
 use Rattle.ssz_script.specs.declared.statement.Statement.{Statement}
-use Rattle.ssz_script.specs.declared.statement.Statement.TheVariants.{New, Lit, Load, LoadJson, Fork, Drop, Set, Append, Pop, Choose, Save as SaveInto}
+use Rattle.ssz_script.specs.declared.statement.Statement.TheVariants.{New, Lit, Load, LoadJson, Fork, Upgrade, Drop, Set, Append, Pop, Choose, Save as SaveInto}
 use Rattle.ssz_machine.specs.declared.place.Place.{Place}
 use Rattle.ssz_machine.specs.State.{Name, Version, Versions, View, State, with_version, without_version}
 use Rattle.ssz_machine.specs.Rules.{Rules, Effect}
@@ -22,6 +22,7 @@ touch (Lit v t literal) = puts v
 touch (Load v t file) = puts v
 touch (LoadJson v t file) = puts v
 touch (Fork v w) = puts w
+touch (Upgrade v w t) = puts w
 touch (Drop v) = takes v
 touch (Set v path literal) = puts v
 touch (Append v path literal) = puts v

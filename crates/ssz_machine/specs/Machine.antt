@@ -9,7 +9,7 @@ use Rattle.ssz_script.specs.declared.reply.TheConstants.Reply.{SYNTAX}
 use Rattle.ssz_machine.specs.declared.place.Place.{Place}
 use Rattle.ssz_machine.specs.State.{Name, Versions, View, State, has_version, view_of, with_view}
 use Rattle.ssz_machine.specs.Rules.{Rules, coded, Row, refusal_reply}
-use Rattle.ssz_machine.specs.Making.{new, lit, load, loadjson, fork, drop, list, compact}
+use Rattle.ssz_machine.specs.Making.{new, lit, load, loadjson, fork, upgrade, drop, list, compact}
 use Rattle.ssz_machine.specs.Editing.{set, append, pop, choose}
 use Rattle.ssz_machine.specs.Asking.{root_row, bytes, json_row, len, save, gindex, prove, hashes}
 
@@ -20,6 +20,7 @@ effect rules place number view (Lit v t literal) = lit rules view.versions v t l
 effect rules place number view (Load v t file) =
     load rules view.versions v t (contents view.files file)
 effect rules place number view (Fork v w) = fork view.versions v w
+effect rules place number view (Upgrade v w t) = upgrade rules view.versions v w t
 effect rules place number view (Drop v) = drop view.versions v
 effect rules place number view ListNames = list view.versions
 effect rules place number view (Set v path literal) = set view.versions v path literal
@@ -38,8 +39,6 @@ effect rules place number view (LoadJson v t file) =
     loadjson rules view.versions v t (contents view.files file)
 -- only what is kept of the nodes changes, of which the machine knows nothing
 effect rules place number view Compact = compact view.versions
--- this is still to come
-effect rules place number view (Upgrade v w t) = Err (coded SYNTAX)
 
 -- a line that is not of the grammar is refused
 abbrev pub said : Rules → Place → ℕ → View → Option Statement → Row

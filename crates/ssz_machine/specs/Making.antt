@@ -1,17 +1,19 @@
 -- Statements that make, take away and list versions. Each is a list of tests in order, and then
 -- what it does.
-use Rattle.std.specs.Prelude.{ℕ, nat_lt, List, length, map, Ok}
+use Rattle.std.specs.Prelude.{ℕ, nat_lt, List, length, map, Result, Ok, Err}
 use Rattle.ssz_schema.specs.Types.{SszType}
 use Rattle.ssz_script.specs.declared.reply.Reply.TheVariants.{Done, List as Listed}
-use Rattle.ssz_script.specs.declared.reply.TheConstants.Reply.{NO_TYPE, NO_VERSION, NAME_TAKEN, TOO_LONG}
+use Rattle.ssz_script.specs.declared.reply.TheConstants.Reply.{NO_TYPE, NO_VERSION, NAME_TAKEN, TOO_LONG, NOT_CONTAINER}
 use Rattle.ssz_value.specs.Values.{SszValue}
 use Rattle.ssz_value.specs.Defaults.{default_of}
 use Rattle.ssz_value.specs.Faults.{why}
 use Rattle.ssz_value.specs.Reading.{value_in}
 use Rattle.ssz_value.specs.Pairs.{pairs}
 use Rattle.ssz_value_json.specs.Faults.{why_json, value_spelled}
+use Rattle.ssz_forms.specs.declared.upgrade_fault.UpgradeFault.{UpgradeFault}
+use Rattle.ssz_forms.specs.Upgrades.{upgraded, upgrade_charge}
 use Rattle.ssz_machine.specs.State.{Name, Versions, version_of, has_version, without_version}
-use Rattle.ssz_machine.specs.Rules.{Rules, Outcome, ◌>>=◌, ◌>>◌, need, refuse, faultless, well_spelled, Row, says, makes}
+use Rattle.ssz_machine.specs.Rules.{Rules, Outcome, coded, ◌>>=◌, ◌>>◌, need, refuse, faultless, well_spelled, Row, says, makes}
 
 -- a name holds a value that is brought in, at the charge of its pairs
 abbrev pub brings : Versions → Name → SszType → SszValue → Row
@@ -68,6 +70,20 @@ fork versions v w = do
   version ← need NO_VERSION (version_of v versions)
   refuse NAME_TAKEN (has_version w versions)
   makes versions w version.type version.value 0
+
+-- the value, where both types are containers
+abbrev pub contained : Result SszValue UpgradeFault → Outcome SszValue
+contained (Ok value) = Ok value
+contained (Err fault) = Err (coded NOT_CONTAINER)
+
+-- `upgrade V W T`: W, of type T, has the fields of V that T has too
+abbrev pub upgrade : Rules → Versions → Name → Name → Name → Row
+upgrade rules versions v w t = do
+  type ← need NO_TYPE (rules.type_named t)
+  version ← need NO_VERSION (version_of v versions)
+  refuse NAME_TAKEN (has_version w versions)
+  value ← contained (upgraded version.type version.value type)
+  makes versions w type value (upgrade_charge version.type type)
 
 -- `drop V`: V is gone
 abbrev pub drop : Versions → Name → Row

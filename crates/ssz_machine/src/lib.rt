@@ -5,8 +5,6 @@
 //! small definition for each row, a step, whole scripts and scripts that are woven together, the
 //! jobs of `run`, `weave` and `work` in the sense of ssz_outside, the edits that `work` draws, and
 //! what is so of the numbers that `hashes` prints. The laws about them stand in `laws`.
-//!
-//! `upgrade` is still to come, and is refused as Syntax.
 #![tactic(auto)]
 
 mod laws;

@@ -1,7 +1,7 @@
 use Rattle.std.proofs.Common.{◌-◌, IfOk, List, ℕ, Result, Ok, Err, subst}
 use Rattle.ssz_outside.specs.Content.{Content as Files}
 use Rattle.ssz_schema.specs.Paths.{Path}
-use Rattle.ssz_machine.specs.Making.{new, lit, list}
+use Rattle.ssz_machine.specs.Making.{new, lit, list, upgrade}
 use Rattle.ssz_machine.specs.Editing.{append, choose, pop, set}
 use Rattle.ssz_machine.specs.Asking.{bytes, gindex, json_row, len, prove, save}
 use Rattle.ssz_machine.specs.Changes.{nothing, puts}
@@ -45,6 +45,17 @@ returns-in-List-clause-decides g c =
     (with-ok g.H.PairHash.pair_of (λ rules versions. list versions) nothing c.args.writer.0
     c.args.engine.now c.args.engine.now (g.H.PairHash.pairs c.args.hasher.now) c.list.result
     c.list.ensures.answers)
+
+pub returns-in-Upgrade-clause-decides : goal.returns-in-Upgrade-clause-decides
+returns-in-Upgrade-clause-decides g c =
+    alone-ok g.H.PairHash.pair_of c.args.place
+    (g.H.PairHash.pairs c.args.hasher.now - c.args.engine.now.base) c.args.writer.0
+    c.args.engine.now c.upgrade.new.engine (g.H.PairHash.pairs c.args.hasher.now)
+    (g.H.PairHash.pairs c.args.hasher.now) c.args.statement.now _ c.upgrade.result c.in-Upgrade.is
+    (with-ok g.H.PairHash.pair_of (λ rules versions. upgrade rules versions c.in-Upgrade.v
+    c.in-Upgrade.w c.in-Upgrade.t)
+    (puts c.in-Upgrade.w) c.args.writer.0 c.args.engine.now c.upgrade.new.engine
+    (g.H.PairHash.pairs c.args.hasher.now) c.upgrade.result c.upgrade.ensures.answers)
 
 pub returns-in-Fork-clause-decides : goal.returns-in-Fork-clause-decides
 returns-in-Fork-clause-decides g c =
