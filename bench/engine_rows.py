@@ -621,7 +621,8 @@ def lines(script):
     script.none("# note")
     script.none("")
     script.list()
-    script.refused("upgrade V W P", "Syntax")
+    script.refused("upgrade V W", "Syntax")
+    script.refused("upgrade V W M", "NoVersion")
     script.refused("compact V", "Syntax")
     script.compact()
     for text in ("json V", "json V /a /b", "json V a", "loadjson V P", "loadjson V P f g", "loadjson V P f~"):

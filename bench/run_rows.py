@@ -514,7 +514,7 @@ class Ref(Exception):
 
 def ref(c, *x):
     raise Ref((c,) + x)
-CODES = {1: 'Syntax', 2: 'NoType', 3: 'NoVersion', 4: 'NameTaken', 5: 'BadPath', 6: 'Absent', 7: 'NotThat', 8: 'Full', 9: 'Empty', 10: 'BadSelector', 11: 'BadLiteral', 12: 'TooLong', 13: 'NoNode', 14: 'Nested', 15: 'NotHere', 18: 'BadJson'}
+CODES = {1: 'Syntax', 2: 'NoType', 3: 'NoVersion', 4: 'NameTaken', 5: 'BadPath', 6: 'Absent', 7: 'NotThat', 8: 'Full', 9: 'Empty', 10: 'BadSelector', 11: 'BadLiteral', 12: 'TooLong', 13: 'NoNode', 14: 'Nested', 15: 'NotHere', 16: 'NotContainer', 18: 'BadJson'}
 
 def get(t, v, p):
     """the part, Absent raises; path fits"""
@@ -628,6 +628,16 @@ class Machine:
             x = s.V(a[0])
             s.free(a[1])
             s.v[a[1]] = x
+            return 'ok'
+        if c == 'upgrade':
+            need(n == 3 and all(map(nm, a)))
+            t = s.T(a[2])
+            u, v = s.V(a[0])
+            s.free(a[1])
+            if u[0] != 'container' or t[0] != 'container':
+                ref(16)
+            old = {name: (p, x) for (name, p), x in zip(u[1], v)}
+            s.v[a[1]] = (t, [old[name][1] if name in old and old[name][0] == p else default(p) for name, p in t[1]])
             return 'ok'
         if c == 'drop':
             need(n == 1 and nm(a[0]))
@@ -793,7 +803,11 @@ SCHEMA = """{"ssz":1,"types":[
 ["LP",{"list":["P",5]}],["LU",{"list":["U",3]}],["LL",{"list":[{"list":["uint64",7]},3]}],
 ["W",{"container":[["w","uint256"],["x","uint128"],["t","boolean"]]}],
 ["Wide",{"vector":[{"vector":["uint64",4]},65536]}],
-["K",{"container":[["u","U"],["p","P"],["l","LP"],["bits","BL"],["v",{"vector":["M",3]}],["big",{"list":["uint8",1099511627776]}],["w","W"]]}]
+["K",{"container":[["u","U"],["p","P"],["l","LP"],["bits","BL"],["v",{"vector":["M",3]}],["big",{"list":["uint8",1099511627776]}],["w","W"]]}],
+["N",{"container":[["b","uint64"],["a","uint8"],["c","uint64"]]}],
+["R",{"container":[["p","P"],["l","L8"]]}],
+["S",{"container":[["l",{"list":["uint64",8]}],["u","U"],["p","P"]]}],
+["S8",{"container":[["p","Q"],["l",{"list":["uint64",9]}],["R","P"]]}]
 ]}
 """
 NAMES = ['P', 'M', 'U', 'V4', 'BL', 'BV', 'LP', 'LU', 'LL', 'W', 'K']
@@ -1162,6 +1176,60 @@ append V /b 0x03
 json V /
 list
 """),
+    ("xor", """\
+lit V P 0x01000000000000000200000000000000
+upgrade V W N
+bytes W /
+root W
+upgrade V X U
+upgrade V W N
+root V
+"""),
+    ("sha", """\
+new V P
+new X U
+upgrade V V N
+upgrade V V Z
+upgrade Y V Z
+upgrade Y V N
+upgrade Y W Z
+upgrade X V P
+upgrade X W P
+upgrade V W U
+upgrade V W uint64
+upgrade X W V4
+upgrade V W P
+list
+"""),
+    # names of definitions do not matter, limits and the types of parts do; what is taken stays under edits
+    ("sha", """\
+lit V R 0x01000000000000000200000000000000140000000300000000000000
+upgrade V W S
+upgrade V X S8
+upgrade W Y R
+bytes W /
+bytes X /
+bytes Y /
+root V
+root W
+root X
+root Y
+set V /p/a 0x0900000000000000
+append W /l 0x0400000000000000
+choose W /u 1 0x0500000000000000
+upgrade W Z R
+bytes V /
+bytes W /
+bytes Z /
+root V
+root W
+root Z
+drop V
+compact
+root Z
+prove Z /l/1 /p
+list
+"""),
     ("sha", 'upgrade V W P\njson V\nloadjson V P\njson V / /\nloadjson V P f g\nloadjson V 1 f\ncompact V\nhashes x\nnew V\nnew 1 P\nset V a 0x\nprove V\nlit V P 0x0\nlit V P 0xzz\nbytes V /a/\nbytes V /01\n\x01\n'),
 ]
 # with the numbers of `hashes`, which follow from the pairs of the trees
@@ -1186,6 +1254,31 @@ compact
 root V
 hashes
 """, ['hashes 1', 'hashes 1']),
+    # the same type shares all: the pair above the fields alone is new; another type adds its defaults' pairs
+    ("sha", """\
+new V R
+root V
+hashes
+upgrade V W R
+root W
+hashes
+upgrade V X S
+root X
+hashes
+upgrade X Y R
+root Y
+hashes
+""", ['hashes 3', 'hashes 4', 'hashes 8', 'hashes 9']),
+    # what V has still to hash is hashed for W, once
+    ("sha", """\
+new V R
+upgrade V W R
+hashes
+root W
+hashes
+root V
+hashes
+""", ['hashes 0', 'hashes 3', 'hashes 4']),
     # what was not hashed before is hashed later, once; what two names share is shared as before
     ("sha", """\
 compact
@@ -1232,10 +1325,15 @@ def main():
         state = file.read()
     with open(os.path.join(TOP, "examples/ethereum/deneb.json")) as file:
         deneb = file.read()
+    with open(os.path.join(TOP, "examples/ethereum/upgrade.script")) as file:
+        upgrade = file.read()
+    with open(os.path.join(TOP, "examples/ethereum/upgrade.json")) as file:
+        forks = file.read()
     rows = [(*row, (), "types.json", SCHEMA) for row in EXAMPLES + drawn]
     rows += [(*row, "types.json", SCHEMA) for row in COUNTED]
     rows.append(("sha", state, (), "deneb.json", deneb))
-    for name, text in ("types.json", SCHEMA), ("deneb.json", deneb):
+    rows.append(("sha", upgrade, (), "upgrade.json", forks))
+    for name, text in ("types.json", SCHEMA), ("deneb.json", deneb), ("upgrade.json", forks):
         with open(os.path.join(CRATE, "data", name), "w") as file:
             file.write(text)
     with open(os.path.join(CRATE, "data", "texts.txt"), "w") as file:
