@@ -36,3 +36,8 @@ pub mod Uncompacted
 pub mod TakenOver
 pub mod Weaving
 pub mod Isolating
+pub mod WorkSteps
+pub mod WorkDraws
+pub mod WorkPoints
+pub mod WorkRounds
+pub mod WorkEnds

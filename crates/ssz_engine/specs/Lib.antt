@@ -12,3 +12,4 @@ pub mod Scripts
 pub mod Points
 pub mod Lines
 pub mod Weaves
+pub mod Works

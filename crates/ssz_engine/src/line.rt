@@ -85,9 +85,9 @@ fn refuse(line: u64, out: &mut Vec<u8>) -> Result<Outcome, EngineFault>
     Ok(Outcome::Refused)
 }
 
-// Does what a line of a writer says, and appends the line of the reply. A literal of 2^32 bytes or
-// more is want of memory.
-fn reply_to<F: Files, H: PairHash>(
+/// Does what a line of a writer says, and appends the line of the reply. A literal of 2^32 bytes or
+/// more is want of memory.
+pub(crate) fn reply_to<F: Files, H: PairHash>(
     engine: &mut Engine<H>,
     place: Place,
     writer: Writer,
@@ -134,8 +134,8 @@ fn reply_to<F: Files, H: PairHash>(
     engine.step(writer, place, line.line, statement, files, hasher, out)
 }
 
-// The status of a run that a line ended.
-fn status_of(fault: EngineFault) -> Status
+/// The status of a run that a line ended.
+pub(crate) fn status_of(fault: EngineFault) -> Status
     ensures value { result ≡ ended_by fault }
     ensures stops { ¬ IsFinished result }
 {
@@ -146,8 +146,8 @@ fn status_of(fault: EngineFault) -> Status
     }
 }
 
-// Prints a line in one piece.
-fn print<S: Sink>(line: &[u8], out: &mut S) -> Result<(), Status>
+/// Prints a line in one piece.
+pub(crate) fn print<S: Sink>(line: &[u8], out: &mut S) -> Result<(), Status>
     ensures pieces { Prints result line.now (S.pieces out.old) (S.pieces out.new) }
     ensures counts { CountsPrint result (S.faults out.old) (S.faults out.new) }
     ensures stops { IfErr result (λ ended. ¬ IsFinished ended) }

@@ -1,0 +1,118 @@
+use Rattle.std.proofs.Common.{◌≡◌, ◌+◌, ◌-◌, ◌∙◌, ℕ, suc, List, refl, sym, ap, subst, arith}
+use Rattle.std.specs.Prelude.{Err, Ok}
+use Rattle.std.proofs.lemmas.Result.{err_from_is_err_and}
+use Rattle.ssz_arena.proofs.Keeping.{keeps_same, keeps_trans}
+use Rattle.ssz_machine.specs.Rules.{Rules}
+use Rattle.ssz_machine.specs.Work.{round, walk_from, worked_on}
+use Rattle.ssz_machine.specs.State.{version_of}
+use Rattle.ssz_machine.specs.Drawing.{worked}
+use Rattle.ssz_engine.specs.Content.{rules_of}
+use Rattle.ssz_engine.specs.Works.{Point, Works, point}
+use Rattle.ssz_engine.proofs.Leading.{keeps_on}
+use Rattle.ssz_engine.proofs.WorkPoints.{by_first_rules, works_exit}
+use Rattle.ssz_engine.proofs.WorkRounds.{AreRounds, rounds_begin, rounds_broken, rounds_end, rounds_on}
+use Rattle.ssz_engine.proofs.working.work_rounds.Goals as goal
+
+pub returns-clause-works : goal.returns-clause-works
+returns-clause-works g c = λ state at.
+    let before : Point = point c.args.engine.now (g.H.PairHash.pairs c.args.hasher.now)
+    (g.F.Files.content c.args.files.now) in
+    let here : Point = point c.loop-round.engine (g.H.PairHash.pairs c.loop-round.hasher)
+    (g.F.Files.content c.loop-round.files) in
+    let rules : Rules = rules_of g.H.PairHash.pair_of c.args.engine.now in
+    let none : c.args.count - c.loop-round._round ≡ 0 = omega (arith, c.loop-round-test.false) in
+    rounds_end rules c.args.count c.args.seed state c.loop-round.generator c.loop-round.edits
+    before here
+    (subst (λ left. AreRounds rules c.args.count c.args.seed state left c.loop-round.generator
+    c.loop-round.edits before here) none (c.loop-round.invariant.rounds state at))
+
+pub loop-round-init : goal.loop-round-init
+loop-round-init g c = record {
+  keeps = record { types = refl; most = refl; base = refl };
+  nodes = keeps_same _ _ refl;
+  rises = omega arith;
+  few = omega arith;
+  rounds = λ state at.
+      let rules : Rules = rules_of g.H.PairHash.pair_of c.args.engine.now in
+      let here : Point = point c.args.engine.now (g.H.PairHash.pairs c.args.hasher.now)
+      (g.F.Files.content c.args.files.now) in
+      let all : c.args.count ≡ c.args.count - 0 = omega arith in
+      subst (λ left. AreRounds rules c.args.count c.args.seed state left c.new-generator.result 0
+      here here) all
+      (subst (λ x. AreRounds rules c.args.count c.args.seed state c.args.count x 0 here here)
+      (sym {A = ℕ} c.new-generator.ensures)
+      (rounds_begin rules c.args.count c.args.seed state here at));
+  readable = λ other is. is;
+  gets = refl;
+  puts = refl;
+}
+
+pub returns-in_err-edits-clause-works : goal.returns-in_err-edits-clause-works
+returns-in_err-edits-clause-works g c = λ state at.
+    let before : Point = point c.args.engine.now (g.H.PairHash.pairs c.args.hasher.now)
+    (g.F.Files.content c.args.files.now) in
+    let mid : Point = point c.loop-round.engine (g.H.PairHash.pairs c.loop-round.hasher)
+    (g.F.Files.content c.loop-round.files) in
+    let after : Point = point c.work_round.new.engine (g.H.PairHash.pairs c.work_round.new.hasher)
+    (g.F.Files.content c.work_round.new.files) in
+    let rules : Rules = rules_of g.H.PairHash.pair_of c.args.engine.now in
+    let left = c.args.count - suc c.loop-round._round in
+    let next : c.args.count - c.loop-round._round ≡ suc left =
+    (let within = c.loop-round-test.true in omega (arith, within)) in
+    let rounds : AreRounds rules c.args.count c.args.seed state (suc left) c.loop-round.generator
+    c.loop-round.edits before mid =
+    subst (λ n. AreRounds rules c.args.count c.args.seed state n c.loop-round.generator
+    c.loop-round.edits before mid) next (c.loop-round.invariant.rounds state at) in
+    let so_far = rounds.so_far in
+    let way = walk_from (version_of worked (so_far.state.versions 0)) c.loop-round.generator in
+    let exit = err_from_is_err_and c.from_residual.result c.from_residual.ensures.1 in
+    let broken = by_first_rules g.H.PairHash.pair_of c.args.engine.now c.loop-round.engine
+    c.loop-round.invariant.keeps
+    (λ r. Works (Err c.in_err-edits.field-0.0) (round r so_far.state way.edit)
+    (λ edits. (edits ≡ (round r so_far.state way.edit).edits)
+    × (c.work_round.new.generator ≡ way.seed)) mid after)
+    (c.in_err-edits.ensures.works so_far.state rounds.done.at) in
+    works_exit c.from_residual.result (worked_on rules c.args.count c.args.seed state) _ before
+    after exit.0 c.in_err-edits.field-0.0 exit.1 exit.2
+    (rounds_broken rules c.args.count c.args.seed state left c.loop-round.generator
+    c.loop-round.edits before mid after rounds c.in_err-edits.field-0.0 broken)
+
+pub loop-round-preserved : goal.loop-round-preserved
+loop-round-preserved g c =
+    let so_far = c.loop-round.invariant in
+    let made = c.in_ok-edits.ensures in
+    record {
+      keeps = keeps_on so_far.keeps made.keeps;
+      nodes = keeps_trans so_far.nodes made.nodes;
+      rises = omega (arith, so_far.rises, made.rises);
+      few = omega (arith, so_far.few, made.few);
+      rounds = λ state at.
+          let before : Point = point c.args.engine.now (g.H.PairHash.pairs c.args.hasher.now)
+          (g.F.Files.content c.args.files.now) in
+          let mid : Point = point c.loop-round.engine (g.H.PairHash.pairs c.loop-round.hasher)
+          (g.F.Files.content c.loop-round.files) in
+          let after : Point = point c.work_round.new.engine
+          (g.H.PairHash.pairs c.work_round.new.hasher) (g.F.Files.content c.work_round.new.files) in
+          let rules : Rules = rules_of g.H.PairHash.pair_of c.args.engine.now in
+          let left = c.args.count - (c.loop-round._round + 1) in
+          let next : c.args.count - c.loop-round._round ≡ suc left =
+          (let within = c.loop-round-test.true in omega (arith, within)) in
+          let rounds : AreRounds rules c.args.count c.args.seed state (suc left)
+          c.loop-round.generator c.loop-round.edits before mid =
+          subst (λ n. AreRounds rules c.args.count c.args.seed state n c.loop-round.generator
+          c.loop-round.edits before mid) next (so_far.rounds state at) in
+          let here = rounds.so_far in
+          let way = walk_from (version_of worked (here.state.versions 0)) c.loop-round.generator in
+          let done = by_first_rules g.H.PairHash.pair_of c.args.engine.now c.loop-round.engine
+          so_far.keeps
+          (λ r. Works (Ok c.in_ok-edits.field-0) (round r here.state way.edit)
+          (λ edits. (edits ≡ (round r here.state way.edit).edits)
+          × (c.work_round.new.generator ≡ way.seed)) mid after)
+          (made.works here.state rounds.done.at) in
+          rounds_on rules c.args.count c.args.seed state left c.loop-round.generator
+          c.loop-round.edits before mid after rounds c.in_ok-edits.field-0
+          c.work_round.new.generator done.0 done.1.0 done.1.1;
+      readable = λ other is. made.readable other (so_far.readable other is);
+      gets = made.gets ∙ so_far.gets;
+      puts = made.puts ∙ so_far.puts;
+    }

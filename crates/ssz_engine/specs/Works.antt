@@ -1,0 +1,111 @@
+-- How the work of the command `work` goes on, and how it ends.
+use Rattle.std.specs.Prelude.{◌≡◌, ◌≤◌, ⊤, ℕ, ◌+◌, false, List, [], ◌∷◌, take, Option, Some, None, Result, Ok, Err}
+use Rattle.ssz_arena.specs.Content.{unhashed}
+use Rattle.ssz_outside.specs.Content.{Content as Files}
+use Rattle.ssz_outside.specs.Job.{Ends, IsFinished, Job}
+use Rattle.ssz_outside.specs.declared.status.Status.{Status}
+use Rattle.ssz_outside.specs.declared.status.Status.TheVariants as status
+use Rattle.ssz_proof.specs.Calculation.{PairOf}
+use Rattle.ssz_script.specs.Texts.{reply_line}
+use Rattle.ssz_script.specs.declared.statement.Statement.{Statement}
+use Rattle.ssz_script.specs.declared.statement.Statement.TheVariants.{New, Set, Append, Pop, Choose, Root}
+use Rattle.ssz_machine.specs.State.{Name, State, Version}
+use Rattle.ssz_machine.specs.Rules.{Rules}
+use Rattle.ssz_machine.specs.Machine.{Turn, reply_of, state_of}
+use Rattle.ssz_machine.specs.Plays.{charges}
+use Rattle.ssz_machine.specs.Drawing.{worked}
+use Rattle.ssz_machine.specs.Work.{Worked, done, joined, walk_from, work_job, work_of}
+use Rattle.ssz_engine.specs.Content.{Content, rules_of}
+use Rattle.ssz_engine.specs.Standing.{StandsFor}
+use Rattle.ssz_engine.specs.Scripts.{IsThrough, Scene}
+use Rattle.ssz_engine.specs.declared.fault.EngineFault.{EngineFault}
+use Rattle.ssz_engine.specs.declared.fault.EngineFault.TheVariants.{Memory}
+
+-- the statements of a work: none of them reads or writes a file, or tells how much was hashed
+abbrev pub IsOfWork : Statement → Type 0
+IsOfWork (New v t) = ⊤
+IsOfWork (Set v path literal) = ⊤
+IsOfWork (Append v path literal) = ⊤
+IsOfWork (Pop v path) = ⊤
+IsOfWork (Choose v path k literal) = ⊤
+IsOfWork (Root v) = ⊤
+IsOfWork other = ⊥
+
+-- one step
+abbrev pub one_step : Turn → Worked
+one_step turn = record { turns = turn ∷ []; edits = 0; state = state_of turn }
+
+-- the whole work, and the step that gives the second line
+abbrev pub whole_work : Rules → State → Name → ℕ → ℕ → Worked
+whole_work rules state type_name seed count =
+    let work = work_of rules state type_name seed count in
+    joined work (one_step (done rules work.state (Root worked)))
+
+-- What is there at a point of a work: the engine, the hasher's count, and what the files tell.
+pub record Point : Type 0 where
+  pub engine : Content
+  pub hashed : ℕ
+  pub told : Option Files
+
+abbrev pub point : Content → ℕ → Option Files → Point
+point engine hashed told = record { engine = engine; hashed = hashed; told = told }
+
+-- what is there stands for a state of the machine
+pub record IsAtState (state : State) (point : Point) : Type 0 where
+  pub versions : StandsFor point.engine state.versions
+  pub files : point.told ≡ Some state.files
+
+-- Some steps to this state were made from one point to another, and paid for; no file changed.
+pub record AreDone (turns : List Turn) (last : State) (before after : Point) : Type 0 where
+  pub at : IsAtState last after
+  pub told : after.told ≡ before.told
+  pub paid : after.hashed + unhashed after.engine.arena
+      ≤ before.hashed + unhashed before.engine.arena + charges turns
+
+-- There was no memory for them, and what was hashed was paid for; no file changed.
+pub record AreBroken (turns : List Turn) (fault : EngineFault) (before after : Point) : Type 0
+  where
+    pub memory : fault ≡ Memory
+    pub told : after.told ≡ before.told
+    pub paid : after.hashed ≤ before.hashed + unhashed before.engine.arena + charges turns
+
+-- They were made, with an answer of which this is so, or there was no memory for them.
+abbrev pub Works : {T : Type 0} → Result T EngineFault → Worked → (T → Type 0) → Point → Point
+    → Type 0
+Works (Ok answer) work Is before after = AreDone work.turns work.state before after × Is answer
+Works (Err fault) work Is before after = AreBroken work.turns fault before after
+
+-- The reply to a statement is the line of its step.
+abbrev pub Replies : Turn → List ℕ → Type 0
+Replies turn reply = reply ≡ reply_line (reply_of turn)
+
+-- a walk over a version comes to this edit, if any, and leaves the generator in this state
+abbrev pub Draws : Option Version → ℕ → ℕ → Option Statement → Type 0
+Draws version seed next edit = walk_from version seed ≡ record { edit = edit; seed = next }
+
+-- the job that prints two lines, and reads and changes no file
+abbrev pub two_lines_job : Files → List ℕ → List ℕ → Job
+two_lines_job held first second = record {
+  at = λ k. record { files = held; lines = take k (first ∷ second ∷ []) };
+  reads = λ k. false;
+  saves = λ k. None;
+  steps = 2;
+  status = status.Accepted;
+}
+
+-- A work from a first state ended, as its job does.
+pub record EndsWorkFrom (rules : Rules) (type_name : Name) (seed count : ℕ) (first : State)
+    (ended : Status) (before after : Scene) : Type 0 where
+  pub ends : Ends ended (work_job rules first type_name seed count) before.pieces after.pieces
+      after.told
+  -- what was hashed is at most what was left to be hashed before, and the charges
+  pub paid : after.hashed ≤ before.hashed + unhashed before.engine.arena
+      + charges (whole_work rules first type_name seed count).turns
+  pub through : IsFinished ended → IsThrough (whole_work rules first type_name seed count).turns
+      (whole_work rules first type_name seed count).state before after
+
+-- So it ended whatever state of the machine was stood for, where the files tell what they hold.
+abbrev pub EndsWork : PairOf → Name → ℕ → ℕ → Status → Scene → Scene → Type 0
+EndsWork pair_of type_name seed count ended before after =
+    (first : State) → StandsFor before.engine first.versions → before.told ≡ Some first.files
+    → EndsWorkFrom (rules_of pair_of before.engine) type_name seed count first ended before after

@@ -1,0 +1,197 @@
+// The statements of a work, one after another.
+ghost use Rattle.std.specs.Prelude.{◌≡◌, ◌≢◌, ◌≤◌, ◌∷◌, [], ℕ, List, Err, IfOk, IfSome};
+ghost use Rattle.ssz_arena.specs.Content.{KeepsNodes};
+ghost use Rattle.ssz_machine.specs.Drawing.{worked};
+ghost use Rattle.ssz_machine.specs.Machine.{reply_of};
+ghost use Rattle.ssz_machine.specs.State.{State, Versions, version_of};
+ghost use Rattle.ssz_machine.specs.Work.{done, round, walk_from, work_of, worked_on};
+ghost use Rattle.ssz_script.specs.declared.statement.Statement.TheVariants.{New, Root};
+ghost use Rattle.ssz_engine.specs.Content.{rules_of};
+ghost use Rattle.ssz_engine.specs.Outside.{CountsWrites};
+ghost use Rattle.ssz_engine.specs.Standing.{StandsForWriter};
+ghost use Rattle.ssz_engine.specs.Steps.{Keeps};
+ghost use Rattle.ssz_engine.specs.Works.{Draws, IsAtState, IsOfWork, Replies, Works, one_step, point, whole_work};
+
+use super::engine::Engine;
+use super::fault::EngineFault;
+use super::line::reply_to;
+use super::outcome::Outcome;
+use ssz_chunk::PairHash;
+use ssz_draws::{Generator, worked};
+use ssz_machine::Place;
+use ssz_outside::Files;
+use ssz_schema::Name;
+use ssz_script::{Identifier, ScriptStatement, Statement};
+use ssz_versions::Writer;
+use std::alloc::{AllocError, Global};
+
+// `new w T`
+fn new_w(alloc: Global, type_name: &Identifier) -> Result<Statement, AllocError>
+    ensures { IfOk result (λ made. made ≡ New worked type_name.now) }
+{
+    let t = Name::copy_of(alloc, type_name.as_name().as_bytes())?;
+    Ok(Statement::New(worked(alloc)?, Identifier::new(t)))
+}
+
+// `root w`
+fn root_w(alloc: Global) -> Result<Statement, AllocError>
+    ensures { IfOk result (λ asked. asked ≡ Root worked) }
+{
+    Ok(Statement::Root(worked(alloc)?))
+}
+
+// Does a statement as writer 0. The line of its reply takes the place of what `reply` held.
+fn answer<F: Files, H: PairHash>(
+    engine: &mut Engine<H>,
+    statement: Statement,
+    files: &mut F,
+    hasher: &mut H,
+    reply: &mut Vec<u8>,
+) -> Result<Outcome, EngineFault>
+    requires { IsOfWork statement }
+    ensures keeps { Keeps engine.old engine.new }
+    ensures nodes { KeepsNodes engine.old.arena engine.new.arena }
+    ensures rises { H.pairs hasher.old ≤ H.pairs hasher.new }
+    ensures works { (state : State) →
+        let before = point engine.old (H.pairs hasher.old) (F.content files.old) in
+        let turn = done (rules_of H.pair_of engine.old) state statement in IsAtState state before
+        → Works result (one_step turn) (λ made. Replies turn reply.new.items) before
+        (point engine.new (H.pairs hasher.new) (F.content files.new)) }
+    ensures read { result ≢ Err EngineFault.Read }
+    ensures gets { F.get_faults files.new ≡ F.get_faults files.old }
+    ensures puts { CountsWrites result (F.put_faults files.old) (F.put_faults files.new) }
+    ensures readable { (other : List ℕ) → F.readable files.old other → F.readable files.new other }
+{
+    reply.clear();
+    // No script holds it: it is of line 0.
+    let line = ScriptStatement {
+        line: 0,
+        statement: Some(statement),
+    };
+    reply_to(engine, Place::Run, Writer(0), &line, files, hasher, reply)
+}
+
+// The edit that a walk from the whole value of `w` comes to, if any.
+fn draw_edit<H: PairHash>(
+    engine: &Engine<H>,
+    generator: &mut Generator,
+) -> Result<Option<Statement>, AllocError>
+    ensures drawn { (versions : Versions) → StandsForWriter engine.now 0 versions → IfOk result
+        (Draws (version_of worked versions) generator.old generator.new) }
+    ensures edits { IfOk result (λ edit. IfSome edit IsOfWork) }
+{
+    let name = worked(engine.alloc)?;
+    let Some(held) = engine.versions.get(Writer(0), name.as_name()) else {
+        return Ok(None);
+    };
+    generator.walk(engine.alloc, &engine.arena, &engine.schema, held.0, held.1)
+}
+
+// Does the edit that a walk comes to, if any, and then `root w`. Answers how many edits there were.
+fn work_round<F: Files, H: PairHash>(
+    engine: &mut Engine<H>,
+    generator: &mut Generator,
+    files: &mut F,
+    hasher: &mut H,
+    reply: &mut Vec<u8>,
+) -> Result<u32, EngineFault>
+    ensures keeps { Keeps engine.old engine.new }
+    ensures nodes { KeepsNodes engine.old.arena engine.new.arena }
+    ensures rises { H.pairs hasher.old ≤ H.pairs hasher.new }
+    ensures works { (state : State) →
+        let before = point engine.old (H.pairs hasher.old) (F.content files.old) in
+        let way = walk_from (version_of worked (state.versions 0)) generator.old in
+        let whole = round (rules_of H.pair_of engine.old) state way.edit in IsAtState state before
+        → Works result whole (λ edits. (edits ≡ whole.edits) × (generator.new ≡ way.seed)) before
+        (point engine.new (H.pairs hasher.new) (F.content files.new)) }
+    ensures few { IfOk result (λ edits. edits ≤ 1) }
+    ensures read { result ≢ Err EngineFault.Read }
+    ensures gets { F.get_faults files.new ≡ F.get_faults files.old }
+    ensures puts { CountsWrites result (F.put_faults files.old) (F.put_faults files.new) }
+    ensures readable { (other : List ℕ) → F.readable files.old other → F.readable files.new other }
+{
+    let Ok(asked) = root_w(engine.alloc) else {
+        return Err(EngineFault::Memory);
+    };
+    match draw_edit(engine, generator) {
+        Err(_) => Err(EngineFault::Memory),
+        Ok(None) => {
+            answer(engine, asked, files, hasher, reply)?;
+            Ok(0)
+        }
+        Ok(Some(edit)) => {
+            answer(engine, edit, files, hasher, reply)?;
+            answer(engine, asked, files, hasher, reply)?;
+            Ok(1)
+        }
+    }
+}
+
+// Does so many rounds. Answers how many edits there were.
+fn work_rounds<F: Files, H: PairHash>(
+    engine: &mut Engine<H>,
+    seed: u64,
+    count: u32,
+    files: &mut F,
+    hasher: &mut H,
+    reply: &mut Vec<u8>,
+) -> Result<u32, EngineFault>
+    ensures keeps { Keeps engine.old engine.new }
+    ensures nodes { KeepsNodes engine.old.arena engine.new.arena }
+    ensures rises { H.pairs hasher.old ≤ H.pairs hasher.new }
+    ensures works { (state : State) →
+        let before = point engine.old (H.pairs hasher.old) (F.content files.old) in
+        let whole = worked_on (rules_of H.pair_of engine.old) count seed state in
+        IsAtState state before → Works result whole (λ edits. edits ≡ whole.edits) before
+        (point engine.new (H.pairs hasher.new) (F.content files.new)) }
+    ensures read { result ≢ Err EngineFault.Read }
+    ensures gets { F.get_faults files.new ≡ F.get_faults files.old }
+    ensures puts { CountsWrites result (F.put_faults files.old) (F.put_faults files.new) }
+    ensures readable { (other : List ℕ) → F.readable files.old other → F.readable files.new other }
+{
+    let mut generator = Generator::new(seed);
+    let mut edits = 0;
+    for _round in 0..count {
+        edits += work_round(engine, &mut generator, files, hasher, reply)?;
+    }
+    Ok(edits)
+}
+
+/// Makes `w` of the type, edits it so many times with its root after each edit, and answers how
+/// many edits there were. `reply` then holds the line of the root.
+pub(crate) fn work_through<F: Files, H: PairHash>(
+    engine: &mut Engine<H>,
+    type_name: &Identifier,
+    seed: u64,
+    count: u32,
+    files: &mut F,
+    hasher: &mut H,
+    reply: &mut Vec<u8>,
+) -> Result<u32, EngineFault>
+    ensures keeps { Keeps engine.old engine.new }
+    ensures nodes { KeepsNodes engine.old.arena engine.new.arena }
+    ensures rises { H.pairs hasher.old ≤ H.pairs hasher.new }
+    ensures works { (state : State) →
+        let before = point engine.old (H.pairs hasher.old) (F.content files.old) in
+        let rules = rules_of H.pair_of engine.old in
+        let work = work_of rules state type_name.now seed count in IsAtState state before
+        → Works result (whole_work rules state type_name.now seed count)
+        (λ edits. (edits ≡ work.edits)
+        × Replies (done rules work.state (Root worked)) reply.new.items) before
+        (point engine.new (H.pairs hasher.new) (F.content files.new)) }
+    ensures read { result ≢ Err EngineFault.Read }
+    ensures gets { F.get_faults files.new ≡ F.get_faults files.old }
+    ensures puts { CountsWrites result (F.put_faults files.old) (F.put_faults files.new) }
+    ensures readable { (other : List ℕ) → F.readable files.old other → F.readable files.new other }
+{
+    let Ok(made) = new_w(engine.alloc, type_name) else {
+        return Err(EngineFault::Memory);
+    };
+    answer(engine, made, files, hasher, reply)?;
+    let edits = work_rounds(engine, seed, count, files, hasher, reply)?;
+    let Ok(asked) = root_w(engine.alloc) else {
+        return Err(EngineFault::Memory);
+    };
+    answer(engine, asked, files, hasher, reply)?;
+    Ok(edits)
+}
