@@ -33,7 +33,7 @@ use Rattle.ssz_engine.proofs.Scripts.{told_append-none}
 use Rattle.ssz_tool.specs.Reached.{reached_of_task}
 use Rattle.ssz_tool.specs.Runs.{Does, job_of_line, job_of_print, job_of_task, pairs_of_task, rules_of, turns_of_task}
 use Rattle.ssz_tool.specs.Tasks.{DoesSame}
-use Rattle.ssz_tool.specs.ToDo.{Printed, printed, Task, says, prints, plays, weaves, plays_tree}
+use Rattle.ssz_tool.specs.ToDo.{Printed, printed, Task, says, prints, plays, weaves, works, plays_tree}
 use Rattle.ssz_tool.specs.declared.line.Line.{Line}
 use Rattle.ssz_tool.proofs.Quiet.{no_counts, weave_counts}
 
@@ -76,6 +76,8 @@ stands_first pair_of numbers held reads (plays type_named most script) told =
     record { printed = told_append-none told; held = refl }
 stands_first pair_of numbers held reads (weaves type_named most base order scripts) told =
     record { printed = told_append-none told; held = refl }
+stands_first pair_of numbers held reads (works type_named type_name seed count) told =
+    record { printed = told_append-none told; held = refl }
 stands_first pair_of numbers held reads (plays_tree t lists script) told =
     record { printed = told_append-none told; held = refl }
 
@@ -85,6 +87,7 @@ reads_first pair_of numbers held reads (says line) is = is
 reads_first pair_of numbers held reads (prints made most) is = is
 reads_first pair_of numbers held reads (plays type_named most script) is = refl
 reads_first pair_of numbers held reads (weaves type_named most base order scripts) is = refl
+reads_first pair_of numbers held reads (works type_named type_name seed count) is = refl
 reads_first pair_of numbers held reads (plays_tree t lists script) is = refl
 
 -- where no numbers are given, each that is printed is 0
@@ -130,6 +133,8 @@ first_counts pair_of held (plays type_named most script) ended rise stopped =
     zero_counts (rules_of pair_of type_named most) (fresh held) script ended rise stopped
 first_counts pair_of held (weaves type_named most base order scripts) ended rise stopped =
     weave_counts (rules_of pair_of type_named most) (fresh held) base order scripts ended rise
+first_counts pair_of held (works type_named type_name seed count) ended rise stopped =
+    no_counts ended rise
 first_counts pair_of held (plays_tree t lists script) ended rise stopped = no_counts ended rise
 
 -- A job that a fault or want of memory ends before its first step.

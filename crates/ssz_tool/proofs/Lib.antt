@@ -9,3 +9,4 @@ pub mod Weaves
 pub mod Trees
 pub mod PrintedProofs
 pub mod Encodings
+pub mod Worked

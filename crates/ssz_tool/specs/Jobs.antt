@@ -17,6 +17,7 @@ use Rattle.ssz_tool.specs.Readings.{Reading, accepted, refused, reading_of, proo
 use Rattle.ssz_tool.specs.ToDo.{Task, says, roots, verifies, plays}
 use Rattle.ssz_tool.specs.Weaves.{task_of_weave}
 use Rattle.ssz_tool.specs.Words.{taken}
+use Rattle.ssz_tool.specs.WorkTasks.{task_of_work}
 use Rattle.ssz_tool.specs.declared.line.Line.TheVariants as line
 use Rattle.ssz_tool.specs.declared.words.Asked.{Asked}
 use Rattle.ssz_tool.specs.declared.words.Asked.TheVariants as asked
@@ -76,6 +77,7 @@ task_of_asked held (Some (asked.Root args)) = task_of_root held args
 task_of_asked held (Some (asked.Verify args)) = task_of_verify held args
 task_of_asked held (Some (asked.Run args)) = task_of_run held args
 task_of_asked held (Some (asked.Weave args)) = task_of_weave held args
+task_of_asked held (Some (asked.Work args)) = task_of_work held args
 task_of_asked held (Some (asked.Part args path)) = task_of_part held args path
 task_of_asked held (Some (asked.Clash args)) = task_of_clash held args
 task_of_asked held (Some (asked.Partial args)) = task_of_partial held args

@@ -15,9 +15,10 @@ use Rattle.ssz_tool.specs.Partials.{reached_of_partial}
 use Rattle.ssz_tool.specs.Parts.{reached_of_part}
 use Rattle.ssz_tool.specs.Readings.{Reading, accepted, refused, reading_of}
 use Rattle.ssz_tool.specs.Runs.{rules_of, turns_of_task}
-use Rattle.ssz_tool.specs.ToDo.{Task, says, prints, plays, weaves, plays_tree}
+use Rattle.ssz_tool.specs.ToDo.{Task, says, prints, plays, weaves, works, plays_tree}
 use Rattle.ssz_tool.specs.Weaves.{reached_of_weave}
 use Rattle.ssz_tool.specs.Words.{taken}
+use Rattle.ssz_tool.specs.WorkTasks.{reached_of_work}
 use Rattle.ssz_tool.specs.declared.words.Asked.{Asked}
 use Rattle.ssz_tool.specs.declared.words.Asked.TheVariants as asked
 
@@ -54,6 +55,7 @@ reached_of_asked held (Some (asked.Root args)) = reached_of_root held args
 reached_of_asked held (Some (asked.Verify args)) = args.file ∷ []
 reached_of_asked held (Some (asked.Run args)) = reached_of_run held args
 reached_of_asked held (Some (asked.Weave args)) = reached_of_weave held args
+reached_of_asked held (Some (asked.Work args)) = reached_of_work args
 reached_of_asked held (Some (asked.Part args path)) = reached_of_part held args path
 reached_of_asked held (Some (asked.Clash args)) = reached_of_clash held args
 reached_of_asked held (Some (asked.Partial args)) = reached_of_partial held args
@@ -66,6 +68,7 @@ reached_first held words = reached_of_asked held (taken words)
 abbrev pub reached_of_task : PairOf → Content → Task → List (List ℕ)
 reached_of_task pair_of held (says line) = []
 reached_of_task pair_of held (prints made most) = []
+reached_of_task pair_of held (works type_named type_name seed count) = []
 reached_of_task pair_of held (plays_tree t lists script) = []
 reached_of_task pair_of held (plays type_named most script) =
     files_reached (rules_of pair_of type_named most)

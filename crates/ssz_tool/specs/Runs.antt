@@ -11,10 +11,12 @@ use Rattle.ssz_machine.specs.Rules.{Rules}
 use Rattle.ssz_machine.specs.Machine.{Turn}
 use Rattle.ssz_machine.specs.Plays.{charges}
 use Rattle.ssz_machine.specs.Jobs.{after_reading, script_job, turns_of_script, turns_of_weave, weave_job}
+use Rattle.ssz_machine.specs.Work.{work_job}
 use Rattle.ssz_engine.specs.Scripts.{HasCounts}
+use Rattle.ssz_engine.specs.Works.{whole_work}
 use Rattle.ssz_partial_script.specs.Plays.{charges as tree_charges, script_job as tree_job, turns_of_script as tree_turns}
 use Rattle.ssz_tool.specs.Jobs.{task_of}
-use Rattle.ssz_tool.specs.ToDo.{Printed, printed, Task, says, prints, plays, weaves, plays_tree}
+use Rattle.ssz_tool.specs.ToDo.{Printed, printed, Task, says, prints, plays, weaves, works, plays_tree}
 use Rattle.ssz_tool.specs.Words.{taken}
 use Rattle.ssz_tool.specs.declared.line.Line.{Line}
 
@@ -30,8 +32,11 @@ job_of_print held reads made = line_job held reads made.text made.status
 abbrev pub job_of_line : Content → Bool → Line → Job
 job_of_line held reads line = job_of_print held reads (printed line)
 
--- The job of a task, where `hashes` prints these numbers: script files are read before the first
--- statement.
+-- a work reads and prints no encoding, so there is no most of its bytes
+abbrev pub rules_of_work : PairOf → (List ℕ → Option SszType) → Rules
+rules_of_work pair_of type_named = rules_of pair_of type_named 0
+
+-- The job of a task, where `hashes` prints these numbers: files are read before the first statement.
 abbrev pub job_of_task : PairOf → List ℕ → Content → Bool → Task → Job
 job_of_task pair_of numbers held reads (says line) = job_of_line held reads line
 job_of_task pair_of numbers held reads (prints made most) = job_of_print held reads (made pair_of)
@@ -39,6 +44,8 @@ job_of_task pair_of numbers held reads (plays type_named most script) =
     after_reading (script_job (rules_of pair_of type_named most) numbers (fresh held) script)
 job_of_task pair_of numbers held reads (weaves type_named most base order scripts) =
     after_reading (weave_job (rules_of pair_of type_named most) (fresh held) base order scripts)
+job_of_task pair_of numbers held reads (works type_named type_name seed count) =
+    after_reading (work_job (rules_of_work pair_of type_named) (fresh held) type_name seed count)
 job_of_task pair_of numbers held reads (plays_tree t lists script) =
     after_reading (tree_job pair_of t lists held script)
 
@@ -55,14 +62,15 @@ turns_of_task pair_of numbers held (plays type_named most script) =
     turns_of_script (rules_of pair_of type_named most) numbers (fresh held) script
 turns_of_task pair_of numbers held (weaves type_named most base order scripts) =
     turns_of_weave (rules_of pair_of type_named most) (fresh held) base order scripts
+turns_of_task pair_of numbers held (works type_named type_name seed count) = []
 turns_of_task pair_of numbers held (plays_tree t lists script) = []
 
 -- the steps of the scripts that the words run, if they run any
 abbrev pub turns_of : PairOf → List (List ℕ) → Content → List ℕ → List Turn
 turns_of pair_of words held numbers = turns_of_task pair_of numbers held (task_of held words)
 
--- How many pairs a task may hash: of scripts the charges of the statements, and 126 for the zero
--- table, which a partial tree needs not.
+-- How many pairs a task may hash: of scripts, and of a work, the charges of the statements, and 126
+-- for the zero table, which a partial tree needs not.
 abbrev pub pairs_of_task : PairOf → Content → Task → ℕ
 pairs_of_task pair_of held (says line) = 0
 pairs_of_task pair_of held (prints made most) = most
@@ -70,6 +78,9 @@ pairs_of_task pair_of held (plays type_named most script) =
     126 + charges (turns_of_task pair_of [] held (plays type_named most script))
 pairs_of_task pair_of held (weaves type_named most base order scripts) =
     126 + charges (turns_of_task pair_of [] held (weaves type_named most base order scripts))
+pairs_of_task pair_of held (works type_named type_name seed count) =
+    let work = whole_work (rules_of_work pair_of type_named) (fresh held) type_name seed count in
+    126 + charges work.turns
 pairs_of_task pair_of held (plays_tree t lists script) =
     tree_charges (tree_turns pair_of t lists script)
 

@@ -23,6 +23,7 @@ use Rattle.ssz_tool.specs.declared.job.Task.{Task}
 use Rattle.ssz_tool.specs.declared.job.Task.TheVariants as task
 use Rattle.ssz_tool.specs.declared.job.Stop.{Stop}
 use Rattle.ssz_tool.specs.declared.job.Stop.TheVariants as stop
+use Rattle.ssz_tool.specs.declared.working.Work.{Work}
 
 -- what a file gave that reads as these bytes
 abbrev pub Loads : List ℕ → ℕ → Loaded → Type 0
@@ -61,6 +62,9 @@ IsProofIn bytes None = given.proof_in bytes ≡ None
 IsProofIn bytes (Some proof) =
     (lists : Multiproof) × (given.proof_in bytes ≡ Some lists) × IsProofOf lists proof
 
+abbrev pub work_view : Work → job.Task
+work_view work = job.works (known_in work.schema) work.type_name work.seed work.edits
+
 abbrev pub task_view : Task → job.Task
 task_view (task.Says line) = job.says line
 task_view (task.Text text) = job.prints (λ pair_of.
@@ -70,6 +74,7 @@ task_view (task.Verify root proof) = job.verifies root.0 proof
 task_view (task.Clash one other) = job.compares one other
 task_view (task.Script schema most script) = job.plays (known_in schema) most script.items
 task_view (task.Weave weaving) = weaving_view weaving
+task_view (task.Work work) = work_view work
 task_view (task.Partial schema partial script) =
     job.plays_tree (type_of schema partial.id) partial.proof script.items
 
@@ -101,4 +106,5 @@ IsReady (task.Verify root proof) = ⊤
 IsReady (task.Clash one other) = ⊤
 IsReady (task.Script schema most script) = ⊤
 IsReady (task.Weave weaving) = IsReadyWeaving weaving
+IsReady (task.Work work) = ⊤
 IsReady (task.Partial schema partial script) = partial.id < length schema.trees

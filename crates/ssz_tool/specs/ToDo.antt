@@ -24,13 +24,14 @@ printed line = record { text = line_text line; status = status_of line }
 
 -- A line to print; a text that is made with the hasher's pairs, and how many of them at most; a
 -- script to run over types by their names, with the most bytes of a value; a base, an order and
--- scripts to weave; or a script to run over the tree of a value of a type, of which a multiproof
--- knows some nodes.
+-- scripts to weave; a type's name, a number from which so many edits are drawn, and the edits; or a
+-- script to run over the tree of a value of a type, of which a multiproof knows some nodes.
 pub data Task : Type 0 where
   says : Line → Task
   prints : (PairOf → Printed) → ℕ → Task
   plays : (List ℕ → Option SszType) → ℕ → List ℕ → Task
   weaves : (List ℕ → Option SszType) → ℕ → List ℕ → List ℕ → List (List ℕ) → Task
+  works : (List ℕ → Option SszType) → List ℕ → ℕ → ℕ → Task
   plays_tree : SszType → Multiproof → List ℕ → Task
 
 -- ---- tasks that print one line

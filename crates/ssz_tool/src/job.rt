@@ -21,6 +21,7 @@ use crate::scripts::task_of_run;
 use crate::verifying::task_of_verify;
 use crate::weaving::{Weaving, task_of_weave};
 use crate::words::{Asked, read_asked};
+use crate::working::{Work, task_of_work};
 use ssz_chunk::Chunk;
 use ssz_codec::check;
 use ssz_outside::{Files, GetFault, Got};
@@ -68,6 +69,8 @@ pub enum Task {
     Script(Schema, u32, Vec<u8>),
     /// The weave of scripts.
     Weave(Weaving),
+    /// The work on a version of a type.
+    Work(Work),
     /// The run of a script over a tree of which a proof knows some nodes, of a type of the schema.
     Partial(Schema, Partial, Vec<u8>),
 }
@@ -241,6 +244,7 @@ fn task_of_asked<F: Files>(alloc: Global, files: &mut F, asked: &Asked) -> Resul
         Asked::Verify(args) => task_of_verify(alloc, files, args),
         Asked::Run(args) => task_of_run(alloc, files, args),
         Asked::Weave(args) => task_of_weave(alloc, files, args),
+        Asked::Work(args) => task_of_work(alloc, files, args),
         Asked::Part(args, path) => task_of_part(alloc, files, args, path.as_slice()),
         Asked::Clash(args) => task_of_clash(alloc, files, args),
         Asked::Partial(args) => task_of_partial(alloc, files, args),

@@ -17,6 +17,7 @@ mod top;
 mod verifying;
 mod weaving;
 mod words;
+mod working;
 
 pub use laws::printed_proofs_are_valid;
 pub use line::Line;

@@ -22,6 +22,7 @@ use crate::job::{Stop, Task, task_of};
 use crate::line::{Line, line_text, status_of};
 use crate::scripts::run_script;
 use crate::weaving::run_weave;
+use crate::working::run_work;
 use ssz_chunk::{Chunk, PairHash, ZeroTable};
 use ssz_clash::clash;
 use ssz_outside::{Files, Sink, Status, say_line};
@@ -115,6 +116,7 @@ fn do_task<F: Files, S: Sink, H: PairHash>(
             run_script(alloc, schema, max, script.as_slice(), files, out, hasher)
         }
         Task::Weave(weaving) => run_weave(alloc, weaving, files, out, hasher),
+        Task::Work(work) => run_work(alloc, work, files, out, hasher),
         Task::Partial(schema, mut partial, script) => {
             run_partial(alloc, &schema, &mut partial, script.as_slice(), out, hasher)
         }
@@ -194,9 +196,9 @@ pub fn run<F: Files, S: Sink, H: PairHash>(
     ensures readable { ForSome (taken (texts words.now)) (λ asked.
         AreReadable (F.readable files.old) asked → result ≢ Status.ReadFault) }
 
-    // The pairs hashed: of a value its own, of scripts those of the values that they bring in and
-    // the levels of the paths that they edit, beyond the zero table; of a proof as many as its
-    // leaves have levels, for each root that is taken of it.
+    // The pairs hashed: of a value its own, of scripts and of a work those of the values that they
+    // bring in and the levels of the paths that they edit, beyond the zero table; of a proof as
+    // many as its leaves have levels, for each root that is taken of it.
     ensures pairs { ForSome (F.content files.old) (λ held. H.pairs hasher.new
         ≤ H.pairs hasher.old + pairs_allowed H.pair_of (texts words.now) held) }
 {

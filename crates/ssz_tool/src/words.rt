@@ -7,17 +7,18 @@ use ssz_line::{LineFault, read_path};
 use ssz_schema::Steps;
 use ssz_words::{
     ClashArgs, Command, PartArgs, PartialArgs, RootArgs, RunArgs, VerifyArgs, WeaveArgs,
-    WordsFault, read_words,
+    WordsFault, WorkArgs, read_words,
 };
 use std::alloc::{AllocError, Global};
 
-/// A command whose part of the program stands, with its arguments.
+/// A command, with its arguments.
 #[derive(Debug, Drop)]
 pub enum Asked {
     Root(RootArgs),
     Verify(VerifyArgs),
     Run(RunArgs),
     Weave(WeaveArgs),
+    Work(WorkArgs),
     /// With the path that the last word spells.
     Part(PartArgs, Steps),
     Clash(ClashArgs),
@@ -36,7 +37,6 @@ fn part_asked(alloc: Global, args: PartArgs) -> Result<Option<Asked>, AllocError
     }
 }
 
-// Another command joins here.
 fn standing(alloc: Global, command: Command) -> Result<Option<Asked>, AllocError>
     requires { IsWithinLimits command }
     ensures value { IfOk result (λ asked. asked ≡ standing (Some command)) }
@@ -47,10 +47,10 @@ fn standing(alloc: Global, command: Command) -> Result<Option<Asked>, AllocError
         Command::Verify(args) => Ok(Some(Asked::Verify(args))),
         Command::Run(args) => Ok(Some(Asked::Run(args))),
         Command::Weave(args) => Ok(Some(Asked::Weave(args))),
+        Command::Work(args) => Ok(Some(Asked::Work(args))),
         Command::Part(args) => part_asked(alloc, args),
         Command::Clash(args) => Ok(Some(Asked::Clash(args))),
         Command::Partial(args) => Ok(Some(Asked::Partial(args))),
-        Command::Work(_) => Ok(None),
     }
 }
 

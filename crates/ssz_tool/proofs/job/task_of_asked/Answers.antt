@@ -3,6 +3,7 @@ use Rattle.ssz_tool.specs.Jobs.{task_of_root, task_of_run}
 use Rattle.ssz_tool.specs.Parts.{task_of_part}
 use Rattle.ssz_tool.specs.Tasks.{DoesSame, task_view}
 use Rattle.ssz_tool.specs.Weaves.{task_of_weave}
+use Rattle.ssz_tool.specs.WorkTasks.{task_of_work}
 use Rattle.ssz_tool.proofs.Beginnings.{all_readable}
 use Rattle.ssz_tool.proofs.Verdicts.{DoesSame-equal, IfOk-weaker}
 use Rattle.ssz_tool.proofs.job.task_of_asked.Goals as goal
@@ -44,3 +45,11 @@ returns-in-Weave-clause-fails g c = λ each.
     c.task_of_weave.ensures.fails
     (all_readable (g.F.Files.readable c.args.files.now) (rw c.in-Weave.is at each)
     (c.in-Weave.args.schema ∷ c.in-Weave.args.base ∷ c.in-Weave.args.scripts))
+
+pub returns-in-Work-clause-read : goal.returns-in-Work-clause-read
+returns-in-Work-clause-read g c = λ held told.
+    rw c.in-Work.is
+    (IfOk-weaker (λ task. task_of_work held c.in-Work.args ≡ task_view task)
+    (λ task. DoesSame (task_of_work held c.in-Work.args) (task_view task))
+    (λ task same. DoesSame-equal _ _ same) c.task_of_work.result
+    (c.task_of_work.ensures.read held told))

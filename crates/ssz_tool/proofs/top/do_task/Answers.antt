@@ -67,3 +67,7 @@ returns-in-Partial-clause-ends g c = λ reads held told.
     held reads c.run_partial.result (g.H.PairHash.pairs c.args.hasher.now)
     (g.H.PairHash.pairs c.run_partial.new.hasher) (g.S.Sink.pieces c.args.out.now)
     (g.S.Sink.pieces c.run_partial.new.out) (c.run_partial.ensures.ends held))
+
+pub returns-in-Work-clause-ends : goal.returns-in-Work-clause-ends
+returns-in-Work-clause-ends g c = λ reads held told.
+    rw c.in-Work.is (c.run_work.ensures.ends reads held told)
