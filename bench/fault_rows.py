@@ -4,14 +4,15 @@
   python3 bench/fault_rows.py     from anywhere; writes data/runs.txt and stdout
 
 Each command runs once with no failing call, and then once for each of its calls of the files and of the sink, which
-fails. What it says is known from the machines of run_rows.py, weave_rows.py and partial_script_rows.py, and from
-tool_rows.py; which calls come in which order is written down here for each command. A call that fails in memory leaves
+fails. What it says is known from the machines of run_rows.py, weave_rows.py, work_rows.py and partial_script_rows.py,
+and from tool_rows.py; which calls come in which order is written down here for each command. A call that fails in memory leaves
 half of the bytes that it was handed.
 """
 import os
 import run_rows
 import tool_rows
 import weave_rows
+import work_rows
 from partial_script_rows import TYPES as PARTIAL_TYPES, of_value
 from reading_rows import form
 import json
@@ -144,6 +145,13 @@ def of_clash():
     yield one_line("clash one one", files, ["one", "one"], line, status)
 
 
+def of_work():
+    status, lines = work_rows.work("sha", "Deep", 7, 60)
+    calls = [("get", "schema")] + [("say", line) for line in lines]
+    yield Run("sha", "work schema Deep 7 60", {"schema": work_rows.TYPES}, calls, status)
+    yield one_line("work schema None 7 60", {"schema": work_rows.TYPES}, ["schema"], "refused 0 2 NoType", 1)
+
+
 def of_absent():
     """Files that are not there, behind others that are."""
     files = {"schema": P, "base": "new S P\n", "w": "root S\n"}
@@ -170,6 +178,7 @@ def runs():
     yield of_weave()
     yield of_partial()
     yield from of_clash()
+    yield from of_work()
     yield from of_absent()
 
 
