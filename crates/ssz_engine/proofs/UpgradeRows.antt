@@ -180,15 +180,16 @@ pub refused-room : (pair_of : PairOf) (types : Types) (most : ℕ) (entries : En
     → row (rules_of pair_of (over types most entries base old)) versions ≡ Err (coded code))
     → AnswersWith pair_of row (puts name) writer (over types most entries base old)
     (over types most entries base new) (Refused code)
-refused-room pair_of types most entries base old new row writer name code same is = λ count. record {
-  can = tt;
-  of = tt;
-  comes = is;
-  spends = λ versions stand.
-      let e : unhashed new ≡ unhashed old
-      = ap (λ (nodes : List Node). unhashed (record { nodes = nodes; spare = 0 })) same in
-      omega arith;
-}
+refused-room pair_of types most entries base old new row writer name code same is =
+    λ count. record {
+      can = tt;
+      of = tt;
+      comes = is;
+      spends = λ versions stand.
+          let e : unhashed new ≡ unhashed old
+          = ap (λ (nodes : List Node). unhashed (record { nodes = nodes; spare = 0 })) same in
+          omega arith;
+    }
 
 pub none-there : (held : Option Held) → is_some held ≡ false → held ≡ None
 none-there None e = refl

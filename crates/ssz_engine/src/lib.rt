@@ -9,8 +9,8 @@
 //! `compact` alone goes another way (`compaction`), since it gives up nodes.
 //!
 //! A script is done line by line (`run_script`): each line's reply is made in memory and printed in
-//! one piece. Scripts of several writers take turns over the same arena (`weave`). The statements of
-//! a `work` are drawn from a number.
+//! one piece. Scripts of several writers take turns over the same arena (`weave`). The statements
+//! of a `work` are drawn from a number.
 #![tactic(auto)]
 
 mod adopting;

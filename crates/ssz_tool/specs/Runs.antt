@@ -36,7 +36,8 @@ job_of_line held reads line = job_of_print held reads (printed line)
 abbrev pub rules_of_work : PairOf → (List ℕ → Option SszType) → Rules
 rules_of_work pair_of type_named = rules_of pair_of type_named 0
 
--- The job of a task, where `hashes` prints these numbers: files are read before the first statement.
+-- The job of a task, where `hashes` prints these numbers: files are read before the first
+-- statement.
 abbrev pub job_of_task : PairOf → List ℕ → Content → Bool → Task → Job
 job_of_task pair_of numbers held reads (says line) = job_of_line held reads line
 job_of_task pair_of numbers held reads (prints made most) = job_of_print held reads (made pair_of)

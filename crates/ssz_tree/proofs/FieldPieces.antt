@@ -118,7 +118,8 @@ pieces-made arena trees (p ∷ fields) (None ∷ given) = omega (
 pieces-made arena trees (p ∷ fields) (Some id ∷ given) = omega (
   arith,
   pieces-made arena trees fields given,
-  sum_by-cons made_in (piece_at arena (tree_at trees p.1) (Some id)) (pieces arena trees fields given),
+  sum_by-cons made_in (piece_at arena (tree_at trees p.1) (Some id))
+      (pieces arena trees fields given),
 )
 
 pub pieces-few : (arena : Content) (trees : List SszType) (fields : List FieldPart)

@@ -11,8 +11,10 @@ returns-clause-does c =
       line = c.args.line;
     } in
     let step = c.step-stepped.ensures in
-    subst (λ it. Does it c.args.statement.now scene c.step-stepped.new.self c.step-stepped.new.out.items)
+    subst (λ it. Does it c.args.statement.now scene c.step-stepped.new.self
+    c.step-stepped.new.out.items)
     (sym c.ran_of.ensures)
     (step-does scene c.args.statement.now c.step-stepped.new.self c.step-stepped.new.hasher
-    c.args.reply.now.items c.step-stepped.new.out.items c.requires c.step-stepped.result step.ok step.stops
+    c.args.reply.now.items c.step-stepped.new.out.items c.requires c.step-stepped.result step.ok
+    step.stops
     step.err step.keeps step.nodes)

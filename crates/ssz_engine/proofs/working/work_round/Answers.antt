@@ -18,7 +18,8 @@ returns-in_default-clause-works g c = λ state at. broken_here _ _
 pub returns-in-Err-clause-works : goal.returns-in-Err-clause-works
 returns-in-Err-clause-works g c = λ state at. broken_here _ _
 
-pub returns-in_ok-answer-in-Ok-Some-2-clause-works : goal.returns-in_ok-answer-in-Ok-Some-2-clause-works
+pub returns-in_ok-answer-in-Ok-Some-2-clause-works :
+    goal.returns-in_ok-answer-in-Ok-Some-2-clause-works
 returns-in_ok-answer-in-Ok-Some-2-clause-works g c = λ state at.
     let before : Point = point c.args.engine.now (g.H.PairHash.pairs c.args.hasher.now)
     (g.F.Files.content c.args.files.now) in

@@ -16,7 +16,8 @@ pub returns-in_err-reserve_nodes-clause-enough :
 returns-in_err-reserve_nodes-clause-enough g c room =
     let trees = c.args.schema.now.trees in
     let form = sym c.ty.ensures.form ∙ ap (tree_over trees) c.in-Container.is
-    ∙ ap (λ (parts : List Part). container (fields_over trees parts)) (sym c.as_slice.ensures.value) in
+    ∙ ap (λ (parts : List Part). container (fields_over trees parts))
+    (sym c.as_slice.ensures.value) in
     let counted = shared-fields (type_of c.args.schema.now c.args.id) trees c.as_slice.result.now
     c.depth-depth.result c.args.given.now form c.depth-depth.ensures.exact in
     absurd (false≢true (c.in_err-reserve_nodes.ensures.enough _ c.container_nodes.ensures
