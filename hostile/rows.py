@@ -6,9 +6,11 @@ hashlib; nothing comes from the program.
 """
 import hashlib
 import os
+import sys
 from dataclasses import dataclass, field
 
 TOP = os.path.join(os.path.dirname(os.path.abspath(__file__)), "..")
+sys.path.append(os.path.join(TOP, "bench"))
 SSZ = os.path.abspath(os.path.join(TOP, "crates", "ssz_cli", "out", "ssz_cli"))
 USAGE = ("usage: ssz root SCHEMA TYPE FILE | run SCHEMA SCRIPT"
          " | weave SCHEMA BASE ORDER SCRIPT.. | verify ROOT FILE | work SCHEMA TYPE SEED EDITS"
@@ -87,7 +89,8 @@ L8 = '["L8",{"list":["uint64",8]}]'
 L1 = '["L1",{"list":["uint8",1]}]'
 LONG = '["Long",{"list":["uint64",1099511627776]}]'
 B512 = '["B512",{"bitlist":512}]'
-TYPES = schema(P, M, U, L8, L1, LONG, B512)
+N = '["N",{"container":[["b","uint64"],["a","uint8"],["c","uint64"]]}]'
+TYPES = schema(P, M, U, L8, L1, LONG, B512, N)
 
 
 def root_of_p(a, b):
@@ -257,6 +260,18 @@ def run_rows():
     yield script("run, refusals", REFUSED, 1)
     yield script("run, JSON", TEXTS, 1, {"f": wanted}, g=b'{"a":"48042","b":"0x0102"}',
                  bad=b'{"b":"0x0102","a":"48042"}')
+    upgraded = [
+        ("lit V P 0x01000000000000000200000000000000", "ok"),
+        ("upgrade V W N", "ok"),
+        ("bytes W /", "bytes 0x0200000000000000" + 9 * "00"),
+        ("root W", "root " + hexed(full(2, [chunk(2)]))),
+        ("upgrade V X U", "refused 5 16 NotContainer"),
+        ("upgrade V W N", "refused 6 4 NameTaken"),
+        ("drop V", "ok"),
+        ("compact", "ok"),
+        ("root W", "root " + hexed(full(2, [chunk(2)]))),
+    ]
+    yield script("run, upgrade and compact", upgraded, 1)
     yield script("run, nothing", [], 0)
 
 
@@ -281,6 +296,18 @@ def weave_rows():
     yield Row("weave, bad base", ["weave", "s", "base", "0", "one"], files, 1, lines)
     words = ["weave", "s", "base", "0"] + ["one"] * 11
     yield Row("weave of eleven", words, files, 2, [USAGE], unread=("s", "base", "one"))
+
+
+def work_rows():
+    """The lines are those of bench/work_rows.py, whose machine knows whole values alone."""
+    import work_rows as drawn
+    files = {"s": drawn.TYPES.encode()}
+    for name, edits in ("Q", 0), ("Deep", 12), ("L8", 30):
+        status, lines = drawn.work("sha", name, 7, edits)
+        yield Row("work on " + name, ["work", "s", name, "7", str(edits)], files, status, lines)
+    yield Row("work, no type", ["work", "s", "X", "7", "1"], files, 1, ["refused 0 2 NoType"])
+    words = ["work", "s", "Q", "7", "1000001"]
+    yield Row("work, too many", words, files, 2, [USAGE], unread=("s",))
 
 
 def part_rows():
@@ -334,5 +361,7 @@ def clash_rows():
 
 
 def rows():
-    for group in root_rows, verify_rows, run_rows, weave_rows, part_rows, partial_rows, clash_rows:
+    groups = (root_rows, verify_rows, run_rows, weave_rows, work_rows, part_rows, partial_rows,
+              clash_rows)
+    for group in groups:
         yield from group()
