@@ -3,6 +3,8 @@
 #![tactic(auto)]
 
 #[cfg(test)]
+mod compacting;
+#[cfg(test)]
 mod reading;
 #[cfg(test)]
 mod upgrading;

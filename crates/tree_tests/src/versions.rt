@@ -12,7 +12,7 @@ const FIRST: Writer = Writer(0);
 
 const BASE: Writer = Writer(255);
 
-fn name(alloc: Global, text: &str) -> Result<Name, Fail>
+pub fn name(alloc: Global, text: &str) -> Result<Name, Fail>
     ensures { IfOk result IsName }
 {
     let name = Name::copy_of(alloc, text.as_bytes())?;

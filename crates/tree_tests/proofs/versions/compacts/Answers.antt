@@ -1,18 +1,11 @@
-use Rattle.std.proofs.Common.{◌≡◌, Bool, true, false, cond, Some, None, ◌∙◌, sym, ap, subst}
+use Rattle.std.proofs.Common.{cond, Some, ◌∙◌, sym, ap}
 use Rattle.std.specs.FinMap as finite
 use Rattle.std.specs.Ordering.{eq_by_cmp}
-use Rattle.std.proofs.lemmas.Option.{none-some, same_Some}
-use Rattle.ssz_arena.specs.declared.node.NodeId.{NodeId}
 use Rattle.ssz_arena.specs.Content.{IsNodeOf}
-use Rattle.ssz_versions.specs.Content.{Held, held_at}
+use Rattle.ssz_versions.specs.Content.{held_at}
 use Rattle.ssz_versions.specs.Keys.{key_cmp, key_cmp-total}
+use Rattle.tree_tests.proofs.OneHeld.{one_held}
 use Rattle.tree_tests.proofs.versions.compacts.Goals as goal
-
--- where at most one entry is held, what holds of its node holds of that of each entry
-one_held : (b : Bool) (held other : Held) (P : NodeId → Type 0) → P held.1
-    → cond b (Some held) None ≡ Some other → P other.1
-one_held true held other P here e = subst (λ h. P h.1) (same_Some held other e) here
-one_held false held other P here e = absurd (none-some other e)
 
 pub compact-requires : goal.compact-requires
 compact-requires g c = λ writer name other there.

@@ -1,0 +1,68 @@
+ghost use Rattle.std.specs.Prelude.{◌<◌, length, IfOk};
+ghost use Rattle.ssz_arena.specs.Content.{IsNodeOf};
+
+use super::versions::name;
+use ssz_arena::{Arena, NodeId};
+use ssz_chunk::{PairHash, XorPair};
+use ssz_edit::set;
+use ssz_schema::{Schema, TypeId};
+use ssz_value::{Value, fits};
+use ssz_versions::{Versions, Writer, compact};
+use std::test::Fail;
+
+// The node of a number that is set in the place of another.
+fn set_number<H: PairHash>(
+    arena: &mut Arena<H>,
+    schema: &Schema,
+    id: TypeId,
+    node: NodeId,
+    number: u64,
+) -> Result<NodeId, Fail>
+    requires known { id < length schema.now.trees }
+    requires node { IsNodeOf arena.old node }
+    ensures { IfOk result (IsNodeOf arena.new) }
+{
+    let value = Value::Uint(u128::from(number));
+    if !fits(schema, id, &value) {
+        return Err("no number".into());
+    }
+    match set(arena, schema, id, node, &[], &value) {
+        Ok(made) => Ok(made),
+        Err(_) => Err("not set".into()),
+    }
+}
+
+// The node after a thousand numbers were set, one after another.
+fn set_numbers<H: PairHash>(
+    arena: &mut Arena<H>,
+    schema: &Schema,
+    id: TypeId,
+    first: NodeId,
+) -> Result<NodeId, Fail>
+    requires known { id < length schema.now.trees }
+    requires node { IsNodeOf arena.old first }
+    ensures { IfOk result (IsNodeOf arena.new) }
+{
+    let mut node = first;
+    for number in 0..1000 {
+        node = set_number(arena, schema, id, node, number)?;
+    }
+    Ok(node)
+}
+
+// The zero table of 127 nodes and the number's leaf are left.
+#[test]
+fn a_thousand_sets_leave_one_leaf(rt: HostRuntime) -> Result<(), Fail> {
+    let schema = Schema::empty(rt.alloc())?;
+    let id = schema.find("uint64").ok_or("uint64")?;
+    let mut arena = Arena::start(rt.alloc(), &mut XorPair::new())?;
+    let first = arena.zero(0);
+    let last = set_numbers(&mut arena, &schema, id, first)?;
+    let mut versions = Versions::empty(rt.alloc())?;
+    let a = name(rt.alloc(), "A")?;
+    versions.make(Writer(0), &a, id, last)?;
+    assert!(rt; arena.len() > 1000);
+    compact(&mut versions, &mut arena)?;
+    assert_eq!(rt; arena.len(), 128);
+    Ok(())
+}
