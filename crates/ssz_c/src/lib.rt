@@ -29,6 +29,8 @@ mod running;
 mod session;
 mod session_handle;
 mod status;
+#[cfg(test)]
+mod tests;
 mod verdict;
 
 pub use calls::SszIndex;
