@@ -12,11 +12,11 @@ from weave_rows import USAGE
 from run_rows import Machine, NAME, Ref, default, enc, sha, xor
 
 MORE = """["Z0",{"list":["uint64",0]}],["N0",{"bitlist":0}],["N1",{"bitlist":1}],
-["Some",{"union":["uint16",{"bitlist":9},{"list":["uint8",3]}]}],["Two",{"union":[null,{"union":["Q",null]}]}],
+["Some",{"union":["uint16",{"bitlist":9},{"list":["uint8",3]}]}],["Two",{"union":[null,{"union":[null,"Q"]}]}],
 ["Q3",{"vector":["Q",3]}],["Flags",{"vector":["boolean",70]}],["Bits",{"bitvector":600}],
 ["LB",{"list":["boolean",40]}],["LV",{"list":[{"vector":["uint16",5]},6]}],
 ["Deep",{"list":[{"container":[["bits",{"bitlist":5}],["tail",{"list":[{"union":[null,"Q"]},2]}]]},4]}],
-["Far",{"list":["K",1099511627776]}]
+["Far",{"list":["M",1099511627776]}]
 """
 TYPES = run_rows.SCHEMA.replace('\n]}\n', ',\n' + MORE + ']}\n', 1)
 NAMES = ['boolean', 'uint8', 'byte', 'uint16', 'uint32', 'uint64', 'uint128', 'uint256', 'P', 'Q', 'O', 'M', 'U', 'L',
