@@ -7,7 +7,7 @@ use Rattle.ssz_schema.specs.Types.{SszType, uint}
 use Rattle.ssz_schema.specs.Sizes.{fixed_size, part_length}
 use Rattle.ssz_schema.specs.Unfolding.{tree_at, fields_over, options_over}
 use Rattle.ssz_value.specs.declared.value.Value.{Value}
-use Rattle.ssz_value.specs.Values.{SszValue, number, Fits}
+use Rattle.ssz_value.specs.Values.{SszValue, number}
 use Rattle.ssz_value.specs.Standing.{value_of, IsValue}
 use Rattle.ssz_value.specs.Sizes.{size, fields_size, option_size}
 use Rattle.ssz_schema.proofs.WalkFields.{drop_at}

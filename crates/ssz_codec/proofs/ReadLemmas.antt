@@ -1,5 +1,5 @@
 -- Parts that are read one after another.
-use Rattle.std.proofs.Common.{ℕ, suc, ◌+◌, ◌-◌, ◌*◌, ◌<◌, ◌≤◌, ◌≡◌, List, [], ◌∷◌, ◌++◌, length, map, replicate, slice_range, drop, get_or, Option, Some, None, Result, Ok, Err, IfOk, sym, ap, ap₂, subst, ◌∙◌, arith, append_assoc, refl}
+use Rattle.std.proofs.Common.{ℕ, ◌+◌, ◌-◌, ◌*◌, ◌<◌, ◌≤◌, ◌≡◌, List, [], ◌∷◌, ◌++◌, length, map, replicate, slice_range, drop, get_or, Option, Some, None, Result, Ok, Err, IfOk, sym, ap, ap₂, subst, ◌∙◌, arith, append_assoc, refl}
 use Rattle.std.proofs.lemmas.List.{append-nil, drop_all}
 use Rattle.ssz_schema.specs.Types.{SszType, list, vector}
 use Rattle.ssz_schema.specs.Sizes.{head_size, fixed_size}

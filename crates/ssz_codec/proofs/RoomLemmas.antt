@@ -3,7 +3,7 @@ use Rattle.std.proofs.Common.{ℕ, zero, suc, ◌≡◌, ◌<◌, ◌≤◌, ◌
 use Rattle.std.specs.List.{AllByRecursion}
 use Rattle.std.proofs.Math.Seq.{take-length}
 use Rattle.std.proofs.lemmas.List.{append-nil, drop_all, length-map, length-take, length-drop, take-append-le}
-use Rattle.ssz_schema.specs.Types.{SszType, Fields, no_fields, field}
+use Rattle.ssz_schema.specs.Types.{SszType, Fields}
 use Rattle.ssz_schema.specs.Sizes.{fixed_size, head_size, part_sizes}
 use Rattle.ssz_schema.specs.declared.format.Format.{Format}
 use Rattle.ssz_schema.specs.Legal.{IsLegal, AreLegalFields}
@@ -12,7 +12,7 @@ use Rattle.ssz_value.specs.declared.value.Value.{Value}
 use Rattle.ssz_value.specs.Standing.{value_of, IsValue}
 use Rattle.ssz_bytes.specs.Bytes.{le_bytes}
 use Rattle.ssz_value.specs.Encoding.{enc, heads, bodies, heads_length, joined, joined_alike, field_encodings}
-use Rattle.ssz_value.specs.Values.{Fits, FitFields}
+use Rattle.ssz_value.specs.Values.{Fits}
 use Rattle.ssz_bytes.proofs.Numbers.{length-le_bytes}
 use Rattle.ssz_parts.proofs.PartSizes.{heads_alike}
 use Rattle.ssz_value.proofs.Cut.{AreParts, length-heads}

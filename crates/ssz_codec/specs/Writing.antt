@@ -1,5 +1,5 @@
 -- Bytes that are written into room for them.
-use Rattle.std.specs.Prelude.{ℕ, ◌+◌, ◌≡◌, List, [], ◌++◌, length, take, Option, Some, None}
+use Rattle.std.specs.Prelude.{ℕ, ◌+◌, ◌≡◌, List, ◌++◌, length, take, Option}
 use Rattle.ssz_schema.specs.Sizes.{head_size}
 use Rattle.ssz_value.specs.Encoding.{heads, bodies}
 use Rattle.ssz_parts.specs.Encoded.{head_of, body_of}

@@ -1,5 +1,5 @@
 -- A number of four bytes, as byteorder and as the standard's definitions say it.
-use Rattle.std.proofs.Common.{ℕ, ◌≡◌, ◌/◌, ◌%◌, ◌^◌, List, [], ◌∷◌, ◌++◌, length, drop, refl, ap, ap₂, ◌∙◌, arith}
+use Rattle.std.proofs.Common.{ℕ, ◌≡◌, ◌/◌, ◌%◌, ◌^◌, List, [], ◌∷◌, ◌++◌, length, drop, ap₂, ◌∙◌, arith}
 use Rattle.std.proofs.lemmas.List.{drop_all, append-nil}
 use Rattle.byteorder.specs.Endian.{little_number, little_bytes}
 use Rattle.ssz_bytes.specs.Bytes.{le_bytes, le_number}

@@ -1,5 +1,5 @@
 -- The parts of the defaults of types.
-use Rattle.std.proofs.Common.{◌≡◌, ℕ, zero, suc, ◌+◌, ◌-◌, ◌*◌, ◌/◌, ◌<◌, ◌≤◌, min, List, [], ◌∷◌, length, map, drop, replicate, get_or, slice_get, Option, Some, None, refl, sym, ap, ap₂, subst, ◌∙◌, arith}
+use Rattle.std.proofs.Common.{◌≡◌, ℕ, ◌+◌, ◌-◌, ◌*◌, ◌/◌, ◌<◌, ◌≤◌, min, List, [], ◌∷◌, length, map, replicate, slice_get, Option, Some, None, refl, sym, ap, ap₂, subst, ◌∙◌, arith}
 use Rattle.std.specs.List.{concat}
 use Rattle.std.proofs.Math.Nat.{mul-le-mul_left}
 use Rattle.std.proofs.lemmas.List.{length-replicate}
@@ -9,7 +9,6 @@ use Rattle.ssz_chunk.specs.Tree.{leaf, pair, full, grow, zero_tree}
 use Rattle.ssz_schema.specs.Types.{SszType, Fields, no_fields, field, container, vector, list, bitvector, bitlist, union}
 use Rattle.ssz_schema.specs.Sizes.{basic_size, element_chunks, field_count, depth}
 use Rattle.ssz_schema.specs.Unfolding.{tree_at, fields_over, options_over}
-use Rattle.ssz_schema.proofs.WalkFields.{drop_at}
 use Rattle.ssz_arena.specs.declared.node.NodeId.{NodeId}
 use Rattle.ssz_arena.specs.Content.{Content, tree_of, todo, IsNodeOf}
 use Rattle.ssz_merkle.specs.Frontier.{whole_pairs}
@@ -28,8 +27,7 @@ use Rattle.ssz_tree.specs.Shared.{shared, shared_fields, shared_vector, default_
 use Rattle.ssz_tree.proofs.Adding.{Adds-none, Adds-then, Adds-within, MakesPair}
 use Rattle.ssz_tree.proofs.Copies.{grow-few}
 use Rattle.ssz_tree.proofs.Forms.{part, parts_equal, elements-composite, vector-part, container-part}
-use Rattle.ssz_tree.proofs.Gathering.{IsAt}
-use Rattle.ssz_tree.proofs.ValueForms.{IsAt-cons, chosen_value, none_value}
+use Rattle.ssz_tree.proofs.ValueForms.{chosen_value, none_value}
 use Rattle.ssz_tree.proofs.Zeros.{padded-zeros, pack-zeros, pack_bits-zeros, enc-zeros, concat-zeros, map-replicate}
 
 -- a zero tree of the arena, for which nothing is made

@@ -1,13 +1,13 @@
 -- A container some of whose fields are given, in an arena that got room.
-use Rattle.std.proofs.Common.{◌≡◌, ℕ, ◌+◌, ◌<◌, ◌≤◌, List, [], ◌∷◌, length, Option, Some, None, refl, sym, ap, ap₂, ◌∙◌, subst}
+use Rattle.std.proofs.Common.{◌≡◌, ℕ, ◌+◌, ◌<◌, List, [], ◌∷◌, length, Option, Some, None, refl, sym, ap, ap₂, ◌∙◌, subst}
 use Rattle.std.specs.List.{AllByRecursion}
 use Rattle.ssz_chunk.specs.Tree.{grow}
 use Rattle.ssz_schema.specs.Types.{SszType, Fields, container, no_fields, field}
-use Rattle.ssz_schema.specs.Sizes.{depth, field_count}
+use Rattle.ssz_schema.specs.Sizes.{depth}
 use Rattle.ssz_schema.specs.Unfolding.{fields_over}
 use Rattle.ssz_arena.specs.declared.node.Node.{Node}
 use Rattle.ssz_arena.specs.declared.node.NodeId.{NodeId}
-use Rattle.ssz_arena.specs.Content.{Content, tree_of, todo}
+use Rattle.ssz_arena.specs.Content.{Content}
 use Rattle.ssz_value.proofs.PartLemmas.{Part as FieldPart}
 use Rattle.ssz_tree.specs.Added.{Part, IsPart, whole}
 use Rattle.ssz_tree.specs.Shared.{shared_fields, default_part}

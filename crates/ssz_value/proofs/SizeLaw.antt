@@ -8,9 +8,9 @@ use Rattle.ssz_schema.specs.declared.width.Width.TheVariants.{W8, W16, W32, W64,
 use Rattle.ssz_schema.specs.declared.format.Format.{Format}
 use Rattle.ssz_schema.specs.Types.{SszType, Fields, Options, uint, boolean, container, vector, list, bitvector, bitlist, union, no_fields, field, no_options, none_option, option}
 use Rattle.ssz_schema.specs.Legal.{IsLegal, AreLegalFields, AreLegalOptions}
-use Rattle.ssz_schema.specs.Sizes.{byte_count, fixed_size, part_sizes, part_length, option_count, default_length, default_fields_length, default_option_length}
+use Rattle.ssz_schema.specs.Sizes.{fixed_size, part_sizes, part_length, option_count, default_length, default_fields_length, default_option_length}
 use Rattle.ssz_value.specs.Laws.{DefaultsHaveLength}
-use Rattle.ssz_value.specs.Values.{SszValue, number, wide, truth, sequence, bits, chosen, chosen_none, items, Fits, FitFields, FitsOption, FitsWidth}
+use Rattle.ssz_value.specs.Values.{SszValue, truth, sequence, bits, chosen, chosen_none, items, Fits, FitFields, FitsOption, FitsWidth}
 use Rattle.ssz_value.specs.Encoding.{enc, heads, bodies, joined, heads_length, field_encodings, option_encoding}
 use Rattle.ssz_value.specs.Defaults.{default_of, default_number, default_fields, default_option}
 use Rattle.ssz_value.specs.Sizes.{size, fields_size, option_size}

@@ -1,19 +1,17 @@
 -- The place of a field, by its name.
-use Rattle.std.proofs.Common.{ℕ, ◌+◌, ◌*◌, ◌%◌, ◌^◌, ◌<◌, ◌≤◌, ◌≡◌, true, List, [], ◌∷◌, length, get_or, Option, Some, None, refl, sym, ap, ◌∙◌, subst, arith}
+use Rattle.std.proofs.Common.{ℕ, ◌+◌, ◌*◌, ◌%◌, ◌^◌, ◌<◌, ◌≤◌, ◌≡◌, true, List, [], ◌∷◌, length, get_or, Some, None, refl, sym, ap, ◌∙◌, arith}
 use Rattle.std.specs.Prelude.{option_and_then, IsSome, is_some, bytes_eq}
 use Rattle.std.specs.List.{position_from}
 use Rattle.std.proofs.Math.Nat.{pow-le-pow_right}
 use Rattle.ssz_chunk.specs.Index.{at, way}
 use Rattle.ssz_schema.specs.declared.format.Format.{Format}
 use Rattle.ssz_schema.specs.declared.path.PathStep.TheVariants.{Field}
-use Rattle.ssz_schema.specs.declared.ty.Ty.{Ty}
-use Rattle.ssz_schema.specs.declared.ty.Ty.TheVariants.{Container}
 use Rattle.ssz_schema.specs.Types.{SszType, container}
 use Rattle.ssz_schema.specs.Sizes.{depth}
 use Rattle.ssz_schema.specs.Legal.{IsLegal}
-use Rattle.ssz_schema.specs.Unfolding.{Types, type_of, tree_at, fields_over}
-use Rattle.ssz_schema.specs.Paths.{path_type, step_type, field_number}
-use Rattle.ssz_schema.specs.Indices.{whole, step_spot, generalized_index, generalized_index_from, step_index}
+use Rattle.ssz_schema.specs.Unfolding.{Types, type_of, fields_over}
+use Rattle.ssz_schema.specs.Paths.{path_type, step_type}
+use Rattle.ssz_schema.specs.Indices.{step_spot, generalized_index, generalized_index_from, step_index}
 use Rattle.ssz_schema.proofs.StepLemmas.{Part, IsFieldAt, found_field, missing_field}
 use Rattle.ssz_value.specs.Values.{SszValue}
 use Rattle.ssz_value.specs.Parts.{step_part}

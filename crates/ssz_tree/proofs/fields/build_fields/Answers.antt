@@ -1,13 +1,10 @@
-use Rattle.std.proofs.Common.{◌≡◌, ◌+◌, ◌-◌, ◌^◌, ◌<◌, ◌∙◌, ℕ, List, min, sym, ap, subst, length, arith}
+use Rattle.std.proofs.Common.{◌<◌, ◌∙◌, List, sym, ap, subst, arith}
 use Rattle.std.specs.List.{AllByRecursion}
 use Rattle.std.proofs.lemmas.Bool.{false≢true}
-use Rattle.ssz_chunk.specs.Tree.{grow}
 use Rattle.ssz_schema.specs.Types.{container}
 use Rattle.ssz_schema.specs.Unfolding.{type_of, tree_over, fields_over, AreBelow}
 use Rattle.ssz_value.proofs.PartLemmas.{Part}
 use Rattle.ssz_packing.proofs.Arms.{container_room}
-use Rattle.ssz_tree.specs.Shared.{shared_fields}
-use Rattle.ssz_tree.specs.Given.{left_fields, shared_with}
 use Rattle.ssz_tree.proofs.GivenFields.{given-room, part-made, shared-fields}
 use Rattle.ssz_tree.proofs.fields.build_fields.Goals as goal
 

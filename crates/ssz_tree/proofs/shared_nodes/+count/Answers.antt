@@ -1,4 +1,4 @@
-use Rattle.std.proofs.Common.{◌≡◌, ◌∙◌, ◌+◌, ◌-◌, ◌^◌, ℕ, min, List, slice_get, Some, None, sym, ap, arith}
+use Rattle.std.proofs.Common.{◌≡◌, ◌∙◌, ◌-◌, ◌^◌, ℕ, min, List, slice_get, Some, None, sym, ap, arith}
 use Rattle.ssz_schema.specs.Types.{container}
 use Rattle.ssz_schema.specs.Unfolding.{type_of, tree_at, tree_over, fields_over}
 use Rattle.ssz_tree.specs.Shared.{shared_fields}

@@ -1,6 +1,5 @@
-use Rattle.std.proofs.Common.{◌≡◌, List, length, ap, sym, ◌∙◌}
+use Rattle.std.proofs.Common.{◌≡◌, length, ap, sym, ◌∙◌}
 use Rattle.std.proofs.lemmas.List.{with_items_is}
-use Rattle.ssz_arena.specs.declared.node.Node.{Node}
 use Rattle.ssz_arena.specs.Content.{Content}
 use Rattle.ssz_arena.proofs.Keeping.{keeps_filled}
 use Rattle.ssz_arena.proofs.arena.Arena.root.Goals as goal

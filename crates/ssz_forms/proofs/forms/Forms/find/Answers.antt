@@ -1,4 +1,4 @@
-use Rattle.std.proofs.Common.{sym, ◌∙◌}
+use Rattle.std.proofs.Common.{◌∙◌}
 use Rattle.ssz_forms.proofs.Kept.{found_right}
 use Rattle.ssz_forms.proofs.forms.Forms.find.Goals as goal
 

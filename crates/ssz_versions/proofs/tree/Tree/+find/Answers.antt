@@ -1,4 +1,4 @@
-use Rattle.std.proofs.Common.{◌≡◌, arith, sym, ap, ◌∙◌}
+use Rattle.std.proofs.Common.{arith, sym, ap, ◌∙◌}
 use Rattle.ssz_versions.specs.Trees.{entries_of}
 use Rattle.ssz_versions.proofs.Ordered.{full_fork, left_shorter, right_shorter, left_ordered, right_ordered, find_less, find_equal, find_greater}
 use Rattle.ssz_versions.proofs.tree.Tree.+find.Goals as goal
