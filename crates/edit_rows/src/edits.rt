@@ -31,7 +31,8 @@ pub fn edited<H: PairHash>(
     let Ok(path) = read_path(alloc, path.as_bytes()) else {
         bail!("no path");
     };
-    let steps = path.as_slice();
+    let steps = path.to_vec(alloc)?;
+    let steps = steps.as_slice();
     let part = schema.path_type(old.id, steps);
     match word {
         "set" => {

@@ -21,6 +21,9 @@ fn index_of(alloc: Global, schema: &Schema, type_name: &str, path: &str) -> Resu
     let Ok(steps) = read_path(alloc, path.as_bytes()) else {
         bail!("no path");
     };
+    let steps = steps
+        .fitting(alloc, schema, id)?
+        .context("the path does not fit")?;
     Gindex::of_path(schema, id, steps.as_slice()).context("the path does not fit")
 }
 

@@ -36,6 +36,7 @@ pub fn print_call(
     let Ok(path) = read_path(alloc, word.as_bytes()) else {
         bail!("no path");
     };
+    let path = path.to_vec(alloc)?;
     match call {
         "get" => print_part(rt, schema, partial, path.as_slice(), row),
         "set" => {

@@ -43,6 +43,7 @@ fn print_row(
     let Ok(path) = read_path(alloc, path.as_bytes()) else {
         bail!("no path");
     };
+    let path = path.to_vec(alloc)?;
     if word == "part" {
         return print_part(rt, schema, id, value, path.as_slice(), row);
     }

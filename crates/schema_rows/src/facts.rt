@@ -42,6 +42,7 @@ pub fn print_part(rt: &HostRuntime, schema: &Schema, name: &str, path: &str) -> 
     let Ok(steps) = read_path(rt.alloc(), path.as_bytes()) else {
         bail!("no path");
     };
+    let steps = steps.to_vec(rt.alloc())?;
     match schema.path_type(id, steps.as_slice()) {
         Some(part) => {
             let part = basic_name(schema, part);

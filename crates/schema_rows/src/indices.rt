@@ -12,6 +12,7 @@ pub fn print_index(rt: &HostRuntime, schema: &Schema, name: &str, path: &str) ->
     let Ok(steps) = read_path(rt.alloc(), path.as_bytes()) else {
         bail!("no path");
     };
+    let steps = steps.to_vec(rt.alloc())?;
     match Gindex::of_path(schema, id, steps.as_slice()) {
         Some(index) => println!(rt; "{}", index.get())?,
         None => println!(rt; "does not fit")?,

@@ -1,8 +1,7 @@
 // Statements as text: the variant, and each of its parts with what it is.
 use super::words::{push_bytes, push_file, push_index, push_name, push_number, push_path};
 use ssz_bytes::ByteRun;
-use ssz_schema::Steps;
-use ssz_script::{FileName, Identifier, Index, PartialStatement, Statement};
+use ssz_script::{FileName, Identifier, Index, PartialStatement, Statement, Steps};
 use std::alloc::AllocError;
 
 fn push_one(out: &mut Vec<u8>, variant: &[u8], name: &Identifier) -> Result<(), AllocError> {

@@ -1,7 +1,7 @@
 // The words of statements as text.
 use ssz_bytes::ByteRun;
-use ssz_schema::{PathStep, Steps};
-use ssz_script::{FileName, Identifier, Index};
+use ssz_schema::PathStep;
+use ssz_script::{FileName, Identifier, Index, Steps};
 use std::alloc::AllocError;
 
 /// Appends a decimal number.
@@ -51,7 +51,7 @@ fn push_step(out: &mut Vec<u8>, step: &PathStep) -> Result<(), AllocError> {
 /// Appends ` path` and the steps in brackets.
 pub fn push_path(out: &mut Vec<u8>, path: &Steps) -> Result<(), AllocError> {
     out.extend_from_slice(b" path (")?;
-    for step in path.as_slice() {
+    for step in path.to_vec(*out.allocator())?.as_slice() {
         push_step(out, step)?;
     }
     out.extend_from_slice(b" )")

@@ -1,18 +1,21 @@
 // What single words spell: each case of the grammar, and its neighbours that are refused.
 use ssz_line::{
-    FileName, Index, LineFault, Words, read_file, read_index, read_literal, read_name, read_path,
-    read_selector,
+    FileName, Index, LineFault, Steps, Words, read_file, read_index, read_literal, read_name,
+    read_path, read_selector,
 };
-use ssz_schema::{PathStep, Steps};
+use ssz_schema::{Name, PathStep, Schema, TypeExpr, Width};
 use std::alloc::{AllocError, Global};
 use std::test::Fail;
 
 // The first step of a path and how many it has, a letter for the kind of step.
-fn outline(path: Result<Steps, LineFault>) -> (u8, usize) {
-    match path {
-        Ok(steps) => (first_kind(steps.as_slice()), steps.as_slice().len()),
-        Err(LineFault::Syntax) => (b'?', 0),
-        Err(LineFault::Memory) => (b'!', 0),
+fn outline(alloc: Global, word: &[u8]) -> Result<(u8, usize), AllocError> {
+    match read_path(alloc, word) {
+        Ok(path) => {
+            let steps = path.to_vec(alloc)?;
+            Ok((first_kind(steps.as_slice()), steps.len()))
+        }
+        Err(LineFault::Syntax) => Ok((b'?', 0)),
+        Err(LineFault::Memory) => Err(AllocError),
     }
 }
 
@@ -51,14 +54,44 @@ const PATHS: [(&[u8], u8, usize); 20] = [
 ];
 
 #[test]
-fn paths(rt: HostRuntime) {
+fn paths(rt: HostRuntime) -> Result<(), Fail> {
     for (word, kind, count) in PATHS {
-        assert_eq!(rt;
-            outline(read_path(rt.alloc(), word)),
-            (kind, count),
-            "{word:?}"
-        );
+        assert_eq!(rt; outline(rt.alloc(), word)?, (kind, count), "{word:?}");
     }
+    Ok(())
+}
+
+// Paths from a list of lists, and how many steps each has where it fits.
+const FITTING: [(&[u8], Option<usize>); 9] = [
+    (b"/", Some(0)),
+    (b"/0", Some(1)),
+    (b"/7/#len", Some(2)),
+    (b"/7/3", Some(2)),
+    (b"/8", None),
+    (b"/7/4", None),
+    (b"/a", None),
+    (b"/7/3/0", None),
+    (b"/0/0/0/0/0/0/0/0/0/0/0/0", None),
+];
+
+#[test]
+fn paths_that_fit(rt: HostRuntime) -> Result<(), Fail> {
+    let alloc = rt.alloc();
+    // Lists of at most eight lists of at most four numbers.
+    let mut schema = Schema::empty(alloc)?;
+    let number = Box::new(alloc, TypeExpr::Uint(Width::W64))?;
+    let inner = Box::new(alloc, TypeExpr::List(number, 4))?;
+    let added = schema.add(&Name::copy_of(alloc, b"L")?, &TypeExpr::List(inner, 8));
+    let id = added.ok().ok_or("an accepted type")?;
+    for (word, count) in FITTING {
+        let read = read_path(alloc, word)?;
+        let listed = Steps::from_vec(read.to_vec(alloc)?);
+        let from_text = read.fitting(alloc, &schema, id)?;
+        assert_eq!(rt; from_text.map(|steps| steps.len()), count, "{word:?}");
+        let from_list = listed.fitting(alloc, &schema, id)?;
+        assert_eq!(rt; from_list.map(|steps| steps.len()), count, "{word:?}");
+    }
+    Ok(())
 }
 
 // A word of so many letters.
@@ -146,10 +179,10 @@ fn literals(rt: HostRuntime) -> Result<(), Fail> {
 }
 
 // The number of an index, or how many steps it has.
-fn number(index: &Index) -> (u128, usize) {
+fn number(alloc: Global, index: &Index) -> Result<(u128, usize), AllocError> {
     match index {
-        Index::Number(number) => (*number, 0),
-        Index::Path(steps) => (0, steps.as_slice().len()),
+        Index::Number(number) => Ok((*number, 0)),
+        Index::Path(path) => Ok((0, path.to_vec(alloc)?.len())),
     }
 }
 
@@ -157,8 +190,8 @@ fn number(index: &Index) -> (u128, usize) {
 fn numbers(rt: HostRuntime) -> Result<(), Fail> {
     let alloc = rt.alloc();
     let greatest = read_index(alloc, b"340282366920938463463374607431768211455")?;
-    assert_eq!(rt; number(&greatest), (u128::MAX, 0));
-    assert_eq!(rt; number(&read_index(alloc, b"/a/1")?), (0, 2));
+    assert_eq!(rt; number(alloc, &greatest)?, (u128::MAX, 0));
+    assert_eq!(rt; number(alloc, &read_index(alloc, b"/a/1")?)?, (0, 2));
     for word in [
         b"340282366920938463463374607431768211456".as_slice(),
         b"07",

@@ -12,6 +12,7 @@ pub fn print_part(rt: &HostRuntime, whole: &Slice<'_, '_>, row: &str) -> Result<
     let Ok(path) = read_path(rt.alloc(), word.as_bytes()) else {
         bail!("no path");
     };
+    let path = path.to_vec(rt.alloc())?;
     let found = match call {
         "at" => whole.at(path.as_slice()),
         "steps" => stepped(whole, path.as_slice()),

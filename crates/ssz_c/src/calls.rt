@@ -3,6 +3,7 @@ ghost use Rattle.std.specs.Prelude.{◌≡◌, ◌<◌, ◌^◌, length, None, I
 ghost use Rattle.std.specs.Result.{result_map_both};
 ghost use Rattle.ssz_slices.specs.Written.{written};
 ghost use Rattle.ssz_schema.specs.Unfolding.{type_of};
+ghost use Rattle.ssz_schema.specs.Indices.{generalized_index};
 ghost use Rattle.ssz_value.specs.Faults.{why};
 ghost use Rattle.ssz_c.specs.Calls.{checked_in, encoding_at, gindex_in, index_parts, part_in, path_in, root_in};
 ghost use Rattle.ssz_c.specs.Outcome.{IsUnlessMemory};
@@ -13,12 +14,12 @@ use super::status;
 use ssz_chunk::ShaPair;
 use ssz_codec::check;
 use ssz_gindex::Gindex;
-use ssz_line::{LineFault, read_path};
+use ssz_line::{LineFault, Steps, read_path};
 use ssz_roots::root_of_bytes;
-use ssz_schema::{PathStep, Steps, TypeId};
+use ssz_schema::{PathStep, Schema, TypeId};
 use ssz_slices::{Encoding, Slice};
 use ssz_value::PathFault;
-use std::alloc::Global;
+use std::alloc::{AllocError, Global};
 
 /// The type of the number, where the bytes encode a value of it.
 pub fn checked(library: &Library, number: u64, bytes: &[u8]) -> Result<TypeId, SszFault>
@@ -91,6 +92,22 @@ fn path_of(alloc: Global, text: &[u8]) -> Result<Steps, SszFault>
     }
 }
 
+// The generalized index of a path by a type; None where the path does not fit it.
+fn index_of(
+    alloc: Global,
+    schema: &Schema,
+    id: TypeId,
+    path: &Steps,
+) -> Result<Option<Gindex>, AllocError>
+    requires { id < length schema.now.trees }
+    ensures { IfOk result (λ found. found ≡ generalized_index (type_of schema.now id) path.now) }
+{
+    match path.fitting(alloc, schema, id)? {
+        Some(steps) => Ok(Gindex::of_path(schema, id, steps.as_slice())),
+        None => Ok(None),
+    }
+}
+
 /// The generalized index of the path that a text spells.
 pub fn gindex(
     alloc: Global,
@@ -108,20 +125,41 @@ pub fn gindex(
         Ok(steps) => steps,
         Err(fault) => return Err(fault),
     };
-    match Gindex::of_path(&library.schema, id, steps.as_slice()) {
-        Some(index) => Ok(halves(index.get())),
-        None => Err(SszFault::of(status::BAD_PATH)),
+    match index_of(alloc, &library.schema, id, &steps) {
+        Ok(Some(index)) => Ok(halves(index.get())),
+        Ok(None) => Err(SszFault::of(status::BAD_PATH)),
+        Err(_) => Err(SszFault::of(status::NO_MEMORY)),
     }
 }
 
 // The encoding of the part of a value at a path.
-fn part_of<'s, 'b>(whole: &Slice<'s, 'b>, path: &[PathStep]) -> Result<Encoding<'b>, SszFault>
+fn part_at<'s, 'b>(whole: &Slice<'s, 'b>, path: &[PathStep]) -> Result<Encoding<'b>, SszFault>
     ensures { result_map_both written (λ fault. fault) result ≡ encoding_at whole.now path.now }
 {
     match whole.at(path) {
         Ok(part) => Ok(part.encoding()),
         Err(PathFault::BadPath) => Err(SszFault::of(status::BAD_PATH)),
         Err(PathFault::Absent) => Err(SszFault::of(status::ABSENT)),
+    }
+}
+
+// The same of a value of the type, where the path is as it was read.
+fn part_of<'s, 'b>(
+    alloc: Global,
+    schema: &Schema,
+    id: TypeId,
+    whole: &Slice<'s, 'b>,
+    path: &Steps,
+) -> Result<Encoding<'b>, SszFault>
+    requires known { id < length schema.now.trees }
+    requires form { whole.now.form ≡ type_of schema.now id }
+    ensures { IsUnlessMemory (result_map_both written (λ fault. fault) result)
+        (encoding_at whole.now path.now) }
+{
+    match path.fitting(alloc, schema, id) {
+        Ok(Some(steps)) => part_at(whole, steps.as_slice()),
+        Ok(None) => Err(SszFault::of(status::BAD_PATH)),
+        Err(_) => Err(SszFault::of(status::NO_MEMORY)),
     }
 }
 
@@ -148,7 +186,7 @@ pub fn part<'b>(
         Err(fault) => return Err(fault),
     };
     match Slice::new(&library.schema, id, bytes) {
-        Ok(whole) => part_of(&whole, steps.as_slice()),
+        Ok(whole) => part_of(alloc, &library.schema, id, &whole, &steps),
         Err(fault) => Err(SszFault::invalid(fault)),
     }
 }

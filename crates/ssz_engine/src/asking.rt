@@ -1,18 +1,20 @@
-ghost use Rattle.std.specs.Prelude.{◌≡◌, ◌+◌, ◌-◌, ◌≤◌};
+ghost use Rattle.std.specs.Prelude.{◌≡◌, ◌+◌, ◌-◌, ◌≤◌, IfOk, IfErr};
 ghost use Rattle.ssz_arena.specs.Content.{unhashed};
 ghost use Rattle.ssz_machine.specs.Asking.{root_row, gindex, hashes};
 ghost use Rattle.ssz_machine.specs.Changes.{nothing};
+ghost use Rattle.ssz_script.specs.declared.statement.Statement.TheVariants.{Root};
 ghost use Rattle.ssz_engine.specs.Content.{Grows};
 ghost use Rattle.ssz_engine.specs.Decisions.{Answers, AnswersOf};
-ghost use Rattle.ssz_engine.specs.Steps.{outcome_of};
+ghost use Rattle.ssz_engine.specs.Steps.{LeavesHashed, outcome_of};
 ghost use Rattle.ssz_engine.specs.declared.outcome.Outcome.TheVariants.{Refused};
 
 use super::decision::Decision;
 use super::engine::Engine;
+use super::fault::EngineFault;
+use super::proving::index_of;
 use ssz_chunk::PairHash;
-use ssz_gindex::Gindex;
+use ssz_line::Steps;
 use ssz_machine::Place;
-use ssz_schema::PathStep;
 use ssz_script::{Identifier, Reply};
 use ssz_versions::Writer;
 
@@ -29,6 +31,7 @@ pub(crate) fn root<'a, H: PairHash>(
     ensures rises { H.pairs hasher.old ≤ H.pairs hasher.new }
     ensures hashed { H.pairs hasher.new ≤ H.pairs hasher.old + unhashed engine.old.arena }
     ensures refused { outcome_of result ≡ Refused → hasher.new ≡ hasher.old }
+    ensures roots { LeavesHashed (Root v.now) writer.0 engine.new }
 {
     match engine.versions.get(writer, v.as_name()) {
         None => Decision::Refused(Reply::NO_VERSION),
@@ -41,17 +44,18 @@ pub(crate) fn gindex<'a, H: PairHash>(
     engine: &Engine<H>,
     writer: Writer,
     t: &Identifier,
-    path: &[PathStep],
-) -> Decision<'a>
-    ensures { AnswersOf H.pair_of (λ rules versions. gindex rules versions t.now path.now) nothing
-        writer.0 engine.now result }
+    path: &Steps,
+) -> Result<Decision<'a>, EngineFault>
+    ensures answers { IfOk result (AnswersOf H.pair_of
+        (λ rules versions. gindex rules versions t.now path.now) nothing writer.0 engine.now) }
+    ensures memory { IfErr result (λ fault. fault ≡ EngineFault.Memory) }
 {
     let Some(id) = engine.schema.find_name(t.as_name()) else {
-        return Decision::Refused(Reply::NO_TYPE);
+        return Ok(Decision::Refused(Reply::NO_TYPE));
     };
-    match Gindex::of_path(&engine.schema, id, path) {
-        None => Decision::Refused(Reply::BAD_PATH),
-        Some(index) => Decision::Said(Reply::Gindex(index.get())),
+    match index_of(engine.alloc, &engine.schema, id, path)? {
+        None => Ok(Decision::Refused(Reply::BAD_PATH)),
+        Some(index) => Ok(Decision::Said(Reply::Gindex(index.get()))),
     }
 }
 

@@ -1,5 +1,5 @@
 //! `len`.
-ghost use Rattle.std.specs.Prelude.{IfOk, IfErr};
+ghost use Rattle.std.specs.Prelude.{◌≡◌, IfOk, IfErr};
 ghost use Rattle.ssz_machine.specs.Asking.{len};
 ghost use Rattle.ssz_machine.specs.Changes.{nothing};
 ghost use Rattle.ssz_views.specs.Looking.{ForPart, type_seen};
@@ -8,8 +8,10 @@ ghost use Rattle.ssz_engine.specs.Decisions.{AnswersOf};
 
 use super::decision::Decision;
 use super::engine::Engine;
+use super::fault::EngineFault;
 use super::refusals::code_of_path;
 use ssz_chunk::PairHash;
+use ssz_line::Steps;
 use ssz_schema::PathStep;
 use ssz_script::{Identifier, Reply};
 use ssz_versions::Writer;
@@ -36,17 +38,22 @@ pub(crate) fn len<'a, H: PairHash>(
     engine: &Engine<H>,
     writer: Writer,
     v: &Identifier,
-    path: &[PathStep],
-) -> Decision<'a>
-    ensures { AnswersOf H.pair_of (λ rules versions. len versions v.now path.now) nothing writer.0
-        engine.now result }
+    path: &Steps,
+) -> Result<Decision<'a>, EngineFault>
+    ensures answers { IfOk result (AnswersOf H.pair_of
+        (λ rules versions. len versions v.now path.now) nothing writer.0 engine.now) }
+    ensures memory { IfErr result (λ fault. fault ≡ EngineFault.Memory) }
 {
     let Some(held) = engine.versions.get(writer, v.as_name()) else {
-        return Decision::Refused(Reply::NO_VERSION);
+        return Ok(Decision::Refused(Reply::NO_VERSION));
     };
+    let Some(steps) = path.fitting(engine.alloc, &engine.schema, held.0)? else {
+        return Ok(Decision::Refused(Reply::BAD_PATH));
+    };
+    let steps = steps.as_slice();
     let view = View::new(&engine.arena, &engine.schema, held.0, held.1);
-    match count_at(&view, path) {
-        Ok(count) => Decision::Said(Reply::Len(count)),
-        Err(code) => Decision::Refused(code),
+    match count_at(&view, steps) {
+        Ok(count) => Ok(Decision::Said(Reply::Len(count))),
+        Err(code) => Ok(Decision::Refused(code)),
     }
 }

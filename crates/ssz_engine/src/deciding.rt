@@ -4,7 +4,7 @@ ghost use Rattle.ssz_machine.specs.Counts.{asks_root};
 ghost use Rattle.ssz_engine.specs.Compacting.{is_compact};
 ghost use Rattle.ssz_engine.specs.Content.{Grows};
 ghost use Rattle.ssz_engine.specs.Outside.{CountsReads};
-ghost use Rattle.ssz_engine.specs.Steps.{CanAsk, Decides, DecidesAlone, IsShort, MakesFork, MakesUpgrade, file_read, outcome_of};
+ghost use Rattle.ssz_engine.specs.Steps.{CanAsk, Decides, DecidesAlone, IsShort, LeavesHashed, MakesFork, MakesUpgrade, file_read, outcome_of};
 ghost use Rattle.ssz_engine.specs.declared.outcome.Outcome.TheVariants.{Refused};
 
 use super::asking::{gindex, hashes, root};
@@ -50,6 +50,7 @@ pub(crate) fn decide<'a, F: Files, H: PairHash>(
     ensures still { asks_root (Some statement.now) ≡ false → hasher.new ≡ hasher.old }
     ensures forks { IfOk result (MakesFork statement.now writer.0 engine.old.entries) }
     ensures upgrades { IfOk result (MakesUpgrade statement.now writer.0 engine.old engine.new) }
+    ensures roots { IfOk result (λ made. LeavesHashed statement.now writer.0 engine.new) }
     ensures content { F.content files.new ≡ F.content files.old }
     ensures fails { (name : List ℕ) → file_read statement.now ≡ Some name
         → F.readable files.old name → result ≢ Err EngineFault.Read }
@@ -87,6 +88,7 @@ fn decide_alone<'a, H: PairHash>(
     ensures still { asks_root (Some statement.now) ≡ false → hasher.new ≡ hasher.old }
     ensures forks { IfOk result (MakesFork statement.now writer.0 engine.old.entries) }
     ensures upgrades { IfOk result (MakesUpgrade statement.now writer.0 engine.old engine.new) }
+    ensures roots { IfOk result (λ made. LeavesHashed statement.now writer.0 engine.new) }
 {
     match statement {
         Statement::New(v, t) => new(engine, writer, v, t),
@@ -95,21 +97,19 @@ fn decide_alone<'a, H: PairHash>(
         Statement::Drop(v) => Ok(drop(engine, writer, v)),
         Statement::List => list(engine, writer),
         Statement::Root(v) => Ok(root(engine, writer, v, hasher)),
-        Statement::Gindex(t, path) => Ok(gindex(engine, writer, t, path.as_slice())),
+        Statement::Gindex(t, path) => gindex(engine, writer, t, path),
         Statement::Hashes => Ok(hashes(engine, writer, place, hasher)),
         Statement::Save(v, file) => save(engine, writer, place, v, file),
-        Statement::Bytes(v, path) => bytes(engine, writer, v, path.as_slice()),
-        Statement::Json(v, path) => json(engine, writer, v, path.as_slice()),
-        Statement::Len(v, path) => Ok(len(engine, writer, v, path.as_slice())),
-        Statement::Set(v, path, literal) => {
-            set(engine, writer, v, path.as_slice(), literal.as_slice())
-        }
+        Statement::Bytes(v, path) => bytes(engine, writer, v, path),
+        Statement::Json(v, path) => json(engine, writer, v, path),
+        Statement::Len(v, path) => len(engine, writer, v, path),
+        Statement::Set(v, path, literal) => { set(engine, writer, v, path, literal.as_slice()) }
         Statement::Append(v, path, literal) => {
-            append(engine, writer, v, path.as_slice(), literal.as_slice())
+            append(engine, writer, v, path, literal.as_slice())
         }
-        Statement::Pop(v, path) => pop(engine, writer, v, path.as_slice()),
+        Statement::Pop(v, path) => pop(engine, writer, v, path),
         Statement::Choose(v, path, selector, literal) => {
-            choose(engine, writer, v, path.as_slice(), *selector, literal)
+            choose(engine, writer, v, path, *selector, literal)
         }
         Statement::Prove(v, indices) => prove(engine, writer, v, indices, hasher),
         Statement::Upgrade(v, w, t) => upgrade(engine, writer, v, w, t),

@@ -19,7 +19,7 @@ use ssz_arena::NodeId;
 use ssz_bytes::ByteRun;
 use ssz_chunk::PairHash;
 use ssz_codec::{DecodeFault, decode};
-use ssz_schema::PathStep;
+use ssz_line::Steps;
 use ssz_script::{Identifier, Reply};
 use ssz_value::EditFault;
 use ssz_versions::Writer;
@@ -53,7 +53,7 @@ pub(crate) fn set<'a, H: PairHash>(
     engine: &mut Engine<H>,
     writer: Writer,
     v: &'a Identifier,
-    path: &[PathStep],
+    path: &Steps,
     literal: &[u8],
 ) -> Result<Decision<'a>, EngineFault>
     requires { length literal.now < 2 ^ 32 }
@@ -66,7 +66,11 @@ pub(crate) fn set<'a, H: PairHash>(
     let Some(held) = engine.versions.get(writer, v.as_name()) else {
         return Ok(Decision::Refused(Reply::NO_VERSION));
     };
-    let part = match settable(&engine.arena, &engine.schema, held.0, held.1, path) {
+    let Some(steps) = path.fitting(engine.alloc, &engine.schema, held.0)? else {
+        return Ok(Decision::Refused(Reply::BAD_PATH));
+    };
+    let steps = steps.as_slice();
+    let part = match settable(&engine.arena, &engine.schema, held.0, held.1, steps) {
         Ok(part) => part,
         Err(code) => return Ok(Decision::Refused(code)),
     };
@@ -77,7 +81,7 @@ pub(crate) fn set<'a, H: PairHash>(
                 &engine.schema,
                 held.0,
                 held.1,
-                path,
+                steps,
                 &value,
             );
             drop(value);
@@ -92,7 +96,7 @@ pub(crate) fn append<'a, H: PairHash>(
     engine: &mut Engine<H>,
     writer: Writer,
     v: &'a Identifier,
-    path: &[PathStep],
+    path: &Steps,
     literal: &[u8],
 ) -> Result<Decision<'a>, EngineFault>
     requires { length literal.now < 2 ^ 32 }
@@ -105,7 +109,11 @@ pub(crate) fn append<'a, H: PairHash>(
     let Some(held) = engine.versions.get(writer, v.as_name()) else {
         return Ok(Decision::Refused(Reply::NO_VERSION));
     };
-    let element = match appendable(&engine.arena, &engine.schema, held.0, held.1, path) {
+    let Some(steps) = path.fitting(engine.alloc, &engine.schema, held.0)? else {
+        return Ok(Decision::Refused(Reply::BAD_PATH));
+    };
+    let steps = steps.as_slice();
+    let element = match appendable(&engine.arena, &engine.schema, held.0, held.1, steps) {
         Ok(element) => element,
         Err(code) => return Ok(Decision::Refused(code)),
     };
@@ -116,7 +124,7 @@ pub(crate) fn append<'a, H: PairHash>(
                 &engine.schema,
                 held.0,
                 held.1,
-                path,
+                steps,
                 &value,
             );
             drop(value);
@@ -131,7 +139,7 @@ pub(crate) fn pop<'a, H: PairHash>(
     engine: &mut Engine<H>,
     writer: Writer,
     v: &'a Identifier,
-    path: &[PathStep],
+    path: &Steps,
 ) -> Result<Decision<'a>, EngineFault>
     ensures grows { Grows engine.old engine.new }
     ensures answers { IfOk result (AnswersWith H.pair_of
@@ -142,9 +150,13 @@ pub(crate) fn pop<'a, H: PairHash>(
     let Some(held) = engine.versions.get(writer, v.as_name()) else {
         return Ok(Decision::Refused(Reply::NO_VERSION));
     };
+    let Some(steps) = path.fitting(engine.alloc, &engine.schema, held.0)? else {
+        return Ok(Decision::Refused(Reply::BAD_PATH));
+    };
+    let steps = steps.as_slice();
     // Every type of a schema is legal, so that the parts of its values are of their types.
     let _legal = engine.schema.ty(held.0);
-    let made = ssz_edit::pop(&mut engine.arena, &engine.schema, held.0, held.1, path);
+    let made = ssz_edit::pop(&mut engine.arena, &engine.schema, held.0, held.1, steps);
     finish(v, made)
 }
 
@@ -153,7 +165,7 @@ pub(crate) fn choose<'a, H: PairHash>(
     engine: &mut Engine<H>,
     writer: Writer,
     v: &'a Identifier,
-    path: &[PathStep],
+    path: &Steps,
     selector: u8,
     literal: &Option<ByteRun>,
 ) -> Result<Decision<'a>, EngineFault>
@@ -167,12 +179,16 @@ pub(crate) fn choose<'a, H: PairHash>(
     let Some(held) = engine.versions.get(writer, v.as_name()) else {
         return Ok(Decision::Refused(Reply::NO_VERSION));
     };
+    let Some(steps) = path.fitting(engine.alloc, &engine.schema, held.0)? else {
+        return Ok(Decision::Refused(Reply::BAD_PATH));
+    };
+    let steps = steps.as_slice();
     let option = match choosable(
         &engine.arena,
         &engine.schema,
         held.0,
         held.1,
-        path,
+        steps,
         selector,
     ) {
         Ok(option) => option,
@@ -185,7 +201,7 @@ pub(crate) fn choose<'a, H: PairHash>(
                 &engine.schema,
                 held.0,
                 held.1,
-                path,
+                steps,
                 selector,
                 inner.as_ref(),
             );

@@ -13,33 +13,40 @@ use super::engine::Engine;
 use super::refusals::code_of_path;
 use ssz_arena::Arena;
 use ssz_chunk::PairHash;
+use ssz_line::Steps;
 use ssz_reading::{Basic, bit_of, chunk_of, read_value};
-use ssz_schema::{PathStep, Schema};
+use ssz_schema::Schema;
 use ssz_script::{Identifier, Reply};
 use ssz_value::Value;
 use ssz_versions::Writer;
 use ssz_walk::{Place, Spot, find};
 use std::alloc::{AllocError, Global};
 
-/// Where the part at the path of a version is; else the code of the refusal.
+/// Where the part at the path of a version is; else the code of the refusal. Fails for want of
+/// memory.
 pub(crate) fn place_of<H: PairHash>(
     engine: &Engine<H>,
     writer: Writer,
     v: &Identifier,
-    path: &[PathStep],
-) -> Result<Place, u8>
-    ensures ok { IfOk result (LeadsToPart engine.now writer.0 v.now path.now) }
-    ensures err { IfErr result (λ code. (text : TextOf)
-        → Shows text engine.now writer.0 v.now path.now (Err (coded code))) }
+    path: &Steps,
+) -> Result<Result<Place, u8>, AllocError>
+    ensures ok { IfOk result (λ found. IfOk found
+        (LeadsToPart engine.now writer.0 v.now path.now)) }
+    ensures err { IfOk result (λ found. IfErr found (λ code. (text : TextOf)
+        → Shows text engine.now writer.0 v.now path.now (Err (coded code)))) }
 {
     let Some(held) = engine.versions.get(writer, v.as_name()) else {
-        return Err(Reply::NO_VERSION);
+        return Ok(Err(Reply::NO_VERSION));
     };
+    let Some(steps) = path.fitting(engine.alloc, &engine.schema, held.0)? else {
+        return Ok(Err(Reply::BAD_PATH));
+    };
+    let steps = steps.as_slice();
     // By the type it is known where the tree of a value has its parts.
     let _legal = engine.schema.ty(held.0);
-    match find(&engine.arena, &engine.schema, held.0, held.1, path) {
-        Ok(place) => Ok(place),
-        Err(fault) => Err(code_of_path(fault)),
+    match find(&engine.arena, &engine.schema, held.0, held.1, steps) {
+        Ok(place) => Ok(Ok(place)),
+        Err(fault) => Ok(Err(code_of_path(fault))),
     }
 }
 

@@ -1,6 +1,7 @@
 //! `prove`.
 ghost use Rattle.std.specs.Prelude.{◌≡◌, ◌+◌, ◌<◌, ◌≤◌, Contains, IfOk, IfErr, IfSome, MatchOption, length, option_map};
 ghost use Rattle.ssz_schema.specs.Unfolding.{type_of};
+ghost use Rattle.ssz_schema.specs.Indices.{generalized_index};
 ghost use Rattle.ssz_arena.specs.Content.{unhashed};
 ghost use Rattle.ssz_machine.specs.Rules.{need};
 ghost use Rattle.ssz_machine.specs.Asking.{asked_index, asked_indices, prove};
@@ -16,7 +17,7 @@ use super::fault::EngineFault;
 use ssz_bytes::ByteRun;
 use ssz_chunk::PairHash;
 use ssz_gindex::Gindex;
-use ssz_line::Index;
+use ssz_line::{Index, Steps};
 use ssz_proof::proof_text;
 use ssz_prove::ProveFault;
 use ssz_schema::{Schema, TypeId};
@@ -24,16 +25,38 @@ use ssz_script::{Identifier, Indices, Reply};
 use ssz_versions::Writer;
 use std::alloc::{AllocError, Global};
 
-// The number of an index that is asked; None where its path does not fit the type.
-fn number_asked(schema: &Schema, id: TypeId, index: &Index) -> Option<u128>
+/// The generalized index of a path by a type; None where the path does not fit it.
+pub(crate) fn index_of(
+    alloc: Global,
+    schema: &Schema,
+    id: TypeId,
+    path: &Steps,
+) -> Result<Option<Gindex>, AllocError>
     requires { id < length schema.now.trees }
-    ensures { need Reply.BAD_PATH result ≡ asked_index (type_of schema.now id) index.now }
+    ensures { IfOk result (λ found. found ≡ generalized_index (type_of schema.now id) path.now) }
+{
+    match path.fitting(alloc, schema, id)? {
+        Some(steps) => Ok(Gindex::of_path(schema, id, steps.as_slice())),
+        None => Ok(None),
+    }
+}
+
+// The number of an index that is asked; None where its path does not fit the type.
+fn number_asked(
+    alloc: Global,
+    schema: &Schema,
+    id: TypeId,
+    index: &Index,
+) -> Result<Option<u128>, AllocError>
+    requires { id < length schema.now.trees }
+    ensures { IfOk result (λ number.
+        need Reply.BAD_PATH number ≡ asked_index (type_of schema.now id) index.now) }
 {
     match index {
-        Index::Number(number) => Some(*number),
-        Index::Path(path) => match Gindex::of_path(schema, id, path.as_slice()) {
-            Some(found) => Some(found.get()),
-            None => None,
+        Index::Number(number) => Ok(Some(*number)),
+        Index::Path(path) => match index_of(alloc, schema, id, path)? {
+            Some(found) => Ok(Some(found.get())),
+            None => Ok(None),
         },
     }
 }
@@ -54,7 +77,7 @@ fn numbers_asked(
 {
     let mut numbers = Vec::with_capacity(alloc, indices.len())?;
     for index in indices {
-        match number_asked(schema, id, index) {
+        match number_asked(alloc, schema, id, index)? {
             Some(number) => numbers.push(number)?,
             None => return Ok(None),
         }

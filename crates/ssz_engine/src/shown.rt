@@ -21,9 +21,10 @@ use super::parts::{part_value, place_of};
 use ssz_arena::Arena;
 use ssz_bytes::ByteRun;
 use ssz_chunk::PairHash;
+use ssz_line::Steps;
 use ssz_machine::Place;
 use ssz_reading::{EncodeFault, bit_of, chunk_of, write_encoding};
-use ssz_schema::{PathStep, Schema};
+use ssz_schema::Schema;
 use ssz_script::{FileName, Identifier, Reply};
 use ssz_value_json::{JsonWrite, write_json};
 use ssz_versions::Writer;
@@ -79,7 +80,7 @@ fn encoded<H: PairHash>(
     engine: &Engine<H>,
     writer: Writer,
     v: &Identifier,
-    path: &[PathStep],
+    path: &Steps,
 ) -> Result<Result<Vec<u8>, u8>, EngineFault>
     ensures ok { IfOk result (λ made. IfOk made (λ text.
         Shows enc engine.now writer.0 v.now path.now (Ok text.items))) }
@@ -87,7 +88,7 @@ fn encoded<H: PairHash>(
         Shows enc engine.now writer.0 v.now path.now (Err (coded code)))) }
     ensures memory { IfErr result (λ fault. fault ≡ EngineFault.Memory) }
 {
-    let place = match place_of(engine, writer, v, path) {
+    let place = match place_of(engine, writer, v, path)? {
         Ok(place) => place,
         Err(code) => return Ok(Err(code)),
     };
@@ -105,7 +106,7 @@ fn spelled<H: PairHash>(
     engine: &Engine<H>,
     writer: Writer,
     v: &Identifier,
-    path: &[PathStep],
+    path: &Steps,
 ) -> Result<Result<Vec<u8>, u8>, EngineFault>
     ensures ok { IfOk result (λ made. IfOk made (λ text.
         Shows json_text engine.now writer.0 v.now path.now (Ok text.items))) }
@@ -113,7 +114,7 @@ fn spelled<H: PairHash>(
         Shows json_text engine.now writer.0 v.now path.now (Err (coded code)))) }
     ensures memory { IfErr result (λ fault. fault ≡ EngineFault.Memory) }
 {
-    let place = match place_of(engine, writer, v, path) {
+    let place = match place_of(engine, writer, v, path)? {
         Ok(place) => place,
         Err(code) => return Ok(Err(code)),
     };
@@ -147,10 +148,13 @@ pub(crate) fn save<'a, H: PairHash>(
 {
     match place {
         Place::Weave => Ok(Decision::Refused(Reply::NOT_HERE)),
-        Place::Run => match encoded(engine, writer, v, &[])? {
-            Ok(text) => Ok(Decision::Saved(file, text)),
-            Err(code) => Ok(Decision::Refused(code)),
-        },
+        Place::Run => {
+            let whole = Steps::from_vec(Vec::new(engine.alloc));
+            match encoded(engine, writer, v, &whole)? {
+                Ok(text) => Ok(Decision::Saved(file, text)),
+                Err(code) => Ok(Decision::Refused(code)),
+            }
+        }
     }
 }
 
@@ -159,7 +163,7 @@ pub(crate) fn bytes<'a, H: PairHash>(
     engine: &Engine<H>,
     writer: Writer,
     v: &Identifier,
-    path: &[PathStep],
+    path: &Steps,
 ) -> Result<Decision<'a>, EngineFault>
     ensures answers { IfOk result (AnswersOf H.pair_of
         (λ rules versions. bytes rules versions v.now path.now) nothing writer.0 engine.now) }
@@ -176,7 +180,7 @@ pub(crate) fn json<'a, H: PairHash>(
     engine: &Engine<H>,
     writer: Writer,
     v: &Identifier,
-    path: &[PathStep],
+    path: &Steps,
 ) -> Result<Decision<'a>, EngineFault>
     ensures answers { IfOk result (AnswersOf H.pair_of
         (λ rules versions. json_row rules versions v.now path.now) nothing writer.0 engine.now) }

@@ -71,6 +71,33 @@ fn answer<F: Files, H: PairHash>(
     reply_to(engine, Place::Run, Writer(0), &line, files, hasher, reply)
 }
 
+// Does `root w`.
+fn answer_root<F: Files, H: PairHash>(
+    engine: &mut Engine<H>,
+    files: &mut F,
+    hasher: &mut H,
+    reply: &mut Vec<u8>,
+) -> Result<Outcome, EngineFault>
+    ensures keeps { Keeps engine.old engine.new }
+    ensures nodes { KeepsNodes engine.old.arena engine.new.arena }
+    ensures rises { H.pairs hasher.old ≤ H.pairs hasher.new }
+    ensures works { (state : State) →
+        let before = point engine.old (H.pairs hasher.old) (F.content files.old) in
+        let turn = done (rules_of H.pair_of engine.old) state (Root worked) in
+        IsAtState state before
+        → Works result (one_step turn) (λ made. Replies turn reply.new.items) before
+        (point engine.new (H.pairs hasher.new) (F.content files.new)) }
+    ensures read { result ≢ Err EngineFault.Read }
+    ensures gets { F.get_faults files.new ≡ F.get_faults files.old }
+    ensures puts { CountsWrites result (F.put_faults files.old) (F.put_faults files.new) }
+    ensures readable { (other : List ℕ) → F.readable files.old other → F.readable files.new other }
+{
+    let Ok(asked) = root_w(engine.alloc) else {
+        return Err(EngineFault::Memory);
+    };
+    answer(engine, asked, files, hasher, reply)
+}
+
 // The edit that a walk from the whole value of `w` comes to, if any.
 fn draw_edit<H: PairHash>(
     engine: &Engine<H>,
@@ -110,18 +137,15 @@ fn work_round<F: Files, H: PairHash>(
     ensures puts { CountsWrites result (F.put_faults files.old) (F.put_faults files.new) }
     ensures readable { (other : List ℕ) → F.readable files.old other → F.readable files.new other }
 {
-    let Ok(asked) = root_w(engine.alloc) else {
-        return Err(EngineFault::Memory);
-    };
     match draw_edit(engine, generator) {
         Err(_) => Err(EngineFault::Memory),
         Ok(None) => {
-            answer(engine, asked, files, hasher, reply)?;
+            answer_root(engine, files, hasher, reply)?;
             Ok(0)
         }
         Ok(Some(edit)) => {
             answer(engine, edit, files, hasher, reply)?;
-            answer(engine, asked, files, hasher, reply)?;
+            answer_root(engine, files, hasher, reply)?;
             Ok(1)
         }
     }

@@ -3,3 +3,5 @@ pub mod Single
 pub mod Paths
 pub mod Reading
 pub mod Parts
+pub mod Spelled
+pub mod Steps

@@ -1,4 +1,4 @@
-use ssz_schema::Steps;
+use super::steps::Steps;
 
 /// A place in the tree of a value.
 #[derive(Debug, Drop)]

@@ -1,11 +1,12 @@
 //! The words of a line of a script, and what a single word may spell: a name, a file's name, a
 //! literal, a number, a path or an index.
 //!
-//! Words lie in the line and are not copied; what is read from one has memory of its own. The
-//! definitions that say which word spells what stand in specs/: `Words` (the words of a line),
-//! `Single` and `Paths`.
+//! Words lie in the line and are not copied; what is read from one has memory of its own, in
+//! proportion to its text. The definitions that say which word spells what stand in specs/: `Words`
+//! (the words of a line), `Single` and `Paths`.
 #![tactic(auto)]
 
+mod collecting;
 mod fault;
 mod file_name;
 mod identifier;
@@ -13,6 +14,9 @@ mod index;
 mod parts;
 mod path;
 mod single;
+mod spelled;
+mod steps;
+mod steps_left;
 mod words;
 
 pub use fault::LineFault;
@@ -21,4 +25,5 @@ pub use identifier::Identifier;
 pub use index::Index;
 pub use path::{read_index, read_path};
 pub use single::{read_file, read_literal, read_name, read_selector};
+pub use steps::Steps;
 pub use words::Words;

@@ -1,46 +1,26 @@
-ghost use Rattle.std.specs.Prelude.{◌≡◌, ◌∷◌, Some};
+ghost use Rattle.std.specs.Prelude.{◌≡◌, ℕ, ◌<◌, ◌≤◌, ◌∷◌, Some, is_some};
 ghost use Rattle.ssz_line.specs.Paths.{path_step, path, index, parts_of, read_all};
 ghost use Rattle.ssz_line.specs.Reading.{Reads};
 
 use super::fault::LineFault;
 use super::index::Index;
 use super::parts::Parts;
-use super::single::read_selector;
-use ssz_decimal::{number, number_of_64_bits};
-use ssz_schema::{Name, PathStep, Steps, is_name};
+use super::spelled::spelled;
+use super::steps::Steps;
+use ssz_decimal::number;
 use std::alloc::Global;
 
-// The step that a part of a path spells.
-fn path_step(alloc: Global, part: &[u8]) -> Result<PathStep, LineFault>
-    ensures { Reads result (path_step part.now) }
+// Whether each part between slashes spells a step.
+fn are_steps(text: &[u8]) -> bool
+    ensures { result ≡ is_some (read_all path_step (parts_of text.now)) }
 {
-    if part == b"#len".as_slice() {
-        return Ok(PathStep::Len);
-    }
-    if part == b"#sel".as_slice() {
-        return Ok(PathStep::Selector);
-    }
-    if part.starts_with(b"#") {
-        let number = read_selector(part.split_at(1).1).ok_or(LineFault::Syntax)?;
-        return Ok(PathStep::Option(number));
-    }
-    if is_name(part) {
-        return Ok(PathStep::Field(Name::copy_of(alloc, part)?));
-    }
-    let element = number_of_64_bits(part).ok_or(LineFault::Syntax)?;
-    Ok(PathStep::Index(element))
-}
-
-// The steps that stand between slashes.
-fn path_steps(alloc: Global, text: &[u8]) -> Result<Steps, LineFault>
-    ensures { Reads result (read_all path_step (parts_of text.now)) }
-{
-    let mut steps = Vec::new(alloc);
     let mut parts = Parts::new(text);
     while let Some(part) = parts.next() {
-        steps.push(path_step(alloc, part)?)?;
+        if spelled(part).is_none() {
+            return false;
+        }
     }
-    Ok(Steps::from_vec(steps))
+    true
 }
 
 /// The path that the word spells: `/` alone, or one or more steps, each after a `/`. A step is a
@@ -54,7 +34,11 @@ pub fn read_path(alloc: Global, word: &[u8]) -> Result<Steps, LineFault>
     if !word.starts_with(b"/") {
         return Err(LineFault::Syntax);
     }
-    path_steps(alloc, word.split_at(1).1)
+    let text = word.split_at(1).1;
+    if !are_steps(text) {
+        return Err(LineFault::Syntax);
+    }
+    Ok(Steps::from_text(text.to_vec(alloc)?))
 }
 
 /// The index that the word spells: a decimal number below 2^128, or a path.

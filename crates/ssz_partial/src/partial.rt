@@ -46,6 +46,13 @@ impl Partial {
         })
     }
 
+    /// The type of the value.
+    pub fn id(&self) -> TypeId
+        ensures { result ≡ self.now.id }
+    {
+        self.id
+    }
+
     /// The encoding of the basic part, or of the bit, at the path, as it stands in its chunk.
     ///
     /// BadPath exactly where the path does not fit the type, then NotThat where the part is neither

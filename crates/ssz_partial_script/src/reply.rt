@@ -12,6 +12,7 @@ use super::line::PartialLine;
 use ssz_bytes::{ByteRun, Fault};
 use ssz_chunk::PairHash;
 use ssz_codec::{DecodeFault, decode};
+use ssz_line::Steps;
 use ssz_partial::{Partial, PartialFault};
 use ssz_schema::{PathStep, Schema};
 use ssz_script::{PartialStatement, Reply};
@@ -61,13 +62,16 @@ fn get(
     schema: &Schema,
     partial: &Partial,
     line: u64,
-    path: &[PathStep],
+    path: &Steps,
 ) -> Result<Reply, AllocError>
     requires { partial.now.id < length schema.now.trees }
     ensures { IfOk result (λ reply. reply ≡ reply_in line
         (get (type_of schema.now partial.now.id) partial.now.proof path.now)) }
 {
-    match partial.get(schema, path) {
+    let Some(steps) = path.fitting(alloc, schema, partial.id())? else {
+        return Ok(refused(line, Reply::BAD_PATH));
+    };
+    match partial.get(schema, steps.as_slice()) {
         Ok(piece) => {
             let bytes = &piece.bytes.0[..usize::from(piece.len)];
             Ok(Reply::Bytes(ByteRun::copy_of(alloc, bytes)?))
@@ -100,7 +104,7 @@ fn set(
     schema: &Schema,
     partial: &mut Partial,
     line: u64,
-    path: &[PathStep],
+    path: &Steps,
     literal: &[u8],
 ) -> Result<Reply, AllocError>
     requires known { partial.old.id < length schema.now.trees }
@@ -114,12 +118,16 @@ fn set(
     }) }
     ensures same { partial.new.id ≡ partial.old.id }
 {
-    let part = match partial.settable(schema, path) {
+    let Some(steps) = path.fitting(alloc, schema, partial.id())? else {
+        return Ok(refused(line, Reply::BAD_PATH));
+    };
+    let steps = steps.as_slice();
+    let part = match partial.settable(schema, steps) {
         Ok(part) => part,
         Err(fault) => return Ok(refusal(line, fault)),
     };
     match decode(alloc, schema, part, literal) {
-        Ok(value) => Ok(put(schema, partial, line, path, &value)),
+        Ok(value) => Ok(put(schema, partial, line, steps, &value)),
         Err(DecodeFault::Bad(fault)) => Ok(bad_literal(line, fault)),
         Err(DecodeFault::Memory) => Err(AllocError),
     }
@@ -155,19 +163,12 @@ fn reply_to_statement<H: PairHash>(
         (turn_at H.pair_of schema.now partial.old (line, Some statement.now)) }
 {
     match statement {
-        PartialStatement::Get(path) => get(alloc, schema, partial, line, path.as_slice()),
+        PartialStatement::Get(path) => get(alloc, schema, partial, line, path),
         PartialStatement::Set(path, literal) => {
             if !are_few(literal.as_slice()) {
                 return Err(AllocError);
             }
-            set(
-                alloc,
-                schema,
-                partial,
-                line,
-                path.as_slice(),
-                literal.as_slice(),
-            )
+            set(alloc, schema, partial, line, path, literal.as_slice())
         }
         PartialStatement::Root => Ok(Reply::Root(partial.root(hasher))),
     }

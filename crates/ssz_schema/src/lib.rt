@@ -29,7 +29,7 @@ pub use format::Format;
 pub use law::{depth_is_next_power, indices_have_levels, legal_types_are_accepted};
 pub use name::{Name, is_name};
 pub use names::Names;
-pub use path::{PathStep, Steps};
+pub use path::PathStep;
 pub use reading::field_at;
 pub use schema::Schema;
 pub use schema_fault::{SchemaError, SchemaFault};

@@ -197,7 +197,7 @@ pub fn read_loadjson(alloc: Global, mut words: Words<'_>) -> Result<Statement, L
     Ok(Statement::LoadJson(v, t, from))
 }
 
-#[tactic(auto, unfolding(crate::specs::Grammar::three_or_four))]
+#[tactic(auto, using(crate::proofs::Shapes::five), unfolding(crate::specs::Grammar::three_or_four))]
 pub fn read_choose(alloc: Global, mut words: Words<'_>) -> Result<Statement, LineFault>
     ensures { Reads result (three_or_four Choose name path selector literal words.entry) }
 {

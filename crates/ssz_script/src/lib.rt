@@ -23,7 +23,7 @@ pub use lines::{Line, Lines};
 pub use partial::{PartialStatement, read_partial};
 pub use read::read_line;
 pub use reply::Reply;
-pub use ssz_line::{FileName, Identifier, Index, LineFault, read_path};
+pub use ssz_line::{FileName, Identifier, Index, LineFault, Steps, read_path};
 pub use statement::Statement;
 pub use statements::{ScriptStatement, Statements};
 pub use texts::reply_text;

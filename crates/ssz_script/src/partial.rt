@@ -7,8 +7,7 @@ ghost use Rattle.ssz_script.specs.declared.partial.PartialStatement.TheVariants.
 
 use super::forms::{end, word};
 use ssz_bytes::ByteRun;
-use ssz_line::{LineFault, Words, read_literal, read_path};
-use ssz_schema::Steps;
+use ssz_line::{LineFault, Steps, Words, read_literal, read_path};
 use std::alloc::Global;
 
 /// A statement of a script for a partial tree.

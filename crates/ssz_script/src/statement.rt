@@ -1,7 +1,6 @@
 use super::indices::Indices;
 use ssz_bytes::ByteRun;
-use ssz_line::{FileName, Identifier};
-use ssz_schema::Steps;
+use ssz_line::{FileName, Identifier, Steps};
 
 /// A statement of a script. Its fields stand in the order of the line's words.
 #[derive(Debug, Drop)]

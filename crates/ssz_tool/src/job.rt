@@ -245,7 +245,7 @@ fn task_of_asked<F: Files>(alloc: Global, files: &mut F, asked: &Asked) -> Resul
         Asked::Run(args) => task_of_run(alloc, files, args),
         Asked::Weave(args) => task_of_weave(alloc, files, args),
         Asked::Work(args) => task_of_work(alloc, files, args),
-        Asked::Part(args, path) => task_of_part(alloc, files, args, path.as_slice()),
+        Asked::Part(args, path) => task_of_part(alloc, files, args, path),
         Asked::Clash(args) => task_of_clash(alloc, files, args),
         Asked::Partial(args) => task_of_partial(alloc, files, args),
     }

@@ -13,6 +13,7 @@ ghost use Rattle.ssz_tool.specs.ToDo.{is_script, is_usage_task};
 
 use crate::job::{Loaded, Reading, Stop, Task, load, read_schema_file};
 use crate::line::{Line, bytes_text};
+use ssz_line::Steps;
 use ssz_outside::Files;
 use ssz_schema::{PathStep, Schema, TypeId};
 use ssz_slices::Slice;
@@ -101,7 +102,7 @@ fn task_of_types<F: Files>(
     alloc: Global,
     files: &mut F,
     args: &PartArgs,
-    path: &[PathStep],
+    path: &Steps,
     schema: &Schema,
 ) -> Result<Task, Stop>
     ensures read { ForSome (F.content files.old) (λ held. IfOk result (λ task. task_of_forms held
@@ -120,9 +121,10 @@ fn task_of_types<F: Files>(
     let Some(id) = schema.find(args.type_name.as_str()) else {
         return Ok(Task::Says(Line::NoType));
     };
-    match schema.path_type(id, path) {
-        Some(_) => task_of_file(alloc, files, args, path, schema, id),
-        None => Ok(Task::Says(Line::BadPath)),
+    match path.fitting(alloc, schema, id) {
+        Ok(Some(steps)) => task_of_file(alloc, files, args, steps.as_slice(), schema, id),
+        Ok(None) => Ok(Task::Says(Line::BadPath)),
+        Err(_) => Err(Stop::Memory),
     }
 }
 
@@ -131,7 +133,7 @@ pub fn task_of_part<F: Files>(
     alloc: Global,
     files: &mut F,
     args: &PartArgs,
-    path: &[PathStep],
+    path: &Steps,
 ) -> Result<Task, Stop>
     ensures read { ForSome (F.content files.old) (λ held. IfOk result (λ task.
         task_of_part held args.now path.now ≡ task_view task)) }

@@ -3,8 +3,7 @@ ghost use Rattle.std.specs.Prelude.{◌≡◌, IfOk, Some};
 ghost use Rattle.ssz_words.specs.Limits.{IsWithinLimits};
 ghost use Rattle.ssz_tool.specs.Words.{HasOrder, part_asked, standing, taken, texts};
 
-use ssz_line::{LineFault, read_path};
-use ssz_schema::Steps;
+use ssz_line::{LineFault, Steps, read_path};
 use ssz_words::{
     ClashArgs, Command, PartArgs, PartialArgs, RootArgs, RunArgs, VerifyArgs, WeaveArgs,
     WordsFault, WorkArgs, read_words,

@@ -1,6 +1,5 @@
 use Rattle.std.proofs.Common.{◌-◌, IfOk, List, ℕ, Result, Ok, Err, subst}
 use Rattle.ssz_outside.specs.Content.{Content as Files}
-use Rattle.ssz_schema.specs.Paths.{Path}
 use Rattle.ssz_machine.specs.Making.{new, lit, list, upgrade}
 use Rattle.ssz_machine.specs.Editing.{append, choose, pop, set}
 use Rattle.ssz_machine.specs.Asking.{bytes, gindex, json_row, len, prove, save}
@@ -91,15 +90,14 @@ returns-in-Root-clause-decides g c =
 
 pub returns-in-Gindex-clause-decides : goal.returns-in-Gindex-clause-decides
 returns-in-Gindex-clause-decides g c =
-    alone g.H.PairHash.pair_of c.args.place
+    alone-ok g.H.PairHash.pair_of c.args.place
     (g.H.PairHash.pairs c.args.hasher.now - c.args.engine.now.base) c.args.writer.0
     c.args.engine.now c.args.engine.now (g.H.PairHash.pairs c.args.hasher.now)
-    (g.H.PairHash.pairs c.args.hasher.now) c.args.statement.now _ _ c.in-Gindex.is
-    (λ files. subst (λ path. Answers g.H.PairHash.pair_of
-    (λ rules versions. gindex rules versions c.in-Gindex.t path) nothing c.args.writer.0
-    c.args.engine.now c.args.engine.now (g.H.PairHash.pairs c.args.hasher.now)
-    (g.H.PairHash.pairs c.args.hasher.now) c.gindex.result)
-    c.as_slice-in-Gindex.ensures (c.gindex.ensures (g.H.PairHash.pairs c.args.hasher.now)))
+    (g.H.PairHash.pairs c.args.hasher.now) c.args.statement.now _ c.gindex.result c.in-Gindex.is
+    (with-ok g.H.PairHash.pair_of
+    (λ rules versions. gindex rules versions c.in-Gindex.t c.in-Gindex.path) nothing
+    c.args.writer.0 c.args.engine.now c.args.engine.now (g.H.PairHash.pairs c.args.hasher.now)
+    c.gindex.result c.gindex.ensures.answers)
 
 pub returns-in-Save-clause-decides : goal.returns-in-Save-clause-decides
 returns-in-Save-clause-decides g c =
@@ -121,11 +119,7 @@ returns-in-Bytes-clause-decides g c =
     (with-ok g.H.PairHash.pair_of
     (λ rules versions. bytes rules versions c.in-Bytes.v c.in-Bytes.path) nothing
     c.args.writer.0 c.args.engine.now c.args.engine.now (g.H.PairHash.pairs c.args.hasher.now)
-    c.bytes.result
-    (subst (λ (path : Path). IfOk c.bytes.result (AnswersWith g.H.PairHash.pair_of
-    (λ rules versions. bytes rules versions c.in-Bytes.v path) nothing c.args.writer.0
-    c.args.engine.now c.args.engine.now))
-    c.as_slice-in-Bytes.ensures c.bytes.ensures.answers))
+    c.bytes.result c.bytes.ensures.answers)
 
 pub returns-in-Json-clause-decides : goal.returns-in-Json-clause-decides
 returns-in-Json-clause-decides g c =
@@ -136,23 +130,18 @@ returns-in-Json-clause-decides g c =
     (with-ok g.H.PairHash.pair_of
     (λ rules versions. json_row rules versions c.in-Json.v c.in-Json.path) nothing
     c.args.writer.0 c.args.engine.now c.args.engine.now (g.H.PairHash.pairs c.args.hasher.now)
-    c.json.result
-    (subst (λ (path : Path). IfOk c.json.result (AnswersWith g.H.PairHash.pair_of
-    (λ rules versions. json_row rules versions c.in-Json.v path) nothing c.args.writer.0
-    c.args.engine.now c.args.engine.now))
-    c.as_slice-in-Json.ensures c.json.ensures.answers))
+    c.json.result c.json.ensures.answers)
 
 pub returns-in-Len-clause-decides : goal.returns-in-Len-clause-decides
 returns-in-Len-clause-decides g c =
-    alone g.H.PairHash.pair_of c.args.place
+    alone-ok g.H.PairHash.pair_of c.args.place
     (g.H.PairHash.pairs c.args.hasher.now - c.args.engine.now.base) c.args.writer.0
     c.args.engine.now c.args.engine.now (g.H.PairHash.pairs c.args.hasher.now)
-    (g.H.PairHash.pairs c.args.hasher.now) c.args.statement.now _ _ c.in-Len.is
-    (λ files. subst (λ (path : Path). Answers g.H.PairHash.pair_of
-    (λ rules versions. len versions c.in-Len.v path) nothing c.args.writer.0
-    c.args.engine.now c.args.engine.now (g.H.PairHash.pairs c.args.hasher.now)
-    (g.H.PairHash.pairs c.args.hasher.now) c.len.result)
-    c.as_slice-in-Len.ensures (c.len.ensures (g.H.PairHash.pairs c.args.hasher.now)))
+    (g.H.PairHash.pairs c.args.hasher.now) c.args.statement.now _ c.len.result c.in-Len.is
+    (with-ok g.H.PairHash.pair_of
+    (λ rules versions. len versions c.in-Len.v c.in-Len.path) nothing
+    c.args.writer.0 c.args.engine.now c.args.engine.now (g.H.PairHash.pairs c.args.hasher.now)
+    c.len.result c.len.ensures.answers)
 
 -- what is so, is so whatever the files hold
 whatever-files : (P : Decision → Type 0) (r : Result Decision EngineFault) → IfOk r P
@@ -183,13 +172,10 @@ returns-in-Set-clause-decides g c =
     c.set.result c.in-Set.is
     (with-ok pair_of (λ rules versions. set versions c.in-Set.v c.in-Set.path c.in-Set.literal)
     (puts c.in-Set.v) w old new count c.set.result
-    (subst (λ (path : Path). IfOk c.set.result (AnswersWith pair_of
-    (λ rules versions. set versions c.in-Set.v path c.in-Set.literal) (puts c.in-Set.v) w old new))
-    c.as_slice-in-Set.ensures
     (subst (λ (bytes : List ℕ). IfOk c.set.result (AnswersWith pair_of
-    (λ rules versions. set versions c.in-Set.v c.as_slice-in-Set.result.now bytes)
+    (λ rules versions. set versions c.in-Set.v c.in-Set.path bytes)
     (puts c.in-Set.v) w old new))
-    c.as_slice-in-Set-2.ensures.value c.set.ensures.answers)))
+    c.as_slice-in-Set.ensures.value c.set.ensures.answers))
 
 pub returns-in-Append-clause-decides : goal.returns-in-Append-clause-decides
 returns-in-Append-clause-decides g c =
@@ -203,14 +189,10 @@ returns-in-Append-clause-decides g c =
     (with-ok pair_of
     (λ rules versions. append versions c.in-Append.v c.in-Append.path c.in-Append.literal)
     (puts c.in-Append.v) w old new count c.append.result
-    (subst (λ (path : Path). IfOk c.append.result (AnswersWith pair_of
-    (λ rules versions. append versions c.in-Append.v path c.in-Append.literal)
-    (puts c.in-Append.v) w old new))
-    c.as_slice-in-Append.ensures
     (subst (λ (bytes : List ℕ). IfOk c.append.result (AnswersWith pair_of
-    (λ rules versions. append versions c.in-Append.v c.as_slice-in-Append.result.now bytes)
+    (λ rules versions. append versions c.in-Append.v c.in-Append.path bytes)
     (puts c.in-Append.v) w old new))
-    c.as_slice-in-Append-2.ensures.value c.append.ensures.answers)))
+    c.as_slice-in-Append.ensures.value c.append.ensures.answers))
 
 pub returns-in-Pop-clause-decides : goal.returns-in-Pop-clause-decides
 returns-in-Pop-clause-decides g c =
@@ -222,10 +204,7 @@ returns-in-Pop-clause-decides g c =
     alone-ok pair_of c.args.place (count - old.base) w old new count count c.args.statement.now _
     c.pop.result c.in-Pop.is
     (with-ok pair_of (λ rules versions. pop versions c.in-Pop.v c.in-Pop.path)
-    (puts c.in-Pop.v) w old new count c.pop.result
-    (subst (λ (path : Path). IfOk c.pop.result (AnswersWith pair_of
-    (λ rules versions. pop versions c.in-Pop.v path) (puts c.in-Pop.v) w old new))
-    c.as_slice-in-Pop.ensures c.pop.ensures.answers))
+    (puts c.in-Pop.v) w old new count c.pop.result c.pop.ensures.answers)
 
 pub returns-in-Choose-clause-decides : goal.returns-in-Choose-clause-decides
 returns-in-Choose-clause-decides g c =
@@ -239,8 +218,4 @@ returns-in-Choose-clause-decides g c =
     (with-ok pair_of
     (λ rules versions.
     choose versions c.in-Choose.v c.in-Choose.path c.in-Choose.selector c.in-Choose.literal)
-    (puts c.in-Choose.v) w old new count c.choose.result
-    (subst (λ (path : Path). IfOk c.choose.result (AnswersWith pair_of
-    (λ rules versions. choose versions c.in-Choose.v path c.in-Choose.selector c.in-Choose.literal)
-    (puts c.in-Choose.v) w old new))
-    c.as_slice-in-Choose.ensures c.choose.ensures.answers))
+    (puts c.in-Choose.v) w old new count c.choose.result c.choose.ensures.answers)

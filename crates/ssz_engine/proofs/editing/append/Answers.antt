@@ -1,4 +1,5 @@
 use Rattle.std.proofs.Common.{◌≡◌, ◌∙◌, Some, None, Result, IfOk, sym, ap, subst}
+use Rattle.ssz_schema.specs.Paths.{Path}
 use Rattle.ssz_schema.specs.Unfolding.{type_of}
 use Rattle.ssz_value.specs.Standing.{value_of}
 use Rattle.ssz_value.specs.Edits.{append_at}
@@ -30,7 +31,9 @@ returns-in-Err-clause-answers g c =
     let base = c.engine.inside.base in
     let v = c.args.v.now in
     let w = c.args.writer.0 in
-    let path = c.args.path.now in
+    let path : Path = c.as_slice-steps.result.now in
+    let is : path ≡ c.args.path.now
+    = c.as_slice-steps.ensures.value ∙ (rw c.in-Some-2.is at c.in_ok-steps.ensures).0 in
     let literal = c.args.literal.now in
     let held : Held = c.in-Some.held in
     let t = type_of schema held.0 in
@@ -38,13 +41,15 @@ returns-in-Err-clause-answers g c =
     let there : held_at entries w v ≡ Some held
     = ap (λ n. held_at entries w n) (sym c.as_name.ensures.text) ∙ sym c.get.ensures
     ∙ c.in-Some.is in
-    subst (λ (seen : Content). AnswersWith pair_of
+    subst (λ (p : Path). AnswersWith pair_of (λ rules versions. append versions v p literal)
+    (puts v) w c.args.engine.now c.args.engine.now (Refused c.in-Err.code)) is
+    (subst (λ (seen : Content). AnswersWith pair_of
     (λ rules versions. append versions v path literal) (puts v) w seen seen
     (Refused c.in-Err.code)) c.engine.view_is
     (code-answers pair_of schema most entries base old old w c.args.v held
     (λ rules versions. append versions v path literal) there c.in-Err.code
     (λ versions value found of. append_refused versions v (record { type = t; value = value }) path
-    found literal (coded c.in-Err.code) (c.in-Err.ensures.err value of)))
+    found literal (coded c.in-Err.code) (c.in-Err.ensures.err value of))))
 
 pub returns-in-Ok-decode-clause-answers : goal.returns-in-Ok-decode-clause-answers
 returns-in-Ok-decode-clause-answers g c =
@@ -55,7 +60,9 @@ returns-in-Ok-decode-clause-answers g c =
     let base = c.engine.inside.base in
     let v = c.args.v.now in
     let w = c.args.writer.0 in
-    let path = c.args.path.now in
+    let path : Path = c.as_slice-steps.result.now in
+    let is : path ≡ c.args.path.now
+    = c.as_slice-steps.ensures.value ∙ (rw c.in-Some-2.is at c.in_ok-steps.ensures).0 in
     let literal = c.args.literal.now in
     let held : Held = c.in-Some.held in
     let t = type_of schema held.0 in
@@ -65,7 +72,10 @@ returns-in-Ok-decode-clause-answers g c =
     ∙ c.in-Some.is in
     let new = c.append-made.new.arena in
     let x = value_of c.in-Ok-decode.value in
-    subst (λ (seen : Content). IfOk c.finish.result (AnswersWith pair_of
+    subst (λ (p : Path). IfOk c.finish.result (AnswersWith pair_of
+    (λ rules versions. append versions v p literal) (puts v) w c.args.engine.now
+    (over schema most entries base new))) is
+    (subst (λ (seen : Content). IfOk c.finish.result (AnswersWith pair_of
     (λ rules versions. append versions v path literal) (puts v) w seen
     (over schema most entries base new))) c.engine.view_is
     (finished-answers pair_of schema most entries base old new w v held
@@ -77,10 +87,10 @@ returns-in-Ok-decode-clause-answers g c =
     ∙ ap (λ y. edits versions v t (append_at t value path y) (append_charge t value path y))
     (sym c.in-Ok-decode.ensures.answer.1.value))
     c.engine.invariant there c.append-made.result c.append-made.ensures.refused
-    c.append-made.ensures.answers c.finish.result c.finish.ensures)
+    c.append-made.ensures.answers c.finish.result c.finish.ensures))
 
-pub returns-in-Err-decode-clause-answers : goal.returns-in-Err-decode-clause-answers
-returns-in-Err-decode-clause-answers g c =
+pub returns-clause-answers : goal.returns-clause-answers
+returns-clause-answers g c =
     let pair_of = g.H.PairHash.pair_of in
     let schema = c.engine.inside.schema in
     let most = c.engine.inside.max in
@@ -88,7 +98,9 @@ returns-in-Err-decode-clause-answers g c =
     let base = c.engine.inside.base in
     let v = c.args.v.now in
     let w = c.args.writer.0 in
-    let path = c.args.path.now in
+    let path : Path = c.as_slice-steps.result.now in
+    let is : path ≡ c.args.path.now
+    = c.as_slice-steps.ensures.value ∙ (rw c.in-Some-2.is at c.in_ok-steps.ensures).0 in
     let literal = c.args.literal.now in
     let held : Held = c.in-Some.held in
     let t = type_of schema held.0 in
@@ -98,7 +110,9 @@ returns-in-Err-decode-clause-answers g c =
     ∙ c.in-Some.is in
     let fault = c.in-Err-decode.fault in
     let u = type_of schema c.in-Ok.element in
-    subst (λ (r : Result Decision EngineFault). IfOk r (AnswersWith pair_of
+    subst (λ (p : Path). IfOk c.unread.result (AnswersWith pair_of
+    (λ rules versions. append versions v p literal) (puts v) w c.args.engine.now c.args.engine.now)) is
+    (subst (λ (r : Result Decision EngineFault). IfOk r (AnswersWith pair_of
     (λ rules versions. append versions v path literal) (puts v) w c.args.engine.now
     c.args.engine.now)) (sym c.unread.ensures)
     (subst (λ (seen : Content). IfOk (unread fault) (AnswersWith pair_of
@@ -107,7 +121,7 @@ returns-in-Err-decode-clause-answers g c =
     (λ rules versions. append versions v path literal) there fault
     (λ bad is versions value found of. append_read versions v (record { type = t; value = value })
     path found literal u (Some bad) (c.in-Ok.ensures.ok.tests value of)
-    (subst (λ (f : DecodeFault). Faulty (why u 0 literal) f) is c.in-Err-decode.ensures.answer))))
+    (subst (λ (f : DecodeFault). Faulty (why u 0 literal) f) is c.in-Err-decode.ensures.answer)))))
 
 pub invariant_of-engine : goal.invariant_of-engine
 invariant_of-engine g c =

@@ -1,4 +1,5 @@
 use Rattle.std.proofs.Common.{◌≡◌, ◌∙◌, Some, Ok, Err, Result, IfOk, option_map, sym, ap, subst}
+use Rattle.ssz_schema.specs.Paths.{Path}
 use Rattle.ssz_schema.specs.Unfolding.{type_of}
 use Rattle.ssz_schema.specs.Unfolding.{options_over}
 use Rattle.ssz_value.specs.Standing.{value_of}
@@ -31,7 +32,9 @@ returns-in-Err-clause-answers g c =
     let base = c.engine.inside.base in
     let v = c.args.v.now in
     let w = c.args.writer.0 in
-    let path = c.args.path.now in
+    let path : Path = c.as_slice-steps.result.now in
+    let is : path ≡ c.args.path.now
+    = c.as_slice-steps.ensures.value ∙ (rw c.in-Some-2.is at c.in_ok-steps.ensures).0 in
     let literal = c.args.literal.now in
     let held : Held = c.in-Some.held in
     let t = type_of schema held.0 in
@@ -40,13 +43,15 @@ returns-in-Err-clause-answers g c =
     = ap (λ n. held_at entries w n) (sym c.as_name.ensures.text) ∙ sym c.get.ensures
     ∙ c.in-Some.is in
     let k = c.args.selector in
-    subst (λ (seen : Content). AnswersWith pair_of
+    subst (λ (p : Path). AnswersWith pair_of (λ rules versions. choose versions v p k literal)
+    (puts v) w c.args.engine.now c.args.engine.now (Refused c.in-Err.code)) is
+    (subst (λ (seen : Content). AnswersWith pair_of
     (λ rules versions. choose versions v path k literal) (puts v) w seen seen
     (Refused c.in-Err.code)) c.engine.view_is
     (code-answers pair_of schema most entries base old old w c.args.v held
     (λ rules versions. choose versions v path k literal) there c.in-Err.code
     (λ versions value found of. choose_refused versions v (record { type = t; value = value }) path
-    found k literal (coded c.in-Err.code) (c.in-Err.ensures.err value of)))
+    found k literal (coded c.in-Err.code) (c.in-Err.ensures.err value of))))
 
 pub returns-in-Ok-inner_value-clause-answers : goal.returns-in-Ok-inner_value-clause-answers
 returns-in-Ok-inner_value-clause-answers g c =
@@ -57,7 +62,9 @@ returns-in-Ok-inner_value-clause-answers g c =
     let base = c.engine.inside.base in
     let v = c.args.v.now in
     let w = c.args.writer.0 in
-    let path = c.args.path.now in
+    let path : Path = c.as_slice-steps.result.now in
+    let is : path ≡ c.args.path.now
+    = c.as_slice-steps.ensures.value ∙ (rw c.in-Some-2.is at c.in_ok-steps.ensures).0 in
     let literal = c.args.literal.now in
     let held : Held = c.in-Some.held in
     let t = type_of schema held.0 in
@@ -69,7 +76,10 @@ returns-in-Ok-inner_value-clause-answers g c =
     let new = c.choose-made.new.arena in
     let x = option_map value_of (inner_of c.as_ref.result) in
     let can = c.in-Ok.ensures.ok in
-    subst (λ (seen : Content). IfOk c.finish.result (AnswersWith pair_of
+    subst (λ (p : Path). IfOk c.finish.result (AnswersWith pair_of
+    (λ rules versions. choose versions v p k literal) (puts v) w c.args.engine.now
+    (over schema most entries base new))) is
+    (subst (λ (seen : Content). IfOk c.finish.result (AnswersWith pair_of
     (λ rules versions. choose versions v path k literal) (puts v) w seen
     (over schema most entries base new))) c.engine.view_is
     (finished-answers pair_of schema most entries base old new w v held
@@ -80,10 +90,10 @@ returns-in-Ok-inner_value-clause-answers g c =
     ((c.in-Ok-inner_value.ensures can.options k can.there).0
     ∙ ap (λ i. Ok (option_map value_of i)) (sym c.as_ref.ensures.value)))
     c.engine.invariant there c.choose-made.result c.choose-made.ensures.refused
-    c.choose-made.ensures.answers c.finish.result c.finish.ensures)
+    c.choose-made.ensures.answers c.finish.result c.finish.ensures))
 
-pub returns-in-Err-inner_value-clause-answers : goal.returns-in-Err-inner_value-clause-answers
-returns-in-Err-inner_value-clause-answers g c =
+pub returns-clause-answers : goal.returns-clause-answers
+returns-clause-answers g c =
     let pair_of = g.H.PairHash.pair_of in
     let schema = c.engine.inside.schema in
     let most = c.engine.inside.max in
@@ -91,7 +101,9 @@ returns-in-Err-inner_value-clause-answers g c =
     let base = c.engine.inside.base in
     let v = c.args.v.now in
     let w = c.args.writer.0 in
-    let path = c.args.path.now in
+    let path : Path = c.as_slice-steps.result.now in
+    let is : path ≡ c.args.path.now
+    = c.as_slice-steps.ensures.value ∙ (rw c.in-Some-2.is at c.in_ok-steps.ensures).0 in
     let literal = c.args.literal.now in
     let held : Held = c.in-Some.held in
     let t = type_of schema held.0 in
@@ -103,7 +115,9 @@ returns-in-Err-inner_value-clause-answers g c =
     let can = c.in-Ok.ensures.ok in
     let fault = c.in-Err-inner_value.fault in
     let os = options_over schema.trees can.options in
-    subst (λ (r : Result Decision EngineFault). IfOk r (AnswersWith pair_of
+    subst (λ (p : Path). IfOk c.unread.result (AnswersWith pair_of
+    (λ rules versions. choose versions v p k literal) (puts v) w c.args.engine.now c.args.engine.now)) is
+    (subst (λ (r : Result Decision EngineFault). IfOk r (AnswersWith pair_of
     (λ rules versions. choose versions v path k literal) (puts v) w c.args.engine.now
     c.args.engine.now)) (sym c.unread.ensures)
     (subst (λ (seen : Content). IfOk (unread fault) (AnswersWith pair_of
@@ -113,4 +127,4 @@ returns-in-Err-inner_value-clause-answers g c =
     (λ bad is versions value found of. choose_read versions v (record { type = t; value = value })
     path found k literal os (Err (bad_bytes bad)) (can.tests value of)
     (subst (λ (f : DecodeFault). IsInnerRead os k literal (Err f)) is
-    (c.in-Err-inner_value.ensures can.options k can.there)))))
+    (c.in-Err-inner_value.ensures can.options k can.there))))))

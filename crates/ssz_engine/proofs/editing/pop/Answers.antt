@@ -1,4 +1,5 @@
 use Rattle.std.proofs.Common.{◌≡◌, ◌∙◌, Some, IfOk, sym, ap, subst}
+use Rattle.ssz_schema.specs.Paths.{Path}
 use Rattle.ssz_schema.specs.Unfolding.{type_of}
 use Rattle.ssz_value.specs.Edits.{pop_at}
 use Rattle.ssz_places.specs.Charges.{pop_charge}
@@ -21,7 +22,9 @@ returns-clause-answers g c =
     let base = c.engine.inside.base in
     let v = c.args.v.now in
     let w = c.args.writer.0 in
-    let path = c.args.path.now in
+    let path : Path = c.as_slice-steps.result.now in
+    let is : path ≡ c.args.path.now
+    = c.as_slice-steps.ensures.value ∙ (rw c.in-Some-2.is at c.in_ok-steps.ensures).0 in
     let held : Held = c.in-Some.held in
     let t = type_of schema held.0 in
     let old = c.engine.inside.arena in
@@ -29,7 +32,10 @@ returns-clause-answers g c =
     let there : held_at entries w v ≡ Some held
     = ap (λ n. held_at entries w n) (sym c.as_name.ensures.text) ∙ sym c.get.ensures
     ∙ c.in-Some.is in
-    subst (λ (seen : Content). IfOk c.finish.result (AnswersWith pair_of
+    subst (λ (p : Path). IfOk c.finish.result (AnswersWith pair_of
+    (λ rules versions. pop versions v p) (puts v) w c.args.engine.now
+    (over schema most entries base new))) is
+    (subst (λ (seen : Content). IfOk c.finish.result (AnswersWith pair_of
     (λ rules versions. pop versions v path) (puts v) w seen (over schema most entries base new)))
     c.engine.view_is
     (finished-answers pair_of schema most entries base old new w v held
@@ -38,4 +44,4 @@ returns-clause-answers g c =
     (λ versions value found of. pop_row schema.format versions v
     (record { type = t; value = value }) path c.ty-legal.ensures.legal of.fits found)
     c.engine.invariant there c.pop-made.result c.pop-made.ensures.refused c.pop-made.ensures.answers
-    c.finish.result c.finish.ensures)
+    c.finish.result c.finish.ensures))

@@ -19,7 +19,7 @@ returns-in-Ok-append_part-clause-ok g c =
     c.engine.inside.versions.entries c.engine.inside.base c.engine.inside.arena in
     let leads : LeadsToPart seen w v path place
     = subst (λ (s : Content). LeadsToPart s w v path place) (sym c.engine.view_is)
-    c.in-Ok.ensures.ok in
+    (rw c.in-Ok.is at c.in_ok-place.ensures.ok) in
     subst (λ (s : Content). Shows enc s w v path (Ok c.append_part.new.out.items))
     c.engine.view_is
     (shows-short enc seen w v path place c.append_part.new.out.items leads
@@ -39,7 +39,7 @@ returns-in-Err-TooLong-clause-err g c =
     c.engine.inside.versions.entries c.engine.inside.base c.engine.inside.arena in
     let leads : LeadsToPart seen w v path place
     = subst (λ (s : Content). LeadsToPart s w v path place) (sym c.engine.view_is)
-    c.in-Ok.ensures.ok in
+    (rw c.in-Ok.is at c.in_ok-place.ensures.ok) in
     let long = rw c.in-Err-TooLong.field-0-is at c.in-Err-TooLong.ensures in
     subst (λ (s : Content). Shows enc s w v path (Err (coded TOO_LONG))) c.engine.view_is
     (shows-long enc seen w v path place leads

@@ -1,4 +1,4 @@
-use Rattle.std.proofs.Common.{◌≡◌, ◌∙◌, ◌<◌, List, Option, Some, None, Err, Ok, Bor, Result, is_some, length, refl, sym, ap, subst, false}
+use Rattle.std.proofs.Common.{◌≡◌, ◌∙◌, Some, None, Err, Result, is_some, refl, sym, ap, subst}
 use Rattle.std.specs.Prelude.{OnErr}
 use Rattle.ssz_schema.specs.Unfolding.{number_of, type_of}
 use Rattle.ssz_value.specs.Values.{SszValue}

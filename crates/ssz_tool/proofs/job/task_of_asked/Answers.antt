@@ -1,4 +1,4 @@
-use Rattle.std.proofs.Common.{◌≡◌, ◌∷◌, sym}
+use Rattle.std.proofs.Common.{◌≡◌, ◌∷◌}
 use Rattle.ssz_tool.specs.Jobs.{task_of_root, task_of_run}
 use Rattle.ssz_tool.specs.Parts.{task_of_part}
 use Rattle.ssz_tool.specs.Tasks.{DoesSame, task_view}
@@ -26,9 +26,9 @@ returns-in-Run-clause-read g c = λ held told.
 
 pub returns-in-Part-clause-read : goal.returns-in-Part-clause-read
 returns-in-Part-clause-read g c = λ held told.
-    rw (c.in-Part.is, sym c.as_slice.ensures)
-    (IfOk-weaker (λ task. task_of_part held c.in-Part.args c.as_slice.result.now ≡ task_view task)
-    (λ task. DoesSame (task_of_part held c.in-Part.args c.as_slice.result.now) (task_view task))
+    rw c.in-Part.is
+    (IfOk-weaker (λ task. task_of_part held c.in-Part.args c.in-Part.path ≡ task_view task)
+    (λ task. DoesSame (task_of_part held c.in-Part.args c.in-Part.path) (task_view task))
     (λ task same. DoesSame-equal _ _ same) c.task_of_part.result
     (c.task_of_part.ensures.read held told))
 
