@@ -36,6 +36,7 @@ pub mod Uncompacted
 pub mod TakenOver
 pub mod Weaving
 pub mod Isolating
+pub mod Rooting
 pub mod WorkSteps
 pub mod WorkDraws
 pub mod WorkPoints

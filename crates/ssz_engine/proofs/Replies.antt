@@ -9,7 +9,7 @@ use Rattle.ssz_script.specs.declared.statement.Statement.TheVariants.{New, Lit, 
 use Rattle.ssz_value.specs.Values.{SszValue}
 use Rattle.ssz_machine.specs.declared.place.Place.{Place}
 use Rattle.ssz_machine.specs.State.{Name, Versions, State, View, view_of}
-use Rattle.ssz_machine.specs.Rules.{Rules, Effect, Row, Refusal, coded, bad_bytes, bad_json, makes, says}
+use Rattle.ssz_machine.specs.Rules.{Rules, Effect, Row, coded, bad_bytes, bad_json, makes, says}
 use Rattle.ssz_machine.specs.Machine.{Line, effect, step, reply_in, reply_of, said}
 use Rattle.ssz_machine.specs.Counts.{number_said}
 use Rattle.ssz_machine.proofs.Rowwise.{Does, given, passed, edited}

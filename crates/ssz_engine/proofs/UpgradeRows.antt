@@ -1,5 +1,5 @@
 -- What an upgrade of a version answers, by what the upgrade of its node answered.
-use Rattle.std.proofs.Common.{Bor, Bool, ◌≡◌, ◌≤◌, ◌<◌, ◌+◌, ℕ, List, length, Option, Some, None, Result, Ok, Err, false, is_some, option_map, refl, sym, ap, subst, ◌∙◌, arith}
+use Rattle.std.proofs.Common.{Bor, Bool, ◌≡◌, ◌≤◌, ◌<◌, ◌+◌, ℕ, List, length, Option, Some, None, Ok, Err, false, is_some, option_map, refl, sym, ap, subst, ◌∙◌, arith}
 use Rattle.std.proofs.lemmas.Bool.{false≢true}
 use Rattle.ssz_schema.specs.Types.{SszType}
 use Rattle.ssz_schema.specs.Unfolding.{Types, type_of, number_of}
@@ -8,7 +8,6 @@ use Rattle.ssz_arena.specs.declared.node.Node.{Node}
 use Rattle.ssz_arena.specs.declared.node.NodeId.{NodeId}
 use Rattle.ssz_arena.specs.Content.{Content as Nodes, todo, tree_of, unhashed}
 use Rattle.ssz_places.specs.PlaceLaws.{IsTreeOf}
-use Rattle.ssz_forms.specs.declared.upgrade_fault.UpgradeFault.{UpgradeFault}
 use Rattle.ssz_forms.specs.declared.upgrade_fault.UpgradeFault.TheVariants.{NotContainer}
 use Rattle.ssz_forms.specs.Upgrades.{upgraded, upgrade_charge}
 use Rattle.ssz_upgrade.specs.Upgraded.{Answers as AnswersUpgrade}
@@ -23,9 +22,9 @@ use Rattle.ssz_machine.specs.Changes.{puts}
 use Rattle.ssz_engine.specs.Content.{Content, rules_of}
 use Rattle.ssz_engine.specs.Decisions.{AnswersWith}
 use Rattle.ssz_engine.specs.Steps.{IsUpgradeOf}
-use Rattle.ssz_engine.specs.Standing.{AreVersions, Match, StandsForWriter}
+use Rattle.ssz_engine.specs.Standing.{AreVersions, StandsForWriter}
 use Rattle.ssz_engine.specs.declared.decision.Decision.TheVariants.{Made, Refused}
-use Rattle.ssz_engine.proofs.Brought.{free-there, over, refused-answers}
+use Rattle.ssz_engine.proofs.Brought.{free-there, over}
 use Rattle.ssz_engine.proofs.Entries.{some_held}
 use Rattle.ssz_engine.proofs.Edited.{IsThere, value-there}
 use Rattle.ssz_engine.proofs.Showing.{held-there, tree-stands}

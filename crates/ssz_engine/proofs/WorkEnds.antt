@@ -1,6 +1,6 @@
 -- How the two lines of a work are printed, and how the work ends.
-use Rattle.std.proofs.Common.{ℕ, ◌+◌, ◌≤◌, ◌≡◌, List, [], ◌∷◌, ◌++◌, take, Some, refl, sym, ap, ◌∙◌, inl, inr, arith}
-use Rattle.std.specs.Prelude.{◌≢◌, Result, Ok, Err, codes, decimal}
+use Rattle.std.proofs.Common.{ℕ, ◌≡◌, List, [], ◌∷◌, ◌++◌, take, Some, refl, sym, ap, ◌∙◌, inl, inr, arith}
+use Rattle.std.specs.Prelude.{◌≢◌, Err, codes, decimal}
 use Rattle.ssz_outside.specs.Content.{Content as Files}
 use Rattle.ssz_outside.specs.Job.{CountsRun, Ends, IsThatOrStopped, Job}
 use Rattle.ssz_outside.specs.Pieces.{Told, told_append}
@@ -133,6 +133,7 @@ module _ (pair_of : PairOf) (type_name : Name) (seed count : ℕ) (before after 
     );
     paid = broken.paid;
     through = λ none. absurd none;
+    roots = λ none. absurd none;
   }
 
   -- it was done, and the lines were printed or not
@@ -147,6 +148,7 @@ module _ (pair_of : PairOf) (type_name : Name) (seed count : ℕ) (before after 
     ends = rw (all.told ∙ told, sym edits, sym replies) ends;
     paid = let paid = all.paid in omega (arith, paid);
     through = λ finished. record { paid = all.paid; stands = all.at.versions };
+    roots = λ finished. all.roots;
   }
 
 -- a fault that is no failed read is counted as its status says

@@ -1,5 +1,6 @@
 -- The rounds of a work, one behind another.
-use Rattle.std.proofs.Common.{ℕ, suc, ◌+◌, ◌≤◌, ◌≡◌, List, [], ◌++◌, Some, refl, sym, ap, ◌∙◌, subst, arith}
+use Rattle.std.proofs.Common.{ℕ, suc, ◌+◌, ◌≡◌, List, [], ◌++◌, refl, sym, ap, ◌∙◌, subst, arith}
+use Rattle.ssz_arena.proofs.Keeping.{keeps_same}
 use Rattle.ssz_machine.specs.State.{State, version_of}
 use Rattle.ssz_machine.specs.Rules.{Rules}
 use Rattle.ssz_machine.specs.Machine.{Turn}
@@ -35,7 +36,13 @@ module _ (rules : Rules) (count seed : ℕ) (state : State) where
   rounds_begin here at = record {
     so_far = none;
     working = record { all = nothing_before };
-    done = record { at = at; told = refl; paid = omega arith };
+    done = record {
+      at = at;
+      nodes = keeps_same _ _ refl;
+      roots = tt;
+      told = refl;
+      paid = omega arith;
+    };
     drawn = refl;
   }
 

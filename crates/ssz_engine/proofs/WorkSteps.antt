@@ -3,14 +3,15 @@ use Rattle.std.proofs.Common.{ℕ, ◌+◌, ◌-◌, ◌≤◌, ◌≡◌, false
 use Rattle.std.specs.Prelude.{◌≢◌, Result, Ok, Err, IfOk}
 use Rattle.std.specs.List.{AllByRecursion}
 use Rattle.std.proofs.lemmas.List.Sums.{sum_by-append, sum_by-cons}
-use Rattle.ssz_arena.specs.Content.{unhashed}
+use Rattle.ssz_arena.specs.Content.{KeepsNodes, unhashed}
+use Rattle.ssz_arena.proofs.Keeping.{keeps_trans}
 use Rattle.ssz_outside.specs.Job.{Save}
 use Rattle.ssz_proof.specs.Calculation.{PairOf}
 use Rattle.ssz_script.specs.declared.statement.Statement.{Statement}
 use Rattle.ssz_script.specs.declared.statement.Statement.TheVariants.{New, Set, Append, Pop, Choose, Root}
 use Rattle.ssz_machine.specs.declared.place.Place.TheVariants.{Run}
 use Rattle.ssz_machine.specs.State.{Name, State, view_of}
-use Rattle.ssz_machine.specs.Rules.{Effect, Row, Rules}
+use Rattle.ssz_machine.specs.Rules.{Row, Rules}
 use Rattle.ssz_machine.specs.Machine.{Turn, charge_of, effect, save_in, save_of, saved, state_in, state_of, step}
 use Rattle.ssz_machine.specs.Changes.{IsChange, SavesInto}
 use Rattle.ssz_machine.specs.Work.{done}
@@ -20,11 +21,12 @@ use Rattle.ssz_engine.specs.Content.{rules_of}
 use Rattle.ssz_engine.specs.Lines.{Does, DoesLine}
 use Rattle.ssz_engine.specs.Outside.{CountsReads}
 use Rattle.ssz_engine.specs.Scripts.{Scene, name_before}
-use Rattle.ssz_engine.specs.Steps.{file_read}
+use Rattle.ssz_engine.specs.Steps.{LeavesHashed, file_read}
 use Rattle.ssz_engine.specs.Works.{AreBroken, AreDone, IsAtState, IsOfWork, Point, Replies, Works, one_step, point}
 use Rattle.ssz_engine.specs.declared.outcome.Outcome.{Outcome}
 use Rattle.ssz_engine.specs.declared.fault.EngineFault.{EngineFault}
 use Rattle.ssz_engine.specs.declared.fault.EngineFault.TheVariants.{Read, Write, Memory}
+use Rattle.ssz_engine.proofs.Rooting.{root-made, roots-joined, roots-kept}
 
 -- their steps do not depend on what was hashed
 same_step : (rules : Rules) (number : ℕ) (state : State) (statement : Statement)
@@ -116,12 +118,19 @@ module _ (pair_of : PairOf) (statement : Statement) (is : IsOfWork statement)
   -- a statement was done
   statement_done : (made : Outcome)
       → DoesLine pair_of Run 0 (0, Some statement) (Ok made) before after [] reply
-      → IsAtState state old
+      → IsAtState state old → KeepsNodes before.engine.arena after.engine.arena
+      → LeavesHashed statement 0 after.engine
       → AreDone (turn ∷ []) (state_of turn) old new × Replies turn reply
-  statement_done made line at =
+  statement_done made line at nodes roots =
       let makes = does (Ok made) line at in (
         record {
           at = record { versions = makes.versions; files = makes.files };
+          nodes = nodes;
+          roots = (
+            root-made after.engine 0 statement ((state_of turn).versions 0)
+                (makes.versions.each 0) roots,
+            tt,
+          );
           told = makes.files ∙ ap Some (same_files rules state statement is) ∙ sym at.files;
           paid = omega (arith, makes.pays.paid, sum_by-cons charge_of turn []);
         },
@@ -150,9 +159,11 @@ module _ (pair_of : PairOf) (statement : Statement) (is : IsOfWork statement)
   pub statement_works : (result : Result Outcome EngineFault)
       → DoesLine pair_of Run 0 (0, Some statement) result before after [] reply
       → IsAtState state old → after.hashed ≤ before.hashed + unhashed before.engine.arena
+      → KeepsNodes before.engine.arena after.engine.arena
+      → IfOk result (λ made. LeavesHashed statement 0 after.engine)
       → Works result (one_step turn) (λ made. Replies turn reply) old new
-  statement_works (Ok made) line at most = statement_done made line at
-  statement_works (Err fault) line at most = statement_broken fault line at most
+  statement_works (Ok made) line at most nodes roots = statement_done made line at nodes roots
+  statement_works (Err fault) line at most nodes roots = statement_broken fault line at most
 
 -- no file is named
 pub none_named : (readable : Name → Type 0) (statement : Statement) → IsOfWork statement
@@ -175,6 +186,9 @@ pub done_then : (turns more : List Turn) (middle last : State) (before mid after
     → AreDone (turns ++ more) last before after
 done_then turns more middle last before mid after first then = record {
   at = then.at;
+  nodes = keeps_trans first.nodes then.nodes;
+  roots = roots-joined after.engine.arena turns more
+      (roots-kept mid.engine.arena after.engine.arena then.nodes turns first.roots) then.roots;
   told = then.told ∙ first.told;
   paid =
       let a = first.paid in

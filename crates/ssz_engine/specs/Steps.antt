@@ -9,7 +9,7 @@ use Rattle.ssz_schema.specs.Unfolding.{type_of}
 use Rattle.ssz_forms.specs.Upgrades.{upgrade_charge}
 use Rattle.ssz_proof.specs.Calculation.{PairOf}
 use Rattle.ssz_script.specs.declared.statement.Statement.{Statement}
-use Rattle.ssz_script.specs.declared.statement.Statement.TheVariants.{Lit, Load, LoadJson, Fork, Upgrade, Set, Append, Choose}
+use Rattle.ssz_script.specs.declared.statement.Statement.TheVariants.{Lit, Load, LoadJson, Fork, Upgrade, Set, Append, Choose, Root}
 use Rattle.ssz_script.specs.declared.reply.Reply.{Reply}
 use Rattle.ssz_script.specs.declared.reply.Reply.TheVariants as reply
 use Rattle.ssz_script.specs.declared.reply.TheConstants.Reply.{BAD_LITERAL}
@@ -154,6 +154,12 @@ MakesUpgrade (Upgrade v w t) writer old new (decision.Made name id node) =
     IsUpgradeOf v w writer old new name.now id node
 MakesUpgrade (Upgrade v w t) writer old new _ = ⊥
 MakesUpgrade _ writer old new made = Unit {0}
+
+-- `root` leaves nothing to be hashed of what its name stands for
+abbrev pub LeavesHashed : Statement → ℕ → Content → Type 0
+LeavesHashed (Root v) writer engine =
+    (held : Held) → held_at engine.entries writer v ≡ Some held → todo engine.arena held.1 ≡ 0
+LeavesHashed _ writer engine = Unit {0}
 
 -- the turn of the machine for a statement, where the writers have these versions and the files hold
 -- this

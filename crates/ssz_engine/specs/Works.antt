@@ -1,6 +1,9 @@
 -- How the work of the command `work` goes on, and how it ends.
 use Rattle.std.specs.Prelude.{◌≡◌, ◌≤◌, ⊤, ℕ, ◌+◌, false, List, [], ◌∷◌, take, Option, Some, None, Result, Ok, Err}
-use Rattle.ssz_arena.specs.Content.{unhashed}
+use Rattle.std.specs.List.{AllByRecursion}
+use Rattle.ssz_value.specs.Trees.{tree}
+use Rattle.ssz_arena.specs.Content.{Content as Nodes, IsNodeOf, KeepsNodes, todo, tree_of, unhashed}
+use Rattle.ssz_arena.specs.declared.node.NodeId.{NodeId}
 use Rattle.ssz_outside.specs.Content.{Content as Files}
 use Rattle.ssz_outside.specs.Job.{Ends, IsFinished, Job}
 use Rattle.ssz_outside.specs.declared.status.Status.{Status}
@@ -9,7 +12,7 @@ use Rattle.ssz_proof.specs.Calculation.{PairOf}
 use Rattle.ssz_script.specs.Texts.{reply_line}
 use Rattle.ssz_script.specs.declared.statement.Statement.{Statement}
 use Rattle.ssz_script.specs.declared.statement.Statement.TheVariants.{New, Set, Append, Pop, Choose, Root}
-use Rattle.ssz_machine.specs.State.{Name, State, Version}
+use Rattle.ssz_machine.specs.State.{Name, State, Version, Versions, version_of}
 use Rattle.ssz_machine.specs.Rules.{Rules}
 use Rattle.ssz_machine.specs.Machine.{Turn, reply_of, state_of}
 use Rattle.ssz_machine.specs.Plays.{charges}
@@ -55,9 +58,29 @@ pub record IsAtState (state : State) (point : Point) : Type 0 where
   pub versions : StandsFor point.engine state.versions
   pub files : point.told ≡ Some state.files
 
--- Some steps to this state were made from one point to another, and paid for; no file changed.
+-- A node has the tree of the version's value, and nothing is left to be hashed for its root.
+pub record IsHashed (arena : Nodes) (version : Version) : Type 0 where
+  pub node : NodeId
+  pub there : IsNodeOf arena node
+  pub tree : tree_of arena node ≡ tree version.type version.value
+  pub hashed : todo arena node ≡ 0
+
+-- There is one for what the name of a `root` then stands for.
+abbrev pub AreHashed : Nodes → Option Statement → Versions → Type 0
+AreHashed arena (Some (Root v)) versions =
+    (version : Version) → version_of v versions ≡ Some version → IsHashed arena version
+AreHashed arena other versions = Unit {0}
+
+-- A step that asks for a root made it.
+abbrev pub MakesRoot : Nodes → Turn → Type 0
+MakesRoot arena turn = AreHashed arena turn.line.1 ((state_of turn).versions turn.writer)
+
+-- Some steps to this state were made from one point to another, with each root that they ask for,
+-- and paid for; no file changed.
 pub record AreDone (turns : List Turn) (last : State) (before after : Point) : Type 0 where
   pub at : IsAtState last after
+  pub nodes : KeepsNodes before.engine.arena after.engine.arena
+  pub roots : AllByRecursion (MakesRoot after.engine.arena) turns
   pub told : after.told ≡ before.told
   pub paid : after.hashed + unhashed after.engine.arena
       ≤ before.hashed + unhashed before.engine.arena + charges turns
@@ -103,6 +126,9 @@ pub record EndsWorkFrom (rules : Rules) (type_name : Name) (seed count : ℕ) (f
       + charges (whole_work rules first type_name seed count).turns
   pub through : IsFinished ended → IsThrough (whole_work rules first type_name seed count).turns
       (whole_work rules first type_name seed count).state before after
+  -- the root behind each edit was made, and is kept
+  pub roots : IsFinished ended → AllByRecursion (MakesRoot after.engine.arena)
+      (whole_work rules first type_name seed count).turns
 
 -- So it ended whatever state of the machine was stood for, where the files tell what they hold.
 abbrev pub EndsWork : PairOf → Name → ℕ → ℕ → Status → Scene → Scene → Type 0

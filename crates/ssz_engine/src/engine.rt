@@ -9,7 +9,7 @@ ghost use Rattle.ssz_machine.specs.Counts.{asks_root};
 ghost use Rattle.ssz_engine.specs.Compacting.{compacted, is_compact};
 ghost use Rattle.ssz_engine.specs.Outside.{CountsReads, CountsWrites};
 ghost use Rattle.ssz_engine.specs.Standing.{StandsFor};
-ghost use Rattle.ssz_engine.specs.Steps.{DoesStep, ForksWhere, IsShort, Keeps, Stops, TouchesWhere, UpgradesWhere, file_read};
+ghost use Rattle.ssz_engine.specs.Steps.{DoesStep, ForksWhere, IsShort, Keeps, LeavesHashed, Stops, TouchesWhere, UpgradesWhere, file_read};
 ghost use Rattle.ssz_engine.specs.Weaves.{HoldsNone};
 
 use super::carrying::carry_out;
@@ -130,6 +130,8 @@ impl<H: PairHash> Engine<H> {
         // What an upgrade makes has no more to be hashed than what it was made of, and the charge.
         ensures upgrades { IfOk result (λ outcome. UpgradesWhere outcome statement.now writer.0
             self.old self.new) }
+        // A root leaves nothing to be hashed of what it was asked of.
+        ensures roots { IfOk result (λ outcome. LeavesHashed statement.now writer.0 self.new) }
         ensures err { OnErr result ((self.new.entries ≡ self.old.entries)
             × (out.new.items ≡ out.old.items)) }
         ensures stops { IfErr result (λ fault. Stops fault H.pair_of place writer.0 line

@@ -1,6 +1,5 @@
-use Rattle.std.proofs.Common.{◌≡◌, ◌∷◌, List, ℕ, [], sym, ap, ◌∙◌, subst}
+use Rattle.std.proofs.Common.{◌∷◌, List, ℕ, [], ◌∙◌, subst}
 use Rattle.std.specs.Prelude.{Err, Ok, codes, decimal}
-use Rattle.ssz_outside.specs.Content.{Content as Held}
 use Rattle.ssz_script.specs.Texts.{line}
 use Rattle.ssz_engine.specs.Lines.{Prints}
 use Rattle.ssz_engine.proofs.WorkEnds.{lines_first, lines_second}

@@ -16,6 +16,8 @@ returns-clause-works g c = λ state at.
     (subst (λ (text : List ℕ). DoesLine g.H.PairHash.pair_of Run 0 (0, Some c.args.statement)
     c.reply_to.result before after text c.reply_to.new.out.items) c.clear.ensures.items
     (c.reply_to.ensures.does None None)) at c.reply_to.ensures.hashed
+    (c.reply_to.ensures.nodes (none_compacts c.args.statement c.requires))
+    c.reply_to.ensures.roots
 
 pub returns-clause-read : goal.returns-clause-read
 returns-clause-read g c =

@@ -1,10 +1,11 @@
 use Rattle.std.proofs.Common.{◌-◌, Option, IfOk, IfErr, sym, subst}
 use Rattle.ssz_outside.specs.Content.{Content as Files}
 use Rattle.ssz_script.specs.declared.statement.Statement.{Statement}
-use Rattle.ssz_engine.specs.Steps.{Decides, DoesStep, Fails, ForksWhere, IsCarriedOut, Stops, UpgradesWhere}
+use Rattle.ssz_engine.specs.Steps.{Decides, DoesStep, Fails, ForksWhere, IsCarriedOut, LeavesHashed, Stops, UpgradesWhere}
 use Rattle.ssz_engine.specs.declared.outcome.Outcome.TheVariants.{Accepted}
 use Rattle.ssz_engine.proofs.Forking.{forks}
 use Rattle.ssz_engine.proofs.Moving.{compact-step}
+use Rattle.ssz_engine.proofs.Rooting.{roots}
 use Rattle.ssz_engine.proofs.UpgradeSteps.{upgrades}
 use Rattle.ssz_engine.proofs.Stepping.{does-step, err-of, ok-of, stops}
 use Rattle.ssz_engine.proofs.engine.Engine.step.Goals as goal
@@ -124,4 +125,23 @@ returns-clause-upgrades g c =
     (λ done. UpgradesWhere done statement w first new) c.carry_out.result
     (λ done out. upgrades w c.args.line first mid new c.carry_out.ensures.nodes told_mid told_new
     out_old out_new made done statement c.in_ok-decision.ensures.upgrades out)
+    c.carry_out.ensures.ok
+
+pub returns-clause-roots : goal.returns-clause-roots
+returns-clause-roots g c =
+    let mid = c.decide.new.engine in
+    let new = c.carry_out.new.engine in
+    let w = c.args.writer.0 in
+    let statement = c.args.statement.now in
+    let made = c.in_ok-decision.decision in
+    let told_mid = g.F.Files.content c.decide.new.files in
+    let told_new = g.F.Files.content c.carry_out.new.files in
+    let out_old = c.args.out.now.items in
+    let out_new = c.carry_out.new.out.items in
+    ok-of (λ done. IsCarriedOut made w c.args.line mid.entries new.entries done told_mid told_new
+    out_old out_new)
+    (λ done. LeavesHashed statement w new) c.carry_out.result
+    (λ done out. roots made w c.args.line mid new c.carry_out.ensures.nodes done told_mid told_new
+    out_old out_new out statement c.in_ok-decision.ensures.decides.answers.of
+    c.in_ok-decision.ensures.roots)
     c.carry_out.ensures.ok

@@ -1,4 +1,4 @@
-use Rattle.std.proofs.Common.{◌≡◌, ◌∙◌, ℕ, List, refl, sym, ap, subst}
+use Rattle.std.proofs.Common.{◌∙◌, refl, sym, ap, subst}
 use Rattle.std.specs.Prelude.{Err}
 use Rattle.ssz_outside.specs.Job.{CountsRun, IsThatOrStopped}
 use Rattle.ssz_outside.specs.declared.status.Status.{Status}

@@ -1,0 +1,53 @@
+use Rattle.std.proofs.Common.{◌≡◌, ◌∷◌, [], subst, arith}
+use Rattle.ssz_script.specs.declared.statement.Statement.{Statement}
+use Rattle.ssz_script.specs.declared.statement.Statement.TheVariants.{New, Root}
+use Rattle.ssz_machine.specs.Rules.{Rules}
+use Rattle.ssz_machine.specs.Machine.{Turn, state_of}
+use Rattle.ssz_machine.specs.Drawing.{worked}
+use Rattle.ssz_machine.specs.Work.{Worked, done, work_of, worked_on}
+use Rattle.ssz_engine.specs.Content.{Content, rules_of}
+use Rattle.ssz_engine.specs.Works.{AreDone, Point, Replies, point}
+use Rattle.ssz_engine.proofs.Leading.{keeps_on}
+use Rattle.ssz_engine.proofs.WorkPoints.{by_first_rules}
+use Rattle.ssz_engine.proofs.WorkSteps.{done_then}
+use Rattle.ssz_engine.proofs.working.work_through.Goals as goal
+
+pub returns-clause-works : goal.returns-clause-works
+returns-clause-works g c = λ state at.
+    let pair_of = g.H.PairHash.pair_of in
+    let first : Content = c.args.engine.now in
+    let before : Point = point first (g.H.PairHash.pairs c.args.hasher.now)
+    (g.F.Files.content c.args.files.now) in
+    let mid : Point = point c.answer.new.engine (g.H.PairHash.pairs c.answer.new.hasher)
+    (g.F.Files.content c.answer.new.files) in
+    let late : Point = point c.work_rounds.new.engine (g.H.PairHash.pairs c.work_rounds.new.hasher)
+    (g.F.Files.content c.work_rounds.new.files) in
+    let after : Point = point c.answer-2.new.engine (g.H.PairHash.pairs c.answer-2.new.hasher)
+    (g.F.Files.content c.answer-2.new.files) in
+    let rules : Rules = rules_of pair_of first in
+    let made : Turn = done rules state (New worked c.args.type_name.now) in
+    let rest : Rules → Worked = λ r. worked_on r c.args.count c.args.seed (state_of made) in
+    let work : Worked = work_of rules state c.args.type_name.now c.args.seed c.args.count in
+    let asked : Rules → Turn = λ r. done r work.state (Root worked) in
+    let later : Rules = rules_of pair_of c.work_rounds.new.engine in
+    let begun : AreDone (made ∷ []) (state_of made) before mid =
+    subst (λ (s : Statement). AreDone (done rules state s ∷ []) (state_of (done rules state s))
+    before mid) c.in-Ok.ensures (c.in_ok-answer.ensures.works state at).0 in
+    let rounds = by_first_rules pair_of first c.answer.new.engine c.in_ok-answer.ensures.keeps
+    (λ r. AreDone (rest r).turns (rest r).state mid late × (c.in_ok-edits.edits ≡ (rest r).edits))
+    (c.in_ok-edits.ensures.works (state_of made) begun.at) in
+    let both : AreDone work.turns work.state before late =
+    done_then (made ∷ []) (rest rules).turns (state_of made) (rest rules).state before mid late
+    begun rounds.0 in
+    let said = subst (λ (s : Statement). AreDone (done later work.state s ∷ [])
+    (state_of (done later work.state s)) late after
+    × Replies (done later work.state s) c.answer-2.new.reply.items) c.in-Ok-root_w.ensures
+    (c.in_ok-answer-2.ensures.works work.state both.at) in
+    let last = by_first_rules pair_of first c.work_rounds.new.engine
+    (keeps_on c.in_ok-answer.ensures.keeps c.in_ok-edits.ensures.keeps)
+    (λ r. AreDone (asked r ∷ []) (state_of (asked r)) late after
+    × Replies (asked r) c.answer-2.new.reply.items) said in (
+      done_then work.turns (asked rules ∷ []) work.state (state_of (asked rules)) before late after
+          both last.0,
+      (let edits = rounds.1 in omega (arith, edits), last.1),
+    )
