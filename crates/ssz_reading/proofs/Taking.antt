@@ -1,98 +1,21 @@
 -- How the next place is taken: the lowest subtree that is left is opened down to its first place.
-use Rattle.std.proofs.Common.{◌≡◌, ◌≢◌, ℕ, zero, suc, ◌+◌, ◌-◌, ◌*◌, ◌/◌, ◌%◌, ◌^◌, ◌<◌, ◌≤◌, List, ◌∷◌, length, take, drop, set, replicate, refl, sym, ap, ap₂, ◌∙◌, subst, ⊎_elim, arith, inl, inr, get_or-set_same, get_or-set_other, length-set}
-use Rattle.std.specs.Int.{bit_at, trailing_zeros, w64}
+use Rattle.std.proofs.Common.{◌≡◌, ◌≢◌, ℕ, suc, ◌+◌, ◌-◌, ◌*◌, ◌/◌, ◌%◌, ◌^◌, ◌<◌, ◌≤◌, List, ◌∷◌, length, take, drop, set, replicate, refl, sym, ap, ap₂, ◌∙◌, subst, ⊎_elim, arith, inl, inr, get_or-set_same, get_or-set_other, length-set}
+use Rattle.std.specs.Int.{bit_at}
 use Rattle.std.proofs.Math.Nat.{pow-suc}
 use Rattle.std.proofs.lemmas.Bool.{cases_lt}
 use Rattle.std.proofs.lemmas.Nat.{pow_pos, mod-mul-add}
-use Rattle.std.proofs.lemmas.Nat.Bits.{bit_at-trailing_zeros, bit_at_above, bit_at-pow_other}
+use Rattle.std.proofs.lemmas.Nat.Bits.{bit_at-pow_other}
 use Rattle.std.specs.List.{All}
 use Rattle.std.proofs.lemmas.Bool.{cases_eq}
-use Rattle.std.proofs.lemmas.List.{take-take, drop-take, take_all, get_or-replicate}
+use Rattle.std.proofs.lemmas.List.{take-take, drop-take, drop-drop, take_all, get_or-replicate}
 use Rattle.std.proofs.lemmas.List.Elements.{All-set}
-use Rattle.ssz_chunk.specs.Tree.{Tree, pair, full}
-use Rattle.ssz_chunk.proofs.Trees.{full-suc, full-zero}
+use Rattle.ssz_chunk.specs.Tree.{Tree, pair, full, place}
+use Rattle.ssz_chunk.proofs.Trees.{full-suc}
+use Rattle.ssz_chunk.proofs.FullTrees.{place-take}
 use Rattle.ssz_arena.specs.declared.node.NodeId.{NodeId}
 use Rattle.ssz_arena.specs.Content.{Content, tree_of, IsNodeOf}
-use Rattle.ssz_merkle.proofs.Binary.{IsFollowed, IsFollowed-zeros, low_zeros, shr-above, digit-low}
-use Rattle.ssz_reading.specs.Ahead.{Holds, node_of}
-
--- n ends with so many zeros and a 1 before them, and last is the number before it
-pub record Ends (n level : ℕ) : Type 0 where
-  pub one : bit_at n level ≡ 1
-  pub zeros : (i : ℕ) → i < level → bit_at n i ≡ 0
-  pub some : 0 < n
-
-pub ends : (n : ℕ) → 0 < n → n ≤ 2 ^ 63 → Ends n (trailing_zeros w64 n)
-ends n some few =
-    let digits : (trailing_zeros w64 n < 64) × (bit_at n (trailing_zeros w64 n) ≡ 1)
-    × ((i : ℕ) → i < trailing_zeros w64 n → bit_at n i ≡ 0) =
-    bit_at-trailing_zeros w64 n some (omega arith) in
-    record { one = digits.1; zeros = digits.2; some = some }
-
--- no number up to 2 ^ 63 ends with more than 63 zeros
-pub ends_within : (n level : ℕ) → n ≤ 2 ^ 63 → Ends n level → level ≤ 63
-ends_within n level few h = ⊎_elim
-    (λ (deep : 63 < level). absurd (omega (
-      arith,
-      h.one,
-      bit_at_above n 64 level (omega arith) (omega arith),
-    )))
-    (λ (within : level ≤ 63). within)
-    (cases_lt 63 level)
-
-module _ (n level : ℕ) (h : Ends n level) where
-  whole : (k : ℕ) → k ≤ level → n ≡ n / 2 ^ k * 2 ^ k
-  whole k within = low_zeros n k (λ i below. h.zeros i (omega arith))
-
-  -- up to its last zeros nothing is left of the number
-  pub none-left : (k : ℕ) → k ≤ level → n % 2 ^ k ≡ 0
-  none-left k within = zero_rest n (2 ^ k) (pow_pos k) (whole k within)
-    where
-      zero_rest : (n m : ℕ) → 0 < m → n ≡ n / m * m → n % m ≡ 0
-      zero_rest n m positive is = omega arith
-
-  followed : IsFollowed (n - 1) level (n / 2 ^ suc level)
-  followed =
-      let next : n ≡ n - 1 + 1 = omega (arith, h.some) in
-      subst (λ m. IsFollowed (n - 1) level (m / 2 ^ suc level)) (sym next)
-      (IsFollowed-zeros (n - 1) level (subst (λ m. bit_at m level ≡ 1) next h.one)
-      (λ i below. subst (λ m. bit_at m i ≡ 0) next (h.zeros i below)))
-
-  -- of the number before it all digits are left there
-  pub all-left : (k : ℕ) → k ≤ level → (n - 1) % 2 ^ k ≡ 2 ^ k - 1
-  all-left k within = before n (2 ^ k) (pow_pos k) h.some (none-left k within)
-    where
-      step : (q m : ℕ) → 0 < m → 0 < q → m * q - 1 ≡ (q - 1) * m + (m - 1)
-      step zero m positive some = absurd (omega arith)
-      step (suc q) m positive some =
-          let same : suc q - 1 ≡ q = omega arith in rw same (omega arith)
-
-      before : (n m : ℕ) → 0 < m → 0 < n → n % m ≡ 0 → (n - 1) % m ≡ m - 1
-      before n m positive some none =
-          let is : n ≡ m * (n / m) = omega arith in
-          let more : 0 < n / m = ⊎_elim
-          (λ (less : n / m < 1). let zero_is : n / m ≡ 0 = omega arith in
-          absurd (omega (arith, is ∙ ap (λ q. m * q) zero_is)))
-          (λ (h : 1 ≤ n / m). h) (cases_lt (n / m) 1) in
-          ap (λ k. k % m) (ap (λ k. k - 1) is ∙ step (n / m) m positive more)
-          ∙ mod-mul-add (n / m - 1) m (m - 1) (omega arith)
-
-  same_high : (k : ℕ) → level < k → n / 2 ^ k ≡ (n - 1) / 2 ^ k
-  same_high k above =
-      let next : n ≡ n - 1 + 1 = omega (arith, h.some) in
-      ap (λ m. m / 2 ^ k) next ∙ shr-above (n - 1) level (n / 2 ^ suc level) k followed above
-
-  pub digit-same : (k : ℕ) → level < k → bit_at (n - 1) k ≡ bit_at n k
-  digit-same k above = ap (λ q. q % 2) (sym (same_high k above))
-
-  pub one-less : (k : ℕ) → level < k → n % 2 ^ k ≡ suc ((n - 1) % 2 ^ k)
-  one-less k above = less n (2 ^ k) (pow_pos k) h.some (same_high k above)
-    where
-      less : (n m : ℕ) → 0 < m → 0 < n → n / m ≡ (n - 1) / m → n % m ≡ suc ((n - 1) % m)
-      less n m positive some same = omega (arith, ap (λ q. m * q) same)
-
-  pub digit-gone : bit_at (n - 1) level ≡ 0
-  digit-gone = digit-low (n - 1) level (n / 2 ^ suc level) followed
+use Rattle.ssz_reading.specs.Ahead.{Holds, Stand, block, node_of}
+use Rattle.ssz_reading.proofs.Ending.{Ends, ends_within, whole, none-left, digit, digit-same, digit-gone, unit_ends, less-digit, none_below, low_rest, high_rest}
 
 -- Opened down to a level: the node has the first places there, the nodes of the levels from there
 -- to the one that was opened have the places behind as many, and those above are as before.
@@ -104,17 +27,17 @@ pub record Opened (arena : Content) (trees : List Tree) (level now : ℕ) (node 
   pub high : (k : ℕ) → level ≤ k → node_of nodes k ≡ node_of old k
 
 pub Opened-start : (arena : Content) (trees : List Tree) (left level : ℕ) (nodes : List NodeId)
-    → Ends left level → Holds arena trees (record { left = left; nodes = nodes })
+    → Ends left level → Stand arena trees left nodes
     → Opened arena trees level level (node_of nodes level) nodes nodes
 Opened-start arena trees left level nodes is held = record {
-  first = held.nodes level is.one
+  first = held level is.one
       ∙ ap (λ n. full level (take (2 ^ level) (drop n trees)))
       (none-left left level is level (omega arith));
   low = λ k from below. absurd (omega arith);
   high = λ k above. refl;
 }
 
-halves_of : (now : ℕ) (trees : List Tree)
+pub halves_of : (now : ℕ) (trees : List Tree)
     → full (suc now) (take (2 ^ suc now) trees)
     ≡ pair (full now (take (2 ^ now) trees)) (full now (take (2 ^ now) (drop (2 ^ now) trees)))
 halves_of now trees =
@@ -152,55 +75,134 @@ Opened-more arena trees level now node first second old nodes below room h left 
           ∙ h.high k above;
     }
 
--- the whole way down, it is the next place
-pub Opened-end : (arena : Content) (tree : Tree) (trees : List Tree) (level : ℕ) (node : NodeId)
-    (old nodes : List NodeId) → Opened arena (tree ∷ trees) level 0 node old nodes
-    → tree_of arena node ≡ tree
-Opened-end arena tree trees level node old nodes h =
-    h.first ∙ full-zero (take (2 ^ 0) (tree ∷ trees))
+-- the first places of the lowest subtree are taken away, as many as a subtree below it has
+module _ (arena : Content) (trees : List Tree) (left level low q : ℕ) (node : NodeId)
+    (old nodes : List NodeId) (is : Ends left level) (within : low ≤ level)
+    (units : left ≡ q * 2 ^ low) (held : Stand arena trees left old)
+    (h : Opened arena trees level low node old nodes) where
+  behind : (k n : ℕ) → 2 ^ low + (left - 2 ^ low) % 2 ^ k ≡ n
+      → full k (take (2 ^ k) (drop n trees))
+      ≡ full k (block k (left - 2 ^ low) (drop (2 ^ low) trees))
+  behind k n same = ap (λ ts. full k (take (2 ^ k) ts))
+      (ap (λ m. drop m trees) (sym same)
+      ∙ sym (drop-drop ((left - 2 ^ low) % 2 ^ k) (2 ^ low) trees))
+
+  unit_bit : (j k : ℕ) → low + j ≡ k → bit_at (left - 2 ^ low) k ≡ 1 → bit_at (q - 1) j ≡ 1
+  unit_bit j k at one = sym (less-digit left level low q is within units j)
+      ∙ subst (λ n. bit_at (left - 2 ^ low) n ≡ 1) (sym at) one
+
+  same_bit : (j k : ℕ) → level - low < j → low + j ≡ k → bit_at (left - 2 ^ low) k ≡ 1
+      → bit_at left k ≡ 1
+  same_bit j k above at one = subst (λ n. bit_at left n ≡ 1) at
+      (ap (λ n. bit_at n (low + j)) units ∙ digit q low j
+      ∙ sym (digit-same q (level - low) (unit_ends left level low q is within units) j above)
+      ∙ unit_bit j k at one)
+
+  from_unit : (j k : ℕ) → low + j ≡ k → j + low ≡ k → bit_at (left - 2 ^ low) k ≡ 1
+      → tree_of arena (node_of nodes k)
+      ≡ full k (block k (left - 2 ^ low) (drop (2 ^ low) trees))
+  from_unit j k at same one = elim (cases_lt j (level - low)) [
+    | inl below ↦ h.low k (omega arith) (omega arith)
+        ∙ behind k (2 ^ k) (subst (λ n. 2 ^ low + (left - 2 ^ low) % 2 ^ n ≡ 2 ^ n) same
+        (low_rest left level low q is within units j below))
+    | inr from ↦ elim (cases_lt (level - low) j) [
+      | inl above ↦ ap (tree_of arena) (h.high k (omega arith))
+          ∙ held k (same_bit j k above at one)
+          ∙ behind k (left % 2 ^ k)
+          (subst (λ n. 2 ^ low + (left - 2 ^ low) % 2 ^ n ≡ left % 2 ^ n) same
+          (high_rest left level low q is within units j above))
+      | inr below ↦
+          (let here : j ≡ level - low = omega arith in
+          absurd (omega (
+            arith,
+            digit-gone q (level - low) (unit_ends left level low q is within units),
+            subst (λ n. bit_at (q - 1) n ≡ 1) here (unit_bit j k at one),
+          )))
+    ]
+  ]
+
+  less_stand : Stand arena (drop (2 ^ low) trees) (left - 2 ^ low) nodes
+  less_stand k one = elim (cases_lt k low) [
+    | inl below ↦ absurd (omega (arith, one, none_below left level low q is within units k below))
+    | inr from ↦ from_unit (k - low) k (omega arith) (omega arith) one
+  ]
+
+pub Stand-less : (arena : Content) (trees : List Tree) (left level low : ℕ) (node : NodeId)
+    (old nodes : List NodeId) → Ends left level → low ≤ level → Stand arena trees left old
+    → Opened arena trees level low node old nodes
+    → Stand arena (drop (2 ^ low) trees) (left - 2 ^ low) nodes
+Stand-less arena trees left level low node old nodes is within held h =
+    less_stand arena trees left level low (left / 2 ^ low) node old nodes is within
+    (whole left level is low within) held h
 
 drop_of : (n m : ℕ) (tree : Tree) (trees : List Tree) → n ≡ suc m
     → drop n (tree ∷ trees) ≡ drop m trees
 drop_of n m tree trees is = ap (λ k. drop k (tree ∷ trees)) is
 
--- and the others are left
-pub Opened-rest : (arena : Content) (tree : Tree) (trees : List Tree) (left level : ℕ)
-    (node : NodeId) (old nodes : List NodeId) → Ends left level
-    → Holds arena (tree ∷ trees) (record { left = left; nodes = old })
-    → Opened arena (tree ∷ trees) level 0 node old nodes
-    → Holds arena trees (record { left = left - 1; nodes = nodes })
-Opened-rest arena tree trees left level node old nodes is held h = record {
+-- the next place is the first of the row, and the others are left
+pub Holds-next : (arena : Content) (tree : Tree) (trees : List Tree) (row nodes : List NodeId)
+    (from to left : ℕ) → from < to
+    → Holds arena (tree ∷ trees)
+    (record { row = row; from = from; to = to; left = left; nodes = nodes })
+    → tree_of arena (node_of row from) ≡ tree
+Holds-next arena tree trees row nodes from to left some held =
+    let first : from + 0 ≡ from = omega arith in
+    subst (λ k. tree_of arena (node_of row k) ≡ tree) first (held.row 0 (omega arith))
+
+pub Holds-rest : (arena : Content) (tree : Tree) (trees : List Tree) (row nodes : List NodeId)
+    (from to left : ℕ) → from < to
+    → Holds arena (tree ∷ trees)
+    (record { row = row; from = from; to = to; left = left; nodes = nodes })
+    → Holds arena trees
+    (record { row = row; from = from + 1; to = to; left = left; nodes = nodes })
+Holds-rest arena tree trees row nodes from to left some held = record {
   few = omega (arith, held.few);
-  nodes = λ k one. elim (cases_lt k level) [
-    | inl below ↦
-        (let rest : drop (2 ^ k) (tree ∷ trees) ≡ drop ((left - 1) % 2 ^ k) trees =
-        drop_of (2 ^ k) ((left - 1) % 2 ^ k) tree trees
-        (omega (arith, all-left left level is k (omega arith), pow_pos k)) in
-        h.low k (omega arith) below ∙ ap (λ ts. full k (take (2 ^ k) ts)) rest)
-    | inr from ↦ elim (cases_lt level k) [
-      | inl above ↦
-          (let rest : drop (left % 2 ^ k) (tree ∷ trees) ≡ drop ((left - 1) % 2 ^ k) trees =
-          drop_of (left % 2 ^ k) ((left - 1) % 2 ^ k) tree trees (one-less left level is k above) in
-          ap (tree_of arena) (h.high k from)
-          ∙ held.nodes k (sym (digit-same left level is k above) ∙ one)
-          ∙ ap (λ ts. full k (take (2 ^ k) ts)) rest)
-      | inr here ↦
-          (let same : k ≡ level = omega arith in
-          absurd (omega (
-            arith,
-            digit-gone left level is,
-            subst (λ j. bit_at (left - 1) j ≡ 1) same one,
-          )))
-    ]
-  ];
+  row = λ i below.
+      let next : from + suc i ≡ from + 1 + i = omega arith in
+      subst (λ k. tree_of arena (node_of row k) ≡ place trees i) next
+      (held.row (suc i) (omega arith));
+  nodes = subst (λ ts. Stand arena ts left nodes)
+      (drop_of (to - from) (to - (from + 1)) tree trees (omega arith)) held.nodes;
 }
 
+-- a row of the first places, come down to together
+pub Holds-filled : (arena : Content) (trees : List Tree) (left level low from to : ℕ)
+    (node : NodeId) (old nodes row filled : List NodeId) → Ends left level → low ≤ level
+    → from ≡ to
+    → ((ts : List Tree) → Stand arena ts left old → Opened arena ts level low node old nodes)
+    → ((ts : List Tree) → tree_of arena node ≡ full low ts → (i : ℕ) → i < 2 ^ low
+    → tree_of arena (node_of filled i) ≡ place ts i)
+    → Holds arena trees (record { row = row; from = from; to = to; left = left; nodes = old })
+    → Holds arena trees
+    (record { row = filled; from = 0; to = 2 ^ low; left = left - 2 ^ low; nodes = nodes })
+Holds-filled arena trees left level low from to node old nodes row filled is within none opened
+    found held =
+    let all : to - from ≡ 0 = omega arith in
+    let stand : Stand arena trees left old =
+    subst (λ n. Stand arena (drop n trees) left old) all held.nodes in
+    let start = opened trees stand in
+    let same : 2 ^ low ≡ 2 ^ low - 0 = omega arith in
+    record {
+      few = omega (arith, held.few);
+      row = λ i below.
+          let inside : i < 2 ^ low = omega (arith, below) in
+          let at : 0 + i ≡ i = omega arith in
+          ap (λ k. tree_of arena (node_of filled k)) at
+          ∙ found (take (2 ^ low) trees) start.first i inside
+          ∙ place-take (2 ^ low) i trees inside;
+      nodes = subst (λ n. Stand arena (drop n trees) (left - 2 ^ low) nodes) same
+          (Stand-less arena trees left level low node old nodes is within stand start);
+    }
+
 -- all places of a full tree
-pub Holds-whole : (arena : Content) (trees : List Tree) (node : NodeId) (depth : ℕ) → depth < 64
+pub Holds-whole : (arena : Content) (trees : List Tree) (node : NodeId) (depth : ℕ)
+    (row : List NodeId) → depth < 64
     → length trees ≤ 2 ^ depth → tree_of arena node ≡ full depth trees
-    → Holds arena trees (record { left = 2 ^ depth; nodes = replicate 64 node })
-Holds-whole arena trees node depth shallow few is = record {
-  few = few;
+    → Holds arena trees
+    (record { row = row; from = 0; to = 0; left = 2 ^ depth; nodes = replicate 64 node })
+Holds-whole arena trees node depth row shallow few is = record {
+  few = omega (arith, few);
+  row = λ i below. absurd (omega arith);
   nodes = λ k one. ⊎_elim
       (λ (same : k ≡ depth).
       let none : 2 ^ depth % 2 ^ depth ≡ 0 = no_rest (2 ^ depth) (pow_pos depth) in
@@ -223,7 +225,7 @@ pub record Opening (arena : Content) (left level now : ℕ) (node : NodeId)
   pub inside : IsNodeOf arena node
   pub count : length nodes ≡ 64
   pub all : All (IsNodeOf arena) nodes
-  pub each : (trees : List Tree) → Holds arena trees (record { left = left; nodes = old })
+  pub each : (trees : List Tree) → Stand arena trees left old
       → Opened arena trees level now node old nodes
 
 pub Opening-start : (arena : Content) (left level : ℕ) (node : NodeId) (nodes : List NodeId)

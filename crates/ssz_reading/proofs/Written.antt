@@ -168,7 +168,7 @@ elements_adds format t start vs old mid new legal fit at front end =
 
 -- basic elements
 
-packed_elements : (t : SszType) (z depth count : ℕ) (vs : List SszValue) (node : Tree)
+pub packed_elements : (t : SszType) (z depth count : ℕ) (vs : List SszValue) (node : Tree)
     → basic_size t ≡ Some z → AreElements t depth count vs node
     → ArePacked depth (count * z) (concat (map (enc t) vs)) node
 packed_elements t z depth count vs node size are =

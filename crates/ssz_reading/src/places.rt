@@ -1,9 +1,10 @@
-ghost use Rattle.std.specs.Prelude.{ℕ, ◌≡◌, ◌<◌, ◌≤◌, ◌/◌, ◌%◌, ◌^◌, List, ◌∷◌, length, All};
+ghost use Rattle.std.specs.Prelude.{ℕ, ◌≡◌, ◌<◌, ◌≤◌, ◌/◌, ◌%◌, ◌^◌, List, ◌∷◌, length};
 ghost use Rattle.ssz_chunk.specs.Tree.{Tree, pair, full, place};
 ghost use Rattle.ssz_arena.specs.Content.{Content, IsNodeOf, tree_of};
-ghost use Rattle.ssz_reading.specs.Ahead.{Holds};
+ghost use Rattle.ssz_reading.specs.Ahead.{AreNodes, Holds};
 
 use super::nodes::halves;
+use super::rows::spread;
 use ssz_arena::{Arena, NodeId};
 use ssz_chunk::PairHash;
 use std::marker::Model;
@@ -12,63 +13,125 @@ use std::marker::Model;
 // u64 counts its places.
 const SUBTREES: usize = 64;
 
-/// The places of a full tree that are still to come, from left to right, by the roots of the whole
-/// subtrees that they make: one for each binary digit 1 of their number, the lowest first.
+// The next places are come down to together, as many as a subtree of this depth has at most, since
+// most of the time of coming down is spent waiting for nodes.
+const ROW_DEPTH: u32 = 7;
+
+const ROW: usize = 1 << ROW_DEPTH;
+
+/// The places of a full tree that are still to come, from left to right: a row of those that were
+/// come down to, and behind it the roots of the whole subtrees that the others make, one for each
+/// binary digit 1 of their number, the lowest first.
 #[derive(Drop)]
 pub struct Places {
+    row: [NodeId; ROW],
+    from: usize,
+    to: usize,
     left: u64,
     nodes: [NodeId; SUBTREES],
+    // The depth of the next row at most: it grows with each, so that no row is much longer than
+    // what was taken before it.
+    reach: u32,
 }
 
-// How many places are left, and a node for each level.
+// The row, and what is left behind it: how many places, and a node for each level.
 impl Model for Places {
     ghost use Rattle.std.specs.Prelude.{◌≡◌, ◌^◌, ◌≤◌, length};
     ghost use Rattle.ssz_reading.specs.Ahead.{Ahead};
 
     ghost Value = { Ahead };
 
-    ghost view = { λ places. record { left = places.left; nodes = places.nodes } };
+    ghost view = { λ places. record {
+      row = places.row;
+      from = places.from;
+      to = places.to;
+      left = places.left;
+      nodes = places.nodes;
+    } };
 
-    ghost invariant = { λ places. (places.left ≤ 2 ^ 63) × (length places.nodes ≡ 64) };
+    ghost invariant = { λ places. (places.left ≤ 2 ^ 63) × (length places.nodes ≡ 64)
+        × (length places.row ≡ 128) × (places.from ≤ places.to) × (places.to ≤ 128)
+        × (places.reach ≤ 7) };
 }
 
 impl Places {
     /// All places of the full tree of this depth.
     pub fn new(node: NodeId, depth: u32) -> Self
         requires { depth < 64 }
-        ensures nodes { (arena : Content) → IsNodeOf arena node
-            → All (IsNodeOf arena) result.nodes }
+        ensures nodes { (arena : Content) → IsNodeOf arena node → AreNodes arena result }
         ensures holds { (arena : Content) (trees : List Tree) → length trees ≤ 2 ^ depth
             → tree_of arena node ≡ full depth trees → Holds arena trees result }
     {
         Places {
+            row: [node; ROW],
+            from: 0,
+            to: 0,
             left: 1 << depth,
             nodes: [node; SUBTREES],
+            reach: 0,
         }
     }
 
     /// The node of the next place. There is one, if fewer than 2^depth were taken.
     pub fn next<H: PairHash>(&mut self, arena: &Arena<H>) -> NodeId
-        requires { All (IsNodeOf arena.now) self.old.nodes }
-        ensures nodes { All (IsNodeOf arena.now) self.new.nodes }
+        requires { AreNodes arena.now self.old }
+        ensures nodes { AreNodes arena.now self.new }
         ensures node { IsNodeOf arena.now result }
         ensures tree { (tree : Tree) (trees : List Tree) → Holds arena.now (tree ∷ trees) self.old
             → tree_of arena.now result ≡ tree }
         ensures rest { (tree : Tree) (trees : List Tree) → Holds arena.now (tree ∷ trees) self.old
             → Holds arena.now trees self.new }
     {
-        if self.left == 0 {
+        self.refill(arena);
+        if self.from == self.to {
             return self.nodes[0];
         }
+        let node = self.row[self.from];
+        self.from += 1;
+        node
+    }
+
+    // Comes down to the next row, where all nodes of the one before were taken.
+    fn refill<H: PairHash>(&mut self, arena: &Arena<H>)
+        requires { AreNodes arena.now self.old }
+        ensures nodes { AreNodes arena.now self.new }
+        ensures holds { (trees : List Tree) → Holds arena.now trees self.old
+            → Holds arena.now trees self.new }
+        ensures some { self.new.from ≡ self.new.to → self.new.left ≡ 0 }
+    {
+        if self.from < self.to {
+            return;
+        }
+        if self.left == 0 {
+            return;
+        }
+        self.fill(arena);
+    }
+
+    // Comes down to the first row of the lowest subtree.
+    fn fill<H: PairHash>(&mut self, arena: &Arena<H>)
+        requires nodes { AreNodes arena.now self.old }
+        requires taken { self.old.from ≡ self.old.to }
+        requires some { 0 < self.old.left }
+        ensures nodes { AreNodes arena.now self.new }
+        ensures holds { (trees : List Tree) → Holds arena.now trees self.old
+            → Holds arena.now trees self.new }
+        ensures some { self.new.from < self.new.to }
+    {
         let level = self.left.trailing_zeros();
+        let low = level.min(self.reach);
         let mut node = self.nodes[level as usize];
-        for below in (0..level).rev() {
+        for below in (low..level).rev() {
             let (first, second) = halves(arena, node);
             self.nodes[below as usize] = second;
             node = first;
         }
-        self.left -= 1;
-        node
+        self.row[0] = node;
+        spread(arena, low, &mut self.row);
+        self.left -= 1 << low;
+        self.from = 0;
+        self.to = 1 << low;
+        self.reach = (self.reach + 1).min(ROW_DEPTH);
     }
 }
 

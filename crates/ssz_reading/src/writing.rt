@@ -1,18 +1,23 @@
-ghost use Rattle.std.specs.Prelude.{ℕ, ◌≡◌, ◌<◌, ◌≤◌, ◌++◌, Bool, List, length, map, replicate, Option, None, OnOk};
+ghost use Rattle.std.specs.Prelude.{ℕ, ◌≡◌, ◌<◌, ◌≤◌, ◌++◌, Bool, false, List, length, map, replicate, All, Option, None, OnOk};
+ghost use Rattle.ssz_chunk.specs.Tree.{Tree};
 ghost use Rattle.std.specs.List.{AllByRecursion};
 ghost use Rattle.ssz_schema.specs.Types.{container, union};
 ghost use Rattle.ssz_schema.specs.declared.format.Format.{Format};
-ghost use Rattle.ssz_schema.specs.Sizes.{basic_size, fixed_size, part_sizes};
+ghost use Rattle.ssz_schema.specs.Sizes.{basic_size, depth, fixed_size, is_variable, part_sizes};
 ghost use Rattle.ssz_schema.specs.Unfolding.{type_of, fields_over, options_over, IsBelow};
 ghost use Rattle.ssz_schema.specs.Legal.{AreLegalFields};
 ghost use Rattle.ssz_bytes.specs.Bytes.{offset_bytes};
 ghost use Rattle.ssz_value.specs.Encoding.{enc, joined, joined_alike, field_encodings};
 ghost use Rattle.ssz_arena.specs.Content.{IsNodeOf, tree_of};
 ghost use Rattle.ssz_value.specs.Written.{Appends, capped};
+ghost use Rattle.ssz_reading.specs.Ahead.{IsRowOf};
+ghost use Rattle.ssz_reading.specs.Leaves.{AreFewFields, AreLeafLens, IsLeafLen};
 ghost use Rattle.ssz_reading.specs.Shown.{ForValue, ForPlace, ForElements, ForFields, AreCountedBits, delimited_bytes, Adds, Extends, KeepsUpTo, room_of, rooms, offset_rooms, Fills, FillsAll, basic_type};
 
 use super::basics::Basic;
-use super::chunks::append_chunks;
+use super::chunks::{append_chunks, append_leaf};
+use super::fields::{FIELDS, Row, Rows};
+use super::leaves::{few_fields, leaf_lens};
 use super::measuring::part_len;
 use super::nodes::{chunk_of, mixed_in};
 use super::places::{Places, node_of_place};
@@ -45,7 +50,8 @@ pub fn write_encoding<H: PairHash>(
         return Err(EncodeFault::TooLong);
     }
     let before = out.len();
-    out.reserve(len as usize)?;
+    // A leaf is appended whole, before what is not of the value is taken away again.
+    out.reserve(len as usize + 32)?;
     match append_value(arena, schema, id, node, out) {
         Ok(()) => Ok(()),
         Err(_) => {
@@ -192,12 +198,105 @@ fn append_heads<H: PairHash>(
     if schema.is_variable(elem) {
         return append_rooms(count, out);
     }
+    if let Some(fields) = few_fields(schema, elem) {
+        return append_containers(arena, schema, elem, fields, depth, count, node, out);
+    }
     let mut places = Places::new(node, depth);
     for _i in 0..count {
         let part = places.next(arena);
         append_value(arena, schema, elem, part, out)?;
     }
     Ok(())
+}
+
+// The same of containers of these fields, which are few.
+#[cycle(append)]
+fn append_containers<H: PairHash>(
+    arena: &Arena<H>,
+    schema: &Schema,
+    elem: TypeId,
+    fields: &[(Name, TypeId)],
+    depth: u32,
+    count: u64,
+    node: NodeId,
+    out: &mut Vec<u8>,
+) -> Result<(), AllocError>
+    requires known { elem < length schema.now.trees }
+    requires fields { AreFewFields schema.now elem fields.now }
+    requires fixed { is_variable (type_of schema.now elem) ≡ false }
+    requires depth { depth < 64 }
+    requires node { IsNodeOf arena.now node }
+    ensures kept { Extends out.old.items out.new.items }
+    ensures value { let t = type_of schema.now elem in
+        ForElements t depth count (tree_of arena.now node)
+        (λ vs. Adds (rooms (replicate (length vs) (fixed_size t)) (map (enc t) vs)) out.old.items
+        out.new.items result) }
+{
+    let lens = leaf_lens(schema, fields);
+    let mut rows = Rows::new(node, depth, schema.depth(elem));
+    for _i in 0..count {
+        let row = rows.next(arena);
+        append_row(arena, schema, elem, fields, &lens, &row, out)?;
+    }
+    Ok(())
+}
+
+// A container of these fields, by their nodes.
+#[cycle(append)]
+fn append_row<H: PairHash>(
+    arena: &Arena<H>,
+    schema: &Schema,
+    id: TypeId,
+    fields: &[(Name, TypeId)],
+    lens: &[usize; FIELDS],
+    row: &Row,
+    out: &mut Vec<u8>,
+) -> Result<(), AllocError>
+    requires known { id < length schema.now.trees }
+    requires fields { AreFewFields schema.now id fields.now }
+    requires fixed { is_variable (type_of schema.now id) ≡ false }
+    requires lens { AreLeafLens schema.now fields.now lens.now }
+    requires row { All (IsNodeOf arena.now) row.now.nodes }
+    ensures kept { Extends out.old.items out.new.items }
+    ensures value { let t = type_of schema.now id in
+        (node : Tree) → IsRowOf arena.now (depth t) node row.now.nodes
+        → ForValue t node (λ v. Adds (enc t v) out.old.items out.new.items result) }
+{
+    for (i, field) in fields.iter().enumerate() {
+        append_part(arena, schema, field.1, lens[i], row.nodes[i], out)?;
+    }
+    Ok(())
+}
+
+// The fixed part of a value, or room for its offset: the first len bytes of its leaf, where it is
+// one and so many are told.
+#[cycle(append)]
+fn append_part<H: PairHash>(
+    arena: &Arena<H>,
+    schema: &Schema,
+    id: TypeId,
+    len: usize,
+    node: NodeId,
+    out: &mut Vec<u8>,
+) -> Result<(), AllocError>
+    requires known { id < length schema.now.trees }
+    requires node { IsNodeOf arena.now node }
+    requires len { IsLeafLen (type_of schema.now id) len }
+    ensures kept { Extends out.old.items out.new.items }
+    ensures value { let t = type_of schema.now id in
+        ForValue t (tree_of arena.now node)
+        (λ v. Adds (room_of (fixed_size t) (enc t v)) out.old.items out.new.items result) }
+{
+    if len > 0 {
+        return append_leaf(arena, len, node, out);
+    }
+    match schema.fixed_size(id) {
+        Some(_) => append_value(arena, schema, id, node, out),
+        None => {
+            out.extend_from_slice(&[0; 4])?;
+            Ok(())
+        }
+    }
 }
 
 // Room for so many offsets.

@@ -1,8 +1,7 @@
-use Rattle.std.proofs.Common.{rules, ◌≡◌, ◌++◌, take, length, ℕ, List, sym, ap, ◌∙◌, subst, arith, length-append}
+use Rattle.std.proofs.Common.{rules, ◌≡◌, ◌++◌, take, length, ℕ, List, sym, ap, ◌∙◌, arith, length-append}
 use Rattle.std.proofs.lemmas.List.{take_all}
 use Rattle.ssz_arena.specs.Content.{tree_of}
-use Rattle.ssz_reading.specs.Shown.{ArePacked}
-use Rattle.ssz_reading.proofs.Chunked.{BytesLeft-more, LastChunk, BytesLeft-last, only_chunk, Extends-more}
+use Rattle.ssz_reading.proofs.Chunked.{BytesLeft-more, LastChunk, BytesLeft-last, first_chunk, Extends-more}
 use Rattle.ssz_reading.proofs.Written.{on_ok}
 use Rattle.ssz_reading.proofs.chunks.append_chunks.Goals as goal
 
@@ -36,10 +35,10 @@ loop-left-preserved g c =
 
 pub returns-then-len-le32-clause-bytes : goal.returns-then-len-le32-clause-bytes
 returns-then-len-le32-clause-bytes g c = λ bytes are.
-    let only : LastChunk (tree_of c.args.arena.now c.args.node) bytes c.args.len =
-    only_chunk bytes c.args.len (tree_of c.args.arena.now c.args.node)
-    (subst (λ d. ArePacked d c.args.len bytes (tree_of c.args.arena.now c.args.node))
-    c.if-depth-eq0.true are) c.if-len-le32.true in
+    let only : LastChunk (tree_of c.args.arena.now c.node_of_place-first.result) bytes c.args.len =
+    first_chunk bytes c.args.len c.args.depth (tree_of c.args.arena.now c.args.node)
+    (tree_of c.args.arena.now c.node_of_place-first.result) are c.if-len-le32.true
+    c.node_of_place-first.ensures.tree in
     on_ok c.append_chunk.result
     (λ is. is ∙ ap (λ xs. c.args.out.now.items ++ xs) only.same)
     (c.append_chunk.ensures.bytes only.chunk only.is)

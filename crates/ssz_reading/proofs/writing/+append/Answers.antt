@@ -12,6 +12,8 @@ use Rattle.ssz_reading.proofs.Formed.{union_few}
 use Rattle.ssz_reading.proofs.Chunked.{Extends-same, Extends-trans}
 use Rattle.ssz_reading.proofs.Walked.{at_place}
 use Rattle.ssz_reading.proofs.Written.{on_ok, alike, element_rooms, HeadsSoFar-start, HeadsSoFar-more, BodiesSoFar-start, BodiesSoFar-more, elements_adds, packed_adds}
+use Rattle.ssz_reading.specs.Ahead.{IsRowOf}
+use Rattle.ssz_reading.proofs.RowsWritten.{leaf_adds, row_value, field_before, FieldHeads-end, RowsSoFar-more}
 use Rattle.ssz_reading.proofs.Rooms.{fixed_filled, fixed_room, no_size}
 use Rattle.ssz_reading.proofs.FieldsWritten.{FieldHeads-start, FieldHeads-more, FieldBodies-start, FieldBodies-more, FieldBodies-end, fixed_fields_add, fields_adds, vector_adds, list_adds, container_adds, bitvector_adds, bitlist_adds, option_adds, none_adds}
 use Rattle.ssz_reading.proofs.writing.+append.Goals as goal
@@ -359,3 +361,79 @@ append_value-returns-in-Container-clause-value g t c =
     c.append_fields.new.out.items c.append_fields.result
     (c.depth-depth.ensures.exact ∙ ap depth (sym form))
     (c.append_fields.ensures.value c.args.schema.now.format legal.1))
+
+pub append_heads-append_containers-requires : goal.append_heads-append_containers-requires
+append_heads-append_containers-requires g t c =
+    let fields = c.few_fields.ensures c.in-Some.fields c.in-Some.is in
+    let fixed = sym c.is_variable.ensures ∙ c.if-is_variable.false in
+    search rules
+
+pub append_part-returns-then-len-gt0-clause-value :
+    goal.append_part-returns-then-len-gt0-clause-value
+append_part-returns-then-len-gt0-clause-value g t c =
+    leaf_adds (type_of c.args.schema.now c.args.id) c.args.len
+    (tree_of c.args.arena.now c.args.node) c.args.out.now.items c.append_leaf.new.out.items
+    c.append_leaf.result c.if-len-gt0.true c.requires.len c.append_leaf.ensures.bytes
+
+pub append_row-loop-i-init : goal.append_row-loop-i-init
+append_row-loop-i-init g t c = (
+  Extends-same c.args.out.now.items,
+  λ node row vs are. FieldHeads-start c.args.schema.now.trees c.args.fields.now
+      (depth (type_of c.args.schema.now c.args.id)) vs c.args.out.now.items node are,
+)
+
+pub append_row-append_part-requires : goal.append_row-append_part-requires
+append_row-append_part-requires g t c =
+    let few : length c.args.fields.now ≤ 8 = c.requires.fields.few in
+    let below : c.index-fields-i.result.1 < c.args.id =
+    field_before c.args.fields.now c.args.id c.loop-i.i c.index-fields-i.result
+    c.requires.fields.before c.loop-i-test.true c.index-fields-i.is in
+    let node = c.requires.row c.loop-i.i (record { 0 = 0 })
+    (omega (arith, c.loop-i-test.true, few)) in
+    let len = c.requires.lens c.loop-i.i c.index-fields-i.result c.loop-i-test.true
+    c.index-fields-i.is in
+    search rules
+
+pub append_row-loop-i-preserved : goal.append_row-loop-i-preserved
+append_row-loop-i-preserved g t c = (
+  Extends-trans c.args.out.now.items c.loop-i.out.items c.append_part.new.out.items
+      c.loop-i.invariant.0 c.append_part.ensures.kept,
+  λ node row vs are. FieldHeads-more c.args.schema.now.trees c.args.fields.now c.loop-i.i
+      (depth (type_of c.args.schema.now c.args.id)) c.index-fields-i.result
+      (c.args.out.now.items
+      ++ rooms (part_sizes (fields_over c.args.schema.now.trees c.args.fields.now))
+      (field_encodings (fields_over c.args.schema.now.trees c.args.fields.now) vs))
+      c.loop-i.out.items c.append_part.new.out.items node (c.loop-i.invariant.1 node row vs are)
+      c.loop-i-test.true c.index-fields-i.is
+      (λ v at. c.in_ok-append_part.ensures.value v
+      (at_place _ (depth (type_of c.args.schema.now c.args.id)) c.loop-i.i v node _ at
+      (λ trees inside whole. row trees whole c.loop-i.i inside))),
+)
+
+pub append_row-returns-clause-value : goal.append_row-returns-clause-value
+append_row-returns-clause-value g t c = λ node row.
+    row_value (type_of c.args.schema.now c.args.id)
+    (fields_over c.args.schema.now.trees c.args.fields.now) node c.args.out.now.items
+    c.loop-i.out.items c.requires.fields.form c.requires.fixed
+    (λ vs are. FieldHeads-end c.args.schema.now.trees c.args.fields.now c.loop-i.i
+    (depth (type_of c.args.schema.now c.args.id)) _ c.loop-i.out.items node
+    (c.loop-i.invariant.1 node row vs are) c.loop-i-test.false)
+
+pub append_containers-loop-i-preserved : goal.append_containers-loop-i-preserved
+append_containers-loop-i-preserved g t c = (
+  c.next-row.ensures.rows,
+  c.next-row.ensures.depth ∙ c.loop-i.invariant.1,
+  Extends-trans c.args.out.now.items c.loop-i.out.items c.append_row.new.out.items
+      c.loop-i.invariant.2 c.append_row.ensures.kept,
+  λ vs are. RowsSoFar-more c.args.arena.now (type_of c.args.schema.now c.args.elem)
+      (depth (type_of c.args.schema.now c.args.elem)) vs c.loop-i._i _ c.loop-i.out.items
+      c.append_row.new.out.items c.loop-i.rows c.next-row.new.self c.next-row.result.nodes
+      (c.loop-i.invariant.3 vs are) (omega (arith, are.many, c.loop-i-test.true))
+      (λ first trees held. subst (λ n. IsRowOf c.args.arena.now n first c.next-row.result.nodes)
+      c.loop-i.invariant.1 (c.next-row.ensures.fields first trees held))
+      c.next-row.ensures.rest
+      (λ node row v h. c.in_ok-append_row.ensures.value node row v h
+      ∙ ap (λ xs. c.loop-i.out.items ++ xs)
+      (fixed_room (fixed_size (type_of c.args.schema.now c.args.elem))
+      (enc (type_of c.args.schema.now c.args.elem) v) c.requires.fixed)),
+)
