@@ -1,8 +1,9 @@
 #!/bin/sh
 # The root of a file of 256 MiB through the static library of crates/ssz_c beside `ssz root`, in processor
-# time of the whole programs, best of five, and the cost of a small call. Needs both built (`rt lib`,
-# `rt run`) and a C compiler.
+# time of the whole programs, the least of ROUNDS in turn (9), and the cost of a small call. Needs both
+# built (`rt lib`, `rt run`) and a C compiler: bench/calls.sh [ROUNDS].
 set -eu
+rounds=${1:-9}
 cd "$(dirname "$0")/.."
 out=$(mktemp -d)
 trap 'rm -rf "$out"' EXIT
@@ -11,15 +12,18 @@ cc -std=gnu11 -O2 -Iinclude -o "$out/calls" bench/calls.c crates/ssz_c/out/libss
 printf '{"ssz":1,"types":[["L",{"list":["uint64",1099511627776]}]]}' >"$out/l.json"
 head -c $((256 << 20)) /dev/urandom >"$out/l.ssz"
 
-# Processor seconds of a program, the least of five runs.
-least() {
-    for _ in 1 2 3 4 5; do
-        { LC_ALL=C bash -c 'TIMEFORMAT="%U %S"; time "$@" >/dev/null' - "$@"; } 2>&1 | tail -1
-    done | awk '{ t = $1 + $2; if (NR == 1 || t < m) m = t } END { printf "%.2f", m }'
+# Processor seconds of one run.
+seconds() {
+    { LC_ALL=C bash -c 'TIMEFORMAT="%U %S"; time "$@" >/dev/null' - "$@"; } 2>&1 | tail -1 | awk '{ print $1 + $2 }'
 }
 
-program=$(least crates/ssz_cli/out/ssz_cli root "$out/l.json" L "$out/l.ssz")
-library=$(least "$out/calls" "$out/l.json" L "$out/l.ssz")
+# The two take turns, and the least of each counts: other work, of the machine's other guests too, only adds.
+for _ in $(seq "$rounds"); do
+    seconds crates/ssz_cli/out/ssz_cli root "$out/l.json" L "$out/l.ssz" >>"$out/program"
+    seconds "$out/calls" "$out/l.json" L "$out/l.ssz" >>"$out/library"
+done
+program=$(sort -n "$out/program" | head -1)
+library=$(sort -n "$out/library" | head -1)
 echo "ssz root: $program s"
 echo "library:  $library s"
 awk -v p="$program" -v l="$library" 'BEGIN { printf "the library beside ssz root: %+.1f %%\n", (l / p - 1) * 100 }'

@@ -52,7 +52,7 @@ with tempfile.TemporaryDirectory() as room:
     os.chdir(room)
     with open("s", "w") as file:
         file.write('{"ssz":1,"types":[["L",{"list":["uint64",1099511627776]}]]}')
-    for depth, edits in (10, 10000), (14, 10000), (20, 20000):
+    for depth, edits in (10, 10000), (14, 10000), (20, 20000), (22, 20000):
         with open("v", "wb") as file:
             file.write(b"\1" * (8 << depth))
         for how in "set", "append", "pop":

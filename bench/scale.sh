@@ -8,7 +8,7 @@
 set -eu
 cd "$(dirname "$0")/.."
 exec python3 - "$@" <<'PY'
-import hashlib, json, os, random, subprocess, sys, tempfile
+import hashlib, json, os, random, resource, subprocess, sys, tempfile
 
 SIZES = [int(word) for word in sys.argv[1:]] or [1 << 14, 1 << 17, 1 << 20]
 SSZ, PAIRS = (os.path.abspath(f"crates/{it}/out/{it}") for it in ("ssz_cli", "bench_pairs"))
@@ -113,11 +113,16 @@ def root(one, data):
                       for (_, part), (start, end) in zip(rest, places)], len(rest))
 
 def run(*words):
-    """Processor time in seconds, the peak of memory in MiB, and the lines."""
-    ran = subprocess.run(["/usr/bin/time", "-f", "%U %S %M", "-o", "took", *words],
-                         capture_output=True, text=True, check=True)
-    user, system, kib = open("took").read().split()
-    return float(user) + float(system), int(kib) / 1024, ran.stdout.split("\n")[:-1]
+    """Processor time in seconds, the least of so many runs as take ten, three at least and fifteen at
+    most (other work only adds to a time); the peak of memory in MiB, and the lines."""
+    took = []
+    while len(took) < 3 or (len(took) < 15 and sum(took) < 10):
+        before = resource.getrusage(resource.RUSAGE_CHILDREN)
+        ran = subprocess.run(["/usr/bin/time", "-f", "%M", "-o", "peak", *words],
+                             capture_output=True, text=True, check=True)
+        after = resource.getrusage(resource.RUSAGE_CHILDREN)
+        took.append(after.ru_utime + after.ru_stime - before.ru_utime - before.ru_stime)
+    return min(took), int(open("peak").read()) / 1024, ran.stdout.split("\n")[:-1]
 
 def script(name, *lines):
     with open(name, "w") as file:

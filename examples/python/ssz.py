@@ -24,7 +24,7 @@ from __future__ import annotations
 import ctypes
 from enum import IntEnum
 from types import TracebackType
-from typing import Optional, Type
+from typing import Optional, Type, TypeVar
 
 
 class Status(IntEnum):
@@ -140,6 +140,9 @@ class Library:
         raise SszError(status)
 
 
+_Self = TypeVar("_Self", bound="_Held")
+
+
 class _Held:
     """What a handle holds, which is given up by `close` or at the end of a `with`."""
 
@@ -165,6 +168,17 @@ class _Held:
     def __del__(self) -> None:
         self.close()
 
+    def __enter__(self: _Self) -> _Self:
+        return self
+
+    def __exit__(
+        self,
+        kind: Optional[Type[BaseException]],
+        error: Optional[BaseException],
+        trace: Optional[TracebackType],
+    ) -> None:
+        self.close()
+
 
 class Schema(_Held):
     """A schema, which is freed by `close` or at the end of a `with`."""
@@ -178,17 +192,6 @@ class Schema(_Held):
         number = ctypes.c_uint64()
         self._call("ssz_type", text, len(text), ctypes.byref(number))
         return SszType(self, number.value)
-
-    def __enter__(self) -> Schema:
-        return self
-
-    def __exit__(
-        self,
-        kind: Optional[Type[BaseException]],
-        error: Optional[BaseException],
-        trace: Optional[TracebackType],
-    ) -> None:
-        self.close()
 
 
 class Session(_Held):
@@ -219,17 +222,6 @@ class Session(_Held):
         room = ctypes.create_string_buffer(max(1, count))
         self._call("ssz_session_reply", room, count, ctypes.byref(ctypes.c_uint64()))
         return room.raw[:count].decode().rstrip("\n")
-
-    def __enter__(self) -> Session:
-        return self
-
-    def __exit__(
-        self,
-        kind: Optional[Type[BaseException]],
-        error: Optional[BaseException],
-        trace: Optional[TracebackType],
-    ) -> None:
-        self.close()
 
 
 class SszType:
