@@ -96,7 +96,7 @@ pub record BodiesSoFar (arena : Content) (t : SszType) (vs : List SszValue) (i s
   pub filled : Filled (alike t rest) (map (enc t) rest) start room all out
 
 -- values of a type of variable size are parts
-variable_parts : (t : SszType) (vs : List SszValue) → fixed_size t ≡ None
+pub variable_parts : (t : SszType) (vs : List SszValue) → fixed_size t ≡ None
     → AreParts (alike t vs) (map (enc t) vs)
 variable_parts t vs none = subst (λ size. AreParts (replicate (length vs) size) (map (enc t) vs))
     (sym none) (go vs)

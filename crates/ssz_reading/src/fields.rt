@@ -88,6 +88,7 @@ impl Rows {
 
     /// The nodes of the fields of the next container. There is one, if fewer than 2^depth were
     /// taken.
+    #[inline(always)]
     pub fn next<H: PairHash>(&mut self, arena: &Arena<H>) -> Row
         requires { AreRows arena.now self.old }
         ensures depth { self.new.depth ≡ self.old.depth }
@@ -106,6 +107,7 @@ impl Rows {
     }
 
     // Comes down to further rows, where all were taken.
+    #[inline(always)]
     fn refill<H: PairHash>(&mut self, arena: &Arena<H>)
         requires { AreRows arena.now self.old }
         ensures depth { self.new.depth ≡ self.old.depth }
@@ -121,6 +123,7 @@ impl Rows {
     }
 
     // Each time about twice as many, so that they are not many more than those that are taken.
+    #[inline(never)]
     fn gather<H: PairHash>(&mut self, arena: &Arena<H>)
         requires rows { AreRows arena.now self.old }
         requires taken { self.old.from ≡ self.old.to }

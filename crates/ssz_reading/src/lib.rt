@@ -4,8 +4,8 @@
 //! written with no value made. Each call goes over the elements of a list from left to right with a
 //! `Places`, which comes down to up to 128 of them together and keeps the subtrees behind these,
 //! one for each level at most. It comes down to a field of a container from the root of all; but
-//! where containers of fixed size and few fields are written one after another, the fields of up to
-//! 32 of them are come down to together, by `Rows`.
+//! where containers of few fields are written one after another, the fields of up to 32 of them are
+//! come down to together, by `Rows`.
 //!
 //! No call but `read_value` and `write_encoding` takes memory. None asks anything of the tree of
 //! the node that it is handed: what it answers is said of a node that has the tree of a value.

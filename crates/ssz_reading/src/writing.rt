@@ -1,4 +1,4 @@
-ghost use Rattle.std.specs.Prelude.{ℕ, ◌≡◌, ◌<◌, ◌≤◌, ◌++◌, Bool, false, List, length, map, replicate, All, Option, None, OnOk};
+ghost use Rattle.std.specs.Prelude.{ℕ, ◌≡◌, ◌+◌, ◌-◌, ◌<◌, ◌≤◌, ◌++◌, ◌∷◌, [], Bool, false, List, length, map, replicate, All, Option, None, OnOk};
 ghost use Rattle.ssz_chunk.specs.Tree.{Tree};
 ghost use Rattle.std.specs.List.{AllByRecursion};
 ghost use Rattle.ssz_schema.specs.Types.{container, union};
@@ -12,7 +12,7 @@ ghost use Rattle.ssz_arena.specs.Content.{IsNodeOf, tree_of};
 ghost use Rattle.ssz_value.specs.Written.{Appends, capped};
 ghost use Rattle.ssz_reading.specs.Ahead.{IsRowOf};
 ghost use Rattle.ssz_reading.specs.Leaves.{AreFewFields, AreLeafLens, IsLeafLen};
-ghost use Rattle.ssz_reading.specs.Shown.{ForValue, ForPlace, ForElements, ForFields, AreCountedBits, delimited_bytes, Adds, Extends, KeepsUpTo, room_of, rooms, offset_rooms, Fills, FillsAll, basic_type};
+ghost use Rattle.ssz_reading.specs.Shown.{ForValue, ForPlace, ForElements, ForFields, AreCountedBits, ArePacked, delimited_bytes, Adds, Extends, KeepsUpTo, room_of, rooms, offset_rooms, Fills, FillsAll, basic_type};
 
 use super::basics::Basic;
 use super::chunks::{append_chunks, append_leaf};
@@ -29,8 +29,9 @@ use ssz_schema::{Name, Schema, Ty, TypeId, Width};
 use ssz_value::{EncodeFault, option_at};
 use std::alloc::AllocError;
 
-/// Appends the encoding of the value whose tree the node has, straight from the nodes. `TooLong`
-/// exactly where its length exceeds max. After a refusal `out` is as before.
+/// Appends the encoding of the value whose tree the node has, straight from the nodes, in one pass.
+/// `TooLong` exactly where its length exceeds max: writing ends soon behind max then.
+/// After a refusal `out` is as before, but for its room, which may grow to twice of what it holds.
 pub fn write_encoding<H: PairHash>(
     arena: &Arena<H>,
     schema: &Schema,
@@ -45,31 +46,44 @@ pub fn write_encoding<H: PairHash>(
         ForValue t (tree_of arena.now node)
         (λ v. Appends (enc t v) max out.old.items out.new.items result) }
 {
-    let len = part_len(arena, schema, id, node);
-    if len > u64::from(max) {
+    let before = out.len();
+    let end = before.saturating_add(max as usize);
+    let written = append_value(arena, schema, id, node, end, out);
+    if written.is_ok() && out.len() <= end {
+        return Ok(());
+    }
+    out.truncate(before);
+    // Only what is refused is measured.
+    if part_len(arena, schema, id, node) > u64::from(max) {
         return Err(EncodeFault::TooLong);
     }
-    let before = out.len();
-    // A leaf is appended whole, before what is not of the value is taken away again.
-    out.reserve(len as usize + 32)?;
-    match append_value(arena, schema, id, node, out) {
-        Ok(()) => Ok(()),
-        Err(_) => {
-            out.truncate(before);
-            Err(EncodeFault::Memory)
-        }
-    }
+    Err(EncodeFault::Memory)
 }
 
-// Appends the encoding.
+// Makes room for so many bytes more, and for a leaf, since one is appended whole before what is
+// not of the value is taken away again. `TooLong` where they would end behind `end`.
+fn make_room(len: u128, end: usize, out: &mut Vec<u8>) -> Result<(), EncodeFault>
+    ensures { out.new.items ≡ out.old.items }
+{
+    let left = end.saturating_sub(out.len());
+    if len > left as u128 {
+        return Err(EncodeFault::TooLong);
+    }
+    out.reserve((len as usize).saturating_add(32))?;
+    Ok(())
+}
+
+// Appends the encoding, which is to end at `end` at the latest: where it is seen to end behind it,
+// nothing more is written.
 #[cycle(append)]
 fn append_value<H: PairHash>(
     arena: &Arena<H>,
     schema: &Schema,
     id: TypeId,
     node: NodeId,
+    end: usize,
     out: &mut Vec<u8>,
-) -> Result<(), AllocError>
+) -> Result<(), EncodeFault>
     requires known { id < length schema.now.trees }
     requires node { IsNodeOf arena.now node }
     ensures kept { Extends out.old.items out.new.items }
@@ -81,18 +95,26 @@ fn append_value<H: PairHash>(
     match schema.ty(id) {
         Ty::Uint(width) => append_basic(arena, Basic::Number(*width), node, out),
         Ty::Boolean => append_basic(arena, Basic::Flag, node, out),
-        Ty::Bitvector(n) => append_chunks(arena, depth, (u128::from(*n) + 7) / 8, node, out),
-        Ty::Bitlist(_) => append_bitlist(arena, depth, node, out),
-        Ty::Vector(elem, n) => append_sequence(arena, schema, *elem, depth, *n, node, out),
+        Ty::Bitvector(n) => append_packed(arena, depth, (u128::from(*n) + 7) / 8, node, end, out),
+        Ty::Bitlist(_) => append_bitlist(arena, depth, node, end, out),
+        Ty::Vector(elem, n) => append_sequence(arena, schema, *elem, depth, *n, node, end, out),
         Ty::List(elem, _) => {
             let (content, count) = mixed_in(arena, node);
-            append_sequence(arena, schema, *elem, depth, count, content, out)
+            append_sequence(arena, schema, *elem, depth, count, content, end, out)
         }
-        Ty::Union(options) => append_chosen(arena, schema, id, options.as_slice(), node, out),
+        Ty::Union(options) => append_chosen(arena, schema, id, options.as_slice(), node, end, out),
         Ty::Container(fields) => {
-            append_fields(arena, schema, id, depth, fields.as_slice(), node, out)
+            append_fields(arena, schema, id, depth, fields.as_slice(), node, end, out)
         }
     }
+}
+
+fn append_byte(byte: u8, out: &mut Vec<u8>) -> Result<(), AllocError>
+    ensures kept { Extends out.old.items out.new.items }
+    ensures items { OnOk result (out.new.items ≡ out.old.items ++ byte ∷ []) }
+{
+    out.push(byte)?;
+    Ok(())
 }
 
 // Of a value of a basic type.
@@ -101,7 +123,7 @@ fn append_basic<H: PairHash>(
     basic: Basic,
     node: NodeId,
     out: &mut Vec<u8>,
-) -> Result<(), AllocError>
+) -> Result<(), EncodeFault>
     requires node { IsNodeOf arena.now node }
     ensures kept { Extends out.old.items out.new.items }
     ensures value { let t = basic_type basic in
@@ -113,13 +135,35 @@ fn append_basic<H: PairHash>(
     Ok(())
 }
 
+// Appends the first len bytes of the chunks at the places of a full tree of this depth.
+fn append_packed<H: PairHash>(
+    arena: &Arena<H>,
+    depth: u32,
+    len: u128,
+    node: NodeId,
+    end: usize,
+    out: &mut Vec<u8>,
+) -> Result<(), EncodeFault>
+    requires depth { depth < 64 }
+    requires node { IsNodeOf arena.now node }
+    ensures kept { Extends out.old.items out.new.items }
+    ensures long { OnOk result (length out.new.items ≡ length out.old.items + len) }
+    ensures bytes { (bytes : List ℕ) → ArePacked depth len bytes (tree_of arena.now node)
+        → OnOk result (out.new.items ≡ out.old.items ++ bytes) }
+{
+    make_room(len, end, out)?;
+    append_chunks(arena, depth, len, node, out)?;
+    Ok(())
+}
+
 // Of bits with a delimiter behind them.
 fn append_bitlist<H: PairHash>(
     arena: &Arena<H>,
     depth: u32,
     node: NodeId,
+    end: usize,
     out: &mut Vec<u8>,
-) -> Result<(), AllocError>
+) -> Result<(), EncodeFault>
     requires depth { depth < 64 }
     requires node { IsNodeOf arena.now node }
     ensures kept { Extends out.old.items out.new.items }
@@ -127,14 +171,14 @@ fn append_bitlist<H: PairHash>(
         → OnOk result (out.new.items ≡ out.old.items ++ delimited_bytes bs) }
 {
     let (content, count) = mixed_in(arena, node);
-    append_chunks(arena, depth, (u128::from(count) + 7) / 8, content, out)?;
+    append_packed(arena, depth, (u128::from(count) + 7) / 8, content, end, out)?;
     let above = count % 8;
     if above == 0 {
-        out.push(1)?;
+        append_byte(1, out)?;
         return Ok(());
     }
     if let Some(last) = out.pop() {
-        out.push(last.wrapping_add(1 << above))?;
+        append_byte(last.wrapping_add(1 << above), out)?;
     }
     Ok(())
 }
@@ -148,8 +192,9 @@ fn append_sequence<H: PairHash>(
     depth: u32,
     count: u64,
     node: NodeId,
+    end: usize,
     out: &mut Vec<u8>,
-) -> Result<(), AllocError>
+) -> Result<(), EncodeFault>
     requires known { elem < length schema.now.trees }
     requires depth { depth < 64 }
     requires node { IsNodeOf arena.now node }
@@ -162,14 +207,16 @@ fn append_sequence<H: PairHash>(
     match Basic::of(schema, elem) {
         Some(basic) => {
             let len = u128::from(count) * basic.size() as u128;
-            append_chunks(arena, depth, len, node, out)
+            append_packed(arena, depth, len, node, end, out)
         }
         None => {
             // Every type of a schema is legal.
             let _legal = schema.ty(elem);
+            let head = head_len(schema.fixed_size(elem));
+            make_room(u128::from(count) * u128::from(head), end, out)?;
             let start = out.len();
-            append_heads(arena, schema, elem, depth, count, node, out)?;
-            append_bodies(arena, schema, elem, depth, count, node, start, out)
+            append_heads(arena, schema, elem, depth, count, node, end, out)?;
+            append_bodies(arena, schema, elem, depth, count, node, start, end, out)
         }
     }
 }
@@ -183,8 +230,9 @@ fn append_heads<H: PairHash>(
     depth: u32,
     count: u64,
     node: NodeId,
+    end: usize,
     out: &mut Vec<u8>,
-) -> Result<(), AllocError>
+) -> Result<(), EncodeFault>
     requires known { elem < length schema.now.trees }
     requires composite { basic_size (type_of schema.now elem) ≡ None }
     requires depth { depth < 64 }
@@ -199,12 +247,12 @@ fn append_heads<H: PairHash>(
         return append_rooms(count, out);
     }
     if let Some(fields) = few_fields(schema, elem) {
-        return append_containers(arena, schema, elem, fields, depth, count, node, out);
+        return append_containers(arena, schema, elem, fields, depth, count, node, end, out);
     }
     let mut places = Places::new(node, depth);
     for _i in 0..count {
         let part = places.next(arena);
-        append_value(arena, schema, elem, part, out)?;
+        append_value(arena, schema, elem, part, end, out)?;
     }
     Ok(())
 }
@@ -219,8 +267,9 @@ fn append_containers<H: PairHash>(
     depth: u32,
     count: u64,
     node: NodeId,
+    end: usize,
     out: &mut Vec<u8>,
-) -> Result<(), AllocError>
+) -> Result<(), EncodeFault>
     requires known { elem < length schema.now.trees }
     requires fields { AreFewFields schema.now elem fields.now }
     requires fixed { is_variable (type_of schema.now elem) ≡ false }
@@ -236,7 +285,7 @@ fn append_containers<H: PairHash>(
     let mut rows = Rows::new(node, depth, schema.depth(elem));
     for _i in 0..count {
         let row = rows.next(arena);
-        append_row(arena, schema, elem, fields, &lens, &row, out)?;
+        append_row_heads(arena, schema, elem, fields, &lens, &row, end, out)?;
     }
     Ok(())
 }
@@ -250,11 +299,11 @@ fn append_row<H: PairHash>(
     fields: &[(Name, TypeId)],
     lens: &[usize; FIELDS],
     row: &Row,
+    end: usize,
     out: &mut Vec<u8>,
-) -> Result<(), AllocError>
+) -> Result<(), EncodeFault>
     requires known { id < length schema.now.trees }
     requires fields { AreFewFields schema.now id fields.now }
-    requires fixed { is_variable (type_of schema.now id) ≡ false }
     requires lens { AreLeafLens schema.now fields.now lens.now }
     requires row { All (IsNodeOf arena.now) row.now.nodes }
     ensures kept { Extends out.old.items out.new.items }
@@ -262,10 +311,99 @@ fn append_row<H: PairHash>(
         (node : Tree) → IsRowOf arena.now (depth t) node row.now.nodes
         → ForValue t node (λ v. Adds (enc t v) out.old.items out.new.items result) }
 {
+    // Every type of a schema is legal.
+    let _legal = schema.ty(id);
+    let start = out.len();
+    append_row_heads(arena, schema, id, fields, lens, row, end, out)?;
+    append_row_bodies(arena, schema, id, fields, row, start, end, out)
+}
+
+// Its fixed parts, with room for its offsets.
+#[cycle(append)]
+fn append_row_heads<H: PairHash>(
+    arena: &Arena<H>,
+    schema: &Schema,
+    id: TypeId,
+    fields: &[(Name, TypeId)],
+    lens: &[usize; FIELDS],
+    row: &Row,
+    end: usize,
+    out: &mut Vec<u8>,
+) -> Result<(), EncodeFault>
+    requires known { id < length schema.now.trees }
+    requires fields { AreFewFields schema.now id fields.now }
+    requires lens { AreLeafLens schema.now fields.now lens.now }
+    requires row { All (IsNodeOf arena.now) row.now.nodes }
+    ensures kept { Extends out.old.items out.new.items }
+    ensures value { let fs = fields_over schema.now.trees fields.now in
+        let d = depth (type_of schema.now id) in
+        (node : Tree) → IsRowOf arena.now d node row.now.nodes → ForFields fs d node
+        (λ vs. Adds (rooms (part_sizes fs) (field_encodings fs vs)) out.old.items out.new.items
+        result) }
+{
     for (i, field) in fields.iter().enumerate() {
-        append_part(arena, schema, field.1, lens[i], row.nodes[i], out)?;
+        append_part(arena, schema, field.1, lens[i], row.nodes[i], end, out)?;
     }
     Ok(())
+}
+
+// Its variable parts, and the offsets of these, counted from start, from where its fixed parts
+// stand.
+#[cycle(append)]
+fn append_row_bodies<H: PairHash>(
+    arena: &Arena<H>,
+    schema: &Schema,
+    id: TypeId,
+    fields: &[(Name, TypeId)],
+    row: &Row,
+    start: usize,
+    end: usize,
+    out: &mut Vec<u8>,
+) -> Result<(), EncodeFault>
+    requires known { id < length schema.now.trees }
+    requires fields { AreFewFields schema.now id fields.now }
+    requires row { All (IsNodeOf arena.now) row.now.nodes }
+    ensures kept { KeepsUpTo start out.old.items out.new.items }
+    ensures value { let fs = fields_over schema.now.trees fields.now in
+        let d = depth (type_of schema.now id) in
+        (format : Format) → AreLegalFields format fs
+        → (node : Tree) → IsRowOf arena.now d node row.now.nodes → ForFields fs d node
+        (λ vs. FillsAll (part_sizes fs) (field_encodings fs vs) start out.old.items out.new.items
+        result) }
+{
+    let mut room = start;
+    for (i, field) in fields.iter().enumerate() {
+        append_part_body(arena, schema, field.1, row.nodes[i], start, room, end, out)?;
+        room = room.saturating_add(head_len(schema.fixed_size(field.1)) as usize);
+    }
+    Ok(())
+}
+
+// The variable part of a value, if it has one, and its offset, counted from start, into the room
+// that was kept.
+#[cycle(append)]
+fn append_part_body<H: PairHash>(
+    arena: &Arena<H>,
+    schema: &Schema,
+    id: TypeId,
+    node: NodeId,
+    start: usize,
+    room: usize,
+    end: usize,
+    out: &mut Vec<u8>,
+) -> Result<(), EncodeFault>
+    requires known { id < length schema.now.trees }
+    requires node { IsNodeOf arena.now node }
+    requires behind { start ≤ room }
+    ensures kept { KeepsUpTo start out.old.items out.new.items }
+    ensures value { let t = type_of schema.now id in
+        ForValue t (tree_of arena.now node)
+        (λ v. Fills (fixed_size t) (enc t v) start room out.old.items out.new.items result) }
+{
+    match schema.fixed_size(id) {
+        Some(_) => Ok(()),
+        None => append_body(arena, schema, id, node, start, room, end, out),
+    }
 }
 
 // The fixed part of a value, or room for its offset: the first len bytes of its leaf, where it is
@@ -277,8 +415,9 @@ fn append_part<H: PairHash>(
     id: TypeId,
     len: usize,
     node: NodeId,
+    end: usize,
     out: &mut Vec<u8>,
-) -> Result<(), AllocError>
+) -> Result<(), EncodeFault>
     requires known { id < length schema.now.trees }
     requires node { IsNodeOf arena.now node }
     requires len { IsLeafLen (type_of schema.now id) len }
@@ -288,10 +427,11 @@ fn append_part<H: PairHash>(
         (λ v. Adds (room_of (fixed_size t) (enc t v)) out.old.items out.new.items result) }
 {
     if len > 0 {
-        return append_leaf(arena, len, node, out);
+        append_leaf(arena, len, node, out)?;
+        return Ok(());
     }
     match schema.fixed_size(id) {
-        Some(_) => append_value(arena, schema, id, node, out),
+        Some(_) => append_value(arena, schema, id, node, end, out),
         None => {
             out.extend_from_slice(&[0; 4])?;
             Ok(())
@@ -300,7 +440,7 @@ fn append_part<H: PairHash>(
 }
 
 // Room for so many offsets.
-fn append_rooms(count: u64, out: &mut Vec<u8>) -> Result<(), AllocError>
+fn append_rooms(count: u64, out: &mut Vec<u8>) -> Result<(), EncodeFault>
     ensures kept { Extends out.old.items out.new.items }
     ensures rooms { Adds (offset_rooms count) out.old.items out.new.items result }
 {
@@ -321,8 +461,9 @@ fn append_bodies<H: PairHash>(
     count: u64,
     node: NodeId,
     start: usize,
+    end: usize,
     out: &mut Vec<u8>,
-) -> Result<(), AllocError>
+) -> Result<(), EncodeFault>
     requires known { elem < length schema.now.trees }
     requires composite { basic_size (type_of schema.now elem) ≡ None }
     requires depth { depth < 64 }
@@ -336,14 +477,86 @@ fn append_bodies<H: PairHash>(
     if let Some(_) = schema.fixed_size(elem) {
         return Ok(());
     }
+    if let Some(fields) = few_fields(schema, elem) {
+        return append_rows(
+            arena, schema, elem, fields, depth, count, node, start, end, out,
+        );
+    }
     let mut places = Places::new(node, depth);
     let mut room = start;
     for _i in 0..count {
         let part = places.next(arena);
-        append_body(arena, schema, elem, part, start, room, out)?;
+        append_body(arena, schema, elem, part, start, room, end, out)?;
         room = room.saturating_add(4);
     }
     Ok(())
+}
+
+// The same of containers of these fields, which are few.
+#[cycle(append)]
+fn append_rows<H: PairHash>(
+    arena: &Arena<H>,
+    schema: &Schema,
+    elem: TypeId,
+    fields: &[(Name, TypeId)],
+    depth: u32,
+    count: u64,
+    node: NodeId,
+    start: usize,
+    end: usize,
+    out: &mut Vec<u8>,
+) -> Result<(), EncodeFault>
+    requires known { elem < length schema.now.trees }
+    requires fields { AreFewFields schema.now elem fields.now }
+    requires variable { fixed_size (type_of schema.now elem) ≡ None }
+    requires depth { depth < 64 }
+    requires node { IsNodeOf arena.now node }
+    ensures kept { KeepsUpTo start out.old.items out.new.items }
+    ensures value { let t = type_of schema.now elem in
+        ForElements t depth count (tree_of arena.now node)
+        (λ vs. FillsAll (replicate (length vs) (fixed_size t)) (map (enc t) vs) start
+        out.old.items out.new.items result) }
+{
+    let lens = leaf_lens(schema, fields);
+    let mut rows = Rows::new(node, depth, schema.depth(elem));
+    let mut room = start;
+    for _i in 0..count {
+        let row = rows.next(arena);
+        append_row_body(
+            arena, schema, elem, fields, &lens, &row, start, room, end, out,
+        )?;
+        room = room.saturating_add(4);
+    }
+    Ok(())
+}
+
+// A container of these fields, by their nodes, and its offset, counted from start, into the room
+// that was kept.
+#[cycle(append)]
+fn append_row_body<H: PairHash>(
+    arena: &Arena<H>,
+    schema: &Schema,
+    id: TypeId,
+    fields: &[(Name, TypeId)],
+    lens: &[usize; FIELDS],
+    row: &Row,
+    start: usize,
+    room: usize,
+    end: usize,
+    out: &mut Vec<u8>,
+) -> Result<(), EncodeFault>
+    requires known { id < length schema.now.trees }
+    requires fields { AreFewFields schema.now id fields.now }
+    requires lens { AreLeafLens schema.now fields.now lens.now }
+    requires row { All (IsNodeOf arena.now) row.now.nodes }
+    requires behind { start ≤ room }
+    ensures kept { KeepsUpTo start out.old.items out.new.items }
+    ensures value { let t = type_of schema.now id in
+        (node : Tree) → IsRowOf arena.now (depth t) node row.now.nodes → ForValue t node
+        (λ v. Fills None (enc t v) start room out.old.items out.new.items result) }
+{
+    put_end(start, room, end, out)?;
+    append_row(arena, schema, id, fields, lens, row, end, out)
 }
 
 // A part of variable size, and its offset, counted from start, into the room that was kept.
@@ -355,8 +568,9 @@ fn append_body<H: PairHash>(
     node: NodeId,
     start: usize,
     room: usize,
+    end: usize,
     out: &mut Vec<u8>,
-) -> Result<(), AllocError>
+) -> Result<(), EncodeFault>
     requires known { id < length schema.now.trees }
     requires node { IsNodeOf arena.now node }
     requires behind { start ≤ room }
@@ -365,9 +579,26 @@ fn append_body<H: PairHash>(
         ForValue t (tree_of arena.now node)
         (λ v. Fills None (enc t v) start room out.old.items out.new.items result) }
 {
+    put_end(start, room, end, out)?;
+    append_value(arena, schema, id, node, end, out)
+}
+
+// Writes where the output ends, counted from start, into the room that was kept. `TooLong` where
+// that is behind `end`.
+fn put_end(start: usize, room: usize, end: usize, out: &mut Vec<u8>) -> Result<(), EncodeFault>
+    requires behind { start ≤ room }
+    ensures kept { KeepsUpTo start out.old.items out.new.items }
+    ensures put { (front back : List ℕ) → room ≡ capped (length front)
+        → out.old.items ≡ front ++ offset_bytes 0 ++ back
+        → OnOk result (out.new.items
+        ≡ front ++ offset_bytes (length out.old.items - start) ++ back) }
+{
+    if out.len() > end {
+        return Err(EncodeFault::TooLong);
+    }
     let offset = out.len().saturating_sub(start);
     put_offset(room, offset, out.as_mut_slice());
-    append_value(arena, schema, id, node, out)
+    Ok(())
 }
 
 // Writes the offset into its room, if there are so many bytes.
@@ -397,8 +628,9 @@ fn append_fields<H: PairHash>(
     depth: u32,
     fields: &[(Name, TypeId)],
     node: NodeId,
+    end: usize,
     out: &mut Vec<u8>,
-) -> Result<(), AllocError>
+) -> Result<(), EncodeFault>
     requires known { id < length schema.now.trees }
     requires form { type_of schema.now id ≡ container (fields_over schema.now.trees fields.now) }
     requires before { AllByRecursion (λ part. part.1 < id) fields.now }
@@ -411,11 +643,11 @@ fn append_fields<H: PairHash>(
         result) }
 {
     let start = out.len();
-    append_field_heads(arena, schema, id, depth, fields, node, out)?;
+    append_field_heads(arena, schema, id, depth, fields, node, end, out)?;
     if let Some(_) = schema.fixed_size(id) {
         return Ok(());
     }
-    append_field_bodies(arena, schema, id, depth, fields, node, start, out)
+    append_field_bodies(arena, schema, id, depth, fields, node, start, end, out)
 }
 
 // The fixed parts of fields, with room for their offsets.
@@ -427,8 +659,9 @@ fn append_field_heads<H: PairHash>(
     depth: u32,
     fields: &[(Name, TypeId)],
     node: NodeId,
+    end: usize,
     out: &mut Vec<u8>,
-) -> Result<(), AllocError>
+) -> Result<(), EncodeFault>
     requires known { id < length schema.now.trees }
     requires before { AllByRecursion (λ part. part.1 < id) fields.now }
     requires depth { depth < 64 }
@@ -440,7 +673,7 @@ fn append_field_heads<H: PairHash>(
         result) }
 {
     for (i, field) in fields.iter().enumerate() {
-        append_field_head(arena, schema, field.1, depth, i, node, out)?;
+        append_field_head(arena, schema, field.1, depth, i, node, end, out)?;
     }
     Ok(())
 }
@@ -454,8 +687,9 @@ fn append_field_head<H: PairHash>(
     depth: u32,
     i: usize,
     node: NodeId,
+    end: usize,
     out: &mut Vec<u8>,
-) -> Result<(), AllocError>
+) -> Result<(), EncodeFault>
     requires known { id < length schema.now.trees }
     requires depth { depth < 64 }
     requires node { IsNodeOf arena.now node }
@@ -467,7 +701,7 @@ fn append_field_head<H: PairHash>(
     match schema.fixed_size(id) {
         Some(_) => {
             let part = node_of_place(arena, depth, i, node);
-            append_value(arena, schema, id, part, out)
+            append_value(arena, schema, id, part, end, out)
         }
         None => {
             out.extend_from_slice(&[0; 4])?;
@@ -487,8 +721,9 @@ fn append_field_bodies<H: PairHash>(
     fields: &[(Name, TypeId)],
     node: NodeId,
     start: usize,
+    end: usize,
     out: &mut Vec<u8>,
-) -> Result<(), AllocError>
+) -> Result<(), EncodeFault>
     requires known { id < length schema.now.trees }
     requires before { AllByRecursion (λ part. part.1 < id) fields.now }
     requires depth { depth < 64 }
@@ -501,7 +736,9 @@ fn append_field_bodies<H: PairHash>(
 {
     let mut room = start;
     for (i, field) in fields.iter().enumerate() {
-        append_field_body(arena, schema, field.1, depth, i, node, start, room, out)?;
+        append_field_body(
+            arena, schema, field.1, depth, i, node, start, room, end, out,
+        )?;
         room = room.saturating_add(head_len(schema.fixed_size(field.1)) as usize);
     }
     Ok(())
@@ -518,8 +755,9 @@ fn append_field_body<H: PairHash>(
     node: NodeId,
     start: usize,
     room: usize,
+    end: usize,
     out: &mut Vec<u8>,
-) -> Result<(), AllocError>
+) -> Result<(), EncodeFault>
     requires known { id < length schema.now.trees }
     requires depth { depth < 64 }
     requires node { IsNodeOf arena.now node }
@@ -533,7 +771,7 @@ fn append_field_body<H: PairHash>(
         Some(_) => Ok(()),
         None => {
             let part = node_of_place(arena, depth, i, node);
-            append_body(arena, schema, id, part, start, room, out)
+            append_body(arena, schema, id, part, start, room, end, out)
         }
     }
 }
@@ -546,8 +784,9 @@ fn append_chosen<H: PairHash>(
     id: TypeId,
     options: &[Option<TypeId>],
     node: NodeId,
+    end: usize,
     out: &mut Vec<u8>,
-) -> Result<(), AllocError>
+) -> Result<(), EncodeFault>
     requires known { id < length schema.now.trees }
     requires before { AllByRecursion (IsBelow id) options.now }
     requires few { length options.now ≤ 128 }
@@ -559,9 +798,9 @@ fn append_chosen<H: PairHash>(
 {
     let (content, number) = mixed_in(arena, node);
     let selector = (number % 256) as u8;
-    out.push(selector)?;
+    append_byte(selector, out)?;
     match option_at(options, selector) {
-        Some(Some(option)) => append_value(arena, schema, option, content, out),
+        Some(Some(option)) => append_value(arena, schema, option, content, end, out),
         Some(None) => Ok(()),
         None => Ok(()),
     }

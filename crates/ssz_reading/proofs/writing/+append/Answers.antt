@@ -4,7 +4,7 @@ use Rattle.ssz_schema.specs.Types.{container, vector, list, bitvector, bitlist, 
 use Rattle.ssz_schema.specs.Sizes.{depth, fixed_size, head_size, part_sizes}
 use Rattle.ssz_schema.specs.Unfolding.{type_of, tree_over, fields_over, options_over, AreBelow}
 use Rattle.ssz_schema.specs.Legal.{IsLegal}
-use Rattle.ssz_value.specs.Encoding.{enc, heads, bodies, field_encodings}
+use Rattle.ssz_value.specs.Encoding.{enc, heads, bodies, field_encodings, joined_alike}
 use Rattle.ssz_value.proofs.PartLemmas.{Part}
 use Rattle.ssz_arena.specs.Content.{tree_of}
 use Rattle.ssz_reading.specs.Shown.{ForValue, Adds, Fills, room_of, rooms}
@@ -13,7 +13,7 @@ use Rattle.ssz_reading.proofs.Chunked.{Extends-same, Extends-trans}
 use Rattle.ssz_reading.proofs.Walked.{at_place}
 use Rattle.ssz_reading.proofs.Written.{on_ok, alike, element_rooms, HeadsSoFar-start, HeadsSoFar-more, BodiesSoFar-start, BodiesSoFar-more, elements_adds, packed_adds}
 use Rattle.ssz_reading.specs.Ahead.{IsRowOf}
-use Rattle.ssz_reading.proofs.RowsWritten.{leaf_adds, row_value, field_before, FieldHeads-end, RowsSoFar-more}
+use Rattle.ssz_reading.proofs.RowsWritten.{leaf_adds, row_value, field_before, FieldHeads-end, RowsSoFar-more, RowBodiesSoFar-start, RowBodiesSoFar-more}
 use Rattle.ssz_reading.proofs.Rooms.{fixed_filled, fixed_room, no_size}
 use Rattle.ssz_reading.proofs.FieldsWritten.{FieldHeads-start, FieldHeads-more, FieldBodies-start, FieldBodies-more, FieldBodies-end, fixed_fields_add, fields_adds, vector_adds, list_adds, container_adds, bitvector_adds, bitlist_adds, option_adds, none_adds}
 use Rattle.ssz_reading.proofs.writing.+append.Goals as goal
@@ -185,12 +185,12 @@ append_chosen-returns-in-Some-Some-clause-value g t c =
     option_adds c.args.schema.now.trees c.args.options.now c.mixed_in-number.result.1
     c.in-Some-Some.option (tree_of c.args.arena.now c.args.node)
     (tree_of c.args.arena.now c.mixed_in-number.result.0) c.args.out.now.items
-    c.push.new.self.items c.append_value.new.out.items c.append_value.result c.requires.few
+    c.append_byte.new.out.items c.append_value.new.out.items c.append_value.result c.requires.few
     (record {
       tree = c.mixed_in-number.ensures.tree;
       number = c.mixed_in-number.ensures.number;
     })
-    here c.in_ok-push.ensures.items c.append_value.ensures.value
+    here c.in_ok-append_byte.ensures.items c.append_value.ensures.value
 
 pub append_chosen-returns-in-Some-None-clause-value :
     goal.append_chosen-returns-in-Some-None-clause-value
@@ -198,28 +198,28 @@ append_chosen-returns-in-Some-None-clause-value g t c =
     none_adds c.args.schema.now.trees c.args.options.now c.mixed_in-number.result.1
     (tree_of c.args.arena.now c.args.node)
     (tree_of c.args.arena.now c.mixed_in-number.result.0) c.args.out.now.items
-    c.push.new.self.items c.requires.few
+    c.append_byte.new.out.items c.requires.few
     (record {
       tree = c.mixed_in-number.ensures.tree;
       number = c.mixed_in-number.ensures.number;
     })
     (λ id e. let differ : Some None ≡ Some (Some id) =
     sym (c.in-Some-None.is ∙ ap Some c.in-Some-None.field-0-is) ∙ c.option_at.ensures ∙ e in cc)
-    c.in_ok-push.ensures.items
+    c.in_ok-append_byte.ensures.items
 
 pub append_chosen-returns-in-None-clause-value : goal.append_chosen-returns-in-None-clause-value
 append_chosen-returns-in-None-clause-value g t c =
     none_adds c.args.schema.now.trees c.args.options.now c.mixed_in-number.result.1
     (tree_of c.args.arena.now c.args.node)
     (tree_of c.args.arena.now c.mixed_in-number.result.0) c.args.out.now.items
-    c.push.new.self.items c.requires.few
+    c.append_byte.new.out.items c.requires.few
     (record {
       tree = c.mixed_in-number.ensures.tree;
       number = c.mixed_in-number.ensures.number;
     })
     (λ id e. let differ : None ≡ Some (Some id) =
     sym c.in-None.is ∙ c.option_at.ensures ∙ e in cc)
-    c.in_ok-push.ensures.items
+    c.in_ok-append_byte.ensures.items
 
 pub append_fields-returns-in-Some-clause-value : goal.append_fields-returns-in-Some-clause-value
 append_fields-returns-in-Some-clause-value g t c = λ format legal vs are.
@@ -244,22 +244,25 @@ pub append_sequence-returns-in-Some-clause-value : goal.append_sequence-returns-
 append_sequence-returns-in-Some-clause-value g t c =
     packed_adds c.in-Some.basic (type_of c.args.schema.now c.args.elem) c.size.result
     c.args.depth c.args.count (c.from.result * c.size.result)
-    (tree_of c.args.arena.now c.args.node) c.args.out.now.items c.append_chunks.new.out.items
-    c.append_chunks.result c.in-Some.ensures.form c.size.ensures.exact
-    (ap (λ n. n * c.size.result) c.from.ensures) c.append_chunks.ensures.bytes
+    (tree_of c.args.arena.now c.args.node) c.args.out.now.items c.append_packed.new.out.items
+    c.append_packed.result c.in-Some.ensures.form c.size.ensures.exact
+    (ap (λ n. n * c.size.result) c.from.ensures) c.append_packed.ensures.bytes
 
 pub append_sequence-returns-in_ok-append_heads-in-None-clause-value :
     goal.append_sequence-returns-in_ok-append_heads-in-None-clause-value
 append_sequence-returns-in_ok-append_heads-in-None-clause-value g t c = λ vs are.
-    let start : c.len-start.result ≡ length c.args.out.now.items =
-    omega (arith, c.len-start.ensures, c.args.out.now.ok.0) in
-    on_ok c.append_bodies.result
+    let start : c.len-start.result ≡ length c.make_room.new.out.items =
+    omega (arith, c.len-start.ensures, c.make_room.new.out.ok.0) in
+    subst (λ old. Adds (joined_alike (fixed_size (type_of c.args.schema.now c.args.elem))
+    (map (enc (type_of c.args.schema.now c.args.elem)) vs)) old c.append_bodies.new.out.items
+    c.append_bodies.result) c.make_room.ensures
+    (on_ok c.append_bodies.result
     (elements_adds c.args.schema.now.format (type_of c.args.schema.now c.args.elem)
-    c.len-start.result vs c.args.out.now.items c.append_heads.new.out.items
+    c.len-start.result vs c.make_room.new.out.items c.append_heads.new.out.items
     c.append_bodies.new.out.items c.ty-legal.ensures.legal are.fit start
     (c.in_ok-append_heads-in-None.ensures.value vs are))
-    (c.append_bodies.ensures.value vs are c.args.out.now.items
-    (sym start) (c.in_ok-append_heads-in-None.ensures.value vs are))
+    (c.append_bodies.ensures.value vs are c.make_room.new.out.items
+    (sym start) (c.in_ok-append_heads-in-None.ensures.value vs are)))
 
 pub append_value-append_chosen-requires : goal.append_value-append_chosen-requires
 append_value-append_chosen-requires g t c =
@@ -293,12 +296,12 @@ append_value-returns-in-Bitvector-clause-value g t c =
     let form : bitvector c.in-Bitvector.n ≡ type_of c.args.schema.now c.args.id =
     ap (tree_over c.args.schema.now.trees) (sym c.in-Bitvector.is) ∙ c.ty.ensures.form in
     subst (λ ty. ForValue ty (tree_of c.args.arena.now c.args.node)
-    (λ v. Adds (enc ty v) c.args.out.now.items c.append_chunks.new.out.items
-    c.append_chunks.result)) form
+    (λ v. Adds (enc ty v) c.args.out.now.items c.append_packed.new.out.items
+    c.append_packed.result)) form
     (bitvector_adds c.in-Bitvector.n c.depth-depth.result ((c.from.result + 7) / 8)
-    (tree_of c.args.arena.now c.args.node) c.args.out.now.items c.append_chunks.new.out.items
-    c.append_chunks.result (c.depth-depth.ensures.exact ∙ ap depth (sym form))
-    (ap (λ n. (n + 7) / 8) c.from.ensures) c.append_chunks.ensures.bytes)
+    (tree_of c.args.arena.now c.args.node) c.args.out.now.items c.append_packed.new.out.items
+    c.append_packed.result (c.depth-depth.ensures.exact ∙ ap depth (sym form))
+    (ap (λ n. (n + 7) / 8) c.from.ensures) c.append_packed.ensures.bytes)
 
 pub append_value-returns-in-Bitlist-clause-value : goal.append_value-returns-in-Bitlist-clause-value
 append_value-returns-in-Bitlist-clause-value g t c =
@@ -373,17 +376,17 @@ pub append_part-returns-then-len-gt0-clause-value :
 append_part-returns-then-len-gt0-clause-value g t c =
     leaf_adds (type_of c.args.schema.now c.args.id) c.args.len
     (tree_of c.args.arena.now c.args.node) c.args.out.now.items c.append_leaf.new.out.items
-    c.append_leaf.result c.if-len-gt0.true c.requires.len c.append_leaf.ensures.bytes
+    c.if-len-gt0.true c.requires.len c.in_ok-append_leaf.ensures.bytes
 
-pub append_row-loop-i-init : goal.append_row-loop-i-init
-append_row-loop-i-init g t c = (
+pub append_row_heads-loop-i-init : goal.append_row_heads-loop-i-init
+append_row_heads-loop-i-init g t c = (
   Extends-same c.args.out.now.items,
   λ node row vs are. FieldHeads-start c.args.schema.now.trees c.args.fields.now
       (depth (type_of c.args.schema.now c.args.id)) vs c.args.out.now.items node are,
 )
 
-pub append_row-append_part-requires : goal.append_row-append_part-requires
-append_row-append_part-requires g t c =
+pub append_row_heads-append_part-requires : goal.append_row_heads-append_part-requires
+append_row_heads-append_part-requires g t c =
     let few : length c.args.fields.now ≤ 8 = c.requires.fields.few in
     let below : c.index-fields-i.result.1 < c.args.id =
     field_before c.args.fields.now c.args.id c.loop-i.i c.index-fields-i.result
@@ -394,8 +397,8 @@ append_row-append_part-requires g t c =
     c.index-fields-i.is in
     search rules
 
-pub append_row-loop-i-preserved : goal.append_row-loop-i-preserved
-append_row-loop-i-preserved g t c = (
+pub append_row_heads-loop-i-preserved : goal.append_row_heads-loop-i-preserved
+append_row_heads-loop-i-preserved g t c = (
   Extends-trans c.args.out.now.items c.loop-i.out.items c.append_part.new.out.items
       c.loop-i.invariant.0 c.append_part.ensures.kept,
   λ node row vs are. FieldHeads-more c.args.schema.now.trees c.args.fields.now c.loop-i.i
@@ -410,30 +413,147 @@ append_row-loop-i-preserved g t c = (
       (λ trees inside whole. row trees whole c.loop-i.i inside))),
 )
 
-pub append_row-returns-clause-value : goal.append_row-returns-clause-value
-append_row-returns-clause-value g t c = λ node row.
-    row_value (type_of c.args.schema.now c.args.id)
-    (fields_over c.args.schema.now.trees c.args.fields.now) node c.args.out.now.items
-    c.loop-i.out.items c.requires.fields.form c.requires.fixed
-    (λ vs are. FieldHeads-end c.args.schema.now.trees c.args.fields.now c.loop-i.i
+pub append_row_heads-returns-clause-value : goal.append_row_heads-returns-clause-value
+append_row_heads-returns-clause-value g t c = λ node row vs are.
+    FieldHeads-end c.args.schema.now.trees c.args.fields.now c.loop-i.i
     (depth (type_of c.args.schema.now c.args.id)) _ c.loop-i.out.items node
-    (c.loop-i.invariant.1 node row vs are) c.loop-i-test.false)
+    (c.loop-i.invariant.1 node row vs are) c.loop-i-test.false
 
 pub append_containers-loop-i-preserved : goal.append_containers-loop-i-preserved
 append_containers-loop-i-preserved g t c = (
   c.next-row.ensures.rows,
   c.next-row.ensures.depth ∙ c.loop-i.invariant.1,
-  Extends-trans c.args.out.now.items c.loop-i.out.items c.append_row.new.out.items
-      c.loop-i.invariant.2 c.append_row.ensures.kept,
+  Extends-trans c.args.out.now.items c.loop-i.out.items c.append_row_heads.new.out.items
+      c.loop-i.invariant.2 c.append_row_heads.ensures.kept,
   λ vs are. RowsSoFar-more c.args.arena.now (type_of c.args.schema.now c.args.elem)
       (depth (type_of c.args.schema.now c.args.elem)) vs c.loop-i._i _ c.loop-i.out.items
-      c.append_row.new.out.items c.loop-i.rows c.next-row.new.self c.next-row.result.nodes
+      c.append_row_heads.new.out.items c.loop-i.rows c.next-row.new.self c.next-row.result.nodes
       (c.loop-i.invariant.3 vs are) (omega (arith, are.many, c.loop-i-test.true))
       (λ first trees held. subst (λ n. IsRowOf c.args.arena.now n first c.next-row.result.nodes)
       c.loop-i.invariant.1 (c.next-row.ensures.fields first trees held))
       c.next-row.ensures.rest
-      (λ node row v h. c.in_ok-append_row.ensures.value node row v h
+      (λ node row v h. row_value (type_of c.args.schema.now c.args.elem)
+      (fields_over c.args.schema.now.trees c.args.fields.now) node c.loop-i.out.items
+      c.append_row_heads.new.out.items c.requires.fields.form c.requires.fixed
+      (c.in_ok-append_row_heads.ensures.value node row) v h
       ∙ ap (λ xs. c.loop-i.out.items ++ xs)
       (fixed_room (fixed_size (type_of c.args.schema.now c.args.elem))
       (enc (type_of c.args.schema.now c.args.elem) v) c.requires.fixed)),
 )
+
+pub append_row-returns-clause-value : goal.append_row-returns-clause-value
+append_row-returns-clause-value g t c = λ node row.
+    let form = c.requires.fields.form in
+    let legal = subst (IsLegal c.args.schema.now.format) form c.ty-legal.ensures.legal in
+    let start : c.len-start.result ≡ length c.args.out.now.items =
+    omega (arith, c.len-start.ensures, c.args.out.now.ok.0) in
+    subst (λ ty. ForValue ty node (λ v. Adds (enc ty v) c.args.out.now.items
+    c.append_row_bodies.new.out.items c.append_row_bodies.result)) (sym form)
+    (container_adds (fields_over c.args.schema.now.trees c.args.fields.now)
+    (depth (type_of c.args.schema.now c.args.id)) node c.args.out.now.items c.append_row_bodies.new.out.items
+    c.append_row_bodies.result (ap depth form)
+    (λ vs are. on_ok c.append_row_bodies.result
+    (fields_adds c.args.schema.now.format (fields_over c.args.schema.now.trees c.args.fields.now) c.len-start.result vs
+    c.args.out.now.items c.append_row_heads.new.out.items c.append_row_bodies.new.out.items
+    legal.1 are.fit start (c.in_ok-append_row_heads.ensures.value node row vs are))
+    (c.append_row_bodies.ensures.value c.args.schema.now.format legal.1 node row vs are
+    c.args.out.now.items (sym start) (c.in_ok-append_row_heads.ensures.value node row vs are))))
+
+pub append_row_bodies-loop-i-init : goal.append_row_bodies-loop-i-init
+append_row_bodies-loop-i-init g t c = (
+  omega arith,
+  λ front within kept. kept,
+  λ format legal node row vs are front at is. FieldBodies-start format c.args.schema.now.trees
+      c.args.fields.now (depth (type_of c.args.schema.now c.args.id)) c.args.start vs front
+      c.args.out.now.items node legal are (omega arith) at is,
+)
+
+pub append_row_bodies-append_part_body-requires : goal.append_row_bodies-append_part_body-requires
+append_row_bodies-append_part_body-requires g t c =
+    let few : length c.args.fields.now ≤ 8 = c.requires.fields.few in
+    let below : c.index-fields-i.result.1 < c.args.id =
+    field_before c.args.fields.now c.args.id c.loop-i.i c.index-fields-i.result
+    c.requires.fields.before c.loop-i-test.true c.index-fields-i.is in
+    let node = c.requires.row c.loop-i.i (record { 0 = 0 })
+    (omega (arith, c.loop-i-test.true, few)) in
+    search rules
+
+pub append_row_bodies-loop-i-preserved : goal.append_row_bodies-loop-i-preserved
+append_row_bodies-loop-i-preserved g t c = (
+  omega (arith, c.loop-i.invariant.0),
+  λ front within kept. c.append_part_body.ensures.kept front within
+      (c.loop-i.invariant.1 front within kept),
+  λ format legal node row vs are front at is. FieldBodies-more c.args.schema.now.trees
+      c.args.fields.now c.loop-i.i (depth (type_of c.args.schema.now c.args.id)) c.args.start
+      c.loop-i.room _ c.index-fields-i.result
+      (front ++ heads (part_sizes (fields_over c.args.schema.now.trees c.args.fields.now))
+      (field_encodings (fields_over c.args.schema.now.trees c.args.fields.now) vs)
+      (length c.args.out.now.items - c.args.start)
+      ++ bodies (part_sizes (fields_over c.args.schema.now.trees c.args.fields.now))
+      (field_encodings (fields_over c.args.schema.now.trees c.args.fields.now) vs))
+      c.loop-i.out.items c.append_part_body.new.out.items node
+      (c.loop-i.invariant.2 format legal node row vs are front at is)
+      c.loop-i-test.true c.index-fields-i.is
+      (c.saturating_add-room.ensures
+      ∙ ap (λ n. min (c.loop-i.room + n) (2 ^ 64 - 1))
+      (c.head_len.ensures ∙ ap head_size c.fixed_size.ensures.exact))
+      (λ v here. c.in_ok-append_part_body.ensures.value v
+      (at_place _ (depth (type_of c.args.schema.now c.args.id)) c.loop-i.i v node _ here
+      (λ trees inside whole. row trees whole c.loop-i.i inside))),
+)
+
+pub append_row_bodies-returns-clause-value : goal.append_row_bodies-returns-clause-value
+append_row_bodies-returns-clause-value g t c = λ format legal node row vs are front at is.
+    FieldBodies-end c.args.schema.now.trees c.args.fields.now c.loop-i.i
+    (depth (type_of c.args.schema.now c.args.id)) c.args.start c.loop-i.room _
+    c.loop-i.out.items node (c.loop-i.invariant.2 format legal node row vs are front at is)
+    (omega (arith, c.loop-i-test.false))
+
+pub append_row_body-returns-clause-value : goal.append_row_body-returns-clause-value
+append_row_body-returns-clause-value g t c = λ node row v h front back at is.
+    on_ok c.append_row.result
+    (λ added. added ∙ ap (λ xs. xs ++ enc (type_of c.args.schema.now c.args.id) v)
+    (c.in_ok-put_end.ensures.put front back at is))
+    (c.append_row.ensures.value node row v h)
+
+pub append_rows-loop-i-init : goal.append_rows-loop-i-init
+append_rows-loop-i-init g t c = (
+  c.new-rows.ensures.nodes c.args.arena.now c.requires.node,
+  c.new-rows.ensures.depth ∙ c.depth.ensures.exact,
+  omega arith,
+  λ front within kept. kept,
+  λ vs are front at is. RowBodiesSoFar-start c.args.arena.now
+      (type_of c.args.schema.now c.args.elem) c.args.depth c.args.count c.args.start vs front
+      c.args.out.now.items c.args.node c.new-rows.result c.requires.variable are
+      (c.new-rows.ensures.holds c.args.arena.now) (omega arith) at is,
+)
+
+pub append_rows-loop-i-preserved : goal.append_rows-loop-i-preserved
+append_rows-loop-i-preserved g t c = (
+  c.next-row.ensures.rows,
+  c.next-row.ensures.depth ∙ c.loop-i.invariant.1,
+  omega (arith, c.loop-i.invariant.2),
+  λ front within kept. c.append_row_body.ensures.kept front within
+      (c.loop-i.invariant.3 front within kept),
+  λ vs are front at is. RowBodiesSoFar-more c.args.arena.now
+      (type_of c.args.schema.now c.args.elem)
+      (depth (type_of c.args.schema.now c.args.elem)) vs c.loop-i._i c.args.start c.loop-i.room _
+      (front ++ heads (alike (type_of c.args.schema.now c.args.elem) vs)
+      (map (enc (type_of c.args.schema.now c.args.elem)) vs)
+      (length c.args.out.now.items - c.args.start)
+      ++ bodies (alike (type_of c.args.schema.now c.args.elem) vs)
+      (map (enc (type_of c.args.schema.now c.args.elem)) vs))
+      c.loop-i.out.items c.append_row_body.new.out.items c.loop-i.rows c.next-row.new.self
+      c.next-row.result.nodes (c.loop-i.invariant.4 vs are front at is)
+      (omega (arith, are.many, c.loop-i-test.true)) c.requires.variable
+      (λ first trees held. subst (λ n. IsRowOf c.args.arena.now n first c.next-row.result.nodes)
+      c.loop-i.invariant.1 (c.next-row.ensures.fields first trees held))
+      c.next-row.ensures.rest c.saturating_add-room.ensures
+      c.in_ok-append_row_body.ensures.value,
+)
+
+pub append_bodies-append_rows-requires : goal.append_bodies-append_rows-requires
+append_bodies-append_rows-requires g t c =
+    let fields = c.few_fields.ensures c.in-Some-few_fields.fields c.in-Some-few_fields.is in
+    let variable = sym c.fixed_size.ensures.exact ∙ c.in_default.is in
+    search rules
