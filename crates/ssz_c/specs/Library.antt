@@ -9,7 +9,7 @@ use Rattle.ssz_schema_json.specs.Schema.{Reads, schema_of_bytes}
 use Rattle.ssz_c.specs.declared.fault.SszFault.{SszFault}
 use Rattle.ssz_c.specs.declared.library.Library.{Library}
 use Rattle.ssz_c.specs.declared.status.TheConstants.{NO_TYPE, BAD_SCHEMA, NO_MEMORY, MOST_TEXT}
-use Rattle.ssz_c.specs.Numbers.{Gives}
+use Rattle.ssz_c.specs.Numbers.{Gives, IsNew}
 use Rattle.ssz_c.specs.Outcome.{Outcome, refused}
 
 -- the type of a number that was given out
@@ -48,11 +48,12 @@ ReadsLibrary (Ok library) bytes =
     ReadsTypes (Ok library.schema) bytes × (library.found.items ≡ [])
 ReadsLibrary (Err fault) bytes = ReadsTypes (Err fault) bytes
 
--- why a name has no number: no type has it, or memory ran out
-abbrev pub IsUnnamed : List ℕ → Types → SszFault → Type 0
-IsUnnamed name types fault =
+-- why a name has no number: its type has none yet and memory ran out, or no type has the name
+abbrev pub IsUnnamed : List ℕ → Library → SszFault → Type 0
+IsUnnamed name library fault =
     (fault ≡ refused NO_MEMORY)
-    ⊎ (fault ≡ refused NO_TYPE) × ((¬ IsUtf8 name) ⊎ (number_of types name ≡ None))
+    × ((id : ℕ) × (number_of library.schema name ≡ Some id) × IsNew library.found.items id)
+    ⊎ (fault ≡ refused NO_TYPE) × ((¬ IsUtf8 name) ⊎ (number_of library.schema name ≡ None))
 
 -- The name's type has the number, and no type has two, so that a name has one number; numbers that
 -- were given out stay.
@@ -61,4 +62,4 @@ Names name old new (Ok number) =
     (id : ℕ) × (number_of old.schema name ≡ Some id) × (type_in new number ≡ Ok id)
     × Gives old.found.items new.found.items id number
 Names name old new (Err fault) =
-    (new.found.items ≡ old.found.items) × IsUnnamed name old.schema fault
+    (new.found.items ≡ old.found.items) × IsUnnamed name old fault
