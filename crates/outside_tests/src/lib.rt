@@ -7,4 +7,6 @@ mod halting;
 #[cfg(test)]
 mod memory;
 #[cfg(test)]
+mod reading;
+#[cfg(test)]
 mod system;

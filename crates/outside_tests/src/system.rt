@@ -1,29 +1,33 @@
 use crate::halting::{Halting, HaltingFiles};
+use crate::reading::{got, reads};
 use ssz_outside::{DirFiles, Files, GetFault, Got, OutSink, PutFault, Sink};
+use std::alloc::Global;
 use std::fs;
 use std::test::Fail;
 
-// Files of the folder in which the tests run: the length, one less, and the bytes.
+// Whether a name is given these bytes, gives them at their length, and has too many for one less.
+fn keeps<F: Files>(
+    alloc: Global,
+    files: &mut F,
+    name: &str,
+    (length, less): (u64, u64),
+    bytes: &[u8],
+) -> bool {
+    files.put(name, bytes) == Ok(())
+        && reads(alloc, files, name, length, bytes)
+        && got(alloc, files, name, less) == Ok(Got::TooLong)
+}
+
+// Files of the folder in which the tests run.
 #[test]
 fn keeps_files_of_the_system(rt: HostRuntime) -> Result<(), Fail> {
-    let long = vec![in rt.alloc(); 7; 150000]?;
-    let table: [(&str, u64, u64, &[u8]); 3] = [
-        ("first", 150000, 149999, long.as_slice()),
-        ("second", 2, 1, b"12"),
-        ("first", 3, 2, b"345"),
-    ];
+    let alloc = rt.alloc();
+    let long = vec![in alloc; 7; 150000]?;
     let mut files = DirFiles::new(&rt);
-    for (name, length, less, bytes) in table {
-        assert_eq!(rt; files.put(name, bytes), Ok(()));
-        let mut read = Vec::new(rt.alloc());
-        let got = files.get(name, &mut read, length);
-        assert_eq!(rt; got, Ok(Got::Whole), "of {name}");
-        assert_eq!(rt; read.as_slice(), bytes, "of {name}");
-        let mut cut = Vec::new(rt.alloc());
-        let got = files.get(name, &mut cut, less);
-        assert_eq!(rt; got, Ok(Got::TooLong), "of {name}");
-    }
-    assert_eq!(rt; (files.get_faults(), files.put_faults()), (0, 0));
+    assert!(rt; keeps(alloc, &mut files, "first", (150000, 149999), &long));
+    assert!(rt; keeps(alloc, &mut files, "second", (2, 1), b"12"));
+    assert!(rt; keeps(alloc, &mut files, "first", (3, 2), b"345"));
+    assert!(rt; (files.get_faults(), files.put_faults()) == (0, 0));
     fs::remove_file(&rt, "first")?;
     fs::remove_file(&rt, "second")?;
     Ok(())
@@ -33,38 +37,41 @@ fn keeps_files_of_the_system(rt: HostRuntime) -> Result<(), Fail> {
 // a folder to stand in.
 #[test]
 fn counts_faults_of_the_system(rt: HostRuntime) {
-    let table = [
-        ("/dev/zero", Ok(Got::TooLong)),
-        ("absent", Err(GetFault::Failed)),
-        (".", Err(GetFault::Failed)),
-    ];
+    let alloc = rt.alloc();
     let mut files = DirFiles::new(&rt);
-    for (name, wanted) in table {
-        let mut bytes = Vec::new(rt.alloc());
-        let got = files.get(name, &mut bytes, 70000);
-        assert_eq!(rt; got, wanted, "of {name}");
-    }
-    assert_eq!(rt; files.put("absent/file", b"bytes"), Err(PutFault::Failed));
-    assert_eq!(rt; (files.get_faults(), files.put_faults()), (2, 1));
+    assert!(rt; got(alloc, &mut files, "/dev/zero", 70000) == Ok(Got::TooLong));
+    assert!(rt; got(alloc, &mut files, "absent", 70000) == Err(GetFault::Failed));
+    assert!(rt; got(alloc, &mut files, ".", 70000) == Err(GetFault::Failed));
+    assert!(rt; files.put("absent/file", b"bytes") == Err(PutFault::Failed));
+    assert!(rt; (files.get_faults(), files.put_faults()) == (2, 1));
+}
+
+// What files that take or give so many bytes, and then fail, answer to a `get`, and their faults.
+fn halting_get(alloc: Global, left: u8, max: u64) -> (Result<Got, GetFault>, u64) {
+    let mut files = DirFiles::new(HaltingFiles { left });
+    (got(alloc, &mut files, "any", max), files.get_faults())
+}
+
+// What they answer to a `put` of three bytes.
+fn halting_put(left: u8) -> (Result<(), PutFault>, u64) {
+    let mut files = DirFiles::new(HaltingFiles { left });
+    (files.put("any", b"123"), files.put_faults())
+}
+
+// What a sink over such a stream answers to a `put` of three bytes.
+fn halting_print(left: u8) -> (Result<(), PutFault>, u64) {
+    let mut out = OutSink::new(Halting::new(left));
+    (out.put(b"123"), out.faults())
 }
 
 // Streams that a signal interrupts, through files of the system and a writer of std: an interrupted
 // call is made again, and any other failure in mid-stream is a failure.
 #[test]
 fn goes_on_after_a_signal(rt: HostRuntime) {
-    let table = [(4, 3, Ok(Got::TooLong)), (3, 3, Err(GetFault::Failed))];
-    for (left, max, wanted) in table {
-        let mut files = DirFiles::new(HaltingFiles { left });
-        let mut bytes = Vec::new(rt.alloc());
-        assert_eq!(rt; files.get("any", &mut bytes, max), wanted);
-        assert_eq!(rt; files.get_faults(), wanted.is_err() as u64);
-    }
-    for (left, wanted) in [(3, Ok(())), (2, Err(PutFault::Failed))] {
-        let mut files = DirFiles::new(HaltingFiles { left });
-        assert_eq!(rt; files.put("any", b"123"), wanted);
-        assert_eq!(rt; files.put_faults(), wanted.is_err() as u64);
-        let mut out = OutSink::new(Halting::new(left));
-        assert_eq!(rt; out.put(b"123"), wanted);
-        assert_eq!(rt; out.faults(), wanted.is_err() as u64);
-    }
+    assert!(rt; halting_get(rt.alloc(), 4, 3) == (Ok(Got::TooLong), 0));
+    assert!(rt; halting_get(rt.alloc(), 3, 3) == (Err(GetFault::Failed), 1));
+    assert!(rt; halting_put(3) == (Ok(()), 0));
+    assert!(rt; halting_put(2) == (Err(PutFault::Failed), 1));
+    assert!(rt; halting_print(3) == (Ok(()), 0));
+    assert!(rt; halting_print(2) == (Err(PutFault::Failed), 1));
 }
