@@ -87,16 +87,22 @@ const CLASHES: [(Lists, Lists, Found); 4] = [
     ),
 ];
 
+// Whether two proofs clash so.
+fn is_found(alloc: Global, first: &Lists, second: &Lists, found: &Found) -> Result<bool, Fail> {
+    let (number, one, other) = found;
+    let wanted = Clash::Unlike {
+        index: Gindex::new(*number).ok_or("an index of 0")?,
+        first: (chunk(one.0), chunk(one.1)),
+        second: (chunk(other.0), chunk(other.1)),
+    };
+    let (answer, _) = compared(alloc, first, second)?;
+    Ok(answer == Ok(wanted))
+}
+
 #[test]
 fn clashes(rt: HostRuntime) -> Result<(), Fail> {
-    for (first, second, (number, one, other)) in CLASHES {
-        let wanted = Clash::Unlike {
-            index: Gindex::new(number).ok_or("an index of 0")?,
-            first: (chunk(one.0), chunk(one.1)),
-            second: (chunk(other.0), chunk(other.1)),
-        };
-        let (answer, _) = compared(rt.alloc(), &first, &second)?;
-        assert_eq!(rt; answer, Ok(wanted));
+    for (first, second, found) in &CLASHES {
+        assert!(rt; is_found(rt.alloc(), first, second, found)?);
     }
     Ok(())
 }
@@ -112,9 +118,9 @@ const SAME: [(Lists, Lists); 2] = [
 
 #[test]
 fn same(rt: HostRuntime) -> Result<(), Fail> {
-    for (first, second) in SAME {
-        let (answer, _) = compared(rt.alloc(), &first, &second)?;
-        assert_eq!(rt; answer, Ok(Clash::Same));
+    for (first, second) in &SAME {
+        let (answer, _) = compared(rt.alloc(), first, second)?;
+        assert!(rt; answer == Ok(Clash::Same));
     }
     Ok(())
 }
@@ -124,11 +130,11 @@ fn faults(rt: HostRuntime) -> Result<(), Fail> {
     let other: Lists = ([(2, (1, 0)), NONE], [(3, (3, 0)), NONE, NONE]);
     let (answer, _) = compared(rt.alloc(), &TWO, &other)?;
     let roots = ClashFault::OtherRoot(chunk((2, 1)), chunk((3, 1)));
-    assert_eq!(rt; answer, Err(roots));
+    assert!(rt; answer == Err(roots));
     let beside: Lists = ([(3, (2, 0)), NONE], [(2, (1, 0)), NONE, NONE]);
     let (answer, count) = compared(rt.alloc(), &TWO, &beside)?;
-    assert_eq!(rt; answer, Err(ClashFault::OtherIndices));
-    assert_eq!(rt; count, 0);
+    assert!(rt; answer == Err(ClashFault::OtherIndices));
+    assert!(rt; count == 0);
     Ok(())
 }
 
@@ -136,6 +142,6 @@ fn faults(rt: HostRuntime) -> Result<(), Fail> {
 #[test]
 fn pairs(rt: HostRuntime) -> Result<(), Fail> {
     let (_, count) = compared(rt.alloc(), &FOUR, &FOUR)?;
-    assert_eq!(rt; count, 6);
+    assert!(rt; count == 6);
     Ok(())
 }

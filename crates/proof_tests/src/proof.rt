@@ -87,7 +87,7 @@ fn chunk(high: u128, low: u128) -> Chunk {
     Chunk(bytes)
 }
 
-fn expanded(alloc: Global, text: &str) -> Result<Vec<u8>, AllocError> {
+pub fn expanded(alloc: Global, text: &str) -> Result<Vec<u8>, AllocError> {
     let mut bytes = Vec::new(alloc);
     for byte in text.bytes() {
         match byte {
@@ -99,57 +99,75 @@ fn expanded(alloc: Global, text: &str) -> Result<Vec<u8>, AllocError> {
     Ok(bytes)
 }
 
+fn read(alloc: Global, text: &str) -> Result<Proof, Fail> {
+    Ok(read_proof(alloc, &expanded(alloc, text)?)?)
+}
+
+// Whether the proof of a text is printed so.
+fn is_printed(alloc: Global, text: &str, printed: &str) -> Result<bool, Fail> {
+    let made = proof_text(alloc, &read(alloc, text)?)?;
+    let wanted = expanded(alloc, printed)?;
+    Ok(made.as_slice() == wanted.as_slice())
+}
+
 #[test]
 fn texts(rt: HostRuntime) -> Result<(), Fail> {
-    for (text, printed) in PRINTED {
-        let proof = read_proof(rt.alloc(), &expanded(rt.alloc(), text)?)?;
-        let wanted = expanded(rt.alloc(), printed)?;
-        assert_eq!(rt;
-            proof_text(rt.alloc(), &proof)?.as_slice(),
-            wanted.as_slice()
-        );
+    for (text, printed) in &PRINTED {
+        assert!(rt; is_printed(rt.alloc(), text, printed)?);
     }
     Ok(())
+}
+
+fn is_refused(alloc: Global, text: &str) -> Result<bool, AllocError> {
+    let bytes = expanded(alloc, text)?;
+    Ok(read_proof(alloc, &bytes).err() == Some(ProofFault::BadProof))
 }
 
 #[test]
 fn refused(rt: HostRuntime) -> Result<(), Fail> {
-    for text in REFUSED {
-        let bytes = expanded(rt.alloc(), text)?;
-        let fault = read_proof(rt.alloc(), &bytes).err();
-        assert_eq!(rt; fault, Some(ProofFault::BadProof), "{text}");
+    for text in &REFUSED {
+        assert!(rt; is_refused(rt.alloc(), text)?, "{text}");
     }
     Ok(())
+}
+
+// Whether the proof of a text leads to this root, by SHA-256.
+fn is_sha_root(alloc: Global, text: &str, root: &Chunk) -> Result<bool, Fail> {
+    let proof = read(alloc, text)?;
+    Ok(calc(&proof, &mut ShaPair::new()) == *root)
 }
 
 #[test]
 fn sha_roots(rt: HostRuntime) -> Result<(), Fail> {
-    for (text, high, low) in BY_SHA {
-        let proof = read_proof(rt.alloc(), &expanded(rt.alloc(), text)?)?;
-        assert_eq!(rt; calc(&proof, &mut ShaPair::new()), chunk(high, low));
+    for (text, high, low) in &BY_SHA {
+        assert!(rt; is_sha_root(rt.alloc(), text, &chunk(*high, *low))?);
     }
     Ok(())
 }
 
+// Whether the proof of a text is one of the first root, and not of the other, by XorPair.
+fn is_of(alloc: Global, text: &str, root: &Chunk, other: &Chunk) -> Result<bool, Fail> {
+    let proof = read(alloc, text)?;
+    let mut hasher = XorPair::new();
+    Ok(verify(&proof, root, &mut hasher) && !verify(&proof, other, &mut hasher))
+}
+
 #[test]
 fn xor_roots(rt: HostRuntime) -> Result<(), Fail> {
-    for (text, high, low) in BY_XOR {
-        let proof = read_proof(rt.alloc(), &expanded(rt.alloc(), text)?)?;
-        let root = chunk(high, low);
-        let other = chunk(high, low ^ 1);
-        let mut hasher = XorPair::new();
-        assert!(rt; verify(&proof, &root, &mut hasher));
-        assert!(rt; !verify(&proof, &other, &mut hasher));
+    for (text, high, low) in &BY_XOR {
+        let root = chunk(*high, *low);
+        let other = chunk(*high, *low ^ 1);
+        assert!(rt; is_of(rt.alloc(), text, &root, &other)?);
     }
     Ok(())
 }
 
 #[test]
 fn pairs(rt: HostRuntime) -> Result<(), Fail> {
-    let proof = read_proof(rt.alloc(), &expanded(rt.alloc(), FOUR)?)?;
+    let proof = read(rt.alloc(), FOUR)?;
     let mut hasher = XorPair::new();
     let _ = calc(&proof, &mut hasher);
-    assert_eq!(rt; hasher.count(), 3);
+    assert!(rt; hasher.count() == 3);
     Ok(())
 }
 
@@ -170,18 +188,20 @@ fn lists(rt: HostRuntime) -> Result<(), Fail> {
     let nodes = entries(rt.alloc(), &[(7, 4), (5, 2)])?;
     let proof = Proof::new(rt.alloc(), &leaves, &nodes)?;
     let sorted = entries(rt.alloc(), &[(4, 1), (6, 3)])?;
-    assert_eq!(rt; proof.leaves(), sorted.as_slice());
-    assert_eq!(rt; proof.nodes(), nodes.as_slice());
+    assert!(rt; proof.leaves() == sorted.as_slice());
+    assert!(rt; proof.nodes() == nodes.as_slice());
     Ok(())
+}
+
+fn are_refused(alloc: Global, leaves: &[Entry], nodes: &[Entry]) -> bool {
+    Proof::new(alloc, leaves, nodes).err() == Some(ProofFault::BadProof)
 }
 
 #[test]
 fn refused_lists(rt: HostRuntime) -> Result<(), Fail> {
     let leaves = entries(rt.alloc(), &[(6, 3), (4, 1)])?;
     let nodes = entries(rt.alloc(), &[(5, 2), (7, 4)])?;
-    let exchanged = Proof::new(rt.alloc(), &leaves, &nodes);
-    assert_eq!(rt; exchanged.err(), Some(ProofFault::BadProof));
-    let none = Proof::new(rt.alloc(), &[], &nodes);
-    assert_eq!(rt; none.err(), Some(ProofFault::BadProof));
+    assert!(rt; are_refused(rt.alloc(), &leaves, &nodes));
+    assert!(rt; are_refused(rt.alloc(), &[], &nodes));
     Ok(())
 }

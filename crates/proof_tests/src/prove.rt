@@ -1,6 +1,7 @@
 ghost use Rattle.std.specs.Prelude.{IfOk};
 ghost use Rattle.ssz_arena.specs.Content.{IsNodeOf};
 
+use super::proof::expanded;
 use ssz_arena::{Arena, NodeId};
 use ssz_chunk::{Chunk, PairHash, XorPair};
 use ssz_gindex::Gindex;
@@ -8,19 +9,6 @@ use ssz_proof::{Proof, proof_text, verify};
 use ssz_prove::{ProveFault, prove};
 use std::alloc::{AllocError, Global};
 use std::test::Fail;
-
-// In the texts `[` stands for `0x`, and `]` for the zeros behind a chunk's first byte.
-fn expanded(alloc: Global, text: &str) -> Result<Vec<u8>, AllocError> {
-    let mut bytes = Vec::new(alloc);
-    for byte in text.bytes() {
-        match byte {
-            b'[' => bytes.extend_from_slice(b"0x")?,
-            b']' => bytes.extend_from_slice(&[b'0'; 62])?,
-            other => bytes.push(other)?,
-        }
-    }
-    Ok(bytes)
-}
 
 // A chunk that begins with this byte.
 fn beginning(first: u8) -> Chunk {
@@ -61,7 +49,18 @@ fn built(arena: &mut Arena<XorPair>, kind: Made) -> Result<NodeId, AllocError>
     Ok(arena.pair(left, right))
 }
 
-// The proof at these numbers, of which 0 stands for none, if there is one.
+// The indices with these numbers, of which 0 stands for none.
+fn indices(alloc: Global, numbers: &[u128]) -> Result<Vec<Gindex>, AllocError> {
+    let mut indices = Vec::new(alloc);
+    for number in numbers {
+        if let Some(index) = Gindex::new(*number) {
+            indices.push(index)?;
+        }
+    }
+    Ok(indices)
+}
+
+// The proof at these numbers, if there is one.
 fn proved(
     alloc: Global,
     kind: Made,
@@ -70,12 +69,7 @@ fn proved(
 ) -> Result<Result<Proof, ProveFault>, Fail> {
     let mut arena = Arena::start(alloc, hasher)?;
     let top = built(&mut arena, kind)?;
-    let mut indices = Vec::new(alloc);
-    for number in numbers {
-        if let Some(index) = Gindex::new(*number) {
-            indices.push(index)?;
-        }
-    }
+    let indices = indices(alloc, numbers)?;
     if indices.is_empty() {
         return Err("no index".into());
     }
@@ -110,15 +104,18 @@ const PROOFS: [ProofRow; 5] = [
     (Made::List, [5, 0, 0, 0], "proof 5=[00] / 4=[09] 3=[01]\n"),
 ];
 
+// Whether the proof at these numbers is printed so.
+fn is_printed(alloc: Global, kind: Made, numbers: &[u128], text: &str) -> Result<bool, Fail> {
+    let proof = proved(alloc, kind, numbers, &mut XorPair::new())??;
+    let printed = proof_text(alloc, &proof)?;
+    let wanted = expanded(alloc, text)?;
+    Ok(printed.as_slice() == wanted.as_slice())
+}
+
 #[test]
 fn proofs(rt: HostRuntime) -> Result<(), Fail> {
-    for (kind, numbers, text) in PROOFS {
-        let proof = proved(rt.alloc(), kind, &numbers, &mut XorPair::new())??;
-        let wanted = expanded(rt.alloc(), text)?;
-        assert_eq!(rt;
-            proof_text(rt.alloc(), &proof)?.as_slice(),
-            wanted.as_slice()
-        );
+    for (kind, numbers, text) in &PROOFS {
+        assert!(rt; is_printed(rt.alloc(), *kind, numbers, text)?);
     }
     Ok(())
 }
@@ -145,9 +142,9 @@ const FAULTS: [FaultRow; 5] = [
 
 #[test]
 fn faults(rt: HostRuntime) -> Result<(), Fail> {
-    for (kind, numbers, answer) in FAULTS {
-        let proof = proved(rt.alloc(), kind, &numbers, &mut XorPair::new())?;
-        assert_eq!(rt; proof.err().map(named), Some(answer));
+    for (kind, numbers, answer) in &FAULTS {
+        let proof = proved(rt.alloc(), *kind, numbers, &mut XorPair::new())?;
+        assert!(rt; proof.err().map(named) == Some(*answer));
     }
     Ok(())
 }
@@ -160,8 +157,8 @@ fn pairs(rt: HostRuntime) -> Result<(), Fail> {
     let top = built(&mut arena, Made::Four)?;
     let start = hasher.count();
     prove(&mut arena, top, &[Gindex::root().right()], &mut hasher)?;
-    assert_eq!(rt; hasher.count(), start.saturating_add(2));
+    assert!(rt; hasher.count() == start.saturating_add(2));
     prove(&mut arena, top, &[Gindex::root()], &mut hasher)?;
-    assert_eq!(rt; hasher.count(), start.saturating_add(3));
+    assert!(rt; hasher.count() == start.saturating_add(3));
     Ok(())
 }
