@@ -11,8 +11,8 @@ fn path_in_a_vector(rt: HostRuntime) -> Result<(), Fail> {
     let elem = Box::new(alloc, TypeExpr::Uint(Width::W64))?;
     let name = Name::copy_of(alloc, b"T")?;
     let id = schema.add(&name, &TypeExpr::Vector(elem, 8))?;
-    let index = Gindex::of_path(&schema, id, &[PathStep::Index(4)]);
-    assert_eq!(rt; index.map_or(0, Gindex::get), 3);
+    let index = Gindex::of_path(&schema, id, &[PathStep::Index(4)]).ok_or("no index")?;
+    assert!(rt; index.get() == 3);
     Ok(())
 }
 
@@ -24,7 +24,7 @@ fn helpers_of_an_index(rt: HostRuntime) -> Result<(), Fail> {
         indices.push(index)?;
     }
     let helpers = helper_indices(alloc, indices.as_slice())?;
-    assert_eq!(rt; helpers.len(), 3);
+    assert!(rt; helpers.len() == 3);
     assert!(rt; are_helpers(alloc, indices.as_slice(), helpers.as_slice())?);
     Ok(())
 }

@@ -1,6 +1,8 @@
 // Each call that allocates, once where it succeeds. What definitions are answered, and what is read
 // off types, the rows of schema_rows say.
-use ssz_schema::{Format, Name, Schema, SchemaError, SchemaFault, TypeExpr, Width};
+ghost use Rattle.std.specs.Prelude.{◌<◌, length, IfOk};
+
+use ssz_schema::{Format, Name, Schema, SchemaError, SchemaFault, TypeExpr, TypeId, Width};
 use std::alloc::{AllocError, Global};
 use std::test::Fail;
 
@@ -12,28 +14,51 @@ fn container(alloc: Global, first: &[u8], second: &[u8]) -> Result<TypeExpr, All
     Ok(TypeExpr::Container(fields))
 }
 
+// The type that the definition of a name gives.
+fn added(alloc: Global, schema: &mut Schema, name: &[u8], expr: &TypeExpr) -> Result<TypeId, Fail>
+    ensures { IfOk result (λ id. id < length schema.new.trees) }
+{
+    match schema.add(&Name::copy_of(alloc, name)?, expr) {
+        Ok(id) => Ok(id),
+        Err(_) => Err("no accepted type".into()),
+    }
+}
+
+// List[uint64, 8]
+fn list(alloc: Global) -> Result<TypeExpr, AllocError> {
+    let elem = Box::new(alloc, TypeExpr::Uint(Width::W64))?;
+    Ok(TypeExpr::List(elem, 8))
+}
+
 #[test]
 fn a_list_is_added(rt: HostRuntime) -> Result<(), Fail> {
-    let alloc = rt.alloc();
-    let mut schema = Schema::empty(alloc)?;
-    let elem = Box::new(alloc, TypeExpr::Uint(Width::W64))?;
-    let added = schema.add(&Name::copy_of(alloc, b"L")?, &TypeExpr::List(elem, 8));
-    let id = added.ok().ok_or("an accepted type")?;
-    assert_eq!(rt; schema.find("L"), Some(id));
-    assert_eq!(rt; schema.levels(id), 2);
+    let mut schema = Schema::empty(rt.alloc())?;
+    let id = added(rt.alloc(), &mut schema, b"L", &list(rt.alloc())?)?;
+    assert!(rt; schema.find("L") == Some(id));
+    assert!(rt; schema.levels(id) == 2);
     Ok(())
+}
+
+// Union[uint16]
+fn union(alloc: Global) -> Result<TypeExpr, AllocError> {
+    let mut options = Vec::new(alloc);
+    options.push(Some(TypeExpr::Named(Name::copy_of(alloc, b"uint16")?)))?;
+    Ok(TypeExpr::Union(options))
 }
 
 #[test]
 fn a_union_is_added(rt: HostRuntime) -> Result<(), Fail> {
-    let alloc = rt.alloc();
-    let mut schema = Schema::empty_for(alloc, Format::Two)?;
-    let mut options = Vec::new(alloc);
-    options.push(Some(TypeExpr::Named(Name::copy_of(alloc, b"uint16")?)))?;
-    let added = schema.add(&Name::copy_of(alloc, b"U")?, &TypeExpr::Union(options));
-    let id = added.ok().ok_or("an accepted type")?;
-    assert_eq!(rt; schema.default_len(id), 3);
+    let mut schema = Schema::empty_for(rt.alloc(), Format::Two)?;
+    let id = added(rt.alloc(), &mut schema, b"U", &union(rt.alloc())?)?;
+    assert!(rt; schema.default_len(id) == 3);
     Ok(())
+}
+
+// Whether a definition of T is refused for two fields of one name.
+fn is_refused(alloc: Global, schema: &mut Schema, expr: &TypeExpr) -> Result<bool, AllocError> {
+    let name = Name::copy_of(alloc, b"T")?;
+    let refused = schema.add(&name, expr);
+    Ok(refused == Err(SchemaError::Fault(SchemaFault::FieldTaken)))
 }
 
 // A refusal in the last field leaves nothing behind.
@@ -41,12 +66,9 @@ fn a_union_is_added(rt: HostRuntime) -> Result<(), Fail> {
 fn a_refusal_leaves_the_schema(rt: HostRuntime) -> Result<(), Fail> {
     let alloc = rt.alloc();
     let mut schema = Schema::empty(alloc)?;
-    let name = Name::copy_of(alloc, b"T")?;
-    let refused = schema.add(&name, &container(alloc, b"a", b"a")?);
-    assert!(rt; refused == Err(SchemaError::Fault(SchemaFault::FieldTaken)));
+    assert!(rt; is_refused(alloc, &mut schema, &container(alloc, b"a", b"a")?)?);
     assert!(rt; schema.find("T").is_none());
-    let added = schema.add(&name, &container(alloc, b"a", b"b")?);
-    let id = added.ok().ok_or("an accepted type")?;
-    assert_eq!(rt; schema.fixed_size(id), Some(2));
+    let id = added(alloc, &mut schema, b"T", &container(alloc, b"a", b"b")?)?;
+    assert!(rt; schema.fixed_size(id) == Some(2));
     Ok(())
 }
