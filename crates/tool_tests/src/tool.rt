@@ -43,8 +43,8 @@ fn prints_a_root(rt: HostRuntime) -> Result<(), Fail> {
     files.give("v", &[0; 16])?;
     let mut out = QuietSink::new(rt.alloc())?;
     let status = run_root(rt.alloc(), "P", &mut files, &mut out, &mut ShaPair::new())?;
-    assert_eq!(rt; status, Status::Accepted);
-    assert_eq!(rt; out.taken(), ROOT_OF_TWO.as_bytes());
+    assert!(rt; status == Status::Accepted);
+    assert!(rt; out.taken() == ROOT_OF_TWO.as_bytes());
     Ok(())
 }
 
@@ -56,8 +56,8 @@ fn hashes_one_byte_of_a_long_list(rt: HostRuntime) -> Result<(), Fail> {
     let mut out = MemSink::new(rt.alloc(), &[])?;
     let mut hasher = XorPair::new();
     let status = run_root(rt.alloc(), "Bytes", &mut files, &mut out, &mut hasher)?;
-    assert_eq!(rt; status, Status::Accepted);
-    assert_eq!(rt; hasher.count(), 126 + 36);
+    assert!(rt; status == Status::Accepted);
+    assert!(rt; hasher.count() == 126 + 36);
     Ok(())
 }
 
@@ -67,9 +67,9 @@ fn a_failed_put_ends_the_run(rt: HostRuntime) -> Result<(), Fail> {
     let mut files = schema_and(rt.alloc(), &[0; 16])?;
     let mut out = MemSink::new(rt.alloc(), &[1])?;
     let status = run_root(rt.alloc(), "P", &mut files, &mut out, &mut ShaPair::new())?;
-    assert_eq!(rt; status, Status::WriteFault);
-    assert_eq!(rt; out.taken(), &ROOT_OF_TWO.as_bytes()[..36]);
-    assert_eq!(rt; out.faults(), 1);
+    assert!(rt; status == Status::WriteFault);
+    assert!(rt; out.taken() == &ROOT_OF_TWO.as_bytes()[..36]);
+    assert!(rt; out.faults() == 1);
     Ok(())
 }
 
@@ -81,11 +81,11 @@ fn an_absent_file_prints_nothing(rt: HostRuntime) -> Result<(), Fail> {
     let mut hasher = XorPair::new();
     for faults in 1..3 {
         let status = run_root(rt.alloc(), "P", &mut files, &mut out, &mut hasher)?;
-        assert_eq!(rt; status, Status::ReadFault);
-        assert_eq!(rt; files.get_faults(), faults);
+        assert!(rt; status == Status::ReadFault);
+        assert!(rt; files.get_faults() == faults);
         files.give("s", SCHEMA.as_bytes())?;
     }
-    assert_eq!(rt; out.taken().len(), 0);
-    assert_eq!(rt; hasher.count(), 0);
+    assert!(rt; out.taken().is_empty());
+    assert!(rt; hasher.count() == 0);
     Ok(())
 }
