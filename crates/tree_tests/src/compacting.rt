@@ -1,13 +1,12 @@
 ghost use Rattle.std.specs.Prelude.{◌<◌, length, IfOk};
 ghost use Rattle.ssz_arena.specs.Content.{IsNodeOf};
 
-use super::versions::name;
+use super::versions::compacted;
 use ssz_arena::{Arena, NodeId};
 use ssz_chunk::{PairHash, XorPair};
 use ssz_edit::set;
 use ssz_schema::{Schema, TypeId};
 use ssz_value::{Value, fits};
-use ssz_versions::{Versions, Writer, compact};
 use std::test::Fail;
 
 // The node of a number that is set in the place of another.
@@ -58,11 +57,8 @@ fn a_thousand_sets_leave_one_leaf(rt: HostRuntime) -> Result<(), Fail> {
     let mut arena = Arena::start(rt.alloc(), &mut XorPair::new())?;
     let first = arena.zero(0);
     let last = set_numbers(&mut arena, &schema, id, first)?;
-    let mut versions = Versions::empty(rt.alloc())?;
-    let a = name(rt.alloc(), "A")?;
-    versions.make(Writer(0), &a, id, last)?;
     assert!(rt; arena.len() > 1000);
-    compact(&mut versions, &mut arena)?;
-    assert_eq!(rt; arena.len(), 128);
+    assert!(rt; compacted(rt.alloc(), &mut arena, id, last)?);
+    assert!(rt; arena.len() == 128);
     Ok(())
 }

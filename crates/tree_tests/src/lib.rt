@@ -5,6 +5,8 @@
 #[cfg(test)]
 mod compacting;
 #[cfg(test)]
+mod lists;
+#[cfg(test)]
 mod reading;
 #[cfg(test)]
 mod upgrading;

@@ -1,4 +1,4 @@
-ghost use Rattle.std.specs.Prelude.{◌<◌, IfOk};
+ghost use Rattle.std.specs.Prelude.{◌<◌, length, IfOk};
 ghost use Rattle.ssz_arena.specs.Content.{IsNodeOf};
 
 use ssz_arena::{Arena, NodeId, NodeRef};
@@ -9,29 +9,49 @@ use ssz_upgrade::upgrade;
 use std::alloc::{AllocError, Global};
 use std::test::Fail;
 
-// A container of these fields of one byte, of as many numbers.
+// A field of one byte, of a number.
+fn field(alloc: Global, name: u8, width: Width) -> Result<(Name, TypeExpr), AllocError> {
+    Ok((Name::copy_of(alloc, &[name])?, TypeExpr::Uint(width)))
+}
+
+// A container of these fields, of as many numbers.
 fn container(alloc: Global, names: &[u8], widths: &[Width]) -> Result<TypeExpr, AllocError> {
     let mut fields = Vec::new(alloc);
     for (name, width) in names.iter().zip(widths) {
-        let name = Name::copy_of(alloc, [*name].as_slice())?;
-        fields.push((name, TypeExpr::Uint(*width)))?;
+        fields.push(field(alloc, *name, *width)?)?;
     }
     Ok(TypeExpr::Container(fields))
+}
+
+// A union of one boolean.
+fn union(alloc: Global) -> Result<TypeExpr, AllocError> {
+    let mut options = Vec::new(alloc);
+    options.push(Some(TypeExpr::Boolean))?;
+    Ok(TypeExpr::Union(options))
+}
+
+// Gives the type a name.
+fn add(schema: &mut Schema, alloc: Global, name: &[u8], expr: TypeExpr) -> Result<(), Fail> {
+    let name = Name::copy_of(alloc, name)?;
+    match schema.add(&name, &expr) {
+        Ok(_) => Ok(()),
+        Err(_) => Err("not legal".into()),
+    }
 }
 
 // P, of two numbers; New, which takes b of P alone; a union.
 fn schema(alloc: Global) -> Result<Schema, Fail> {
     let mut schema = Schema::empty(alloc)?;
-    let two = container(alloc, b"ab", &[Width::W64, Width::W64])?;
-    let new = container(alloc, b"bac", &[Width::W64, Width::W8, Width::W64])?;
-    let mut options = Vec::new(alloc);
-    options.push(Some(TypeExpr::Boolean))?;
-    let either = TypeExpr::Union(options);
-    let _p = schema.add(&Name::copy_of(alloc, b"P")?, &two).is_ok();
-    let _new = schema.add(&Name::copy_of(alloc, b"New")?, &new).is_ok();
-    let _either = schema
-        .add(&Name::copy_of(alloc, b"Either")?, &either)
-        .is_ok();
+    let two = [Width::W64, Width::W64];
+    let three = [Width::W64, Width::W8, Width::W64];
+    add(&mut schema, alloc, b"P", container(alloc, b"ab", &two)?)?;
+    add(
+        &mut schema,
+        alloc,
+        b"New",
+        container(alloc, b"bac", &three)?,
+    )?;
+    add(&mut schema, alloc, b"Either", union(alloc)?)?;
     Ok(schema)
 }
 
@@ -54,43 +74,56 @@ fn one_and_two<H: PairHash>(arena: &mut Arena<H>) -> Result<NodeId, AllocError>
     Ok(arena.pair(a, b))
 }
 
+// The upgrade of a node between two types of the schema above.
+fn upgraded<H: PairHash>(
+    arena: &mut Arena<H>,
+    schema: &Schema,
+    from: &str,
+    to: &str,
+    node: NodeId,
+) -> Result<NodeId, UpgradeFault>
+    requires { IsNodeOf arena.old node }
+    ensures made { IfOk result (IsNodeOf arena.new) }
+    ensures stays { IsNodeOf arena.new node }
+{
+    match (schema.find(from), schema.find(to)) {
+        (Some(from), Some(to)) => upgrade(arena, schema, from, node, to),
+        _ => Err(UpgradeFault::Memory),
+    }
+}
+
 #[test]
 fn a_field_of_an_equal_type_is_taken(rt: HostRuntime) -> Result<(), Fail> {
     let schema = schema(rt.alloc())?;
     let mut hasher = XorPair::new();
     let mut arena = Arena::start(rt.alloc(), &mut hasher)?;
-    let from = schema.find("P").expect(&rt, "P");
-    let to = schema.find("New").expect(&rt, "New");
     let node = one_and_two(&mut arena)?;
-    let made = upgrade(&mut arena, &schema, from, node, to)
-        .ok()
-        .expect(&rt, "a newer one");
+    let made = upgraded(&mut arena, &schema, "P", "New", node).expect(&rt, "a newer one");
     // By hand: the first leaf goes one byte to the left on each of two levels.
-    assert_eq!(rt; arena.root(made, &mut hasher), chunk(30, 2));
+    assert!(rt; arena.root(made, &mut hasher) == chunk(30, 2));
     Ok(())
+}
+
+// The nodes below a pair.
+fn halves<H: PairHash>(arena: &Arena<H>, node: NodeId) -> Option<(NodeId, NodeId)>
+    requires { IsNodeOf arena.now node }
+{
+    match arena.node(node) {
+        NodeRef::Pair(a, b) => Some((a, b)),
+        NodeRef::Leaf(_) => None,
+    }
 }
 
 #[test]
 fn the_same_type_takes_all(rt: HostRuntime) -> Result<(), Fail> {
     let schema = schema(rt.alloc())?;
     let mut arena = Arena::start(rt.alloc(), &mut XorPair::new())?;
-    let id = schema.find("P").expect(&rt, "P");
     let node = one_and_two(&mut arena)?;
-    let before = arena.len();
-    let made = upgrade(&mut arena, &schema, id, node, id)
-        .ok()
-        .expect(&rt, "the same");
-    assert_eq!(rt; arena.len(), before + 1);
-    match arena.node(node) {
-        NodeRef::Pair(a, b) => match arena.node(made) {
-            NodeRef::Pair(c, d) => {
-                assert_eq!(rt; c, a);
-                assert_eq!(rt; d, b);
-            }
-            NodeRef::Leaf(_) => return Err("a leaf".into()),
-        },
-        NodeRef::Leaf(_) => return Err("a leaf".into()),
-    }
+    let grown = arena.len() + 1;
+    let made = upgraded(&mut arena, &schema, "P", "P", node).expect(&rt, "the same");
+    assert!(rt; arena.len() == grown);
+    let pair = halves(&arena, node).ok_or("a leaf")?;
+    assert!(rt; halves(&arena, made) == Some(pair));
     Ok(())
 }
 
@@ -98,14 +131,12 @@ fn the_same_type_takes_all(rt: HostRuntime) -> Result<(), Fail> {
 fn a_union_takes_no_fields(rt: HostRuntime) -> Result<(), Fail> {
     let schema = schema(rt.alloc())?;
     let mut arena = Arena::start(rt.alloc(), &mut XorPair::new())?;
-    let container = schema.find("P").expect(&rt, "P");
-    let union = schema.find("Either").expect(&rt, "Either");
     let node = one_and_two(&mut arena)?;
     let before = arena.len();
-    let into = upgrade(&mut arena, &schema, container, node, union).err();
-    assert_eq!(rt; into, Some(UpgradeFault::NotContainer));
-    let of = upgrade(&mut arena, &schema, union, node, container).err();
-    assert_eq!(rt; of, Some(UpgradeFault::NotContainer));
-    assert_eq!(rt; arena.len(), before);
+    let into = upgraded(&mut arena, &schema, "P", "Either", node);
+    assert!(rt; into == Err(UpgradeFault::NotContainer));
+    let of = upgraded(&mut arena, &schema, "Either", "P", node);
+    assert!(rt; of == Err(UpgradeFault::NotContainer));
+    assert!(rt; arena.len() == before);
     Ok(())
 }

@@ -1,18 +1,19 @@
 ghost use Rattle.std.specs.Prelude.{IfOk};
+ghost use Rattle.ssz_arena.specs.Content.{IsNodeOf};
 ghost use Rattle.ssz_schema.specs.Names.{IsName};
 
-use ssz_arena::Arena;
-use ssz_chunk::{Chunk, XorPair};
-use ssz_schema::{Name, Schema, is_name};
+use ssz_arena::{Arena, NodeId};
+use ssz_chunk::{Chunk, PairHash, XorPair};
+use ssz_schema::{Name, Schema, TypeId, is_name};
 use ssz_versions::{Versions, Writer, compact};
-use std::alloc::Global;
+use std::alloc::{AllocError, Global};
 use std::test::Fail;
 
 const FIRST: Writer = Writer(0);
 
 const BASE: Writer = Writer(255);
 
-pub fn name(alloc: Global, text: &str) -> Result<Name, Fail>
+fn name(alloc: Global, text: &str) -> Result<Name, Fail>
     ensures { IfOk result IsName }
 {
     let name = Name::copy_of(alloc, text.as_bytes())?;
@@ -22,57 +23,111 @@ pub fn name(alloc: Global, text: &str) -> Result<Name, Fail>
     Ok(name)
 }
 
+fn uint8(alloc: Global) -> Result<TypeId, Fail> {
+    let schema = Schema::empty(alloc)?;
+    Ok(schema.find("uint8").ok_or("uint8")?)
+}
+
+// A chunk of zeros, and the pair of two.
+fn zeros(alloc: Global) -> Result<(NodeId, NodeId), AllocError> {
+    let arena = Arena::start(alloc, &mut XorPair::new())?;
+    Ok((arena.zero(0), arena.zero(1)))
+}
+
+// Gives a version another node.
+fn edit(versions: &mut Versions, name: &Name, node: NodeId) -> Result<(), Fail>
+    requires { IsName name.now }
+{
+    let Some(held) = versions.edit(FIRST, name) else {
+        return Err("no version".into());
+    };
+    *held = node;
+    Ok(())
+}
+
+// A version of the first node, forked, and the fork edited to the second one.
+fn forked(
+    alloc: Global,
+    from: &Name,
+    to: &Name,
+    id: TypeId,
+    nodes: (NodeId, NodeId),
+) -> Result<Versions, Fail>
+    requires from { IsName from.now }
+    requires to { IsName to.now }
+{
+    let mut versions = Versions::empty(alloc)?;
+    versions.make(FIRST, from, id, nodes.0)?;
+    versions.fork(FIRST, from, to)?;
+    edit(&mut versions, to, nodes.1)?;
+    Ok(versions)
+}
+
 // A name that begins with another one, forked, edited and dropped.
 #[test]
 fn changes(rt: HostRuntime) -> Result<(), Fail> {
-    let schema = Schema::empty(rt.alloc())?;
-    let id = schema.find("uint8").ok_or("uint8")?;
-    let arena = Arena::start(rt.alloc(), &mut XorPair::new())?;
+    let id = uint8(rt.alloc())?;
+    let (chunk, pair) = zeros(rt.alloc())?;
     let a = name(rt.alloc(), "a")?;
     let ab = name(rt.alloc(), "ab")?;
-    let mut versions = Versions::empty(rt.alloc())?;
-    versions.make(FIRST, &ab, id, arena.zero(0))?;
-    versions.fork(FIRST, &ab, &a)?;
-    *versions.edit(FIRST, &a).ok_or("a")? = arena.zero(1);
-    assert_eq!(rt; versions.get(FIRST, &a), Some((id, arena.zero(1))));
-    assert_eq!(rt; versions.get(FIRST, &ab), Some((id, arena.zero(0))));
+    let mut versions = forked(rt.alloc(), &ab, &a, id, (chunk, pair))?;
+    assert!(rt; versions.get(FIRST, &a) == Some((id, pair)));
+    assert!(rt; versions.get(FIRST, &ab) == Some((id, chunk)));
     assert!(rt; versions.get(BASE, &a).is_none());
-    assert_eq!(rt; versions.names(rt.alloc(), FIRST)?.as_slice().len(), 2);
+    assert!(rt; versions.names(rt.alloc(), FIRST)?.as_slice().len() == 2);
     versions.drop_version(FIRST, &ab)?;
     assert!(rt; versions.get(FIRST, &ab).is_none());
     Ok(())
 }
 
+// A version of a node at the base, adopted by the first writer.
+fn adopted(alloc: Global, name: &Name, id: TypeId, node: NodeId) -> Result<Versions, Fail>
+    requires { IsName name.now }
+{
+    let mut versions = Versions::empty(alloc)?;
+    versions.reserve(2)?;
+    versions.make(BASE, name, id, node)?;
+    versions.adopt(BASE, FIRST)?;
+    Ok(versions)
+}
+
 #[test]
 fn adopts(rt: HostRuntime) -> Result<(), Fail> {
-    let schema = Schema::empty(rt.alloc())?;
-    let id = schema.find("uint8").ok_or("uint8")?;
-    let node = Arena::start(rt.alloc(), &mut XorPair::new())?.zero(1);
+    let id = uint8(rt.alloc())?;
+    let (_, node) = zeros(rt.alloc())?;
     let a = name(rt.alloc(), "A")?;
-    let mut versions = Versions::empty(rt.alloc())?;
-    versions.reserve(2)?;
-    versions.make(BASE, &a, id, node)?;
-    versions.adopt(BASE, FIRST)?;
-    assert_eq!(rt; versions.get(FIRST, &a), Some((id, node)));
-    assert_eq!(rt; versions.get(BASE, &a), Some((id, node)));
+    let versions = adopted(rt.alloc(), &a, id, node)?;
+    assert!(rt; versions.get(FIRST, &a) == Some((id, node)));
+    assert!(rt; versions.get(BASE, &a) == Some((id, node)));
     Ok(())
+}
+
+// Compacts the nodes of one version, and answers whether it is still there.
+pub fn compacted<H: PairHash>(
+    alloc: Global,
+    arena: &mut Arena<H>,
+    id: TypeId,
+    node: NodeId,
+) -> Result<bool, Fail>
+    requires { IsNodeOf arena.old node }
+{
+    let a = name(alloc, "A")?;
+    let mut versions = Versions::empty(alloc)?;
+    versions.make(FIRST, &a, id, node)?;
+    compact(&mut versions, arena)?;
+    Ok(versions.get(FIRST, &a).is_some())
 }
 
 // A pair and its leaf are kept, and another leaf is not.
 #[test]
 fn compacts(rt: HostRuntime) -> Result<(), Fail> {
-    let schema = Schema::empty(rt.alloc())?;
-    let id = schema.find("uint8").ok_or("uint8")?;
+    let id = uint8(rt.alloc())?;
     let mut arena = Arena::start(rt.alloc(), &mut XorPair::new())?;
     arena.reserve(3)?;
     let _other = arena.leaf(Chunk::ZERO);
     let leaf = arena.leaf(Chunk::ZERO);
     let top = arena.pair(leaf, leaf);
-    let a = name(rt.alloc(), "A")?;
-    let mut versions = Versions::empty(rt.alloc())?;
-    versions.make(FIRST, &a, id, top)?;
-    compact(&mut versions, &mut arena)?;
-    assert_eq!(rt; arena.len(), 129);
-    assert!(rt; versions.get(FIRST, &a).is_some());
+    assert!(rt; compacted(rt.alloc(), &mut arena, id, top)?);
+    assert!(rt; arena.len() == 129);
     Ok(())
 }

@@ -5,16 +5,16 @@ use Rattle.ssz_arena.specs.Content.{IsNodeOf}
 use Rattle.ssz_versions.specs.Content.{held_at}
 use Rattle.ssz_versions.specs.Keys.{key_cmp, key_cmp-total}
 use Rattle.tree_tests.proofs.OneHeld.{one_held}
-use Rattle.tree_tests.proofs.compacting.a_thousand_sets_leave_one_leaf.Goals as goal
+use Rattle.tree_tests.proofs.versions.compacted.Goals as goal
 
 pub compact-requires : goal.compact-requires
 compact-requires g c = λ writer name other there.
-    one_held (eq_by_cmp key_cmp (writer, name) (0, c.in_ok-a.a)) (c.in_ok-id.id, c.in_ok-last.last)
-    other (IsNodeOf c.set_numbers.new.arena) c.in_ok-last.ensures
+    one_held (eq_by_cmp key_cmp (writer, name) (0, c.in_ok-a.a)) (c.args.id, c.args.node)
+    other (IsNodeOf c.args.arena.now) c.requires
     (sym (ap (λ m. held_at m writer name) c.in_ok-make.ensures.made.1
     ∙ finite.get-insert key_cmp-total _ (0, c.in_ok-a.a) _ (writer, name)
     ∙ ap (cond (eq_by_cmp key_cmp (writer, name) (0, c.in_ok-a.a))
-    (Some (c.in_ok-id.id, c.in_ok-last.last)))
+    (Some (c.args.id, c.args.node)))
     (ap (λ m. held_at m writer name) c.in_ok-versions.ensures
     ∙ finite.get-empty key_cmp (writer, name)))
     ∙ there)
