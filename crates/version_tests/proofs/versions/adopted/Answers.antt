@@ -3,7 +3,7 @@ use Rattle.std.specs.FinMap as finite
 use Rattle.ssz_versions.specs.Content.{held_at}
 use Rattle.ssz_versions.specs.Keys.{key_cmp}
 use Rattle.ssz_versions.proofs.Beside.{held_made}
-use Rattle.tree_tests.proofs.versions.adopted.Goals as goal
+use Rattle.version_tests.proofs.versions.adopted.Goals as goal
 
 pub adopt-requires : goal.adopt-requires
 adopt-requires c = λ name.

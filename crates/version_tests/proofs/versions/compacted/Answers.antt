@@ -4,8 +4,8 @@ use Rattle.std.specs.Ordering.{eq_by_cmp}
 use Rattle.ssz_arena.specs.Content.{IsNodeOf}
 use Rattle.ssz_versions.specs.Content.{held_at}
 use Rattle.ssz_versions.specs.Keys.{key_cmp, key_cmp-total}
-use Rattle.tree_tests.proofs.OneHeld.{one_held}
-use Rattle.tree_tests.proofs.versions.compacted.Goals as goal
+use Rattle.version_tests.proofs.OneHeld.{one_held}
+use Rattle.version_tests.proofs.versions.compacted.Goals as goal
 
 pub compact-requires : goal.compact-requires
 compact-requires g c = λ writer name other there.

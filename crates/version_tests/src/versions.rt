@@ -34,15 +34,17 @@ fn zeros(alloc: Global) -> Result<(NodeId, NodeId), AllocError> {
     Ok((arena.zero(0), arena.zero(1)))
 }
 
-// Gives a version another node.
-fn edit(versions: &mut Versions, name: &Name, node: NodeId) -> Result<(), Fail>
+// Gives a version another node, if it is there.
+fn edit(versions: &mut Versions, name: &Name, node: NodeId) -> bool
     requires { IsName name.now }
 {
-    let Some(held) = versions.edit(FIRST, name) else {
-        return Err("no version".into());
-    };
-    *held = node;
-    Ok(())
+    match versions.edit(FIRST, name) {
+        Some(held) => {
+            *held = node;
+            true
+        }
+        None => false,
+    }
 }
 
 // A version of the first node, forked, and the fork edited to the second one.
@@ -59,24 +61,54 @@ fn forked(
     let mut versions = Versions::empty(alloc)?;
     versions.make(FIRST, from, id, nodes.0)?;
     versions.fork(FIRST, from, to)?;
-    edit(&mut versions, to, nodes.1)?;
+    if !edit(&mut versions, to, nodes.1) {
+        return Err("no version".into());
+    }
     Ok(versions)
+}
+
+// Whether the first writer has each name's node, and the base has neither.
+fn are_apart(
+    versions: &Versions,
+    from: &Name,
+    to: &Name,
+    id: TypeId,
+    nodes: (NodeId, NodeId),
+) -> bool
+    requires from { IsName from.now }
+    requires to { IsName to.now }
+{
+    versions.get(FIRST, to) == Some((id, nodes.1))
+        && versions.get(FIRST, from) == Some((id, nodes.0))
+        && versions.get(BASE, to).is_none()
+}
+
+// How many versions the first writer has.
+fn count(alloc: Global, versions: &Versions) -> Result<usize, AllocError> {
+    let names = versions.names(alloc, FIRST)?;
+    Ok(names.as_slice().len())
+}
+
+// Whether the version is there until it is dropped.
+fn is_dropped(versions: &mut Versions, name: &Name) -> Result<bool, Fail>
+    requires { IsName name.now }
+{
+    let there = versions.get(FIRST, name).is_some();
+    versions.drop_version(FIRST, name)?;
+    Ok(there && versions.get(FIRST, name).is_none())
 }
 
 // A name that begins with another one, forked, edited and dropped.
 #[test]
 fn changes(rt: HostRuntime) -> Result<(), Fail> {
     let id = uint8(rt.alloc())?;
-    let (chunk, pair) = zeros(rt.alloc())?;
+    let nodes = zeros(rt.alloc())?;
     let a = name(rt.alloc(), "a")?;
     let ab = name(rt.alloc(), "ab")?;
-    let mut versions = forked(rt.alloc(), &ab, &a, id, (chunk, pair))?;
-    assert!(rt; versions.get(FIRST, &a) == Some((id, pair)));
-    assert!(rt; versions.get(FIRST, &ab) == Some((id, chunk)));
-    assert!(rt; versions.get(BASE, &a).is_none());
-    assert!(rt; versions.names(rt.alloc(), FIRST)?.as_slice().len() == 2);
-    versions.drop_version(FIRST, &ab)?;
-    assert!(rt; versions.get(FIRST, &ab).is_none());
+    let mut versions = forked(rt.alloc(), &ab, &a, id, nodes)?;
+    assert!(rt; are_apart(&versions, &ab, &a, id, nodes));
+    assert!(rt; count(rt.alloc(), &versions)? == 2);
+    assert!(rt; is_dropped(&mut versions, &ab)?);
     Ok(())
 }
 
