@@ -295,6 +295,8 @@ def files():
                 "0\nbytes 0x02\nok\nbytes 0x01\nbytes 0x09")
     yield Given("uint16", "proof%s /" % chunk(1, 7), "get /\nset / 0x0102\nget /\nroot\n",
                 "0\nbytes 0x0700\nok\nbytes 0x0102\nroot 0x0102" + "00" * 30)
+    yield Given("uint8", "proof%s /" % chunk(1, 7), "get /\n\nset / 0x05\nget /\nset / 0x\n",
+                "1\nbytes 0x07\nok\nbytes 0x05\nrefused 5 11 BadLiteral F1 0")
 
 
 # A state of the consensus layer

@@ -2,9 +2,9 @@
 //!
 //! A row is the words after the program's name, each parted from the next by one space. Its line is
 //! the command with its words in their order, `--max-bytes` last and as a number, or `not taken`.
-//! The wanted lines were read off `clap` 4.0.32 of crates.io, with this command set; those of
-//! `part`, `partial` and `clash` were written by hand, each by a line of another command with words
-//! of the same kind.
+//! The first line is of no words at all, not even the program's name. The wanted lines of the rows
+//! were read off `clap` 4.0.32 of crates.io, with this command set; those of `part`, `partial` and
+//! `clash` were written by hand, each by a line of another command with words of the same kind.
 #![tactic(auto)]
 
 mod shown;
@@ -25,15 +25,21 @@ fn words_of(alloc: Global, line: &str) -> Result<Vec<String>, AllocError> {
     Ok(words)
 }
 
+fn print_row(rt: &HostRuntime, words: &[String]) -> Result<()> {
+    match read_words(rt.alloc(), words) {
+        Ok(command) => print_command(rt, &command)?,
+        Err(WordsFault::NotTaken) => println!(rt; "not taken")?,
+        Err(WordsFault::Memory) => bail!("want of memory"),
+    }
+    Ok(())
+}
+
 fn main(rt: HostRuntime) -> Result<()> {
+    print_row(&rt, &[])?;
     let text = fs::read_to_string(&rt, "rows.txt")?;
     for row in text.as_str().lines() {
         let words = words_of(rt.alloc(), row)?;
-        match read_words(rt.alloc(), words.as_slice()) {
-            Ok(command) => print_command(&rt, &command)?,
-            Err(WordsFault::NotTaken) => println!(rt; "not taken")?,
-            Err(WordsFault::Memory) => bail!("want of memory"),
-        }
+        print_row(&rt, words.as_slice())?;
     }
     Ok(())
 }
