@@ -1,43 +1,46 @@
+ghost use Rattle.std.specs.Prelude.{◌<◌, ◌^◌, length};
+
+use super::types::schema;
 use ssz_codec::{EncodeFault, decode, encode};
-use ssz_schema::{Name, Schema, TypeExpr, Width};
+use ssz_schema::Schema;
 use std::alloc::Global;
 use std::test::Fail;
 
-// Shorts, a List[uint16, 2]
-fn shorts(alloc: Global) -> Result<Schema, Fail> {
-    let mut schema = Schema::empty(alloc)?;
-    let list = TypeExpr::List(Box::new(alloc, TypeExpr::Uint(Width::W16))?, 2);
-    let _added = schema.add(&Name::copy_of(alloc, b"Shorts")?, &list).is_ok();
-    Ok(schema)
+// What is answered where the value of these bytes is encoded behind others.
+fn encoded(
+    alloc: Global,
+    schema: &Schema,
+    bytes: &[u8],
+    max: u32,
+    out: &mut Vec<u8>,
+) -> Result<(), EncodeFault>
+    requires { length bytes.now < 2 ^ 32 }
+{
+    let Some(id) = schema.find("Shorts") else {
+        return Err(EncodeFault::Memory);
+    };
+    match decode(alloc, schema, id, bytes) {
+        Ok(value) => encode(schema, id, &value, max, out),
+        Err(_) => Err(EncodeFault::Memory),
+    }
 }
 
 #[test]
 fn encodes_what_it_decodes(rt: HostRuntime) -> Result<(), Fail> {
-    let alloc = rt.alloc();
-    let schema = shorts(alloc)?;
-    let id = schema.find("Shorts").expect(&rt, "Shorts");
+    let schema = schema(rt.alloc())?;
     let bytes = b"\x01\x02\x03\x04";
-    let value = decode(alloc, &schema, id, bytes)
-        .ok()
-        .expect(&rt, "a value");
-    let mut out = Vec::new(alloc);
-    assert!(rt; encode(&schema, id, &value, 4, &mut out).is_ok());
-    assert_eq!(rt; out.as_slice(), bytes.as_slice());
+    let mut out = Vec::new(rt.alloc());
+    assert!(rt; encoded(rt.alloc(), &schema, bytes, 4, &mut out) == Ok(()));
+    assert!(rt; out.as_slice() == bytes.as_slice());
     Ok(())
 }
 
 #[test]
 fn too_long_keeps_what_there_is(rt: HostRuntime) -> Result<(), Fail> {
-    let alloc = rt.alloc();
-    let schema = shorts(alloc)?;
-    let id = schema.find("Shorts").expect(&rt, "Shorts");
-    let value = decode(alloc, &schema, id, b"\x01\x02")
-        .ok()
-        .expect(&rt, "a value");
-    let mut out = Vec::new(alloc);
-    out.push(7)?;
-    let encoded = encode(&schema, id, &value, 1, &mut out);
-    assert_eq!(rt; encoded, Err(EncodeFault::TooLong));
-    assert_eq!(rt; out.as_slice(), [7].as_slice());
+    let schema = schema(rt.alloc())?;
+    let mut out = vec![in rt.alloc(); 7; 1]?;
+    let long = encoded(rt.alloc(), &schema, b"\x01\x02", 1, &mut out);
+    assert!(rt; long == Err(EncodeFault::TooLong));
+    assert!(rt; out.as_slice() == [7].as_slice());
     Ok(())
 }

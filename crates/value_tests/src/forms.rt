@@ -1,45 +1,23 @@
+use super::types::schema;
 use ssz_codec::decode;
 use ssz_forms::{UpgradeFault, plain_upgrade, same_type};
-use ssz_schema::{Name, Schema, TypeExpr, Width};
+use ssz_schema::Schema;
 use ssz_value::Value;
-use std::alloc::{AllocError, Global};
+use std::alloc::Global;
 use std::test::Fail;
 
-// A container of these fields of one byte, of as many numbers.
-fn container(alloc: Global, names: &[u8], widths: &[Width]) -> Result<TypeExpr, AllocError> {
-    let mut fields = Vec::new(alloc);
-    for (name, width) in names.iter().zip(widths) {
-        let name = Name::copy_of(alloc, [*name].as_slice())?;
-        fields.push((name, TypeExpr::Uint(*width)))?;
+// P of a 1, b 2.
+const ONE_AND_TWO: [u8; 16] = [1, 0, 0, 0, 0, 0, 0, 0, 2, 0, 0, 0, 0, 0, 0, 0];
+
+// That value, upgraded to the type of a name.
+fn upgraded(alloc: Global, schema: &Schema, to: &str) -> Result<Value, UpgradeFault> {
+    let (Some(from), Some(to)) = (schema.find("P"), schema.find(to)) else {
+        return Err(UpgradeFault::Memory);
+    };
+    match decode(alloc, schema, from, ONE_AND_TWO.as_slice()) {
+        Ok(value) => plain_upgrade(alloc, schema, from, &value, to),
+        Err(_) => Err(UpgradeFault::Memory),
     }
-    Ok(TypeExpr::Container(fields))
-}
-
-fn list(alloc: Global, limit: u64) -> Result<TypeExpr, AllocError> {
-    Ok(TypeExpr::List(Box::new(alloc, TypeExpr::Uint(Width::W8))?, limit))
-}
-
-// P and Same, of two numbers; New, which takes b of P alone; a union; two lists of other limits.
-fn schema(alloc: Global) -> Result<Schema, Fail> {
-    let mut schema = Schema::empty(alloc)?;
-    let two = container(alloc, b"ab", &[Width::W64, Width::W64])?;
-    let new = container(alloc, b"bac", &[Width::W64, Width::W8, Width::W64])?;
-    let mut options = Vec::new(alloc);
-    options.push(Some(TypeExpr::Boolean))?;
-    let either = TypeExpr::Union(options);
-    let _p = schema.add(&Name::copy_of(alloc, b"P")?, &two).is_ok();
-    let _same = schema.add(&Name::copy_of(alloc, b"Same")?, &two).is_ok();
-    let _new = schema.add(&Name::copy_of(alloc, b"New")?, &new).is_ok();
-    let _either = schema
-        .add(&Name::copy_of(alloc, b"Either")?, &either)
-        .is_ok();
-    let _two = schema
-        .add(&Name::copy_of(alloc, b"Two")?, &list(alloc, 2)?)
-        .is_ok();
-    let _three = schema
-        .add(&Name::copy_of(alloc, b"Three")?, &list(alloc, 3)?)
-        .is_ok();
-    Ok(schema)
 }
 
 // The number that stands at this place of a container.
@@ -53,56 +31,50 @@ fn number_at(value: &Value, place: usize) -> Option<u128> {
     }
 }
 
-// P of a 1, b 2.
-const ONE_AND_TWO: [u8; 16] = [1, 0, 0, 0, 0, 0, 0, 0, 2, 0, 0, 0, 0, 0, 0, 0];
+// Whether that value, upgraded to New, has its b and else zeros.
+fn takes_one_field(alloc: Global, schema: &Schema) -> bool {
+    match upgraded(alloc, schema, "New") {
+        Ok(newer) => {
+            number_at(&newer, 0) == Some(2)
+                && number_at(&newer, 1) == Some(0)
+                && number_at(&newer, 2) == Some(0)
+        }
+        Err(_) => false,
+    }
+}
 
 #[test]
 fn takes_the_fields_of_equal_types(rt: HostRuntime) -> Result<(), Fail> {
-    let alloc = rt.alloc();
-    let schema = schema(alloc)?;
-    let from = schema.find("P").expect(&rt, "P");
-    let to = schema.find("New").expect(&rt, "New");
-    let value = decode(alloc, &schema, from, ONE_AND_TWO.as_slice())
-        .ok()
-        .expect(&rt, "a value");
-    let newer = plain_upgrade(alloc, &schema, from, &value, to)
-        .ok()
-        .expect(&rt, "a newer one");
-    assert_eq!(rt; number_at(&newer, 0), Some(2));
-    assert_eq!(rt; number_at(&newer, 1), Some(0));
-    assert_eq!(rt; number_at(&newer, 2), Some(0));
+    assert!(rt; takes_one_field(rt.alloc(), &schema(rt.alloc())?));
     Ok(())
 }
 
 #[test]
 fn a_union_takes_no_fields(rt: HostRuntime) -> Result<(), Fail> {
-    let alloc = rt.alloc();
-    let schema = schema(alloc)?;
-    let from = schema.find("P").expect(&rt, "P");
-    let to = schema.find("Either").expect(&rt, "Either");
-    let value = decode(alloc, &schema, from, ONE_AND_TWO.as_slice())
-        .ok()
-        .expect(&rt, "a value");
-    let fault = plain_upgrade(alloc, &schema, from, &value, to).err();
-    assert_eq!(rt; fault, Some(UpgradeFault::NotContainer));
+    let schema = schema(rt.alloc())?;
+    let fault = upgraded(rt.alloc(), &schema, "Flag").err();
+    assert!(rt; fault == Some(UpgradeFault::NotContainer));
     Ok(())
+}
+
+// Whether `same_type` answers this for the types of these names.
+fn are_same(alloc: Global, schema: &Schema, one: &str, other: &str, want: bool) -> bool {
+    let (Some(one), Some(other)) = (schema.find(one), schema.find(other)) else {
+        return false;
+    };
+    match same_type(alloc, schema, one, other) {
+        Ok(same) => same == want,
+        Err(_) => false,
+    }
 }
 
 #[test]
 fn types_are_the_same_by_their_trees(rt: HostRuntime) -> Result<(), Fail> {
-    let alloc = rt.alloc();
-    let schema = schema(alloc)?;
-    for (one, other, want) in [
-        ("P", "Same", true),
-        ("P", "New", false),
-        ("P", "Either", false),
-        ("Two", "Two", true),
-        ("Two", "Three", false),
-    ] {
-        let first = schema.find(one).expect(&rt, one);
-        let second = schema.find(other).expect(&rt, other);
-        let same = same_type(alloc, &schema, first, second)?;
-        assert_eq!(rt; same, want, "{one} {other}");
-    }
+    let schema = schema(rt.alloc())?;
+    assert!(rt; are_same(rt.alloc(), &schema, "P", "Same", true));
+    assert!(rt; are_same(rt.alloc(), &schema, "P", "New", false));
+    assert!(rt; are_same(rt.alloc(), &schema, "P", "Flag", false));
+    assert!(rt; are_same(rt.alloc(), &schema, "Two", "Two", true));
+    assert!(rt; are_same(rt.alloc(), &schema, "Two", "Three", false));
     Ok(())
 }

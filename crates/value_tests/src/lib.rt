@@ -7,4 +7,6 @@ mod codec;
 #[cfg(test)]
 mod forms;
 #[cfg(test)]
+mod types;
+#[cfg(test)]
 mod value;
