@@ -1,9 +1,11 @@
 // What single words spell: each case of the grammar, and its neighbours that are refused.
+ghost use Rattle.std.specs.Prelude.{◌<◌, length, IfOk};
+
 use ssz_line::{
-    FileName, Index, LineFault, Steps, Words, read_file, read_index, read_literal, read_name,
-    read_path, read_selector,
+    Index, LineFault, Steps, Words, read_file, read_index, read_literal, read_name, read_path,
+    read_selector,
 };
-use ssz_schema::{Name, PathStep, Schema, TypeExpr, Width};
+use ssz_schema::{Name, PathStep, Schema, TypeExpr, TypeId, Width};
 use std::alloc::{AllocError, Global};
 use std::test::Fail;
 
@@ -55,8 +57,8 @@ const PATHS: [(&[u8], u8, usize); 20] = [
 
 #[test]
 fn paths(rt: HostRuntime) -> Result<(), Fail> {
-    for (word, kind, count) in PATHS {
-        assert_eq!(rt; outline(rt.alloc(), word)?, (kind, count), "{word:?}");
+    for (word, kind, count) in &PATHS {
+        assert!(rt; outline(rt.alloc(), word)? == (*kind, *count), "{word:?}");
     }
     Ok(())
 }
@@ -74,24 +76,88 @@ const FITTING: [(&[u8], Option<usize>); 9] = [
     (b"/0/0/0/0/0/0/0/0/0/0/0/0", None),
 ];
 
-#[test]
-fn paths_that_fit(rt: HostRuntime) -> Result<(), Fail> {
-    let alloc = rt.alloc();
-    // Lists of at most eight lists of at most four numbers.
-    let mut schema = Schema::empty(alloc)?;
+// Lists of at most eight lists of at most four numbers.
+fn lists(alloc: Global) -> Result<TypeExpr, AllocError> {
     let number = Box::new(alloc, TypeExpr::Uint(Width::W64))?;
     let inner = Box::new(alloc, TypeExpr::List(number, 4))?;
-    let added = schema.add(&Name::copy_of(alloc, b"L")?, &TypeExpr::List(inner, 8));
-    let id = added.ok().ok_or("an accepted type")?;
-    for (word, count) in FITTING {
-        let read = read_path(alloc, word)?;
-        let listed = Steps::from_vec(read.to_vec(alloc)?);
-        let from_text = read.fitting(alloc, &schema, id)?;
-        assert_eq!(rt; from_text.map(|steps| steps.len()), count, "{word:?}");
-        let from_list = listed.fitting(alloc, &schema, id)?;
-        assert_eq!(rt; from_list.map(|steps| steps.len()), count, "{word:?}");
+    Ok(TypeExpr::List(inner, 8))
+}
+
+// The type of these lists, which gets a name.
+fn added(alloc: Global, schema: &mut Schema) -> Result<TypeId, Fail>
+    ensures { IfOk result (λ id. id < length schema.new.trees) }
+{
+    match schema.add(&Name::copy_of(alloc, b"L")?, &lists(alloc)?) {
+        Ok(id) => Ok(id),
+        Err(_) => Err("an accepted type".into()),
+    }
+}
+
+// How many steps a path from the type has, where it fits.
+fn fitting(
+    alloc: Global,
+    schema: &Schema,
+    id: TypeId,
+    path: &Steps,
+) -> Result<Option<usize>, LineFault>
+    requires { id < length schema.now.trees }
+{
+    match path.fitting(alloc, schema, id)? {
+        Some(steps) => Ok(Some(steps.len())),
+        None => Ok(None),
+    }
+}
+
+// Whether the word spells a path from the type that has so many steps, kept as a text and as a
+// list.
+fn fits(
+    alloc: Global,
+    schema: &Schema,
+    id: TypeId,
+    word: &[u8],
+    count: Option<usize>,
+) -> Result<bool, LineFault>
+    requires { id < length schema.now.trees }
+{
+    let read = read_path(alloc, word)?;
+    let listed = Steps::from_vec(read.to_vec(alloc)?);
+    let from_text = fitting(alloc, schema, id, &read)?;
+    let from_list = fitting(alloc, schema, id, &listed)?;
+    Ok(from_text == count && from_list == count)
+}
+
+#[test]
+fn paths_that_fit(rt: HostRuntime) -> Result<(), Fail> {
+    let mut schema = Schema::empty(rt.alloc())?;
+    let id = added(rt.alloc(), &mut schema)?;
+    for (word, count) in &FITTING {
+        assert!(rt; fits(rt.alloc(), &schema, id, word, *count)?, "{word:?}");
     }
     Ok(())
+}
+
+// Whether the word is read as the same name.
+fn is_name(alloc: Global, word: &[u8]) -> bool {
+    match read_name(alloc, word) {
+        Ok(name) => name.as_name().as_bytes() == word,
+        Err(_) => false,
+    }
+}
+
+fn is_no_name(alloc: Global, word: &[u8]) -> bool {
+    matches!(read_name(alloc, word), Err(LineFault::Syntax))
+}
+
+// Whether the word is read as the same name of a file.
+fn is_file(alloc: Global, word: &[u8]) -> bool {
+    match read_file(alloc, word) {
+        Ok(file) => file.as_str().as_bytes() == word,
+        Err(_) => false,
+    }
+}
+
+fn is_no_file(alloc: Global, word: &[u8]) -> bool {
+    matches!(read_file(alloc, word), Err(LineFault::Syntax))
 }
 
 // A word of so many letters.
@@ -103,117 +169,116 @@ fn letters(alloc: Global, count: u16) -> Result<Vec<u8>, AllocError> {
     Ok(word)
 }
 
+// Whether a word of so many letters is a name, and whether it is one of a file.
+fn kinds(alloc: Global, count: u16) -> Result<(bool, bool), AllocError> {
+    let word = letters(alloc, count)?;
+    Ok((is_name(alloc, &word), is_file(alloc, &word)))
+}
+
+const LENGTHS: [(u16, (bool, bool)); 6] = [
+    (0, (false, false)),
+    (1, (true, true)),
+    (64, (true, true)),
+    (65, (false, true)),
+    (255, (false, true)),
+    (256, (false, false)),
+];
+
 #[test]
 fn lengths_of_names(rt: HostRuntime) -> Result<(), Fail> {
-    let alloc = rt.alloc();
-    for (count, is_name, is_file) in [
-        (0, false, false),
-        (1, true, true),
-        (64, true, true),
-        (65, false, true),
-        (255, false, true),
-        (256, false, false),
-    ] {
-        let word = letters(alloc, count)?;
-        assert_eq!(rt;
-            read_name(alloc, word.as_slice()).is_ok(),
-            is_name,
-            "{count}"
-        );
-        assert_eq!(rt;
-            read_file(alloc, word.as_slice()).is_ok(),
-            is_file,
-            "{count}"
-        );
+    for (count, wanted) in &LENGTHS {
+        assert!(rt; kinds(rt.alloc(), *count)? == *wanted, "{count}");
     }
     Ok(())
 }
 
 #[test]
-fn names_and_files(rt: HostRuntime) -> Result<(), Fail> {
-    let alloc = rt.alloc();
-    let word = read_name(alloc, b"_aZ09")?;
-    assert_eq!(rt; word.as_name().as_bytes(), b"_aZ09".as_slice());
-    for word in [b"9a".as_slice(), b"a.b", b"a/b", b"\xc3\xa9"] {
-        assert_eq!(rt;
-            read_name(alloc, word).err(),
-            Some(LineFault::Syntax),
-            "{word:?}"
-        );
+fn names(rt: HostRuntime) {
+    assert!(rt; is_name(rt.alloc(), b"_aZ09"));
+    for word in &[b"9a".as_slice(), b"a.b", b"a/b", b"\xc3\xa9"] {
+        assert!(rt; is_no_name(rt.alloc(), word), "{word:?}");
     }
-    let file: FileName = read_file(alloc, b"../A-b_0.ssz")?;
-    assert_eq!(rt; file.as_str(), "../A-b_0.ssz");
-    for word in [b"a:b".as_slice(), b"a\\b", b"a~", b"\xff"] {
-        assert_eq!(rt;
-            read_file(alloc, word).err(),
-            Some(LineFault::Syntax),
-            "{word:?}"
-        );
-    }
-    Ok(())
 }
 
 #[test]
-fn literals(rt: HostRuntime) -> Result<(), Fail> {
-    let alloc = rt.alloc();
-    let bytes = read_literal(alloc, b"0x00fFA9")?;
-    assert_eq!(rt; bytes.as_slice(), b"\x00\xff\xa9".as_slice());
-    assert_eq!(rt; read_literal(alloc, b"0x")?.len(), 0);
-    for word in [
-        b"".as_slice(),
-        b"0",
-        b"00",
-        b"0X00",
-        b"x00",
-        b"0x0",
-        b"0x0g",
-        b"0x 00",
-    ] {
-        assert_eq!(rt;
-            read_literal(alloc, word).err(),
-            Some(LineFault::Syntax),
-            "{word:?}"
-        );
+fn files(rt: HostRuntime) {
+    assert!(rt; is_file(rt.alloc(), b"../A-b_0.ssz"));
+    for word in &[b"a:b".as_slice(), b"a\\b", b"a~", b"\xff"] {
+        assert!(rt; is_no_file(rt.alloc(), word), "{word:?}");
     }
-    Ok(())
 }
 
-// The number of an index, or how many steps it has.
-fn number(alloc: Global, index: &Index) -> Result<(u128, usize), AllocError> {
-    match index {
-        Index::Number(number) => Ok((*number, 0)),
+// Whether the word writes these bytes.
+fn writes(alloc: Global, word: &[u8], bytes: &[u8]) -> bool {
+    match read_literal(alloc, word) {
+        Ok(run) => run.as_slice() == bytes,
+        Err(_) => false,
+    }
+}
+
+fn is_no_literal(alloc: Global, word: &[u8]) -> bool {
+    matches!(read_literal(alloc, word), Err(LineFault::Syntax))
+}
+
+const NO_LITERALS: [&[u8]; 8] = [b"", b"0", b"00", b"0X00", b"x00", b"0x0", b"0x0g", b"0x 00"];
+
+#[test]
+fn literals(rt: HostRuntime) {
+    assert!(rt; writes(rt.alloc(), b"0x00fFA9", b"\x00\xff\xa9"));
+    assert!(rt; writes(rt.alloc(), b"0x", b""));
+    for word in &NO_LITERALS {
+        assert!(rt; is_no_literal(rt.alloc(), word), "{word:?}");
+    }
+}
+
+// The number that the word writes, or how many steps its path has.
+fn number(alloc: Global, word: &[u8]) -> Result<(u128, usize), LineFault> {
+    match read_index(alloc, word)? {
+        Index::Number(number) => Ok((number, 0)),
         Index::Path(path) => Ok((0, path.to_vec(alloc)?.len())),
     }
 }
 
+fn is_no_index(alloc: Global, word: &[u8]) -> bool {
+    matches!(read_index(alloc, word), Err(LineFault::Syntax))
+}
+
 #[test]
 fn numbers(rt: HostRuntime) -> Result<(), Fail> {
-    let alloc = rt.alloc();
-    let greatest = read_index(alloc, b"340282366920938463463374607431768211455")?;
-    assert_eq!(rt; number(alloc, &greatest)?, (u128::MAX, 0));
-    assert_eq!(rt; number(alloc, &read_index(alloc, b"/a/1")?)?, (0, 2));
-    for word in [
-        b"340282366920938463463374607431768211456".as_slice(),
-        b"07",
-        b"a",
-    ] {
-        assert_eq!(rt;
-            read_index(alloc, word).err(),
-            Some(LineFault::Syntax),
-            "{word:?}"
-        );
-    }
-    assert_eq!(rt; read_selector(b"255"), Some(255));
-    assert_eq!(rt; read_selector(b"256"), None);
+    let greatest = number(rt.alloc(), b"340282366920938463463374607431768211455")?;
+    assert!(rt; greatest == (u128::MAX, 0));
+    assert!(rt; number(rt.alloc(), b"/a/1")? == (0, 2));
     Ok(())
+}
+
+const NO_INDICES: [&[u8]; 3] = [b"340282366920938463463374607431768211456", b"07", b"a"];
+
+#[test]
+fn no_indices(rt: HostRuntime) {
+    for word in &NO_INDICES {
+        assert!(rt; is_no_index(rt.alloc(), word), "{word:?}");
+    }
+}
+
+#[test]
+fn selectors(rt: HostRuntime) {
+    assert!(rt; read_selector(b"255") == Some(255));
+    assert!(rt; read_selector(b"256").is_none());
+}
+
+// Whether the text has these words, and no more.
+fn has_words(text: &[u8], wanted: &[&[u8]]) -> bool {
+    let mut words = Words::new(text);
+    for word in wanted {
+        if words.next() != Some(*word) {
+            return false;
+        }
+    }
+    words.next().is_none()
 }
 
 #[test]
 fn words(rt: HostRuntime) {
-    let mut words = Words::new(b"\t new  V\tT ");
-    assert_eq!(rt; words.next(), Some(b"new".as_slice()));
-    assert_eq!(rt; words.next(), Some(b"V".as_slice()));
-    assert_eq!(rt; words.next(), Some(b"T".as_slice()));
-    assert_eq!(rt; words.next(), None);
-    assert_eq!(rt; Words::new(b" \t ").next(), None);
+    assert!(rt; has_words(b"\t new  V\tT ", &[b"new", b"V", b"T"]));
+    assert!(rt; has_words(b" \t ", &[]));
 }
