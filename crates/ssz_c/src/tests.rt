@@ -1,5 +1,5 @@
-// Each call once, over memory that suffices. The root is that of two zero chunks, which stands in the
-// deposit contract.
+// Each call once, over memory that suffices. The root is that of two zero chunks, which stands in
+// the deposit contract.
 use super::calls::SszIndex;
 use super::fault::SszFault;
 use super::handle::SszSchema;

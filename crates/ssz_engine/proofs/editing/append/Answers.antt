@@ -111,7 +111,8 @@ returns-clause-answers g c =
     let fault = c.in-Err-decode.fault in
     let u = type_of schema c.in-Ok.element in
     subst (λ (p : Path). IfOk c.unread.result (AnswersWith pair_of
-    (λ rules versions. append versions v p literal) (puts v) w c.args.engine.now c.args.engine.now)) is
+    (λ rules versions. append versions v p literal) (puts v) w c.args.engine.now
+    c.args.engine.now)) is
     (subst (λ (r : Result Decision EngineFault). IfOk r (AnswersWith pair_of
     (λ rules versions. append versions v path literal) (puts v) w c.args.engine.now
     c.args.engine.now)) (sym c.unread.ensures)

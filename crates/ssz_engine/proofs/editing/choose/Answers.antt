@@ -116,7 +116,8 @@ returns-clause-answers g c =
     let fault = c.in-Err-inner_value.fault in
     let os = options_over schema.trees can.options in
     subst (λ (p : Path). IfOk c.unread.result (AnswersWith pair_of
-    (λ rules versions. choose versions v p k literal) (puts v) w c.args.engine.now c.args.engine.now)) is
+    (λ rules versions. choose versions v p k literal) (puts v) w c.args.engine.now
+    c.args.engine.now)) is
     (subst (λ (r : Result Decision EngineFault). IfOk r (AnswersWith pair_of
     (λ rules versions. choose versions v path k literal) (puts v) w c.args.engine.now
     c.args.engine.now)) (sym c.unread.ensures)

@@ -450,10 +450,11 @@ append_row-returns-clause-value g t c = λ node row.
     subst (λ ty. ForValue ty node (λ v. Adds (enc ty v) c.args.out.now.items
     c.append_row_bodies.new.out.items c.append_row_bodies.result)) (sym form)
     (container_adds (fields_over c.args.schema.now.trees c.args.fields.now)
-    (depth (type_of c.args.schema.now c.args.id)) node c.args.out.now.items c.append_row_bodies.new.out.items
-    c.append_row_bodies.result (ap depth form)
+    (depth (type_of c.args.schema.now c.args.id)) node c.args.out.now.items
+    c.append_row_bodies.new.out.items c.append_row_bodies.result (ap depth form)
     (λ vs are. on_ok c.append_row_bodies.result
-    (fields_adds c.args.schema.now.format (fields_over c.args.schema.now.trees c.args.fields.now) c.len-start.result vs
+    (fields_adds c.args.schema.now.format
+    (fields_over c.args.schema.now.trees c.args.fields.now) c.len-start.result vs
     c.args.out.now.items c.append_row_heads.new.out.items c.append_row_bodies.new.out.items
     legal.1 are.fit start (c.in_ok-append_row_heads.ensures.value node row vs are))
     (c.append_row_bodies.ensures.value c.args.schema.now.format legal.1 node row vs are
