@@ -17,6 +17,7 @@ use Rattle.ssz_arena.specs.Content.{Content, tree_of, todo, IsNodeOf}
 use Rattle.ssz_arena.specs.Laws.{LawOfParts}
 use Rattle.ssz_value.specs.Values.{SszValue, sequence, Values, values, items, FitFields}
 use Rattle.ssz_value.specs.Trees.{tree, field_trees}
+use Rattle.ssz_value.proofs.PartLaw.{length-field_trees}
 use Rattle.ssz_value.proofs.PartLemmas.{Part as FieldPart}
 use Rattle.ssz_value.proofs.Sequences.{items-values}
 use Rattle.ssz_places.specs.PlaceLaws.{IsTreeOf}
@@ -30,15 +31,7 @@ use Rattle.ssz_upgrade.proofs.Weighing.{weights-few}
 use Rattle.ssz_upgrade.proofs.Picking.{trees_taken, all_fit, costs_taken, costs_left}
 use Rattle.ssz_upgrade.proofs.Walking.{trees_alike}
 
--- the trees of fields are as many as the fields
-fields_many : (fs : Fields) (vs : List SszValue) → FitFields fs vs
-    → length (field_trees fs vs) ≡ field_count fs
-fields_many no_fields [] fit = refl
-fields_many no_fields (v ∷ vs) fit = absurd fit
-fields_many (field name t fs) [] fit = absurd fit
-fields_many (field name t fs) (v ∷ vs) fit = omega (arith, fields_many fs vs fit.1)
-
--- and so are the parts
+-- the parts of fields are as many as the fields
 parts_many : (arena : Content) (fs : Fields) (given : List (Option NodeId))
     → length (parts_with arena fs given) ≡ field_count fs
 parts_many arena no_fields given = refl
@@ -57,7 +50,7 @@ fields_found arena node fs vs nodes fit whole are =
     let many : length nodes ≡ field_count fs = are.all (λ i below missing.
     none-some (place (field_trees fs vs) i) (sym missing ∙ ap (λ t. at t (2 ^ d + i)) whole
     ∙ at-full d i (field_trees fs vs) (omega (arith, below, few)))) in
-    trees_alike arena nodes (field_trees fs vs) (omega (arith, many, fields_many fs vs fit))
+    trees_alike arena nodes (field_trees fs vs) (omega (arith, many, length-field_trees fs vs fit))
     (λ i id here. same_Some (tree_of arena id) (place (field_trees fs vs) i)
     (sym (are.each i id here).tree ∙ ap (λ t. at t (2 ^ d + i)) whole
     ∙ at-full d i (field_trees fs vs)

@@ -45,7 +45,7 @@ field_tells name t fs law laws (v ∷ vs) (w ∷ ws) fit fits h =
     let others : field_trees fs vs ≡ field_trees fs ws = cc in
     ap₂ ◌∷◌ (law.apart v w fit.0 fits.0 first) (laws.apart vs ws fit.1 fits.1 others)
 
-length-field_trees : (fs : Fields) (vs : List SszValue) → FitFields fs vs
+pub length-field_trees : (fs : Fields) (vs : List SszValue) → FitFields fs vs
     → length (field_trees fs vs) ≡ field_count fs
 length-field_trees no_fields [] fit = refl
 length-field_trees no_fields (v ∷ vs) fit = absurd fit
