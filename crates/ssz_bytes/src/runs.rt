@@ -152,6 +152,3 @@ impl BitRun {
         let _last = self.bits.pop();
     }
 }
-
-#[cfg(test)]
-mod tests;

@@ -3,7 +3,5 @@
 #![tactic(auto)]
 
 mod decimal;
-#[cfg(test)]
-mod tests;
 
 pub use decimal::{number, number_of_8_bits, number_of_64_bits};

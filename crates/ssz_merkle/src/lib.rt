@@ -15,6 +15,3 @@ mod packing;
 pub use accumulator::Accumulator;
 pub use laws::counts_add_up;
 pub use packing::chunk_at;
-
-#[cfg(test)]
-mod tests;

@@ -1,0 +1,30 @@
+//! Tests of types, bytes, values, schema files, paths and scripts, in a crate of their own: a check
+//! of tests proves again the crate that they stand in.
+#![tactic(auto)]
+
+#[cfg(test)]
+mod basic;
+#[cfg(test)]
+mod codec;
+#[cfg(test)]
+mod decimal;
+#[cfg(test)]
+mod forms;
+#[cfg(test)]
+mod gindex;
+#[cfg(test)]
+mod line;
+#[cfg(test)]
+mod offsets;
+#[cfg(test)]
+mod runs;
+#[cfg(test)]
+mod schema;
+#[cfg(test)]
+mod schema_json;
+#[cfg(test)]
+mod script;
+#[cfg(test)]
+mod types;
+#[cfg(test)]
+mod value;
