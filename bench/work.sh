@@ -8,9 +8,9 @@ set -eu
 cd "$(dirname "$0")/.."
 exec python3 - "$@" <<'PY'
 import json, os, subprocess, sys, tempfile
-sys.path.insert(0, "bench")
-from run_rows import Machine
-from work_rows import Generator, walk
+sys.path.insert(0, "rows")
+from program.machine import Machine
+from program.works import Generator, walk
 
 SSZ = os.path.abspath("crates/ssz_cli/out/ssz_cli")
 DENEB = os.path.abspath("examples/ethereum/deneb.json")
@@ -37,7 +37,7 @@ def script(schema, name, edits):
     with open("script", "w") as file:
         file.write("new w %s\n" % name)
         for _ in range(edits):
-            edit = walk(g, *machine.v["w"], [])
+            edit = walk(g, *machine.versions["w"], [])
             if edit is not None:
                 machine.statement(edit)
                 file.write(edit + "\n")
@@ -58,7 +58,7 @@ with tempfile.TemporaryDirectory() as room:
         for edits in counts:
             took = least("work", schema, name, SEED, edits)
             told = "-"
-            # the machine of run_rows.py copies a whole vector at each edit
+            # the machine copies a whole vector at each edit
             if edits <= MOST and name != "Vector":
                 script(schema, name, edits)
                 again = least("run", schema, "script")

@@ -10,7 +10,7 @@ import sys
 from dataclasses import dataclass, field
 
 TOP = os.path.join(os.path.dirname(os.path.abspath(__file__)), "..")
-sys.path.append(os.path.join(TOP, "bench"))
+sys.path.append(os.path.join(TOP, "rows"))
 SSZ = os.path.abspath(os.path.join(TOP, "crates", "ssz_cli", "out", "ssz_cli"))
 USAGE = ("usage: ssz root SCHEMA TYPE FILE | run SCHEMA SCRIPT"
          " | weave SCHEMA BASE ORDER SCRIPT.. | verify ROOT FILE | work SCHEMA TYPE SEED EDITS"
@@ -299,8 +299,8 @@ def weave_rows():
 
 
 def work_rows():
-    """The lines are those of bench/work_rows.py, whose machine knows whole values alone."""
-    import work_rows as drawn
+    """The lines are those of rows/program/works.py, whose machine knows whole values alone."""
+    from program import works as drawn
     files = {"s": drawn.TYPES.encode()}
     for name, edits in ("Q", 0), ("Deep", 12), ("L8", 30):
         status, lines = drawn.work("sha", name, 7, edits)

@@ -1,5 +1,5 @@
 //! Each call once; the other rows are those of `schema_rows`, and indices of the consensus layer's
-//! types those of `ethereum_roots`.
+//! types those of `program_rows`.
 use ssz_gindex::{Gindex, are_helpers, helper_indices};
 use ssz_schema::{Name, PathStep, Schema, TypeExpr, Width};
 use std::test::Fail;

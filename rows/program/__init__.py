@@ -1,0 +1,1 @@
+"""The runs of crates/program_rows, subject by subject."""
