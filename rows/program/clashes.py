@@ -4,16 +4,15 @@ import re
 
 from program.known import run_of
 from program.runs import USAGE
-from program.trees import PAIRS, above, helpers
+from ssz import HASHES, ancestors, are_flat, calculated, helper_indices
 
 ENTRY = re.compile(r"([1-9][0-9]*|0)=0x([0-9a-fA-F]{64})")
 
 
 def is_proof(leaves, nodes):
     indices = [g for g, _ in leaves]
-    nested = any(a in indices for g in indices for a in above(g))
-    return (bool(leaves) and 0 not in indices and len(set(indices)) == len(indices) and not nested
-            and [g for g, _ in nodes] == helpers(indices))
+    return (bool(leaves) and 0 not in indices and len(set(indices)) == len(indices) and are_flat(indices)
+            and [g for g, _ in nodes] == helper_indices(indices))
 
 
 def read(text):
@@ -30,10 +29,6 @@ def read(text):
     return (leaves, nodes) if is_proof(leaves, nodes) else None
 
 
-def calc(pair, known, g):
-    return known[g] if g in known else pair(calc(pair, known, 2 * g), calc(pair, known, 2 * g + 1))
-
-
 def hexes(chunks):
     return " ".join("0x" + chunk.hex() for chunk in chunks)
 
@@ -44,19 +39,19 @@ def compared(pair, one, other):
     indices = {g for g, _ in one[0]}
     if indices != {g for g, _ in other[0]}:
         return 1, "otherindices"
-    roots = [calc(pair, known, 1) for known in (k1, k2)]
+    roots = [calculated(known, 1, pair) for known in (k1, k2)]
     if roots[0] != roots[1]:
         return 1, "otherroot " + hexes(roots)
     if dict(one[0]) == dict(other[0]):
         return 0, "same"
-    paths = {a for g in indices for a in above(g)}
+    paths = {a for g in indices for a in ancestors(g)}
 
     def first(g):
         """The first clash in preorder at g or below."""
         if g not in paths:
             return None
-        pairs = [[calc(pair, known, 2 * g), calc(pair, known, 2 * g + 1)] for known in (k1, k2)]
-        if calc(pair, k1, g) == calc(pair, k2, g) and pairs[0] != pairs[1]:
+        pairs = [[calculated(known, 2 * g, pair), calculated(known, 2 * g + 1, pair)] for known in (k1, k2)]
+        if calculated(k1, g, pair) == calculated(k2, g, pair) and pairs[0] != pairs[1]:
             return "clash %d %s" % (g, hexes(pairs[0] + pairs[1]))
         return first(2 * g) or first(2 * g + 1)
 
@@ -97,7 +92,7 @@ def added(*chunks):
 
 
 def compare(hasher, first, second):
-    status, line = clash_line(PAIRS[hasher], first, second)
+    status, line = clash_line(HASHES[hasher], first, second)
     return run_of("%s;clash p q;%s;%s" % (hasher, first, second), status, line)
 
 
@@ -149,7 +144,7 @@ def clashing():
     yield compare("xor", text([(8, chunk(1)), (9, chunk(2))], [(5, chunk(3)), (3, chunk(4))]),
                   text(leaves, [(5, chunk(3)), (3, chunk(4))]))
     # a deep leaf, with a clash far below the root
-    deep = [(g, chunk(g % 256, 1)) for g in helpers([2 ** 20 + 5])]
+    deep = [(g, chunk(g % 256, 1)) for g in helper_indices([2 ** 20 + 5])]
     moved = [(g, added(c, d) if g == 2 ** 20 + 4 else c) for g, c in deep]
     yield compare("xor", text([(2 ** 20 + 5, chunk(1))], deep),
                   text([(2 ** 20 + 5, added(chunk(1), turned(d)))], moved))

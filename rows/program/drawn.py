@@ -3,8 +3,7 @@ import json
 import random
 
 from program.machine import Machine
-from program.ssz import BOOL, UINT8, UINT64, default, enc, schema
-from program.texts import text_of
+from ssz import BOOLEAN, BYTE, default, encode, json_text, types_of, uint
 
 SCHEMA = """{"ssz":1,"types":[
 ["P",{"container":[["a","uint64"],["b","uint64"]]}],
@@ -37,7 +36,7 @@ def rand(t, r):
     k = t[0]
     if k == "uint":
         return r.getrandbits(t[1]) if r.random() < 0.6 else r.choice([0, 1, 2 ** t[1] - 1])
-    if k == "bool":
+    if k == "boolean":
         return r.random() < 0.5
     if k == "bitvector":
         return [r.random() < 0.5 for _ in range(t[1])]
@@ -58,7 +57,7 @@ def element_step(t, v, r):
     """A step to an element, most often one that is there, and the type and the value there."""
     k, n, most = t[0], len(v), t[-1]
     i = r.randrange(n) if n and r.random() < 0.85 else r.choice([0, n, most - 1, most])
-    part = t[1] if k in ("vector", "list") else BOOL
+    part = t[1] if k in ("vector", "list") else BOOLEAN
     return f"/{max(i, 0)}", part, v[i] if i < n else default(part)
 
 
@@ -75,16 +74,16 @@ def rpath(t, v, r, stop=0.3):
             t, v = t[1][i][1], v[i]
         elif k in ("vector", "list", "bitvector", "bitlist"):
             if k in ("list", "bitlist") and r.random() < 0.1:
-                return p + "/#len", UINT64
+                return p + "/#len", uint(64)
             step, t, v = element_step(t, v, r)
             p += step
         elif k == "union":
             if r.random() < 0.15:
-                return p + "/#sel", UINT8
+                return p + "/#sel", BYTE
             i = v[0] if r.random() < 0.8 else r.randrange(len(t[1]) + 1)
             p += f"/#{i}"
             if i >= len(t[1]) or t[1][i] is None:
-                return p, BOOL
+                return p, BOOLEAN
             t = t[1][i]
             v = v[1] if v[0] == i else default(t)
         else:
@@ -120,14 +119,14 @@ def other(d, r):
 
 def mistold(t, v, r):
     """A text that is much like that of the value."""
-    d = json.loads(text_of(t, v))
+    d = json.loads(json_text(t, v))
     x = r.random()
     if x < 0.7:
         holder = [d]
         at, k = r.choice(places(holder))
         at[k] = other(at[k], r)
         return json.dumps(holder[0], sort_keys=True, separators=(",", ":"))
-    text = text_of(t, v)
+    text = json_text(t, v)
     if x < 0.8:
         return r.choice([text + " ", text[:-1], " " + text, text + ",", text.replace('"', "'"),
                          text.replace(",", ", ")])
@@ -139,11 +138,11 @@ def mistold(t, v, r):
 
 def drawn_texts():
     """For each type some texts of its values, and some that are much like them."""
-    names, out = schema(SCHEMA), {}
+    names, out = types_of(SCHEMA), {}
     for T in NAMES:
         r = random.Random(T)
         for i in range(4):
-            out[f"{T}.{i}"] = text_of(names[T], rand(names[T], r))
+            out[f"{T}.{i}"] = json_text(names[T], rand(names[T], r))
             out[f"{T}.{i}x"] = mistold(names[T], rand(names[T], r), r)
             out[f"{T}.{i}y"] = mistold(names[T], rand(names[T], r), r)
     return out
@@ -169,7 +168,7 @@ TEXTS |= drawn_texts()
 # Scripts
 
 def literal(t, r):
-    b = enc(t, rand(t, r))
+    b = encode(t, rand(t, r))
     x = r.random()
     if x < 0.05:
         b = b[:-1]
@@ -192,7 +191,7 @@ class Drawing:
         listed = sorted(m.versions)
         v = r.choice(listed) if listed and r.random() < 0.95 else r.choice("ABCDXYZ")
         c = r.choice(weights(spells)) if listed else r.choice(["new", "lit"])
-        t, x = m.versions.get(v, (UINT8, 0))
+        t, x = m.versions.get(v, (BYTE, 0))
         return getattr(self, c, self.plain)(c, v, t, x)
 
     def plain(self, c, v, t, x):
@@ -264,7 +263,7 @@ class Drawing:
 
     def append(self, c, v, t, x):
         p, q = self.near(t, x, ("list", "bitlist"))
-        return f"append {v} {p} {literal(q[1] if q[0] == 'list' else BOOL, self.r)}"
+        return f"append {v} {p} {literal(q[1] if q[0] == 'list' else BOOLEAN, self.r)}"
 
     def choose(self, c, v, t, x):
         r = self.r

@@ -1,10 +1,11 @@
 """Drawn scripts of `partial`, most of whose statements are accepted, and a balance by its proof."""
 import random
 
-from program import partials, ssz, trees
+import ssz
+from program import partials
 from program.partials import NAMES, TYPES, of_value
 from program.runs import example
-from program.ssz import UINT8
+from ssz import BYTE
 
 
 def balance():
@@ -13,12 +14,12 @@ def balance():
     value = ssz.default(t)
     validator = [[0xab] * 48, [0] * 32, 32000000000, False, 0, 0, 2 ** 64 - 1, 2 ** 64 - 1]
     for word, new in (("/balances", [32000000000]), ("/slot", 42), ("/validators", [validator])):
-        value = ssz.put(t, value, ssz.path(word), new)
+        value = ssz.edited(t, value, ssz.path_of(word), ssz.set_to(new))
     state_root = "c3ab54121778301dfcd6bf87a958bb09a1570876a950c837122bd19e9adcc8c0"
-    if partials.HASHES["sha"].root(trees.tree(t, value)).hex() != state_root:
+    if ssz.hash_tree_root(t, value).hex() != state_root:
         raise AssertionError("not the state whose root examples/ethereum/README.md has")
-    balances = trees.gindex(t, ssz.path("/balances"))
-    leaf = trees.gindex(t, ssz.path("/balances/0"))
+    balances = ssz.generalized_index(t, ssz.path_of("/balances"))
+    leaf = ssz.generalized_index(t, ssz.path_of("/balances/0"))
     return of_value("sha", "BeaconState", value, [2 * balances + 1, leaf],
                     example("partial.script"), "deneb.json")
 
@@ -30,7 +31,7 @@ class Drawing:
     def value(self, t):
         r = self.random
         kind = t[0]
-        if kind == "bool":
+        if kind == "boolean":
             return r.random() < 0.5
         if kind == "uint":
             return r.getrandbits(t[1])
@@ -62,30 +63,30 @@ class Drawing:
     def place(self, t, v):
         """A path to a part, mostly present, and the indices that it needs."""
         path, needs, k = "", [], 1
-        while not ssz.basic(t):
+        while not ssz.is_basic(t):
             word = self.step(t, v)
             path += "/" + word
             step = ssz.step_of(word)
             inside = ssz.step_type(t, step)
             if inside is None or self.random.random() < 0.02:
                 return path, None
-            is_last = step[0] in ("len", "sel")
+            is_last = step in (ssz.LEN, ssz.SEL)
             if not is_last and t[0] in ("list", "bitlist", "union"):
                 needs.append(2 * k + 1)
-            k = trees.step_index(k, t, step)[0]
+            k = ssz.step_index(k, t, step)
             if is_last:
                 break
             try:
                 v, t = ssz.inner(t, v, step), inside
-            except ssz.Absent:
+            except ssz.Refused:
                 return path, needs
         return path, needs + [k]
 
     def literal(self, t):
         r = self.random
         if r.random() < 0.05:
-            return bytes(r.getrandbits(8) for _ in range(r.randrange(ssz.fixed(t) + 3)))
-        return ssz.enc(t, self.value(t))
+            return bytes(r.getrandbits(8) for _ in range(r.randrange(ssz.fixed_size(t) + 3)))
+        return ssz.encode(t, self.value(t))
 
     def script(self, t, places):
         r, lines = self.random, []
@@ -95,8 +96,8 @@ class Drawing:
             if draw < 0.4:
                 lines.append("get " + path)
             elif draw < 0.8:
-                part = ssz.type_at(t, ssz.path(path))
-                part = part if part and ssz.basic(part) else UINT8
+                part = ssz.path_type(t, ssz.path_of(path))
+                part = part if part and ssz.is_basic(part) else BYTE
                 lines.append("set %s 0x%s" % (path, self.literal(part).hex()))
             elif draw < 0.95:
                 lines.append("root")
@@ -113,7 +114,7 @@ class Drawing:
         asked = [path for path, needs in places if needs is not None for _ in range(4)]
         asked += [path for path, _ in places]
         indices = sorted({g for _, needs in places[:4] for g in needs or [1]})
-        flat = [g for g in indices if not any(g in trees.above(h) for h in indices)]
+        flat = [g for g in indices if not any(g in ssz.ancestors(h) for h in indices)]
         hasher = r.choice(["sha", "xor"])
         return of_value(hasher, name, value, flat, self.script(t, asked))
 

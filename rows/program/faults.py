@@ -8,7 +8,7 @@ was handed.
 from program.clashes import chunk, clash_line, text
 from program.partials import of_value
 from program.runs import Run, Shared
-from program.trees import xor
+from ssz import xor
 from program.weaves import weave
 from program.works import work
 

@@ -5,10 +5,11 @@ holds no bytes.
 """
 import re
 
-from program import trees
-from program.ssz import BOOL, NAME, NUMBER, Absent, Fault, dec, default, enc, get, path, put, schema
-from program.ssz import type_at
-from program.texts import Misspelled, spelled, text_of
+import ssz
+from program.texts import Misspelled, spelled
+from ssz import (
+    BOOLEAN, LEN, NAME, NUMBER, SEL, Fault, decode, default, edited, encode, generalized_index, json_text, part_at, path_of,
+    path_type, set_to, types_of)
 
 CODES = {
     1: "Syntax", 2: "NoType", 3: "NoVersion", 4: "NameTaken", 5: "BadPath", 6: "Absent",
@@ -33,7 +34,7 @@ def is_name(word):
 
 
 def is_path(word):
-    return path(word) is not None
+    return path_of(word) is not None
 
 
 def is_file(word):
@@ -99,9 +100,9 @@ def is_statement(words):
 
 def value_of(t, data):
     try:
-        return dec(t, data)
+        return decode(t, data)
     except Fault as fault:
-        refuse(11, fault.args[0])
+        refuse(11, fault.args)
 
 
 def value_of_text(t, data):
@@ -112,8 +113,8 @@ def value_of_text(t, data):
 
 
 class Machine:
-    def __init__(self, text, pair=trees.sha, files=None):
-        self.types, self.hash = schema(text), trees.Hash(pair)
+    def __init__(self, text, pair=ssz.sha, files=None):
+        self.types, self.pair = types_of(text), pair
         self.versions, self.files = {}, dict(files or {})
 
     def statement(self, line):
@@ -159,13 +160,13 @@ class Machine:
     def part(self, name, word):
         """The version, the path, the type of the part and the part."""
         t, v = self.version(name)
-        steps = path(word)
-        part_type = type_at(t, steps)
+        steps = path_of(word)
+        part_type = path_type(t, steps)
         if part_type is None:
             refuse(5)
         try:
-            return t, v, steps, part_type, get(t, v, steps)
-        except Absent:
+            return t, v, steps, part_type, part_at(t, v, steps)[1]
+        except ssz.Refused:
             refuse(6)
 
     # The statements
@@ -223,11 +224,11 @@ class Machine:
     def edit(self, name, word, new):
         """Puts what `new` makes of the part's type and the part in its place."""
         t, v, steps, part_type, part = self.part(name, word)
-        self.versions[name] = (t, put(t, v, steps, new(part_type, part)))
+        self.versions[name] = (t, edited(t, v, steps, set_to(new(part_type, part))))
 
     def set_(self, name, word, literal):
         def new(t, _):
-            if word.endswith(("/#len", "/#sel")):
+            if word.endswith(("/" + LEN, "/" + SEL)):
                 refuse(7)
             return value_of(t, bytes_of(literal))
         self.edit(name, word, new)
@@ -238,7 +239,7 @@ class Machine:
                 refuse(7)
             if len(part) >= t[-1]:
                 refuse(8)
-            return part + [value_of(t[1] if t[0] == "list" else BOOL, bytes_of(literal))]
+            return part + [value_of(t[1] if t[0] == "list" else BOOLEAN, bytes_of(literal))]
         self.edit(name, word, new)
 
     def pop_(self, name, word):
@@ -265,16 +266,16 @@ class Machine:
 
     def root_(self, name):
         t, v = self.version(name)
-        return "root 0x" + self.hash.root(trees.tree(t, v)).hex()
+        return "root 0x" + ssz.hash_tree_root(t, v, self.pair).hex()
 
     def bytes_(self, name, word):
         *_, t, part = self.part(name, word)
-        data = enc(t, part)
+        data = encode(t, part)
         return "bytes 0x" + data.hex() if len(data) <= MOST else refuse(12)
 
     def json_(self, name, word):
         *_, t, part = self.part(name, word)
-        text = text_of(t, part)
+        text = json_text(t, part)
         return "json " + text if len(text) <= MOST else refuse(12)
 
     def len_(self, name, word):
@@ -284,27 +285,27 @@ class Machine:
         return "len %d" % len(part)
 
     def save_(self, name, file):
-        data = enc(*self.version(name))
+        data = encode(*self.version(name))
         if len(data) > MOST:
             refuse(12)
         self.files[file] = data
 
     def gindex_(self, type_name, word):
-        g = trees.gindex(self.type_(type_name), path(word))
+        g = generalized_index(self.type_(type_name), path_of(word))
         return "gindex %d" % g if g is not None else refuse(5)
 
     def prove_(self, name, *words):
         t, v = self.version(name)
-        listed = [int(w) if NUMBER.match(w) else trees.gindex(t, path(w)) for w in words]
+        listed = [int(w) if NUMBER.match(w) else generalized_index(t, path_of(w)) for w in words]
         if None in listed:
             refuse(5)
-        leaves, whole = sorted(set(listed)), trees.tree(t, v)
-        if any(g == 0 or trees.node_at(whole, g) is None for g in leaves):
+        leaves, whole = sorted(set(listed)), ssz.tree(t, v)
+        if any(ssz.at(whole, g) is None for g in leaves):
             refuse(13)
-        if any(a in leaves for g in leaves for a in trees.above(g)):
+        if not ssz.are_flat(leaves):
             refuse(14)
 
         def entries(indices):
-            return "".join(" %d=0x%s" % (g, self.hash.root(trees.node_at(whole, g)).hex())
+            return "".join(" %d=0x%s" % (g, ssz.root(ssz.at(whole, g), self.pair).hex())
                            for g in indices)
-        return "proof%s /%s" % (entries(leaves), entries(trees.helpers(leaves)))
+        return "proof%s /%s" % (entries(leaves), entries(ssz.helper_indices(leaves)))

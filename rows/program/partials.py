@@ -7,10 +7,10 @@ printed root is compared with the edited value's, and each printed part with its
 """
 import re
 
-from program import ssz, trees
+import ssz
 from program.machine import is_literal, is_path
 from program.runs import LONG, Run, Shared, example
-from program.ssz import BOOL, path
+from ssz import BOOLEAN, HASHES, path_of
 
 CODES = {1: "Syntax", 5: "BadPath", 6: "Absent", 7: "NotThat", 11: "BadLiteral", 17: "Blind"}
 SCHEMA = """{"ssz":2,"types":[
@@ -28,8 +28,7 @@ SCHEMA = """{"ssz":2,"types":[
 ["pick", {"union": [null, "uint256", {"list": ["uint16", 40]}]}], ["wide", "uint256"]]}]]}
 """
 NAMES = ["Q", "M", "P", "Bytes", "Pick", "Longs", "Bits", "State"]
-TYPES = {"partial.json": ssz.schema(SCHEMA), "deneb.json": ssz.schema(example("deneb.json"))}
-HASHES = {name: trees.Hash(pair) for name, pair in trees.PAIRS.items()}
+TYPES = {"partial.json": ssz.types_of(SCHEMA), "deneb.json": ssz.types_of(example("deneb.json"))}
 
 
 class Refused(Exception):
@@ -64,12 +63,7 @@ class Partial:
     """The chunks that are known, and the value whose they are, or None."""
 
     def __init__(self, hasher, t, known, value=None):
-        self.hash, self.type, self.known, self.value = HASHES[hasher], t, dict(known), value
-
-    def calculated(self, g=1):
-        if g in self.known:
-            return self.known[g]
-        return self.hash.pair(self.calculated(2 * g), self.calculated(2 * g + 1))
+        self.pair, self.type, self.known, self.value = HASHES[hasher], t, dict(known), value
 
     def need(self, g):
         if g not in self.known:
@@ -81,40 +75,40 @@ class Partial:
 
     def found(self, steps, sets):
         """The type of the part, the index of its node, the byte where it begins, and its bit."""
-        t = ssz.type_at(self.type, steps)
+        t = ssz.path_type(self.type, steps)
         if t is None:
             raise Refused(5)
-        if not ssz.basic(t) or sets and steps and steps[-1][0] in ("len", "sel"):
+        if not ssz.is_basic(t) or sets and steps and steps[-1] in (ssz.LEN, ssz.SEL):
             raise Refused(7)
         t, k, at, bit = self.type, 1, 0, None
         for s in steps:
-            if t[0] in ("list", "bitlist") and s[0] == "i" and self.numbered(2 * k + 1) <= s[1]:
+            if t[0] in ("list", "bitlist") and isinstance(s, int) and self.numbered(2 * k + 1) <= s:
                 raise Refused(6)
-            if s[0] == "opt" and self.numbered(2 * k + 1) != s[1]:
+            if isinstance(s, tuple) and self.numbered(2 * k + 1) != s[1]:
                 raise Refused(6)
-            k, at, bit = trees.step_index(k, t, s)
+            k, (at, bit) = ssz.step_index(k, t, s), ssz.spot(t, s)
             t = ssz.step_type(t, s)
         self.need(k)
         return t, k, at, bit
 
     def get(self, word):
-        t, k, at, bit = self.found(path(word), False)
-        part = self.known[k][at:at + ssz.fixed(t)]
+        t, k, at, bit = self.found(path_of(word), False)
+        part = self.known[k][at:at + ssz.fixed_size(t)]
         if bit is not None:
             part = bytes([part[0] >> bit & 1])
         if self.value is not None:
-            if part != ssz.enc(t, ssz.get(self.type, self.value, path(word))):
+            if part != ssz.encode(*ssz.part_at(self.type, self.value, path_of(word))):
                 raise AssertionError("%s: the chunk has not what the value has" % word)
         return "bytes 0x" + part.hex()
 
     def set(self, word, literal):
-        t, k, at, bit = self.found(path(word), True)
-        size = ssz.fixed(t)
+        t, k, at, bit = self.found(path_of(word), True)
+        size = ssz.fixed_size(t)
         if len(literal) < size:
             raise Refused(11, "F1", "0")
         if len(literal) > size:
             raise Refused(11, "F2", str(size))
-        if t == BOOL and literal[0] > 1:
+        if t == BOOLEAN and literal[0] > 1:
             raise Refused(11, "F3", "0")
         chunk = bytearray(self.known[k])
         if bit is None:
@@ -123,13 +117,13 @@ class Partial:
             chunk[at] = chunk[at] & ~(1 << bit) | literal[0] << bit
         self.known[k] = bytes(chunk)
         if self.value is not None:
-            self.value = ssz.put(self.type, self.value, path(word), ssz.dec(t, literal))
+            self.value = ssz.edited(self.type, self.value, path_of(word), ssz.set_to(ssz.decode(t, literal)))
         return "ok"
 
     def root(self):
-        calculated = self.calculated()
+        calculated = ssz.calculated(self.known, pair=self.pair)
         if self.value is not None:
-            if calculated != self.hash.root(trees.tree(self.type, self.value)):
+            if calculated != ssz.hash_tree_root(self.type, self.value, self.pair):
                 raise AssertionError("the root is not the value's")
         return "root 0x" + calculated.hex()
 
@@ -169,18 +163,18 @@ def played(hasher, name, leaves, nodes, script, value=None, schema="partial.json
 
 def of_value(hasher, name, value, indices, script, schema="partial.json"):
     """The script over the proof of these indices, of the value's tree."""
-    whole = trees.tree(TYPES[schema][name], value)
+    whole = ssz.tree(TYPES[schema][name], value)
 
     def at(g):
-        return HASHES[hasher].root(trees.node_at(whole, g))
-    leaves, nodes = {g: at(g) for g in indices}, {g: at(g) for g in trees.helpers(indices)}
+        return ssz.root(ssz.at(whole, g), HASHES[hasher])
+    leaves, nodes = {g: at(g) for g in indices}, {g: at(g) for g in ssz.helper_indices(indices)}
     return played(hasher, name, leaves, nodes, script, value, schema)
 
 
 def of_chunks(hasher, name, leaves, script, node=b"\2"):
     """The script over these chunks, and one at all helper indices."""
     padded = {g: chunk.ljust(32, b"\0") for g, chunk in leaves.items()}
-    nodes = {g: node.ljust(32, b"\0") for g in trees.helpers(leaves)}
+    nodes = {g: node.ljust(32, b"\0") for g in ssz.helper_indices(leaves)}
     return played(hasher, name, padded, nodes, script)
 
 

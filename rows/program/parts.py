@@ -1,9 +1,9 @@
 """Runs of `part`: parts of values, and what is refused in which order."""
-from program import ssz
+import ssz
 from program.known import SCHEMA, run_of
 from program.runs import USAGE
 
-TYPES = ssz.schema(SCHEMA)
+TYPES = ssz.types_of(SCHEMA)
 MOST = 268435456
 
 
@@ -11,8 +11,8 @@ def part_line(name, path, most, v, digits, fault):
     """The status and the line, by the tests in their order."""
     if name not in TYPES:
         return 1, "refused 0 2 NoType"
-    t, steps = TYPES[name], ssz.path(path)
-    form = ssz.type_at(t, steps)
+    t, steps = TYPES[name], ssz.path_of(path)
+    form = ssz.path_type(t, steps)
     if form is None:
         return 1, "refused 0 5 BadPath"
     if digits is None:
@@ -22,8 +22,8 @@ def part_line(name, path, most, v, digits, fault):
     if fault is not None:
         return 1, "invalid F%d %d" % fault
     try:
-        encoding = ssz.enc(form, ssz.get(t, v, steps))
-    except ssz.Absent:
+        encoding = ssz.encode(*ssz.part_at(t, v, steps))
+    except ssz.Refused:
         return 1, "refused 0 6 Absent"
     if len(encoding) > most:
         return 1, "refused 0 12 TooLong"
@@ -36,7 +36,7 @@ def words(name, path, most, file):
 
 
 def parts_of(name, v, paths, most=MOST):
-    digits = ssz.enc(TYPES[name], v).hex()
+    digits = ssz.encode(TYPES[name], v).hex()
     for path in paths:
         status, line = part_line(name, path, most, v, digits, None)
         yield run_of(words(name, path, most, "v") + digits, status, line)

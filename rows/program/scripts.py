@@ -6,7 +6,7 @@ from program import drawn
 from program.drawn import SCHEMA, TEXTS
 from program.machine import Machine
 from program.runs import Run, Shared, example, lines_of
-from program.trees import PAIRS
+from ssz import HASHES
 
 EXAMPLES = [
     ("sha", """\
@@ -316,7 +316,7 @@ def saved_names(script):
 def run_of(hasher, script, numbers=(), name="run.json", types=SCHEMA):
     """The run of a script; the numbers of `hashes` are told."""
     files = {"schema": Shared(name), "script": script, **told_texts(script)}
-    machine = Machine(types, PAIRS[hasher], {name: text.encode() for name, text in TEXTS.items()})
+    machine = Machine(types, HASHES[hasher], {name: text.encode() for name, text in TEXTS.items()})
     lines, refused = machine.script(script)
     numbers = iter(numbers)
     lines = [next(numbers) if line == "hashes ?" else line for line in lines]

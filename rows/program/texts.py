@@ -1,28 +1,8 @@
-"""What stands for a value in JSON, as docs/formats.md has it, by Python's json."""
+"""Values read from their JSON texts, with the first fault of a text, as docs/formats.md has them, by Python's json."""
 import json
 import re
 
-from program.ssz import NUMBER, UINT8, enc
-
-
-def json_of(t, v):
-    """What stands for a value in JSON, as Python's json takes it."""
-    k = t[0]
-    if k == "uint":
-        return str(v) if t[1] < 256 else "0x" + enc(t, v).hex()
-    if k == "bool":
-        return v
-    if k in ("bitvector", "bitlist"):
-        return "".join("01"[b] for b in v)
-    if k == "container":
-        return {n: json_of(p, x) for (n, p), x in zip(t[1], v)}
-    if k == "union":
-        return [v[0], None if t[1][v[0]] is None else json_of(t[1][v[0]], v[1])]
-    return "0x" + bytes(v).hex() if t[1] == UINT8 else [json_of(t[1], x) for x in v]
-
-
-def text_of(t, v):
-    return json.dumps(json_of(t, v), sort_keys=True, separators=(",", ":"))
+from ssz import BYTE, NUMBER, json_text
 
 
 class Whole(int):
@@ -68,9 +48,9 @@ def number_in(t, d, n):
 def leaf_in(t, d, n):
     """The value of a part without parts."""
     k = t[0]
-    if not isinstance(d, bool if k == "bool" else str):
+    if not isinstance(d, bool if k == "boolean" else str):
         wrong(2, n)
-    if k == "bool":
+    if k == "boolean":
         return d
     if k == "uint":
         return number_in(t, d, n)
@@ -113,7 +93,7 @@ def parts_in(t, d, n):
 def walk(t, d, n):
     """The value of the part numbered n, and the number of the next part."""
     k = t[0]
-    if k in ("uint", "bool", "bitvector", "bitlist") or k in ("vector", "list") and t[1] == UINT8:
+    if k in ("uint", "boolean", "bitvector", "bitlist") or k in ("vector", "list") and t[1] == BYTE:
         return leaf_in(t, d, n), n + 1
     if k == "union":
         return union_in(t, d, n)
@@ -132,6 +112,6 @@ def spelled(t, b):
     except ValueError:
         wrong(1, 0)
     v, _ = walk(t, d, 0)
-    if text_of(t, v).encode() != b:
+    if json_text(t, v).encode() != b:
         wrong(8, 0)
     return v

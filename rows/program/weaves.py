@@ -9,7 +9,7 @@ from program import drawn
 from program.machine import Machine, refuse
 from program.runs import USAGE, Run, Shared, lines_of
 from program.scripts import fourth_words
-from program.trees import PAIRS
+from ssz import HASHES
 
 TYPES = drawn.SCHEMA.replace('["P",', '["Bytes",{"list":["uint8",4096]}],\n["P",', 1)
 
@@ -62,7 +62,7 @@ def weave(hasher, base, order, scripts, files, types=TYPES):
         return 2, [USAGE]
 
     def begun(mark, text, versions):
-        writer = Writer(types, PAIRS[hasher], files)
+        writer = Writer(types, HASHES[hasher], files)
         writer.versions = dict(versions)
         return Script(mark, text, writer)
     first = begun("base", base, {})

@@ -6,8 +6,7 @@ machine of machine.py. As no root changes a value, the last one alone is taken.
 from program import drawn
 from program.machine import Machine, Refused
 from program.runs import USAGE, Run, Shared, lines_of
-from program.ssz import NAME, default, enc
-from program.trees import PAIRS
+from ssz import HASHES, NAME, default, encode
 
 MORE = """["Z0",{"list":["uint64",0]}],["N0",{"bitlist":0}],["N1",{"bitlist":1}],
 ["Some",{"union":["uint16",{"bitlist":9},{"list":["uint8",3]}]}],\
@@ -57,7 +56,7 @@ def walk(g, t, v, path):
     kind = t[0]
     if kind == "uint":
         return statement("set", path, literal(g.bytes(t[1] // 8)))
-    if kind == "bool":
+    if kind == "boolean":
         return statement("set", path, literal(g.bit()))
     if kind == "container":
         i = g.draw(len(t[1]))
@@ -87,7 +86,7 @@ def walk_list(g, t, v, path):
         return statement("pop", path)
     if n == limit:
         return None
-    new = enc(t[1], default(t[1])) if t[0] == "list" else g.bit()
+    new = encode(t[1], default(t[1])) if t[0] == "list" else g.bit()
     return statement("append", path, literal(new))
 
 
@@ -97,7 +96,7 @@ def work(hasher, name, seed, edits):
         return 2, [USAGE]
     if not NAME.match(name):
         return 1, ["refused 0 2 NoType"]
-    machine = Machine(TYPES, PAIRS[hasher])
+    machine = Machine(TYPES, HASHES[hasher])
     try:
         machine.statement("new w " + name)
     except Refused:
