@@ -1,4 +1,4 @@
-//! Each call once; the other rows are those of `schema_rows`, and indices of the consensus layer's
+//! Each call once; the other rows are those of `text_rows`, and indices of the consensus layer's
 //! types those of `program_rows`.
 use ssz_gindex::{Gindex, are_helpers, helper_indices};
 use ssz_schema::{Name, PathStep, Schema, TypeExpr, Width};

@@ -1,5 +1,5 @@
 // Each call that allocates, once where it succeeds. What definitions are answered, and what is read
-// off types, the rows of schema_rows say.
+// off types, the rows of text_rows say.
 ghost use Rattle.std.specs.Prelude.{◌<◌, length, IfOk};
 
 use ssz_schema::{Format, Name, Schema, SchemaError, SchemaFault, TypeExpr, TypeId, Width};

@@ -1,4 +1,4 @@
-//! Each kind of answer once. The rows of schema_rows have the other documents.
+//! Each kind of answer once. The rows of text_rows have the other documents.
 use ssz_schema::SchemaFault;
 use ssz_schema_json::{SchemaRead, read_schema};
 use std::test::Fail;

@@ -1,5 +1,5 @@
 // Each call that takes memory, once where it succeeds. What each line is read as, and how each
-// reply is printed, is shown by the rows of the program script_rows.
+// reply is printed, is shown by the rows of the program text_rows.
 use ssz_script::{
     PartialStatement, Reply, Statement, Statements, read_line, read_partial, reply_text,
 };

@@ -1,0 +1,1 @@
+"""The tables of crates/text_rows."""
