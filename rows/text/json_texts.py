@@ -6,64 +6,42 @@ told by hand from the rules of docs/formats.md.
 """
 import json
 
-from .ssz import encoded, form
+from ssz import (
+    BOOLEAN, BUILT_IN, bitlist, bitvector, container, encode, form_of, json_text, list_of, uint, union, vector)
+
 from .table import Table
 
 
 def nested(levels, t):
-    return t if levels == 0 else ("vector", nested(levels - 1, t), 1)
+    return t if levels == 0 else vector(nested(levels - 1, t), 1)
 
 
 def enclosed(levels, v):
     return v if levels == 0 else [enclosed(levels - 1, v)]
 
 
-SHORT = ("list", "uint8", 4)
-M = ("container", [("a", "uint16"), ("b", SHORT)])
-R = ("container", [("z", "uint16"), ("b2", SHORT)])
+SHORT = list_of(uint(8), 4)
+M = container(a=uint(16), b=SHORT)
+R = container(z=uint(16), b2=SHORT)
 TYPES = {
     "M": M,
     "R": R,
-    "S": ("container", [("b", "uint8"), ("bb", "uint8"), ("b_", "uint8"), ("_b", "uint8"),
-                        ("B", "uint8"), ("b1", "uint8"), ("_", "boolean")]),
-    "T": ("container", [("first", ("list", R, 2)), ("second", ("union", [None, R])),
-                        ("third", ("bitvector", 2))]),
-    "U": ("union", [None, "uint64"]),
-    "V": ("union", ["uint8", M, "boolean"]),
-    "Bits": ("bitvector", 3),
-    "Bits9": ("bitvector", 9),
-    "Some": ("bitlist", 2),
-    "L": ("list", R, 2),
-    "N": ("list", "uint128", 2),
-    "P": ("vector", "uint64", 2),
-    "Q": ("list", SHORT, 3),
-    "Flags": ("vector", "boolean", 2),
-    "Root": ("vector", "uint8", 32),
-    "Wides": ("list", "uint256", 2),
-    "Deep": nested(31, "boolean"),
+    "S": container(b=uint(8), bb=uint(8), b_=uint(8), _b=uint(8), B=uint(8), b1=uint(8), _=BOOLEAN),
+    "T": container(first=list_of(R, 2), second=union(None, R), third=bitvector(2)),
+    "U": union(None, uint(64)),
+    "V": union(uint(8), M, BOOLEAN),
+    "Bits": bitvector(3),
+    "Bits9": bitvector(9),
+    "Some": bitlist(2),
+    "L": list_of(R, 2),
+    "N": list_of(uint(128), 2),
+    "P": vector(uint(64), 2),
+    "Q": list_of(SHORT, 3),
+    "Flags": vector(BOOLEAN, 2),
+    "Root": vector(uint(8), 32),
+    "Wides": list_of(uint(256), 2),
+    "Deep": nested(31, BOOLEAN),
 }
-
-
-def shown(t, v):
-    """What stands for the value in JSON, as Python's json takes it."""
-    if t == "boolean":
-        return bool(v)
-    if t == "uint256":
-        return "0x" + v.to_bytes(32, "little").hex()
-    if isinstance(t, str):
-        return str(v)
-    kind = t[0]
-    if kind == "container":
-        return {name: shown(part, x) for (name, part), x in zip(t[1], v)}
-    if kind in ("bitvector", "bitlist"):
-        return "".join(str(bit) for bit in v)
-    if kind == "union":
-        return [v[0], None if v[1] is None else shown(t[1][v[0]], v[1])]
-    return "0x" + bytes(v).hex() if t[1] == "uint8" else [shown(t[1], x) for x in v]
-
-
-def text_of(t, v):
-    return json.dumps(shown(t, v), sort_keys=True, separators=(",", ":"))
 
 
 VALUES = [
@@ -222,15 +200,15 @@ FAULTS = [
 def table():
     rows, lines = [], []
     for name, value in VALUES:
-        t = TYPES.get(name, name)
-        text = text_of(t, value)
+        t = TYPES.get(name) or BUILT_IN[name]
+        text = json_text(t, value)
         row = "%s %s" % (name, text)
         rows.append(row)
-        lines.append("%s: 0x%s, json %s, too long" % (row, encoded(t, value).hex(), text))
+        lines.append("%s: 0x%s, json %s, too long" % (row, encode(t, value).hex(), text))
     for name, text, fault in FAULTS:
         row = "%s %s" % (name, "0x" + text.hex() if isinstance(text, bytes) else text)
         rows.append(row)
         lines.append("%s: %s" % (row, fault))
-    schema = {"ssz": 1, "types": [[name, form(t)] for name, t in TYPES.items()]}
+    schema = {"ssz": 1, "types": [[name, form_of(t)] for name, t in TYPES.items()]}
     files = {".txt": "".join(row + "\n" for row in rows), ".json": json.dumps(schema) + "\n"}
     return Table(files, lines)

@@ -4,125 +4,30 @@ Each line has the encoding of a part, or of the whole value after an edit, or th
 computed over plain values, by the encoding of simple-serialize.md and the edits with their refusals
 in the order BadPath, Absent, NotThat, Full, Empty, BadSelector. The schema of the types is data of
 the crate.
-
-The value of a union is a list of the selector and the value of the option, so that an edit can
-write into it.
 """
-import copy
+from ssz import (
+    BOOLEAN, Refused, append, bitlist, bitvector, choose, container, edited, encode, list_of, part_at, path_type, pop, set_to,
+    step_of, uint, union, vector)
 
-from .ssz import encoded, step_type
 from .table import Table
 
-
-def uint(bits):
-    return "uint%d" % bits
-
-
-BOOL = "boolean"
-K = ("container", [("a", BOOL), ("b", ("list", uint(8), 2))])
-P = ("union", [uint(8), K])
+K = container(a=BOOLEAN, b=list_of(uint(8), 2))
+P = union(uint(8), K)
 TYPES = {
-    "L": ("list", uint(8), 1),
-    "U": ("union", [None, uint(64)]),
+    "L": list_of(uint(8), 1),
+    "U": union(None, uint(64)),
     "K": K,
     "P": P,
-    "C": ("container", [
-        ("number", uint(16)),
-        ("flags", ("bitvector", 10)),
-        ("marks", ("bitlist", 3)),
-        ("name", ("vector", uint(8), 3)),
-        ("text", ("list", uint(8), 4)),
-        ("longs", ("list", uint(64), 3)),
-        ("pair", ("vector", uint(16), 2)),
-        ("kids", ("list", K, 2)),
-        ("pick", P),
-        ("wide", uint(256)),
-    ]),
-    "B": ("bitlist", 3),
-    "V": ("vector", K, 2),
+    "C": container(
+        number=uint(16), flags=bitvector(10), marks=bitlist(3), name=vector(uint(8), 3), text=list_of(uint(8), 4),
+        longs=list_of(uint(64), 3), pair=vector(uint(16), 2), kids=list_of(K, 2), pick=P, wide=uint(256)),
+    "B": bitlist(3),
+    "V": vector(K, 2),
 }
 
 
-# Parts and edits.
-
-class Refused(Exception):
-    pass
-
-
-def path_type(t, path):
-    for step in path:
-        t = step_type(t, str(step))
-        if t is None:
-            raise Refused("BadPath")
-    return t
-
-
-def place(t, v, step):
-    """Where the part of a step lies in the value: a list and an index; None for what is told."""
-    if step in ("#len", "#sel"):
-        return None
-    if isinstance(step, int):
-        if step >= len(v):
-            raise Refused("Absent")
-        return v, step
-    if step[0] == "#":
-        if v[0] != int(step[1:]):
-            raise Refused("Absent")
-        return v, 1
-    return v, [name for name, _ in t[1]].index(step)
-
-
-def found(t, v, path):
-    """The type and the value of the part, and where it lies."""
-    at = None
-    for step in path:
-        at = place(t, v, step)
-        if at is None:
-            v = len(v) if step == "#len" else v[0]
-        else:
-            v = at[0][at[1]]
-        t = step_type(t, str(step))
-    told = bool(path) and at is None
-    return t, v, at, told
-
-
-def with_edit(word, t, v, told, new):
-    """The part after the edit."""
-    if word == "set":
-        if told:
-            raise Refused("NotThat")
-        return new
-    if word == "choose":
-        if t[0] != "union":
-            raise Refused("NotThat")
-        if new[0] >= len(t[1]):
-            raise Refused("BadSelector")
-        return new
-    if t[0] not in ("list", "bitlist"):
-        raise Refused("NotThat")
-    if word == "append":
-        if len(v) == t[-1]:
-            raise Refused("Full")
-        return v + [new]
-    if not v:
-        raise Refused("Empty")
-    return v[:-1]
-
-
-def edited(word, whole_type, whole, path, new):
-    path_type(whole_type, path)
-    t, v, at, told = found(whole_type, whole, path)
-    part = with_edit(word, t, v, told, new)
-    if at is None:
-        return part
-    at[0][at[1]] = part
-    return whole
-
-
-# The rows.
-
 def digits(t, v):
-    return "0x" + encoded(t, v).hex()
+    return "0x" + encode(t, v).hex()
 
 
 class Block:
@@ -135,9 +40,9 @@ class Block:
         self.rows.append(row)
         self.wanted.append(row + ": " + answer)
 
-    def edit(self, row, word, path, new):
+    def edit(self, row, path, edit):
         try:
-            self.value = edited(word, self.type, copy.deepcopy(self.value), path, new)
+            self.value = edited(self.type, self.value, steps(path), edit)
             refusal = ""
         except Refused as fault:
             refusal = "%s, " % fault
@@ -145,37 +50,34 @@ class Block:
 
     # new_type is the type in which the digits are read, where the path tells none
     def set(self, path, new, new_type=uint(8)):
-        try:
-            new_type = path_type(self.type, path)
-        except Refused:
-            pass
-        self.edit("set %s %s" % (text(path), digits(new_type, new)), "set", path, new)
+        new_type = path_type(self.type, steps(path)) or new_type
+        self.edit("set %s %s" % (text(path), digits(new_type, new)), path, set_to(new))
 
     def append(self, path, new, new_type=uint(8)):
-        try:
-            t = path_type(self.type, path)
-            new_type = {"list": t[1], "bitlist": BOOL}.get(t[0], new_type)
-        except Refused:
-            pass
-        self.edit("append %s %s" % (text(path), digits(new_type, new)), "append", path, new)
+        t = path_type(self.type, steps(path))
+        if t is not None and t[0] in ("list", "bitlist"):
+            new_type = t[1] if t[0] == "list" else BOOLEAN
+        self.edit("append %s %s" % (text(path), digits(new_type, new)), path, append(new))
 
     def pop(self, *path):
-        self.edit("pop " + text(path), "pop", path, None)
+        self.edit("pop " + text(path), path, pop)
 
     def choose(self, path, selector, inner=None, inner_type=uint(64)):
         row = "choose %s %d" % (text(path), selector)
         if inner is not None:
             row += " " + digits(inner_type, inner)
-        self.edit(row, "choose", path, [selector, inner])
+        self.edit(row, path, choose(selector, inner))
 
     def part(self, *path):
         try:
-            path_type(self.type, path)
-            t, v, _, _ = found(self.type, self.value, path)
-            answer = digits(t, v)
+            answer = digits(*part_at(self.type, self.value, steps(path)))
         except Refused as fault:
             answer = str(fault)
         self.row("part " + text(path), answer)
+
+
+def steps(path):
+    return [step_of(str(step)) for step in path]
 
 
 def text(path):
@@ -208,7 +110,7 @@ def lists():
 
 
 def unions():
-    block = Block("U", [0, None])
+    block = Block("U", (0, None))
     block.choose([], 2)
     block.set(["#1"], 7)
     block.set(["#0"], 7)
@@ -224,7 +126,7 @@ def unions():
     block.append([], 1)
     block.pop()
     block.choose([], 0)
-    block.set([], [1, 4])
+    block.set([], (1, 4))
     block.part()
     return block
 
@@ -250,7 +152,7 @@ def bits():
 
 
 C = [0x0102, [True] + [False] * 8 + [True], [True], [1, 2, 3], [4], [5, 6], [7, 8],
-     [[True, [9]]], [0, 10], 2 ** 255 + 11]
+     [[True, [9]]], (0, 10), 2 ** 255 + 11]
 
 
 def simple_fields(block):
@@ -313,7 +215,7 @@ def inner_fields(block):
     block.part()
 
 
-def container():
+def fields():
     block = Block("C", C)
     simple_fields(block)
     listed_fields(block)
@@ -321,7 +223,7 @@ def container():
     return block
 
 
-def vector():
+def containers():
     block = Block("V", [[False, [1]], [True, []]])
     block.set([0], [True, [2, 3]])
     block.set([1, "b"], [4])
@@ -334,6 +236,6 @@ def vector():
 
 
 def table():
-    blocks = [make() for make in (lists, unions, bits, container, vector)]
+    blocks = [make() for make in (lists, unions, bits, fields, containers)]
     rows = "\n\n".join("\n".join(block.rows) for block in blocks) + "\n"
     return Table({".txt": rows}, [line for block in blocks for line in block.wanted])

@@ -6,46 +6,57 @@ parts of all, and of the variable parts before.
 """
 import json
 
-from .ssz import encoded, form, step_part, step_type, steps_of
+from ssz import (
+    BOOLEAN, LEN, SEL, bitlist, bitvector, container, encode, field_number, field_types, form_of, is_bits, is_sequence,
+    list_of, path_of, path_type, scopes, step_type, uint, union, vector)
+
 from .table import Table
 
 MOST = 2 ** 62
 
-M = ("container", [("a", "uint16"), ("b", ("list", "uint8", 4))])
-KID = ("container", [("x", "boolean"), ("y", ("list", "uint16", 3))])
-PICK = ("union", [None, "uint256", ("list", "uint8", 4), ("vector", ("list", "uint8", 2), 2)])
-STATE = ("container", [
-    ("slot", "uint64"),
-    ("name", ("list", "uint8", 8)),
-    ("live", "boolean"),
-    ("marks", ("bitlist", 20)),
-    ("fixed", ("bitvector", 10)),
-    ("kids", ("list", KID, 4)),
-    ("pair", ("vector", "uint128", 2)),
-    ("picks", ("list", PICK, 5)),
-    ("wide", "uint256"),
-    ("tail", ("list", ("list", "uint8", 4), 4)),
-])
+M = container(a=uint(16), b=list_of(uint(8), 4))
+KID = container(x=BOOLEAN, y=list_of(uint(16), 3))
+PICK = union(None, uint(256), list_of(uint(8), 4), vector(list_of(uint(8), 2), 2))
+STATE = container(
+    slot=uint(64), name=list_of(uint(8), 8), live=BOOLEAN, marks=bitlist(20), fixed=bitvector(10), kids=list_of(KID, 4),
+    pair=vector(uint(128), 2), picks=list_of(PICK, 5), wide=uint(256), tail=list_of(list_of(uint(8), 4), 4))
 TYPES = {
     "M": M,
-    "Short": "uint16",
-    "Huge": "uint128",
-    "Flag": "boolean",
-    "Lists": ("list", ("list", "uint8", 4), 4),
-    "Pairs": ("vector", ("list", "uint16", 2), 3),
-    "Picks": ("list", PICK, 5),
-    "Marks": ("bitlist", 20),
+    "Short": uint(16),
+    "Huge": uint(128),
+    "Flag": BOOLEAN,
+    "Lists": list_of(list_of(uint(8), 4), 4),
+    "Pairs": vector(list_of(uint(16), 2), 3),
+    "Picks": list_of(PICK, 5),
+    "Marks": bitlist(20),
     "State": STATE,
-    "Longs": ("list", "uint64", MOST),
-    "Kids": ("list", KID, MOST),
-    "Bits": ("bitlist", MOST),
+    "Longs": list_of(uint(64), MOST),
+    "Kids": list_of(KID, MOST),
+    "Bits": bitlist(MOST),
 }
+
+
+def step_part(t, v, start, step):
+    """The part and where it begins, None for a bit and a length; or None where it is absent."""
+    if step == LEN:
+        return len(v), None
+    if step == SEL:
+        return v[0], start
+    if isinstance(step, tuple):
+        return (v[1], start + 1) if v[0] == step[1] else None
+    i = step if isinstance(step, int) else field_number(t, step)
+    if i >= len(v):
+        return None
+    if is_bits(t):
+        return v[i], None
+    types = field_types(t) if t[0] == "container" else [t[1]] * len(v)
+    return v[i], start + scopes(types, encode(t, v))[i][0]
 
 
 def stepped(t, v, path):
     """Step by step: the first step that does not lead on says why."""
     start = 0
-    for step in steps_of(path):
+    for step in path_of(path):
         part = step_type(t, step)
         if part is None:
             return "BadPath"
@@ -58,12 +69,7 @@ def stepped(t, v, path):
 
 def at(t, v, path):
     """Over the whole path whether it fits comes before what is absent."""
-    part = t
-    for step in steps_of(path):
-        part = step_type(part, step)
-        if part is None:
-            return "BadPath"
-    return stepped(t, v, path)
+    return "BadPath" if path_type(t, path_of(path)) is None else stepped(t, v, path)
 
 
 def option(value):
@@ -71,14 +77,13 @@ def option(value):
 
 
 def part_text(t, v, start):
-    kind = t if isinstance(t, str) else t[0]
-    is_number = isinstance(t, str) and kind not in ("boolean", "uint256")
+    kind = t[0]
     return "start %s, bytes %s, len %s, selector %s, uint %s, boolean %s" % (
         option(start),
-        "None" if start is None else "0x" + encoded(t, v).hex(),
-        option(len(v) if kind in ("vector", "list", "bitvector", "bitlist") else None),
+        "None" if start is None else "0x" + encode(t, v).hex(),
+        option(len(v) if is_sequence(t) or is_bits(t) else None),
         option(v[0] if kind == "union" else None),
-        option(v if is_number else None),
+        option(v if kind == "uint" and t != uint(256) else None),
         option(str(bool(v)).lower() if kind == "boolean" else None),
     )
 
@@ -89,7 +94,7 @@ class Rows:
 
     def whole(self, name, v, paths):
         t = TYPES[name]
-        first = "%s 0x%s" % (name, encoded(t, v).hex())
+        first = "%s 0x%s" % (name, encode(t, v).hex())
         self.blocks.append([first])
         self.wanted.append(first)
         for path in paths:
@@ -106,7 +111,7 @@ class Rows:
         self.wanted.append("%s 0x%s: fault %d at %d" % (name, digits, code, position))
 
     def table(self):
-        types = ",\n".join(json.dumps([name, form(t)]) for name, t in TYPES.items())
+        types = ",\n".join(json.dumps([name, form_of(t)]) for name, t in TYPES.items())
         rows = "\n\n".join("\n".join(block) for block in self.blocks) + "\n"
         schema = '{"ssz":2,"types":[\n%s]}\n' % types
         return Table({".txt": rows, ".json": schema}, self.wanted)
