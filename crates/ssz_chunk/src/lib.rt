@@ -1,21 +1,25 @@
 //! Chunks of 32 bytes, hashers that make one chunk of a pair, and the roots of full zero trees.
 //!
 //! What a tree of chunks is, and what stands where in it, is defined in `specs/` for all crates
-//! above: `Tree` (trees, roots, full trees, the pairs above their first places) and `Index`
-//! (generalized indices).
+//! above: `Tree` (trees, roots, full trees, the pairs above their first places), `Index`
+//! (generalized indices) and `Rows` (chunks side by side, of which pairs are made together).
 //! Here only chunks are kept. No call takes memory.
 #![tactic(auto)]
 
-ghost use Rattle.std.specs.Prelude.{◌≡◌, ℕ, ◌+◌, ◌<◌, ◌≤◌, List, [], slice_index_or};
+ghost use Rattle.std.specs.Prelude.{◌≡◌, ℕ, ◌+◌, ◌/◌, ◌<◌, ◌≤◌, List, [], length, slice_index_or};
 ghost use Rattle.ssz_chunk.specs.declared.TheConstants.{ZERO_TREES};
 ghost use Rattle.ssz_chunk.specs.Chunk.{CountsUp, IsChunk, sha_pair, xor_pair};
 ghost use Rattle.ssz_chunk.specs.ChunkLaws.{IsChunk-sha_pair, IsChunk-xor_pair};
+ghost use Rattle.ssz_chunk.specs.Rows.{IsHalved};
 ghost use Rattle.ssz_chunk.specs.Tree.{root, zero_tree};
 
+use crate::rows::make_some;
 use sha2::{Digest, Sha256};
+use ssz_lanes::LANES;
 use std::marker::{Model, PhantomData};
 
 mod laws;
+mod rows;
 
 pub use laws::trees_have_places;
 
@@ -51,6 +55,18 @@ pub trait PairHash {
         ensures value { result.0 ≡ pair_of left.now.0 right.now.0 }
         ensures counts { CountsUp 1 (pairs self.old) (pairs self.new) };
 
+    /// The chunks of a row of pairs, each of two chunks that stand side by side: chunk j becomes
+    /// that of 2 * j and 2 * j + 1. Each pair is counted; what stands behind the first half is used
+    /// up.
+    fn halve(&mut self, chunks: &mut [Chunk])
+        ensures value { IsHalved pair_of chunks.old chunks.new }
+        ensures counts { CountsUp (length chunks.old / 2) (pairs self.old) (pairs self.new) }
+    {
+        'pairs: for j in 0..chunks.len() / 2 {
+            chunks[j] = self.pair(&chunks[2 * j], &chunks[2 * j + 1]);
+        }
+    }
+
     /// How many pairs were made, or the greatest u64 where they were more.
     fn count(&self) -> u64
         ensures { result ≡ pairs self.now };
@@ -78,6 +94,17 @@ impl ShaPair {
     }
 }
 
+// Fewer pairs than these are made one by one: a row of lanes takes as long, however many it has.
+const FEW: usize = 3;
+
+// The chunk of one pair.
+fn sha_of(left: &Chunk, right: &Chunk) -> Chunk
+    ensures { result.0 ≡ sha_pair left.now.0 right.now.0 }
+{
+    let hasher = Sha256::new_with_prefix(&left.0).chain_update(&right.0);
+    Chunk(hasher.finalize())
+}
+
 impl PairHash for ShaPair {
     ghost pair_of = { sha_pair };
 
@@ -87,8 +114,24 @@ impl PairHash for ShaPair {
 
     fn pair(&mut self, left: &Chunk, right: &Chunk) -> Chunk {
         self.pairs = self.pairs.saturating_add(1);
-        let hasher = Sha256::new_with_prefix(&left.0).chain_update(&right.0);
-        Chunk(hasher.finalize())
+        sha_of(left, right)
+    }
+
+    // As many at a time as there are lanes.
+    fn halve(&mut self, chunks: &mut [Chunk]) {
+        let count = chunks.len() / 2;
+        let mut made = 0;
+        'pairs: while made < count {
+            let n = LANES.min(count - made);
+            if n < FEW {
+                chunks[made] = sha_of(&chunks[2 * made], &chunks[2 * made + 1]);
+                made += 1;
+            } else {
+                make_some(chunks, made, n);
+                made += n;
+            }
+        }
+        self.pairs = self.pairs.saturating_add(count as u64);
     }
 
     fn count(&self) -> u64 {
