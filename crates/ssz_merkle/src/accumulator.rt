@@ -1,9 +1,10 @@
-ghost use Rattle.std.specs.Prelude.{◌≡◌, ◌+◌, ◌^◌, ◌<◌, ◌≤◌, ℕ, List, [], ◌∷◌, ◌++◌};
+ghost use Rattle.std.specs.Prelude.{◌≡◌, ◌+◌, ◌-◌, ◌%◌, ◌^◌, ◌<◌, ◌≤◌, ℕ, List, [], ◌∷◌, ◌++◌, length};
 ghost use Rattle.ssz_chunk.specs.declared.TheConstants.{LEVELS};
 ghost use Rattle.ssz_chunk.specs.Chunk.{CountsUp};
 ghost use Rattle.ssz_chunk.specs.Tree.{root, full};
-ghost use Rattle.ssz_merkle.specs.Frontier.{Holds, finish_pairs, leaves, push_pairs};
+ghost use Rattle.ssz_merkle.specs.Frontier.{Holds, bytes_of, finish_pairs, leaves, push_pairs, whole_pairs};
 
+use super::rows::row_root;
 use ssz_chunk::{Chunk, LEVELS, PairHash, ZeroTable};
 use std::marker::Model;
 
@@ -34,6 +35,14 @@ impl<'a, H: PairHash> Model for Accumulator<'a, H> {
         × (length stack.roots ≡ 127) };
 }
 
+// How many chunks a subtree of this height has.
+fn places(level: u32) -> u128
+    requires { level ≤ LEVELS }
+    ensures { result ≡ 2 ^ level }
+{
+    1 << level
+}
+
 impl<'a, H: PairHash> Accumulator<'a, H> {
     /// For the full tree of this depth, which is at most LEVELS: merkleize with the limit 2^depth.
     #[inline(always)]
@@ -62,14 +71,55 @@ impl<'a, H: PairHash> Accumulator<'a, H> {
         ensures counts { CountsUp (push_pairs self.old.depth self.old.pushed)
             (H.pairs hasher.old) (H.pairs hasher.new) }
     {
+        self.push_root(0, chunk, hasher);
+    }
+
+    /// Takes a subtree of 2^level chunks by its root, where a multiple of as many were pushed so
+    /// far. Hashes the pairs above it of which its last chunk is the last one: with the pairs of
+    /// the subtree, these are those that as many pushes hash.
+    pub fn push_root(&mut self, level: u32, chunk: &Chunk, hasher: &mut H)
+        requires level { level ≤ self.old.depth }
+        requires whole { self.old.pushed % 2 ^ level ≡ 0 }
+        requires room { self.old.pushed + 2 ^ level ≤ 2 ^ self.old.depth }
+        ensures depth { self.new.depth ≡ self.old.depth }
+        ensures pushed { self.new.pushed ≡ self.old.pushed + 2 ^ level }
+        ensures holds { (chunks row : List (List ℕ)) → Holds H.pair_of chunks self.old
+            → length row ≡ 2 ^ level → chunk.now.0 ≡ root H.pair_of (full level (leaves row))
+            → Holds H.pair_of (chunks ++ row) self.new }
+        ensures counts { (start : ℕ) → CountsUp (2 ^ level - 1) start (H.pairs hasher.old)
+            → CountsUp (whole_pairs self.old.depth (self.old.pushed + 2 ^ level)
+            - whole_pairs self.old.depth self.old.pushed) start (H.pairs hasher.new) }
+    {
+        let pushed = self.pushed;
+        let width = places(level);
+        let last = pushed + (width - 1);
+        let whole = last.trailing_ones();
         let mut carry = *chunk;
-        let whole = self.pushed.trailing_ones();
-        for level in 0..whole {
-            let left = self.roots[level as usize];
+        'levels: for k in level..whole {
+            let left = self.roots[k as usize];
             carry = hasher.pair(&left, &carry);
         }
         self.roots[whole as usize] = carry;
-        self.pushed += 1;
+        self.pushed = pushed + width;
+    }
+
+    /// Takes a row of 2^level chunks, which is used up, where a multiple of as many were pushed so
+    /// far. Hashes the pairs that as many pushes hash, those of each level of the row together.
+    pub fn push_row(&mut self, level: u32, chunks: &mut [Chunk], hasher: &mut H)
+        requires level { level ≤ self.old.depth }
+        requires count { length chunks.old ≡ 2 ^ level }
+        requires whole { self.old.pushed % 2 ^ level ≡ 0 }
+        requires room { self.old.pushed + 2 ^ level ≤ 2 ^ self.old.depth }
+        ensures depth { self.new.depth ≡ self.old.depth }
+        ensures pushed { self.new.pushed ≡ self.old.pushed + 2 ^ level }
+        ensures holds { (before : List (List ℕ)) → Holds H.pair_of before self.old
+            → Holds H.pair_of (before ++ bytes_of chunks.old) self.new }
+        ensures counts { CountsUp (whole_pairs self.old.depth (self.old.pushed + 2 ^ level)
+            - whole_pairs self.old.depth self.old.pushed)
+            (H.pairs hasher.old) (H.pairs hasher.new) }
+    {
+        let root = row_root(chunks, level, hasher);
+        self.push_root(level, &root, hasher);
     }
 
     /// The root of the full tree of the chunks that were pushed, with zero chunks behind them.
