@@ -1,0 +1,205 @@
+use Rattle.std.proofs.Common.{◌≡◌, ◌+◌, ◌-◌, ◌*◌, take, drop, length, ap, subst, arith, length-take}
+use Rattle.std.proofs.lemmas.List.Sums.{sum_by-take-drop}
+use Rattle.ssz_arena.specs.declared.node.NodeId.{NodeId}
+use Rattle.ssz_arena.specs.Batches.{AreBelow, AreDue, AreHashed, id_at, kids, todo_all}
+use Rattle.ssz_arena.specs.Filled.{FillsUpTo}
+use Rattle.ssz_arena.proofs.Nodes.{due}
+use Rattle.ssz_arena.proofs.Together.{KidsParts, due_below, due_hashed, due_pass, due_sum, fills_then, hashed_join, kids_parts, kids_sum, ready_later, sum_less}
+use Rattle.ssz_arena.proofs.levels.+fill_all.Goals as goal
+
+pub returns-then-count-eq0-clause-hashed : goal.returns-then-count-eq0-clause-hashed
+returns-then-count-eq0-clause-hashed g t c =
+    let nodes = c.args.nodes.now in
+    let n = c.due_of-count.result.1 in
+    let none : AreHashed nodes (take n c.due_of-count.result.0) =
+    λ j inner. absurd (omega (arith, c.if-count-eq0.true, length-take n c.due_of-count.result.0)) in
+    due_hashed nodes nodes c.args.ids.now
+    (λ j inner. omega (arith, c.requires.below j inner, c.requires.inside)) (λ j. omega arith)
+    (subst (AreHashed nodes) c.due_of-count.ensures.due none)
+
+pub children-kids-requires-clause-inside : goal.children-kids-requires-clause-inside
+children-kids-requires-clause-inside g t c =
+    due_below c.args.nodes.now c.args.ids.now _ (length c.args.nodes.now) c.due_of-count.ensures.due
+    (λ j inner. omega (arith, c.requires.below j inner, c.requires.inside))
+
+pub fill_all-requires : goal.fill_all-requires
+fill_all-requires g t c κs within =
+    let nodes = c.args.nodes.now in
+    let n = c.due_of-count.result.1 in
+    let found = take n c.due_of-count.result.0 in
+    let long : length found ≡ n =
+    omega (
+      arith,
+      length-take n c.due_of-count.result.0,
+      c.due_of-count.ensures.long,
+      c.due_of-count.ensures.few,
+      c.requires.few,
+    ) in
+    let below : AreBelow c.args.limit found =
+    due_below nodes c.args.ids.now _ c.args.limit c.due_of-count.ensures.due c.requires.below in
+    let inside : AreBelow (length nodes) found =
+    λ j inner. omega (arith, below j inner, c.requires.inside) in
+    let pairs : AreDue nodes found =
+    due_pass nodes c.args.ids.now found c.due_of-count.ensures.due in
+    let parts : KidsParts nodes found c.children-kids.result n c.min-first.result c.args.limit =
+    kids_parts g.H.PairHash.pair_of nodes found c.children-kids.result n c.min-first.result
+    c.args.limit c.requires.arena inside below pairs long c.if-count-eq0.false
+    (omega (arith, c.due_of-count.ensures.few, c.requires.few)) c.min-first.ensures
+    c.children-kids.ensures in (
+      omega (arith, c.decreases, parts.some),
+      (
+        within,
+        (
+          c.requires.arena,
+          (omega (arith, c.requires.inside), (parts.first_below, parts.first_few)),
+        ),
+      ),
+    )
+
+pub fill_all-requires-2 : goal.fill_all-requires-2
+fill_all-requires-2 g t c κs within =
+    let nodes = c.args.nodes.now in
+    let n = c.due_of-count.result.1 in
+    let found = take n c.due_of-count.result.0 in
+    let long : length found ≡ n =
+    omega (
+      arith,
+      length-take n c.due_of-count.result.0,
+      c.due_of-count.ensures.long,
+      c.due_of-count.ensures.few,
+      c.requires.few,
+    ) in
+    let below : AreBelow c.args.limit found =
+    due_below nodes c.args.ids.now _ c.args.limit c.due_of-count.ensures.due c.requires.below in
+    let inside : AreBelow (length nodes) found =
+    λ j inner. omega (arith, below j inner, c.requires.inside) in
+    let pairs : AreDue nodes found =
+    due_pass nodes c.args.ids.now found c.due_of-count.ensures.due in
+    let parts : KidsParts nodes found c.children-kids.result n c.min-first.result c.args.limit =
+    kids_parts g.H.PairHash.pair_of nodes found c.children-kids.result n c.min-first.result
+    c.args.limit c.requires.arena inside below pairs long c.if-count-eq0.false
+    (omega (arith, c.due_of-count.ensures.few, c.requires.few)) c.min-first.ensures
+    c.children-kids.ensures in (
+      omega (arith, c.decreases, parts.some),
+      (
+        within,
+        (
+          c.fill_all.ensures.arena,
+          (
+            omega (arith, c.requires.inside, c.fill_all.ensures.fills.count),
+            (parts.rest_below, parts.rest_few),
+          ),
+        ),
+      ),
+    )
+
+pub fill_level-requires-clause-below : goal.fill_level-requires-clause-below
+fill_level-requires-clause-below g t c =
+    due_below c.args.nodes.now c.args.ids.now _ c.args.limit c.due_of-count.ensures.due
+    c.requires.below
+
+pub fill_level-requires-clause-ready : goal.fill_level-requires-clause-ready
+fill_level-requires-clause-ready g t c =
+    let nodes = c.args.nodes.now in
+    let n = c.due_of-count.result.1 in
+    let found = take n c.due_of-count.result.0 in
+    let long : length found ≡ n =
+    omega (
+      arith,
+      length-take n c.due_of-count.result.0,
+      c.due_of-count.ensures.long,
+      c.due_of-count.ensures.few,
+      c.requires.few,
+    ) in
+    let below : AreBelow c.args.limit found =
+    due_below nodes c.args.ids.now _ c.args.limit c.due_of-count.ensures.due c.requires.below in
+    let inside : AreBelow (length nodes) found =
+    λ j inner. omega (arith, below j inner, c.requires.inside) in
+    let pairs : AreDue nodes found =
+    due_pass nodes c.args.ids.now found c.due_of-count.ensures.due in
+    let parts : KidsParts nodes found c.children-kids.result n c.min-first.result c.args.limit =
+    kids_parts g.H.PairHash.pair_of nodes found c.children-kids.result n c.min-first.result
+    c.args.limit c.requires.arena inside below pairs long c.if-count-eq0.false
+    (omega (arith, c.due_of-count.ensures.few, c.requires.few)) c.min-first.ensures
+    c.children-kids.ensures in
+    let first : AreHashed c.fill_all-2.new.nodes (take c.min-first.result (kids nodes found)) =
+    subst (AreHashed c.fill_all-2.new.nodes) parts.first_is (λ j inner. omega (
+      arith,
+      c.fill_all.ensures.hashed j inner,
+      c.fill_all-2.ensures.fills.todo
+          (id_at (take c.min-first.result c.children-kids.result) j).0,
+    )) in
+    let rest : AreHashed c.fill_all-2.new.nodes (drop c.min-first.result (kids nodes found)) =
+    subst (AreHashed c.fill_all-2.new.nodes) parts.rest_is c.fill_all-2.ensures.hashed in
+    let hashed : AreHashed c.fill_all-2.new.nodes (kids nodes found) =
+    hashed_join c.fill_all-2.new.nodes (kids nodes found) c.min-first.result parts.cut first rest in
+    let fills : FillsUpTo c.args.limit nodes c.fill_all-2.new.nodes =
+    fills_then (c.args.limit - 1) (c.args.limit - 1) c.args.limit nodes c.fill_all.new.nodes
+    c.fill_all-2.new.nodes (omega arith) (omega arith) c.fill_all.ensures.fills
+    c.fill_all-2.ensures.fills in
+    ready_later g.H.PairHash.pair_of nodes found c.requires.arena inside pairs c.args.limit
+    c.fill_all-2.new.nodes fills hashed
+
+pub returns-clause-fills : goal.returns-clause-fills
+returns-clause-fills g t c =
+    fills_then (c.args.limit - 1) c.args.limit c.args.limit c.args.nodes.now c.fill_all.new.nodes _
+    (omega arith) (omega arith) c.fill_all.ensures.fills
+    (fills_then (c.args.limit - 1) c.args.limit c.args.limit c.fill_all.new.nodes
+    c.fill_all-2.new.nodes _ (omega arith) (omega arith) c.fill_all-2.ensures.fills
+    c.fill_level.ensures.fills)
+
+pub returns-clause-hashed : goal.returns-clause-hashed
+returns-clause-hashed g t c =
+    due_hashed c.args.nodes.now _ c.args.ids.now
+    (λ j inner. omega (arith, c.requires.below j inner, c.requires.inside))
+    (λ j. omega (
+      arith,
+      c.fill_all.ensures.fills.todo j,
+      c.fill_all-2.ensures.fills.todo j,
+      c.fill_level.ensures.fills.todo j,
+    ))
+    (subst (AreHashed c.fill_level.new.nodes) c.due_of-count.ensures.due
+    c.fill_level.ensures.hashed)
+
+pub returns-clause-todo : goal.returns-clause-todo
+returns-clause-todo g t c =
+    let nodes = c.args.nodes.now in
+    let n = c.due_of-count.result.1 in
+    let found = take n c.due_of-count.result.0 in
+    let long : length found ≡ n =
+    omega (
+      arith,
+      length-take n c.due_of-count.result.0,
+      c.due_of-count.ensures.long,
+      c.due_of-count.ensures.few,
+      c.requires.few,
+    ) in
+    let below : AreBelow c.args.limit found =
+    due_below nodes c.args.ids.now _ c.args.limit c.due_of-count.ensures.due c.requires.below in
+    let inside : AreBelow (length nodes) found =
+    λ j inner. omega (arith, below j inner, c.requires.inside) in
+    let pairs : AreDue nodes found =
+    due_pass nodes c.args.ids.now found c.due_of-count.ensures.due in
+    let parts : KidsParts nodes found c.children-kids.result n c.min-first.result c.args.limit =
+    kids_parts g.H.PairHash.pair_of nodes found c.children-kids.result n c.min-first.result
+    c.args.limit c.requires.arena inside below pairs long c.if-count-eq0.false
+    (omega (arith, c.due_of-count.ensures.few, c.requires.few)) c.min-first.ensures
+    c.children-kids.ensures in
+    let both : todo_all nodes (take c.min-first.result (kids nodes found))
+    + todo_all nodes (drop c.min-first.result (kids nodes found))
+    ≡ todo_all nodes (kids nodes found) =
+    sum_by-take-drop (λ (id : NodeId). due nodes id.0) (kids nodes found) c.min-first.result in
+    omega (
+      arith,
+      both,
+      c.fill_all.ensures.todo,
+      c.fill_all-2.ensures.todo,
+      c.fill_level.ensures.todo,
+      ap (todo_all nodes) parts.first_is,
+      ap (todo_all nodes) parts.rest_is,
+      sum_less nodes c.fill_all.new.nodes
+          (take (2 * n - c.min-first.result) (drop c.min-first.result c.children-kids.result))
+          c.fill_all.ensures.fills.todo,
+      kids_sum g.H.PairHash.pair_of nodes found c.requires.arena inside pairs,
+      due_sum nodes c.args.ids.now found c.due_of-count.ensures.due,
+    )
