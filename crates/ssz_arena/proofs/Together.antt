@@ -44,7 +44,7 @@ due_sum nodes ids found is =
     subst (λ l. todo_all nodes l ≤ todo_all nodes ids) (sym is) (omega (arith, both))
 
 -- a node that is not due
-none_due : (nodes : List Node) (i : ℕ) (node : Node) → slice_get nodes i ≡ Some node
+pub none_due : (nodes : List Node) (i : ℕ) (node : Node) → slice_get nodes i ≡ Some node
     → is_unhashed node ≡ false → due nodes i ≡ 0
 none_due nodes i (Leaf chunk) found not_due = due-leaf nodes i chunk found
 none_due nodes i (Pair left right (Some chunk)) found not_due =
@@ -90,7 +90,7 @@ due_node (Leaf chunk) is = cc
 due_node (Pair left right (Some chunk)) is = cc
 due_node (Pair left right None) is = refl
 
-due_found : (nodes : List Node) (id : NodeId) → id.0 < length nodes → is_due nodes id ≡ true
+pub due_found : (nodes : List Node) (id : NodeId) → id.0 < length nodes → is_due nodes id ≡ true
     → slice_get nodes id.0
     ≡ Some (Pair (left_of (node_of nodes id)) (right_of (node_of nodes id)) None)
 due_found nodes id inside is =
@@ -202,7 +202,7 @@ module _ (p : List ℕ → List ℕ → List ℕ) (nodes : List Node) (ids : Lis
               ∙ ap (root p) (sym (tree-pair nodes (id_at ids j).0 _ _ None here sound.0 sound.1));
         }
 
-todo-cons : (nodes : List Node) (id : NodeId) (ids : List NodeId)
+pub todo-cons : (nodes : List Node) (id : NodeId) (ids : List NodeId)
     → todo_all nodes (id ∷ ids) ≡ due nodes id.0 + todo_all nodes ids
 todo-cons nodes id ids =
     let f : NodeId → ℕ = λ (x : NodeId). due nodes x.0 in

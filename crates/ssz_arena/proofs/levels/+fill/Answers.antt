@@ -1,14 +1,70 @@
-use Rattle.std.proofs.Common.{◌≡◌, ◌+◌, ◌-◌, ◌*◌, take, drop, length, ap, subst, arith, length-take}
+use Rattle.std.proofs.Common.{true, rules, ◌<◌, ◌≡◌, ◌+◌, ◌-◌, ◌*◌, take, drop, length, ap, subst, arith, length-take}
 use Rattle.std.proofs.lemmas.List.Sums.{sum_by-take-drop}
 use Rattle.ssz_arena.specs.declared.node.NodeId.{NodeId}
-use Rattle.ssz_arena.specs.Batches.{AreBelow, AreDue, AreHashed, id_at, kids, todo_all}
+use Rattle.ssz_arena.specs.Batches.{AreBelow, AreDue, AreHashed, id_at, is_due, kids, todo_all}
 use Rattle.ssz_arena.specs.Filled.{FillsUpTo}
 use Rattle.ssz_arena.proofs.Nodes.{due}
 use Rattle.ssz_arena.proofs.Together.{KidsParts, due_below, due_hashed, due_pass, due_sum, fills_then, hashed_join, kids_parts, kids_sum, ready_later, sum_less}
-use Rattle.ssz_arena.proofs.levels.+fill_all.Goals as goal
+use Rattle.ssz_arena.proofs.Forks.{due_now, due_then, fills_wider, left_low, one_below, one_hashed, one_sum, right_low, todo-two, two_below}
+use Rattle.ssz_arena.proofs.levels.+fill.Goals as goal
 
-pub returns-then-count-eq0-clause-hashed : goal.returns-then-count-eq0-clause-hashed
-returns-then-count-eq0-clause-hashed g t c =
+pub fill_one-returns-clause-fills : goal.fill_one-returns-clause-fills
+fill_one-returns-clause-fills g t c =
+    fills_then _ _ _ _ _ _ c.fork_of-fork.ensures.below (omega arith) c.fill_below.ensures.fills
+    c.fill.ensures.fills
+
+pub fill_one-returns-clause-todo : goal.fill_one-returns-clause-todo
+fill_one-returns-clause-todo g t c =
+    omega (
+      arith,
+      c.fork_of-fork.ensures.todo _ _ c.fill_below.ensures.fills,
+      c.fill_below.ensures.todo,
+      c.fill.ensures.todo,
+    )
+
+pub fill_below-fill_all-requires : goal.fill_below-fill_all-requires
+fill_below-fill_all-requires g t c κs within =
+    let nodes = c.args.nodes.now in
+    let is : is_due nodes c.args.id ≡ true = search rules in
+    let low_left : c.children_of.result.0.0 < c.args.id.0 =
+    left_low g.H.PairHash.pair_of nodes c.args.id _ _ c.requires.arena c.requires.inside is
+    c.children_of.ensures.left c.children_of.ensures.right in
+    let low_right : c.children_of.result.1.0 < c.args.id.0 =
+    right_low g.H.PairHash.pair_of nodes c.args.id _ _ c.requires.arena c.requires.inside is
+    c.children_of.ensures.left c.children_of.ensures.right in (
+      omega (arith, c.decreases),
+      (
+        within,
+        (
+          c.requires.arena,
+          (
+            omega (arith, c.requires.inside),
+            (two_below c.args.id.0 _ _ low_left low_right, omega arith),
+          ),
+        ),
+      ),
+    )
+
+pub fill_below-returns-clause-todo : goal.fill_below-returns-clause-todo
+fill_below-returns-clause-todo g t c =
+    let p = g.H.PairHash.pair_of in
+    let nodes = c.args.nodes.now in
+    let is : is_due nodes c.args.id ≡ true = search rules in
+    omega (
+      arith,
+      c.fill_all.ensures.todo,
+      c.fill_all.ensures.hashed 0 (omega arith),
+      c.fill_all.ensures.hashed 1 (omega arith),
+      todo-two nodes c.children_of.result.0 c.children_of.result.1,
+      due_now p nodes c.args.id _ _ c.requires.arena c.requires.inside is
+          c.children_of.ensures.left c.children_of.ensures.right,
+      due_then p nodes c.args.id _ _ c.requires.arena c.requires.inside is
+          c.children_of.ensures.left c.children_of.ensures.right c.args.id.0
+          c.fill_all.new.nodes c.fill_all.ensures.fills,
+    )
+
+pub fill_all-returns-then-count-eq0-clause-hashed : goal.fill_all-returns-then-count-eq0-clause-hashed
+fill_all-returns-then-count-eq0-clause-hashed g t c =
     let nodes = c.args.nodes.now in
     let n = c.due_of-count.result.1 in
     let none : AreHashed nodes (take n c.due_of-count.result.0) =
@@ -17,13 +73,54 @@ returns-then-count-eq0-clause-hashed g t c =
     (λ j inner. omega (arith, c.requires.below j inner, c.requires.inside)) (λ j. omega arith)
     (subst (AreHashed nodes) c.due_of-count.ensures.due none)
 
-pub children-kids-requires-clause-inside : goal.children-kids-requires-clause-inside
-children-kids-requires-clause-inside g t c =
+pub fill_all-fill_one-requires : goal.fill_all-fill_one-requires
+fill_all-fill_one-requires g t c κs within =
+    let found = c.due_of-count.result.0 in
+    let low : (id_at found 0).0 < c.args.limit =
+    one_below found c.due_of-count.result.1 c.if-count-eq1.true c.args.limit
+    c.due_of-count.ensures.long
+    (due_below c.args.nodes.now c.args.ids.now _ c.args.limit c.due_of-count.ensures.due
+    c.requires.below) in (
+      omega (arith, c.decreases, low),
+      (within, (c.requires.arena, omega (arith, low, c.requires.inside))),
+    )
+
+pub fill_all-returns-then-count-eq1-clause-fills :
+    goal.fill_all-returns-then-count-eq1-clause-fills
+fill_all-returns-then-count-eq1-clause-fills g t c =
+    let low : _ = one_below c.due_of-count.result.0 c.due_of-count.result.1 c.if-count-eq1.true
+    c.args.limit c.due_of-count.ensures.long
+    (due_below c.args.nodes.now c.args.ids.now _ c.args.limit c.due_of-count.ensures.due
+    c.requires.below) in
+    fills_wider _ _ _ _ (omega (arith, low)) c.fill_one.ensures.fills
+
+pub fill_all-returns-then-count-eq1-clause-hashed :
+    goal.fill_all-returns-then-count-eq1-clause-hashed
+fill_all-returns-then-count-eq1-clause-hashed g t c =
+    due_hashed c.args.nodes.now c.fill_one.new.nodes c.args.ids.now
+    (λ j inner. omega (arith, c.requires.below j inner, c.requires.inside))
+    c.fill_one.ensures.fills.todo
+    (subst (AreHashed c.fill_one.new.nodes) c.due_of-count.ensures.due
+    (one_hashed c.due_of-count.result.0 c.due_of-count.result.1 c.if-count-eq1.true
+    c.fill_one.new.nodes c.fill_one.ensures.hashed))
+
+pub fill_all-returns-then-count-eq1-clause-todo : goal.fill_all-returns-then-count-eq1-clause-todo
+fill_all-returns-then-count-eq1-clause-todo g t c =
+    omega (
+      arith,
+      c.fill_one.ensures.todo,
+      one_sum c.args.nodes.now c.due_of-count.result.0 c.due_of-count.result.1 c.if-count-eq1.true
+          c.due_of-count.ensures.long,
+      due_sum c.args.nodes.now c.args.ids.now _ c.due_of-count.ensures.due,
+    )
+
+pub fill_all-children-kids-requires-clause-inside : goal.fill_all-children-kids-requires-clause-inside
+fill_all-children-kids-requires-clause-inside g t c =
     due_below c.args.nodes.now c.args.ids.now _ (length c.args.nodes.now) c.due_of-count.ensures.due
     (λ j inner. omega (arith, c.requires.below j inner, c.requires.inside))
 
-pub fill_all-requires : goal.fill_all-requires
-fill_all-requires g t c κs within =
+pub fill_all-fill_all-requires : goal.fill_all-fill_all-requires
+fill_all-fill_all-requires g t c κs within =
     let nodes = c.args.nodes.now in
     let n = c.due_of-count.result.1 in
     let found = take n c.due_of-count.result.0 in
@@ -56,8 +153,8 @@ fill_all-requires g t c κs within =
       ),
     )
 
-pub fill_all-requires-2 : goal.fill_all-requires-2
-fill_all-requires-2 g t c κs within =
+pub fill_all-fill_all-requires-2 : goal.fill_all-fill_all-requires-2
+fill_all-fill_all-requires-2 g t c κs within =
     let nodes = c.args.nodes.now in
     let n = c.due_of-count.result.1 in
     let found = take n c.due_of-count.result.0 in
@@ -93,13 +190,13 @@ fill_all-requires-2 g t c κs within =
       ),
     )
 
-pub fill_level-requires-clause-below : goal.fill_level-requires-clause-below
-fill_level-requires-clause-below g t c =
+pub fill_all-fill_level-requires-clause-below : goal.fill_all-fill_level-requires-clause-below
+fill_all-fill_level-requires-clause-below g t c =
     due_below c.args.nodes.now c.args.ids.now _ c.args.limit c.due_of-count.ensures.due
     c.requires.below
 
-pub fill_level-requires-clause-ready : goal.fill_level-requires-clause-ready
-fill_level-requires-clause-ready g t c =
+pub fill_all-fill_level-requires-clause-ready : goal.fill_all-fill_level-requires-clause-ready
+fill_all-fill_level-requires-clause-ready g t c =
     let nodes = c.args.nodes.now in
     let n = c.due_of-count.result.1 in
     let found = take n c.due_of-count.result.0 in
@@ -140,16 +237,16 @@ fill_level-requires-clause-ready g t c =
     ready_later g.H.PairHash.pair_of nodes found c.requires.arena inside pairs c.args.limit
     c.fill_all-2.new.nodes fills hashed
 
-pub returns-clause-fills : goal.returns-clause-fills
-returns-clause-fills g t c =
+pub fill_all-returns-clause-fills : goal.fill_all-returns-clause-fills
+fill_all-returns-clause-fills g t c =
     fills_then (c.args.limit - 1) c.args.limit c.args.limit c.args.nodes.now c.fill_all.new.nodes _
     (omega arith) (omega arith) c.fill_all.ensures.fills
     (fills_then (c.args.limit - 1) c.args.limit c.args.limit c.fill_all.new.nodes
     c.fill_all-2.new.nodes _ (omega arith) (omega arith) c.fill_all-2.ensures.fills
     c.fill_level.ensures.fills)
 
-pub returns-clause-hashed : goal.returns-clause-hashed
-returns-clause-hashed g t c =
+pub fill_all-returns-clause-hashed : goal.fill_all-returns-clause-hashed
+fill_all-returns-clause-hashed g t c =
     due_hashed c.args.nodes.now _ c.args.ids.now
     (λ j inner. omega (arith, c.requires.below j inner, c.requires.inside))
     (λ j. omega (
@@ -161,8 +258,8 @@ returns-clause-hashed g t c =
     (subst (AreHashed c.fill_level.new.nodes) c.due_of-count.ensures.due
     c.fill_level.ensures.hashed)
 
-pub returns-clause-todo : goal.returns-clause-todo
-returns-clause-todo g t c =
+pub fill_all-returns-clause-todo : goal.fill_all-returns-clause-todo
+fill_all-returns-clause-todo g t c =
     let nodes = c.args.nodes.now in
     let n = c.due_of-count.result.1 in
     let found = take n c.due_of-count.result.0 in
