@@ -63,7 +63,8 @@ fill_below-returns-clause-todo g t c =
           c.fill_all.new.nodes c.fill_all.ensures.fills,
     )
 
-pub fill_all-returns-then-count-eq0-clause-hashed : goal.fill_all-returns-then-count-eq0-clause-hashed
+pub fill_all-returns-then-count-eq0-clause-hashed :
+    goal.fill_all-returns-then-count-eq0-clause-hashed
 fill_all-returns-then-count-eq0-clause-hashed g t c =
     let nodes = c.args.nodes.now in
     let n = c.due_of-count.result.1 in
@@ -114,7 +115,8 @@ fill_all-returns-then-count-eq1-clause-todo g t c =
       due_sum c.args.nodes.now c.args.ids.now _ c.due_of-count.ensures.due,
     )
 
-pub fill_all-children-kids-requires-clause-inside : goal.fill_all-children-kids-requires-clause-inside
+pub fill_all-children-kids-requires-clause-inside :
+    goal.fill_all-children-kids-requires-clause-inside
 fill_all-children-kids-requires-clause-inside g t c =
     due_below c.args.nodes.now c.args.ids.now _ (length c.args.nodes.now) c.due_of-count.ensures.due
     (λ j inner. omega (arith, c.requires.below j inner, c.requires.inside))
