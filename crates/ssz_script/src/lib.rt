@@ -16,6 +16,7 @@ mod reply;
 mod statement;
 mod statements;
 mod texts;
+mod words;
 
 pub use indices::Indices;
 pub use laws::replies_are_lines;

@@ -5,7 +5,7 @@ ghost use Rattle.ssz_line.specs.Reading.{Reads};
 ghost use Rattle.ssz_script.specs.Grammar.{alone, one, two, partial_statements, statement_of, line_of};
 ghost use Rattle.ssz_script.specs.declared.partial.PartialStatement.TheVariants.{Get, Set, Root};
 
-use super::forms::{end, word};
+use super::words::{end, one_word, two_words};
 use ssz_bytes::ByteRun;
 use ssz_line::{LineFault, Steps, Words, read_literal, read_path};
 use std::alloc::Global;
@@ -21,23 +21,21 @@ pub enum PartialStatement {
     Root,
 }
 
-#[tactic(auto, unfolding(crate::specs::Grammar::one))]
-fn read_get(alloc: Global, mut words: Words<'_>) -> Result<PartialStatement, LineFault>
+#[tactic(auto, using(crate::proofs::Shapes::not_one), unfolding(crate::specs::Grammar::one))]
+fn read_get(alloc: Global, words: Words<'_>) -> Result<PartialStatement, LineFault>
     ensures { Reads result (one Get path words.entry) }
 {
-    let place = read_path(alloc, word(&mut words)?)?;
-    end(words)?;
-    Ok(PartialStatement::Get(place))
+    let place = one_word(words)?;
+    Ok(PartialStatement::Get(read_path(alloc, place)?))
 }
 
-#[tactic(auto, unfolding(crate::specs::Grammar::two))]
-fn read_set(alloc: Global, mut words: Words<'_>) -> Result<PartialStatement, LineFault>
+#[tactic(auto, using(crate::proofs::Shapes::not_two), unfolding(crate::specs::Grammar::two))]
+fn read_set(alloc: Global, words: Words<'_>) -> Result<PartialStatement, LineFault>
     ensures { Reads result (two Set path literal words.entry) }
 {
-    let place = read_path(alloc, word(&mut words)?)?;
-    let value = read_literal(alloc, word(&mut words)?)?;
-    end(words)?;
-    Ok(PartialStatement::Set(place, value))
+    let (place, value) = two_words(words)?;
+    let place = read_path(alloc, place)?;
+    Ok(PartialStatement::Set(place, read_literal(alloc, value)?))
 }
 
 #[tactic(auto, unfolding(crate::specs::Grammar::alone))]

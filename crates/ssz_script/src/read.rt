@@ -1,18 +1,66 @@
-ghost use Rattle.std.specs.Prelude.{◌≡◌, ◌∷◌};
+ghost use Rattle.std.specs.Prelude.{◌≡◌, ◌∷◌, drop};
 ghost use Rattle.ssz_line.specs.Reading.{Reads};
-ghost use Rattle.ssz_script.specs.Grammar.{alone, statements, statement_of, line_of};
+ghost use Rattle.ssz_script.specs.Grammar.{statements, statement_of, line_of};
 
 use super::forms;
 use super::statement::Statement;
 use ssz_line::{LineFault, Words};
 use std::alloc::Global;
 
-#[tactic(auto, unfolding(crate::specs::Grammar::alone))]
-fn alone(statement: Statement, words: Words<'_>) -> Result<Statement, LineFault>
-    ensures { Reads result (alone statement words.entry) }
+// The statement of one of the table's rows from `save` on.
+fn statement_from_save(
+    alloc: Global,
+    keyword: &[u8],
+    words: Words<'_>,
+) -> Result<Statement, LineFault>
+    ensures { Reads result (statement_of (drop 13 statements) (keyword.now ∷ words.entry)) }
 {
-    forms::end(words)?;
-    Ok(statement)
+    if keyword == b"save".as_slice() {
+        forms::read_save(alloc, words)
+    } else if keyword == b"gindex".as_slice() {
+        forms::read_gindex(alloc, words)
+    } else if keyword == b"prove".as_slice() {
+        forms::read_prove(alloc, words)
+    } else if keyword == b"hashes".as_slice() {
+        forms::read_hashes(words)
+    } else if keyword == b"upgrade".as_slice() {
+        forms::read_upgrade(alloc, words)
+    } else if keyword == b"json".as_slice() {
+        forms::read_json(alloc, words)
+    } else if keyword == b"loadjson".as_slice() {
+        forms::read_loadjson(alloc, words)
+    } else if keyword == b"compact".as_slice() {
+        forms::read_compact(words)
+    } else {
+        Err(LineFault::Syntax)
+    }
+}
+
+// The statement of one of the table's rows from `set` on.
+fn statement_from_set(
+    alloc: Global,
+    keyword: &[u8],
+    words: Words<'_>,
+) -> Result<Statement, LineFault>
+    ensures { Reads result (statement_of (drop 6 statements) (keyword.now ∷ words.entry)) }
+{
+    if keyword == b"set".as_slice() {
+        forms::read_set(alloc, words)
+    } else if keyword == b"append".as_slice() {
+        forms::read_append(alloc, words)
+    } else if keyword == b"pop".as_slice() {
+        forms::read_pop(alloc, words)
+    } else if keyword == b"choose".as_slice() {
+        forms::read_choose(alloc, words)
+    } else if keyword == b"root".as_slice() {
+        forms::read_root(alloc, words)
+    } else if keyword == b"bytes".as_slice() {
+        forms::read_bytes(alloc, words)
+    } else if keyword == b"len".as_slice() {
+        forms::read_len(alloc, words)
+    } else {
+        statement_from_save(alloc, keyword, words)
+    }
 }
 
 fn statement(alloc: Global, keyword: &[u8], words: Words<'_>) -> Result<Statement, LineFault>
@@ -29,39 +77,9 @@ fn statement(alloc: Global, keyword: &[u8], words: Words<'_>) -> Result<Statemen
     } else if keyword == b"drop".as_slice() {
         forms::read_drop(alloc, words)
     } else if keyword == b"list".as_slice() {
-        alone(Statement::List, words)
-    } else if keyword == b"set".as_slice() {
-        forms::read_set(alloc, words)
-    } else if keyword == b"append".as_slice() {
-        forms::read_append(alloc, words)
-    } else if keyword == b"pop".as_slice() {
-        forms::read_pop(alloc, words)
-    } else if keyword == b"choose".as_slice() {
-        forms::read_choose(alloc, words)
-    } else if keyword == b"root".as_slice() {
-        forms::read_root(alloc, words)
-    } else if keyword == b"bytes".as_slice() {
-        forms::read_bytes(alloc, words)
-    } else if keyword == b"len".as_slice() {
-        forms::read_len(alloc, words)
-    } else if keyword == b"save".as_slice() {
-        forms::read_save(alloc, words)
-    } else if keyword == b"gindex".as_slice() {
-        forms::read_gindex(alloc, words)
-    } else if keyword == b"prove".as_slice() {
-        forms::read_prove(alloc, words)
-    } else if keyword == b"hashes".as_slice() {
-        alone(Statement::Hashes, words)
-    } else if keyword == b"upgrade".as_slice() {
-        forms::read_upgrade(alloc, words)
-    } else if keyword == b"json".as_slice() {
-        forms::read_json(alloc, words)
-    } else if keyword == b"loadjson".as_slice() {
-        forms::read_loadjson(alloc, words)
-    } else if keyword == b"compact".as_slice() {
-        alone(Statement::Compact, words)
+        forms::read_list(words)
     } else {
-        Err(LineFault::Syntax)
+        statement_from_set(alloc, keyword, words)
     }
 }
 
