@@ -240,3 +240,69 @@ append_fields-loop-name-preserved t c =
           c.in_ok-put_comma.ensures.front) c.in_ok-put_key.ensures.front)
           c.in_ok-append_value.ensures.front;
     }
+
+pub append_chosen-returns-in_err-put_decimal-in-Union-clause-front :
+    goal.append_chosen-returns-in_err-put_decimal-in-Union-clause-front
+append_chosen-returns-in_err-put_decimal-in-Union-clause-front t c =
+    keeps_trans c.put.ensures.front c.put_decimal.ensures.front
+
+pub append_chosen-returns-in_err-put-in-Some-Some-clause-front :
+    goal.append_chosen-returns-in_err-put-in-Some-Some-clause-front
+append_chosen-returns-in_err-put-in-Some-Some-clause-front t c =
+    keeps_trans (keeps_trans c.put.ensures.front c.put_decimal.ensures.front)
+    c.put-in-Some-Some.ensures.front
+
+pub append_chosen-returns-in_err-append_value-in-Some-Some-clause-front :
+    goal.append_chosen-returns-in_err-append_value-in-Some-Some-clause-front
+append_chosen-returns-in_err-append_value-in-Some-Some-clause-front t c =
+    keeps_trans (keeps_trans (keeps_trans c.put.ensures.front c.put_decimal.ensures.front)
+    c.put-in-Some-Some.ensures.front) c.append_value.ensures.front
+
+pub append_chosen-returns-in_ok-append_value-in-Some-Some-clause-front :
+    goal.append_chosen-returns-in_ok-append_value-in-Some-Some-clause-front
+append_chosen-returns-in_ok-append_value-in-Some-Some-clause-front t c =
+    keeps_trans (keeps_trans (keeps_trans (keeps_trans c.put.ensures.front
+    c.put_decimal.ensures.front) c.put-in-Some-Some.ensures.front)
+    c.append_value.ensures.front) c.put-in-Some-Some-2.ensures.front
+
+pub append_chosen-returns-in-None-clause-front :
+    goal.append_chosen-returns-in-None-clause-front
+append_chosen-returns-in-None-clause-front t c =
+    keeps_trans (keeps_trans c.put.ensures.front c.put_decimal.ensures.front)
+    c.put-in-None.ensures.front
+
+pub append_elements-returns-in_err-put_comma-clause-front :
+    goal.append_elements-returns-in_err-put_comma-clause-front
+append_elements-returns-in_err-put_comma-clause-front t c =
+    keeps_trans c.loop-i.invariant.front c.put_comma.ensures.front
+
+pub append_elements-returns-in_err-append_value-clause-front :
+    goal.append_elements-returns-in_err-append_value-clause-front
+append_elements-returns-in_err-append_value-clause-front t c =
+    keeps_trans (keeps_trans c.loop-i.invariant.front c.put_comma.ensures.front)
+    c.append_value.ensures.front
+
+pub append_elements-returns-clause-front : goal.append_elements-returns-clause-front
+append_elements-returns-clause-front t c =
+    keeps_trans c.loop-i.invariant.front c.put-2.ensures.front
+
+pub append_fields-returns-in_err-put_comma-clause-front :
+    goal.append_fields-returns-in_err-put_comma-clause-front
+append_fields-returns-in_err-put_comma-clause-front t c =
+    keeps_trans c.loop-name.invariant.front c.put_comma.ensures.front
+
+pub append_fields-returns-in_err-put_key-clause-front :
+    goal.append_fields-returns-in_err-put_key-clause-front
+append_fields-returns-in_err-put_key-clause-front t c =
+    keeps_trans (keeps_trans c.loop-name.invariant.front c.put_comma.ensures.front)
+    c.put_key.ensures.front
+
+pub append_fields-returns-in_err-append_value-clause-front :
+    goal.append_fields-returns-in_err-append_value-clause-front
+append_fields-returns-in_err-append_value-clause-front t c =
+    keeps_trans (keeps_trans (keeps_trans c.loop-name.invariant.front
+    c.put_comma.ensures.front) c.put_key.ensures.front) c.append_value.ensures.front
+
+pub append_fields-returns-clause-front : goal.append_fields-returns-clause-front
+append_fields-returns-clause-front t c =
+    keeps_trans c.loop-name.invariant.front c.put-2.ensures.front
