@@ -1,4 +1,5 @@
 pub mod GetterLemmas
+pub mod InTurnLemmas
 pub mod ProgramLemmas
 pub mod FoundLemmas
 pub mod ReadRows

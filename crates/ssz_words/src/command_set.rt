@@ -1,8 +1,9 @@
 //! The commands and their arguments, as `clap` is told of them.
-ghost use Rattle.std.specs.Prelude.{◌≡◌, IfOk, false, pos};
-ghost use Rattle.clap.specs.Words.{app_of, rule_of};
+ghost use Rattle.std.specs.Prelude.{◌≡◌, IfOk, false, map, pos};
+ghost use Rattle.std.specs.List.{list_any};
+ghost use Rattle.clap.specs.Words.{App, Shape, app_of, rule_of, with_subcommand};
 ghost use Rattle.ssz_words.specs.CommandSet.{IsLocal, max_bytes_option, number, positional};
-ghost use Rattle.ssz_words.specs.CommandSet.{bare_program, clash_command, part_command};
+ghost use Rattle.ssz_words.specs.CommandSet.{bare_program, clash_command, command_with, part_command};
 ghost use Rattle.ssz_words.specs.CommandSet.{partial_command};
 ghost use Rattle.ssz_words.specs.CommandSet.{positionals, program, root_command, run_command};
 ghost use Rattle.ssz_words.specs.CommandSet.{verify_command, weave_command, work_command};
@@ -42,82 +43,105 @@ fn max_bytes_option<'a>(alloc: Global) -> Arg<'a>
         .default_value("268435456")
 }
 
+// The command of this name with these arguments.
+fn command_with<'a>(
+    alloc: Global,
+    name: &'a str,
+    arguments: Vec<Arg<'a>>,
+) -> Result<Command<'a>, AllocError>
+    requires local { list_any (λ argument. argument.global) arguments.items ≡ false }
+    ensures { IfOk result
+        (IsLocal (command_with name.entry.now (map rule_of arguments.entry.items))) }
+{
+    Command::new(alloc, name).args(arguments)
+}
+
 fn root_command<'a>(alloc: Global) -> Result<Command<'a>, AllocError>
     ensures { IfOk result (IsLocal root_command) }
 {
-    Command::new(alloc, "root")
-        .arg(positional(alloc, "schema"))?
-        .arg(positional(alloc, "type"))?
-        .arg(positional(alloc, "file"))?
-        .arg(max_bytes_option(alloc))
+    let arguments = vec![in alloc;
+        positional(alloc, "schema"),
+        positional(alloc, "type"),
+        positional(alloc, "file"),
+        max_bytes_option(alloc),
+    ]?;
+    command_with(alloc, "root", arguments)
 }
 
 fn run_command<'a>(alloc: Global) -> Result<Command<'a>, AllocError>
     ensures { IfOk result (IsLocal run_command) }
 {
-    Command::new(alloc, "run")
-        .arg(positional(alloc, "schema"))?
-        .arg(positional(alloc, "script"))?
-        .arg(max_bytes_option(alloc))
+    let arguments = vec![in alloc;
+        positional(alloc, "schema"),
+        positional(alloc, "script"),
+        max_bytes_option(alloc),
+    ]?;
+    command_with(alloc, "run", arguments)
 }
 
 fn weave_command<'a>(alloc: Global) -> Result<Command<'a>, AllocError>
     ensures { IfOk result (IsLocal weave_command) }
 {
-    Command::new(alloc, "weave")
-        .arg(positional(alloc, "schema"))?
-        .arg(positional(alloc, "base"))?
-        .arg(positional(alloc, "order"))?
-        .arg(positionals(alloc, "scripts"))?
-        .arg(max_bytes_option(alloc))
+    let arguments = vec![in alloc;
+        positional(alloc, "schema"),
+        positional(alloc, "base"),
+        positional(alloc, "order"),
+        positionals(alloc, "scripts"),
+        max_bytes_option(alloc),
+    ]?;
+    command_with(alloc, "weave", arguments)
 }
 
 fn verify_command<'a>(alloc: Global) -> Result<Command<'a>, AllocError>
     ensures { IfOk result (IsLocal verify_command) }
 {
-    Command::new(alloc, "verify")
-        .arg(positional(alloc, "root"))?
-        .arg(positional(alloc, "file"))
+    let arguments = vec![in alloc; positional(alloc, "root"), positional(alloc, "file")]?;
+    command_with(alloc, "verify", arguments)
 }
 
 fn work_command<'a>(alloc: Global) -> Result<Command<'a>, AllocError>
     ensures { IfOk result (IsLocal work_command) }
 {
     let edits = value_parser!(u32).range(0..=1_000_000);
-    Command::new(alloc, "work")
-        .arg(positional(alloc, "schema"))?
-        .arg(positional(alloc, "type"))?
-        .arg(number(alloc, "seed", value_parser!(u64)))?
-        .arg(number(alloc, "edits", edits))
+    let arguments = vec![in alloc;
+        positional(alloc, "schema"),
+        positional(alloc, "type"),
+        number(alloc, "seed", value_parser!(u64)),
+        number(alloc, "edits", edits),
+    ]?;
+    command_with(alloc, "work", arguments)
 }
 
 fn part_command<'a>(alloc: Global) -> Result<Command<'a>, AllocError>
     ensures { IfOk result (IsLocal part_command) }
 {
-    Command::new(alloc, "part")
-        .arg(positional(alloc, "schema"))?
-        .arg(positional(alloc, "type"))?
-        .arg(positional(alloc, "file"))?
-        .arg(positional(alloc, "path"))?
-        .arg(max_bytes_option(alloc))
+    let arguments = vec![in alloc;
+        positional(alloc, "schema"),
+        positional(alloc, "type"),
+        positional(alloc, "file"),
+        positional(alloc, "path"),
+        max_bytes_option(alloc),
+    ]?;
+    command_with(alloc, "part", arguments)
 }
 
 fn partial_command<'a>(alloc: Global) -> Result<Command<'a>, AllocError>
     ensures { IfOk result (IsLocal partial_command) }
 {
-    Command::new(alloc, "partial")
-        .arg(positional(alloc, "schema"))?
-        .arg(positional(alloc, "type"))?
-        .arg(positional(alloc, "proof"))?
-        .arg(positional(alloc, "script"))
+    let arguments = vec![in alloc;
+        positional(alloc, "schema"),
+        positional(alloc, "type"),
+        positional(alloc, "proof"),
+        positional(alloc, "script"),
+    ]?;
+    command_with(alloc, "partial", arguments)
 }
 
 fn clash_command<'a>(alloc: Global) -> Result<Command<'a>, AllocError>
     ensures { IfOk result (IsLocal clash_command) }
 {
-    Command::new(alloc, "clash")
-        .arg(positional(alloc, "first"))?
-        .arg(positional(alloc, "second"))
+    let arguments = vec![in alloc; positional(alloc, "first"), positional(alloc, "second")]?;
+    command_with(alloc, "clash", arguments)
 }
 
 // The program before it has commands.
@@ -130,17 +154,28 @@ fn bare_program<'a>(alloc: Global) -> Command<'a>
         .disable_help_subcommand(true)
 }
 
+// The program with one command more, where there was memory for both.
+fn with_command<'a>(
+    program: Result<Command<'a>, AllocError>,
+    command: Result<Command<'a>, AllocError>,
+) -> Result<Command<'a>, AllocError>
+    ensures { (app : App) → (shape : Shape) → IfOk program.entry (λ p. app_of p ≡ app)
+        → IfOk command.entry (IsLocal shape)
+        → IfOk result (λ r. app_of r ≡ with_subcommand app shape) }
+{
+    program?.subcommand(command?)
+}
+
 /// The program with its commands.
 pub(crate) fn program<'a>(alloc: Global) -> Result<Command<'a>, AllocError>
     ensures { IfOk result (λ c. app_of c ≡ program) }
 {
-    bare_program(alloc)
-        .subcommand(root_command(alloc)?)?
-        .subcommand(run_command(alloc)?)?
-        .subcommand(weave_command(alloc)?)?
-        .subcommand(verify_command(alloc)?)?
-        .subcommand(work_command(alloc)?)?
-        .subcommand(part_command(alloc)?)?
-        .subcommand(partial_command(alloc)?)?
-        .subcommand(clash_command(alloc)?)
+    let program = with_command(Ok(bare_program(alloc)), root_command(alloc));
+    let program = with_command(program, run_command(alloc));
+    let program = with_command(program, weave_command(alloc));
+    let program = with_command(program, verify_command(alloc));
+    let program = with_command(program, work_command(alloc));
+    let program = with_command(program, part_command(alloc));
+    let program = with_command(program, partial_command(alloc));
+    with_command(program, clash_command(alloc))
 }

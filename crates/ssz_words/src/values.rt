@@ -2,7 +2,7 @@
 ghost use Rattle.std.specs.Prelude.{◌≡◌, IfOk, map};
 ghost use Rattle.clap.specs.Words.{all_of, first_of};
 ghost use Rattle.ssz_words.specs.Reading.{Reads, ReadsBy};
-ghost use Rattle.ssz_words.specs.Values.{number_at, order_value, root_value, rows_in};
+ghost use Rattle.ssz_words.specs.Values.{is_digit_below, number_at, order_value, root_value, rows_in};
 
 use crate::faults::WordsFault;
 use crate::names::{FileName, FileNames, Order, PathText, TypeName};
@@ -97,13 +97,18 @@ pub(crate) fn read_order(alloc: Global, word: &str, count: usize) -> Result<Orde
     }
     let mut writers = Vec::new(alloc);
     for digit in word.as_bytes() {
-        let digit = *digit;
-        if !digit.is_ascii_digit() || usize::from(digit - b'0') >= count {
+        if !is_digit_below(count, *digit) {
             return Err(WordsFault::NotTaken);
         }
-        writers.push(digit - b'0')?;
+        writers.push(*digit - b'0')?;
     }
     Ok(Order::new(writers))
+}
+
+fn is_digit_below(count: usize, byte: u8) -> bool
+    ensures { result ≡ is_digit_below count byte }
+{
+    byte.is_ascii_digit() && usize::from(byte - b'0') < count
 }
 
 /// The bytes that 64 hexadecimal digits write, with or without `0x` before them.
