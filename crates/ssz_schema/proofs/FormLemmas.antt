@@ -1,17 +1,17 @@
--- The forms of containers and unions, and their walks.
-use Rattle.std.proofs.Common.{ℕ, ◌≡◌, ◌<◌, true, false, cond, List, [], ◌∷◌, length, map, Option, Some, None, option_map, Result, Ok, Err, Vec, Global, refl, sym, ap, ap₂, ◌∙◌, subst, arith}
+-- The forms of types, and the walks of those that have parts.
+use Rattle.std.proofs.Common.{ℕ, ◌≡◌, ◌<◌, true, false, cond, List, [], ◌∷◌, length, map, Option, Some, None, option_map, Result, Ok, Err, Vec, Box, Global, refl, sym, ap, ap₂, ◌∙◌, subst, arith}
 use Rattle.ssz_schema.specs.declared.format.Format.{Format}
 use Rattle.ssz_schema.specs.declared.expr.TypeExpr.{TypeExpr}
-use Rattle.ssz_schema.specs.declared.expr.TypeExpr.TheVariants.{Union, rolls-Union}
+use Rattle.ssz_schema.specs.declared.expr.TypeExpr.TheVariants.{Container, rolls-Container, Vector, rolls-Vector, List as ListOf, rolls-List, Bitvector, rolls-Bitvector, Bitlist, rolls-Bitlist, Union, rolls-Union}
 use Rattle.ssz_schema.specs.declared.expr.TypeExpr.TheFolds.{fold-roll-TypeExpr}
 use Rattle.ssz_schema.specs.declared.expr.TypeExpr.TheShapes.{former-TypeExpr-Union-0-at-1}
 use Rattle.ssz_schema.specs.declared.schema_fault.SchemaFault.{SchemaFault}
 use Rattle.ssz_schema.specs.declared.schema_fault.SchemaFault.TheVariants.{UnionSize}
 use Rattle.ssz_schema.specs.declared.schema_fault.SchemaError.{SchemaError}
 use Rattle.ssz_schema.specs.Types.{SszType, Fields, Options, container, union}
-use Rattle.ssz_schema.specs.Forms.{TypeForm, field_forms, option_forms, field_form_of, form_of, form_step, container_form, union_form, option_form_count}
+use Rattle.ssz_schema.specs.Forms.{TypeForm, field_forms, option_forms, field_form_of, form_of, form_step, container_form, vector_form, list_form, bitvector_form, bitlist_form, union_form, option_form_count}
 use Rattle.ssz_schema.specs.Walk.{◌>>=◌, within_limits, is_wrong_size, resolved, resolved_fields, resolved_options}
-use Rattle.ssz_schema.specs.Unfolding.{Types, fields_over, options_over}
+use Rattle.ssz_schema.specs.Unfolding.{Types, type_of, fields_over, options_over}
 use Rattle.ssz_schema.specs.Adding.{Resolves, IsType, AreFields, AreOptions}
 use Rattle.ssz_schema.proofs.WalkLemmas.{goes_on}
 
@@ -31,6 +31,43 @@ pub union_is : (os : Vec (Option TypeExpr) Global)
     → form_of (Union os) ≡ union_form (option_forms (map (option_map form_of) os.items))
 union_is os = ap form_of (sym (rolls-Union os)) ∙ fold-roll-TypeExpr TypeForm form_step _
     ∙ ap (λ fs. union_form (option_forms fs)) (all_options os.items)
+
+-- and the forms of the other types that are walked or added
+
+pub container_is : (fields : Vec (List ℕ × TypeExpr) Global)
+    → form_of (Container fields) ≡ container_form (field_forms (map field_form_of fields.items))
+container_is fields = ap form_of (sym (rolls-Container fields))
+    ∙ fold-roll-TypeExpr TypeForm form_step _
+
+pub vector_is : (elem : Box TypeExpr Global) (n : ℕ)
+    → form_of (Vector elem n) ≡ vector_form (form_of elem.value) n
+vector_is elem n = ap form_of (sym (rolls-Vector elem n))
+    ∙ fold-roll-TypeExpr TypeForm form_step _
+
+pub list_is : (elem : Box TypeExpr Global) (limit : ℕ)
+    → form_of (ListOf elem limit) ≡ list_form (form_of elem.value) limit
+list_is elem limit = ap form_of (sym (rolls-List elem limit))
+    ∙ fold-roll-TypeExpr TypeForm form_step _
+
+pub bitvector_is : (n : ℕ) → form_of (Bitvector n) ≡ bitvector_form n
+bitvector_is n = ap form_of (sym (rolls-Bitvector n))
+    ∙ fold-roll-TypeExpr TypeForm form_step _
+
+pub bitlist_is : (limit : ℕ) → form_of (Bitlist limit) ≡ bitlist_form limit
+bitlist_is limit = ap form_of (sym (rolls-Bitlist limit))
+    ∙ fold-roll-TypeExpr TypeForm form_step _
+
+-- an element's walk, and then what is made of the element's type
+pub element_then : (make : Format → SszType → Result SszType SchemaFault) (old mid new : Types)
+    (walk : Result SszType SchemaFault) (elem : ℕ) (result : Result ℕ SchemaError)
+    → Resolves IsType walk old mid (Ok elem)
+    → Resolves IsType (make mid.format (type_of mid elem)) mid new result
+    → Resolves IsType (walk >>= make old.format) old new result
+element_then make old mid new walk elem result first r =
+    goes_on IsType walk (make old.format) first.answer.0 old mid new result first.extends
+    first.answer.1
+    (subst (λ (w : Result SszType SchemaFault). Resolves IsType w mid new result)
+    (ap₂ make first.extends.format first.answer.2.is) r)
 
 -- the walk of a container that has fields
 pub container_walk : (format : Format) (known : List ℕ → Option SszType)

@@ -57,15 +57,7 @@ impl Schema {
         ensures { IfOk result (IsFresh format) }
     {
         let mut schema = Schema::unnamed(alloc, format)?;
-        schema.name_uint(b"uint256", Width::W256)?;
-        schema.name_uint(b"uint128", Width::W128)?;
-        schema.name_uint(b"uint64", Width::W64)?;
-        schema.name_uint(b"uint32", Width::W32)?;
-        schema.name_uint(b"uint16", Width::W16)?;
-        schema.name_uint(b"uint8", Width::W8)?;
-        schema.name_uint(b"byte", Width::W8)?;
-        let boolean = schema.boolean();
-        schema.insert_name(b"boolean", boolean)?;
+        schema.name_basics()?;
         Ok(schema)
     }
 
@@ -88,6 +80,23 @@ impl Schema {
             entries: Vec::from_array(alloc, basics)?,
             names: NameTable::new(alloc),
         })
+    }
+
+    // Gives the basic types their built-in names.
+    fn name_basics(&mut self) -> Result<(), AllocError>
+        requires trees { self.old.trees ≡ basic_types }
+        requires names { self.old.names ≡ [] }
+        ensures { OnOk result (IsFresh self.old.format self.new) }
+    {
+        self.name_uint(b"uint256", Width::W256)?;
+        self.name_uint(b"uint128", Width::W128)?;
+        self.name_uint(b"uint64", Width::W64)?;
+        self.name_uint(b"uint32", Width::W32)?;
+        self.name_uint(b"uint16", Width::W16)?;
+        self.name_uint(b"uint8", Width::W8)?;
+        self.name_uint(b"byte", Width::W8)?;
+        let boolean = self.boolean();
+        self.insert_name(b"boolean", boolean)
     }
 
     // Gives a built-in name to a number type.

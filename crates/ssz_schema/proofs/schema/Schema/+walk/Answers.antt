@@ -2,13 +2,13 @@ use Rattle.std.proofs.Common.{List, [], length, get_or, max, ap, sym, subst, ◌
 use Rattle.ssz_schema.proofs.WalkFields.{Written as Field}
 use Rattle.ssz_schema.proofs.WalkFields.{FieldsFrom, FieldsFrom-start, FieldsFrom-more, fields_stop, fields_end, fields_end-legal, names_of}
 use Rattle.ssz_schema.proofs.WalkOptions.{Written as Choice, OptionsFrom, OptionsFrom-more, options_stop, options_end, options_end-legal}
-use Rattle.ssz_schema.proofs.FormLemmas.{union_is, container_walk, container_then, union_walk, union_refused, union_then}
+use Rattle.ssz_schema.proofs.FormLemmas.{container_is, vector_is, list_is, bitvector_is, bitlist_is, element_then, union_is, container_walk, container_then, union_walk, union_refused, union_then}
 use Rattle.ssz_schema.proofs.WalkLemmas.{refused, same_walk, ends}
 use Rattle.ssz_schema.specs.declared.schema_fault.SchemaFault.TheVariants.{UnionSize}
-use Rattle.ssz_schema.specs.Types.{union}
-use Rattle.ssz_schema.specs.Forms.{form_of}
+use Rattle.ssz_schema.specs.Types.{vector, list, union}
+use Rattle.ssz_schema.specs.Forms.{form_of, vector_form, list_form}
 use Rattle.ssz_schema.specs.Repeats.{first_repeat}
-use Rattle.ssz_schema.specs.Walk.{is_wrong_size, resolved, within_limits}
+use Rattle.ssz_schema.specs.Walk.{is_wrong_size, resolved, within_limits, of_length, of_limit}
 use Rattle.ssz_schema.specs.Unfolding.{known_in}
 use Rattle.ssz_schema.specs.Adding.{IsType, AreOptions}
 use Rattle.std.proofs.lemmas.Bool.{eqb-false}
@@ -60,6 +60,46 @@ resolve_union-returns t c =
     right)
     (union_then c.args.self.now c.resolve_options.new.self c.add_union.new.self _
     c.in_ok-options.options c.add_union.result c.in_ok-options.ensures.walk c.add_union.ensures)
+
+pub resolve-returns-in-Container : goal.resolve-returns-in-Container
+resolve-returns-in-Container t c =
+    same_walk IsType _ _ c.args.self.now c.resolve_container.new.self c.resolve_container.result
+    (ap (resolved c.args.self.now.format (known_in c.args.self.now))
+    (ap form_of c.in-Container.is ∙ container_is c.in-Container.fields)) c.resolve_container.ensures
+
+pub resolve-returns-in_ok-elem-in-Vector : goal.resolve-returns-in_ok-elem-in-Vector
+resolve-returns-in_ok-elem-in-Vector t c =
+    let n = c.in-Vector.n in
+    same_walk IsType _ _ c.args.self.now c.add_vector.new.self c.add_vector.result
+    (ap (resolved c.args.self.now.format (known_in c.args.self.now))
+    (ap form_of c.in-Vector.is ∙ vector_is c.in-Vector.elem n
+    ∙ ap (λ e. vector_form (form_of e) n) (sym c.deref.ensures)))
+    (element_then (λ format elem. of_length format n (vector elem n)) c.args.self.now
+    c.resolve.new.self c.add_vector.new.self _ c.in_ok-elem-in-Vector.elem c.add_vector.result
+    c.in_ok-elem-in-Vector.ensures c.add_vector.ensures)
+
+pub resolve-returns-in_ok-elem-in-List : goal.resolve-returns-in_ok-elem-in-List
+resolve-returns-in_ok-elem-in-List t c =
+    let limit = c.in-List.limit in
+    same_walk IsType _ _ c.args.self.now c.add_list.new.self c.add_list.result
+    (ap (resolved c.args.self.now.format (known_in c.args.self.now))
+    (ap form_of c.in-List.is ∙ list_is c.in-List.elem limit
+    ∙ ap (λ e. list_form (form_of e) limit) (sym c.deref-in-List.ensures)))
+    (element_then (λ format elem. of_limit format limit (list elem limit)) c.args.self.now
+    c.resolve-in-List.new.self c.add_list.new.self _ c.in_ok-elem-in-List.elem c.add_list.result
+    c.in_ok-elem-in-List.ensures c.add_list.ensures)
+
+pub resolve-returns-in-Bitvector : goal.resolve-returns-in-Bitvector
+resolve-returns-in-Bitvector t c =
+    same_walk IsType _ _ c.args.self.now c.add_bitvector.new.self c.add_bitvector.result
+    (ap (resolved c.args.self.now.format (known_in c.args.self.now))
+    (ap form_of c.in-Bitvector.is ∙ bitvector_is c.in-Bitvector.n)) c.add_bitvector.ensures
+
+pub resolve-returns-in-Bitlist : goal.resolve-returns-in-Bitlist
+resolve-returns-in-Bitlist t c =
+    same_walk IsType _ _ c.args.self.now c.add_bitlist.new.self c.add_bitlist.result
+    (ap (resolved c.args.self.now.format (known_in c.args.self.now))
+    (ap form_of c.in-Bitlist.is ∙ bitlist_is c.in-Bitlist.limit)) c.add_bitlist.ensures
 
 pub resolve-returns-in-Union : goal.resolve-returns-in-Union
 resolve-returns-in-Union t c =
