@@ -2,14 +2,15 @@ use Rattle.std.proofs.Common.{rules, ◌≡◌, ◌∙◌, ◌+◌, ◌-◌, ◌
 use Rattle.std.specs.Prelude.{IfSome}
 use Rattle.std.specs.List.{AllByRecursion}
 use Rattle.std.proofs.lemmas.List.{take_rest, length-map}
-use Rattle.ssz_schema.specs.Types.{container}
-use Rattle.ssz_schema.specs.Sizes.{fixed_size, head_size, basic_size}
-use Rattle.ssz_schema.specs.Unfolding.{type_of, tree_at, tree_over, fields_over, IsBelow, AreBelow}
-use Rattle.ssz_value.specs.Faults.{why, element_count}
+use Rattle.ssz_schema.specs.Types.{SszType, list, container, union}
+use Rattle.ssz_schema.specs.Sizes.{fixed_size, head_size, basic_size, element_chunks, depth}
+use Rattle.ssz_schema.specs.Legal.{IsLegal}
+use Rattle.ssz_schema.specs.Unfolding.{type_of, tree_at, tree_over, fields_over, options_over, IsBelow, AreBelow}
+use Rattle.ssz_value.specs.Faults.{why, element_count, elements_fault, count_fault}
 use Rattle.ssz_value.specs.Reading.{value_in, elements_in}
 use Rattle.ssz_value.specs.Trees.{number_chunk}
 use Rattle.ssz_tree.specs.Nodes.{new_nodes}
-use Rattle.ssz_value.proofs.Agree.{IsInput}
+use Rattle.ssz_value.proofs.Agree.{IsInput, no_faults}
 use Rattle.ssz_value.proofs.PartLemmas.{known_weaker, part_known, size_at}
 use Rattle.ssz_parts.proofs.ElementLemmas.{element_faultless}
 use Rattle.ssz_packing.specs.Bits.{undelimited}
@@ -134,6 +135,18 @@ elements_node-packed_node-requires-clause-room g t c =
       nodes-of_chunks c.args.depth ((length c.args.bytes.now + 31) / 32) c.args.bytes.now,
       same_nodes _ _ packed.same,
     )
+
+pub elements_node-parts_node-requires : goal.elements_node-parts_node-requires
+elements_node-parts_node-requires g t c κs within =
+    let ty = type_of c.args.schema.now c.args.elem in
+    let vs = element_values ty c.args.count c.args.bytes.now in
+    let composite : basic_size ty ≡ None = sym (sym c.in-None.is ∙ c.basic_size.ensures.exact) in
+    let few : c.args.count ≤ 2 ^ c.args.depth = subst
+    (λ (size : Option ℕ). element_chunks size c.args.count ≤ 2 ^ c.args.depth) composite
+    c.requires.few in
+    let room : (whole c.args.depth (map (part_of ty) vs)).nodes ≤ c.args.arena.now.spare = omega
+    (arith, c.requires.room, same_nodes _ _ (elements-composite ty c.args.depth vs composite)) in
+    search rules
 
 pub elements_node-returns-in-Some : goal.elements_node-returns-in-Some
 elements_node-returns-in-Some g t c =
@@ -331,6 +344,27 @@ union_node-returns g t c =
     (makes_leaf _ _ _ _ e.node e.tree e.todo e.keeps e.same e.unhashed e.count e.spare)
     (makes_pair _ _ _ _ _ p.node p.tree p.todo p.keeps p.same p.unhashed p.count p.spare))
 
+pub option_node-bytes_node-requires : goal.option_node-bytes_node-requires
+option_node-bytes_node-requires g t c κs within =
+    let schema = c.args.schema.now in
+    let b = c.args.bytes.now in
+    let below : c.in-Some.option < c.args.id =
+    subst (IsBelow c.args.id) c.in-Some.is c.requires.before in
+    let faultless : why (type_of schema c.in-Some.option) 0 b ≡ None = subst
+    (λ (o : Option ℕ). IfSome o (λ id. why (type_of schema id) 0 b ≡ None)) c.in-Some.is
+    c.requires.faultless in
+    let room : new_nodes (type_of schema c.in-Some.option)
+    (value_in (type_of schema c.in-Some.option) b) ≤ c.args.arena.now.spare = subst
+    (λ (o : Option ℕ). (chosen_part schema.trees o b).nodes ≤ c.args.arena.now.spare) c.in-Some.is
+    c.requires.room in
+    search rules
+
+pub option_node-returns-in-Some : goal.option_node-returns-in-Some
+option_node-returns-in-Some g t c =
+    subst (λ (o : Option ℕ). Makes c.args.arena.now c.bytes_node.new.arena
+    (chosen_part c.args.schema.now.trees o c.args.bytes.now) c.bytes_node.result) (sym c.in-Some.is)
+    c.bytes_node.ensures
+
 pub option_node-returns-in-None : goal.option_node-returns-in-None
 option_node-returns-in-None g t c =
     let z = c.zero.ensures in
@@ -387,6 +421,20 @@ bytes_node-elements_node-elements-requires g t c κs within =
     ≤ c.args.arena.now.spare = omega (arith, c.requires.room, same_nodes _ _ made) in
     search rules
 
+pub bytes_node-element_count-count-requires-clause-faultless :
+    goal.bytes_node-element_count-count-requires-clause-faultless
+bytes_node-element_count-count-requires-clause-faultless g t c =
+    let ty = tree_at c.args.schema.now.trees c.in-List.elem in
+    let limit = c.in-List.limit in
+    let b = c.args.bytes.now in
+    let form = sym c.ty.ensures.form ∙ ap (tree_over c.args.schema.now.trees) c.in-List.is in
+    let good : why (list ty limit) 0 b ≡ None =
+    subst (λ (form : SszType). why form 0 b ≡ None) form c.requires.faultless in
+    let both = no_faults (count_fault (fixed_size ty) limit 0 b)
+    (elements_fault (why ty) (fixed_size ty) (element_count (fixed_size ty) b) 0 b) good in
+    subst (λ (size : Option ℕ). count_fault size limit 0 b ≡ None) (sym c.fixed_size.ensures.exact)
+    both.0
+
 pub bytes_node-leaf-len-requires : goal.bytes_node-leaf-len-requires
 bytes_node-leaf-len-requires g t c =
     let trees = c.args.schema.now.trees in
@@ -434,6 +482,50 @@ bytes_node-returns-in-List g t c =
     (Makes-joined _ _ _ _ _ c.number_chunk.result.0 _ _ _ c.elements_node-elements.ensures
     (makes_leaf _ _ _ _ e.node e.tree e.todo e.keeps e.same e.unhashed e.count e.spare)
     (makes_pair _ _ _ _ _ p.node p.tree p.todo p.keeps p.same p.unhashed p.count p.spare))
+
+pub bytes_node-returns-in-Boolean : goal.bytes_node-returns-in-Boolean
+bytes_node-returns-in-Boolean g t c =
+    let input : IsInput c.args.bytes.now = record
+    { bytes = λ i. omega (arith, c.type_inv.bytes i); short = c.requires.short } in
+    let form = sym c.ty.ensures.form ∙ ap (tree_over c.args.schema.now.trees) c.in-Boolean.is in
+    let e = c.leaf-in-Boolean.ensures in
+    Makes-same _ _ _ _ _ (basic_made c.args.schema.now.format
+    (type_of c.args.schema.now c.args.id) _ c.args.bytes.now c.chunk_at-in-Boolean.result.0
+    (ap basic_size form) c.ty.ensures.legal input c.requires.faultless
+    c.chunk_at-in-Boolean.ensures)
+    (Makes-chunk _ _ _ _
+    (makes_leaf _ _ _ _ e.node e.tree e.todo e.keeps e.same e.unhashed e.count e.spare))
+
+pub bytes_node-union_node-requires : goal.bytes_node-union_node-requires
+bytes_node-union_node-requires g t c κs within =
+    let trees = c.args.schema.now.trees in
+    let b = c.args.bytes.now in
+    let os = c.as_slice-in-Union.result.now in
+    let options : c.in-Union.options.items ≡ os = sym c.as_slice-in-Union.ensures.value in
+    let form = sym c.ty.ensures.form ∙ ap (tree_over trees) c.in-Union.is
+    ∙ ap (λ (ids : List (Option ℕ)). union (options_over trees ids)) options in
+    let law = subst (IsLegal c.args.schema.now.format) form c.ty.ensures.legal in
+    let legal = law.3 in
+    let faultless : why (union (options_over trees os)) 0 b ≡ None =
+    subst (λ (ty : SszType). why ty 0 b ≡ None) form c.requires.faultless in
+    let room : new_nodes (union (options_over trees os))
+    (value_in (union (options_over trees os)) b) ≤ c.args.arena.now.spare = subst
+    (λ (ty : SszType). new_nodes ty (value_in ty b) ≤ c.args.arena.now.spare) form
+    c.requires.room in
+    let before : AllByRecursion (IsBelow c.args.id) os = subst
+    (AllByRecursion (IsBelow c.args.id)) options
+    (subst (AreBelow c.args.id) c.in-Union.is c.ty.ensures.before) in
+    search rules
+
+pub bytes_node-returns-in-Union : goal.bytes_node-returns-in-Union
+bytes_node-returns-in-Union g t c =
+    let trees = c.args.schema.now.trees in
+    let form = sym c.ty.ensures.form ∙ ap (tree_over trees) c.in-Union.is
+    ∙ ap (λ (ids : List (Option ℕ)). union (options_over trees ids))
+    (sym c.as_slice-in-Union.ensures.value) in
+    subst (λ (ty : SszType). Makes c.args.arena.now c.union_node.new.arena
+    (part_of ty (value_in ty c.args.bytes.now)) c.union_node.result) (sym form)
+    c.union_node.ensures
 
 pub bytes_node-returns-in-Uint : goal.bytes_node-returns-in-Uint
 bytes_node-returns-in-Uint g t c =
@@ -529,6 +621,50 @@ bytes_node-returns-in-Container g t c =
     Makes-same _ _ _ _ _ (container_made (type_of c.args.schema.now c.args.id) trees
     c.as_slice.result.now c.depth-in-Container.result c.args.bytes.now form
     c.depth-in-Container.ensures.exact) c.fields_node.ensures
+
+pub bytes_node-bitlist_len-count-requires-clause-some :
+    goal.bytes_node-bitlist_len-count-requires-clause-some
+bytes_node-bitlist_len-count-requires-clause-some g t c =
+    let input : IsInput c.args.bytes.now = record
+    { bytes = λ i. omega (arith, c.type_inv.bytes i); short = c.requires.short } in
+    let form = sym c.ty.ensures.form ∙ ap (tree_over c.args.schema.now.trees) c.in-Bitlist.is in
+    let h = HasBits-bitlist (λ l r. l) c.args.schema.now.format
+    (type_of c.args.schema.now c.args.id) c.in-Bitlist.field-0 (depth (type_of c.args.schema.now
+    c.args.id)) c.args.bytes.now form c.ty.ensures.legal input c.requires.faultless refl in
+    h.some
+
+pub bytes_node-bits_node-bits-requires-clause-some :
+    goal.bytes_node-bits_node-bits-requires-clause-some
+bytes_node-bits_node-bits-requires-clause-some g t c =
+    let input : IsInput c.args.bytes.now = record
+    { bytes = λ i. omega (arith, c.type_inv.bytes i); short = c.requires.short } in
+    let form = sym c.ty.ensures.form ∙ ap (tree_over c.args.schema.now.trees) c.in-Bitlist.is in
+    let h = HasBits-bitlist (λ l r. l) c.args.schema.now.format
+    (type_of c.args.schema.now c.args.id) c.in-Bitlist.field-0 (depth (type_of c.args.schema.now
+    c.args.id)) c.args.bytes.now form c.ty.ensures.legal input c.requires.faultless refl in
+    h.some
+
+pub bytes_node-bits_node-bits-requires-clause-delimited :
+    goal.bytes_node-bits_node-bits-requires-clause-delimited
+bytes_node-bits_node-bits-requires-clause-delimited g t c =
+    let input : IsInput c.args.bytes.now = record
+    { bytes = λ i. omega (arith, c.type_inv.bytes i); short = c.requires.short } in
+    let form = sym c.ty.ensures.form ∙ ap (tree_over c.args.schema.now.trees) c.in-Bitlist.is in
+    let h = HasBits-bitlist (λ l r. l) c.args.schema.now.format
+    (type_of c.args.schema.now c.args.id) c.in-Bitlist.field-0 (depth (type_of c.args.schema.now
+    c.args.id)) c.args.bytes.now form c.ty.ensures.legal input c.requires.faultless refl in
+    h.delimited
+
+pub bytes_node-bits_node-bits-requires-clause-len :
+    goal.bytes_node-bits_node-bits-requires-clause-len
+bytes_node-bits_node-bits-requires-clause-len g t c =
+    let input : IsInput c.args.bytes.now = record
+    { bytes = λ i. omega (arith, c.type_inv.bytes i); short = c.requires.short } in
+    let form = sym c.ty.ensures.form ∙ ap (tree_over c.args.schema.now.trees) c.in-Bitlist.is in
+    let h = HasBits-bitlist (λ l r. l) c.args.schema.now.format
+    (type_of c.args.schema.now c.args.id) c.in-Bitlist.field-0 (depth (type_of c.args.schema.now
+    c.args.id)) c.args.bytes.now form c.ty.ensures.legal input c.requires.faultless refl in
+    subst (λ n. n < 2 ^ 63) (sym c.bitlist_len-count.ensures) h.below
 
 pub bytes_node-bits_node-bits-requires-clause-few :
     goal.bytes_node-bits_node-bits-requires-clause-few

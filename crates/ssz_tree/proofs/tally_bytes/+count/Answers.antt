@@ -3,18 +3,20 @@ use Rattle.std.specs.Prelude.{IfSome}
 use Rattle.std.specs.List.{AllByRecursion}
 use Rattle.std.proofs.lemmas.List.{take_rest, length-map}
 use Rattle.ssz_chunk.specs.Tree.{grow}
-use Rattle.ssz_schema.specs.Types.{container}
-use Rattle.ssz_schema.specs.Sizes.{fixed_size, head_size}
-use Rattle.ssz_schema.specs.Unfolding.{type_of, tree_at, tree_over, fields_over, IsBelow, AreBelow}
-use Rattle.ssz_value.specs.Faults.{why, element_count, elements_fault}
+use Rattle.ssz_schema.specs.Types.{SszType, list, container, union}
+use Rattle.ssz_schema.specs.Sizes.{fixed_size, head_size, depth}
+use Rattle.ssz_packing.proofs.BitChunks.{HasBits-bitlist}
+use Rattle.ssz_schema.specs.Legal.{IsLegal}
+use Rattle.ssz_schema.specs.Unfolding.{type_of, tree_at, tree_over, fields_over, options_over, IsBelow, AreBelow}
+use Rattle.ssz_value.specs.Faults.{why, element_count, elements_fault, count_fault}
 use Rattle.ssz_value.specs.Reading.{value_in, elements_in}
 use Rattle.ssz_value.specs.Trees.{number_chunk}
 use Rattle.ssz_value.specs.Pairs.{pairs}
-use Rattle.ssz_value.proofs.Agree.{IsInput}
+use Rattle.ssz_value.proofs.Agree.{IsInput, no_faults}
 use Rattle.ssz_value.proofs.PartLemmas.{known_weaker, part_known, size_at}
 use Rattle.ssz_parts.specs.PartValues.{element_values}
 use Rattle.ssz_packing.proofs.Options.{chosen_at}
-use Rattle.ssz_packing.proofs.Arms.{container_fields}
+use Rattle.ssz_packing.proofs.Arms.{vector_elements, list_elements, container_fields}
 use Rattle.ssz_parts.proofs.ElementValues.{length-element_values}
 use Rattle.ssz_parts.proofs.UnionValues.{union_chosen, union_rest}
 use Rattle.ssz_packing.proofs.Options.{below_at}
@@ -268,6 +270,99 @@ bytes_tally-fields_tally-requires t c =
     c.in-Container.is c.ty.ensures.before in
     let known : P c.as_slice.result.now = subst P fields all in
     search rules
+
+pub option_tally-bytes_tally-requires : goal.option_tally-bytes_tally-requires
+option_tally-bytes_tally-requires t c =
+    let schema = c.args.schema.now in
+    let below : c.in-Some.option < c.args.id =
+    subst (IsBelow c.args.id) c.in-Some.is c.requires.before in
+    let faultless : why (type_of schema c.in-Some.option) 0 c.args.bytes.now ≡ None = subst
+    (λ (o : Option ℕ). IfSome o (λ id. why (type_of schema id) 0 c.args.bytes.now ≡ None))
+    c.in-Some.is c.requires.faultless in
+    search rules
+
+pub option_tally-returns-in-Some : goal.option_tally-returns-in-Some
+option_tally-returns-in-Some t c =
+    subst (λ (o : Option ℕ). IsTallyOf (chosen_part c.args.schema.now.trees o c.args.bytes.now)
+    c.bytes_tally.result) (sym c.in-Some.is) c.bytes_tally.ensures
+
+pub bytes_tally-elements_tally-requires : goal.bytes_tally-elements_tally-requires
+bytes_tally-elements_tally-requires t c =
+    let trees = c.args.schema.now.trees in
+    let form = sym c.ty.ensures.form ∙ ap (tree_over trees) c.in-Vector.is in
+    let h = vector_elements c.args.schema.now.format (type_of c.args.schema.now c.args.id)
+    (tree_at trees c.in-Vector.elem) c.in-Vector.count c.depth.result c.args.bytes.now form
+    c.ty.ensures.legal c.requires.faultless c.depth.ensures.exact in
+    let below : c.in-Vector.elem < c.args.id = subst (AreBelow c.args.id)
+    c.in-Vector.is c.ty.ensures.before in
+    search rules
+
+pub bytes_tally-elements_tally-requires-in-List :
+    goal.bytes_tally-elements_tally-requires-in-List
+bytes_tally-elements_tally-requires-in-List t c =
+    let trees = c.args.schema.now.trees in
+    let form = sym c.ty.ensures.form ∙ ap (tree_over trees) c.in-List.is in
+    let count = c.element_count-count.ensures ∙ ap
+    (λ (size : Option ℕ). element_count size c.args.bytes.now) c.fixed_size.ensures.exact in
+    let input : IsInput c.args.bytes.now = record
+    { bytes = λ i. omega (arith, c.type_inv.bytes i); short = c.requires.short } in
+    let h = list_elements c.args.schema.now.format (type_of c.args.schema.now c.args.id)
+    (tree_at trees c.in-List.elem) c.in-List.limit c.element_count-count.result
+    c.depth-in-List.result c.args.bytes.now form c.ty.ensures.legal input c.requires.faultless
+    c.depth-in-List.ensures.exact count in
+    let below : c.in-List.elem < c.args.id = subst (AreBelow c.args.id)
+    c.in-List.is c.ty.ensures.before in
+    search rules
+
+pub bytes_tally-union_tally-requires : goal.bytes_tally-union_tally-requires
+bytes_tally-union_tally-requires t c =
+    let trees = c.args.schema.now.trees in
+    let os = c.as_slice-in-Union.result.now in
+    let options : c.in-Union.options.items ≡ os = sym c.as_slice-in-Union.ensures.value in
+    let form = sym c.ty.ensures.form ∙ ap (tree_over trees) c.in-Union.is
+    ∙ ap (λ (ids : List (Option ℕ)). union (options_over trees ids)) options in
+    let law = subst (IsLegal c.args.schema.now.format) form c.ty.ensures.legal in
+    let legal = law.3 in
+    let faultless : why (union (options_over trees os)) 0 c.args.bytes.now ≡ None =
+    subst (λ (ty : SszType). why ty 0 c.args.bytes.now ≡ None) form c.requires.faultless in
+    let before : AllByRecursion (IsBelow c.args.id) os = subst
+    (AllByRecursion (IsBelow c.args.id)) options
+    (subst (AreBelow c.args.id) c.in-Union.is c.ty.ensures.before) in
+    search rules
+
+pub bytes_tally-returns-in-Union : goal.bytes_tally-returns-in-Union
+bytes_tally-returns-in-Union t c =
+    let trees = c.args.schema.now.trees in
+    let form = sym c.ty.ensures.form ∙ ap (tree_over trees) c.in-Union.is
+    ∙ ap (λ (ids : List (Option ℕ)). union (options_over trees ids))
+    (sym c.as_slice-in-Union.ensures.value) in
+    subst (λ (ty : SszType). IsTallyOf (part_of ty (value_in ty c.args.bytes.now))
+    c.union_tally.result) (sym form) c.union_tally.ensures
+
+pub bytes_tally-element_count-count-requires-clause-faultless :
+    goal.bytes_tally-element_count-count-requires-clause-faultless
+bytes_tally-element_count-count-requires-clause-faultless t c =
+    let ty = tree_at c.args.schema.now.trees c.in-List.elem in
+    let limit = c.in-List.limit in
+    let b = c.args.bytes.now in
+    let form = sym c.ty.ensures.form ∙ ap (tree_over c.args.schema.now.trees) c.in-List.is in
+    let good : why (list ty limit) 0 b ≡ None =
+    subst (λ (form : SszType). why form 0 b ≡ None) form c.requires.faultless in
+    let both = no_faults (count_fault (fixed_size ty) limit 0 b)
+    (elements_fault (why ty) (fixed_size ty) (element_count (fixed_size ty) b) 0 b) good in
+    subst (λ (size : Option ℕ). count_fault size limit 0 b ≡ None) (sym c.fixed_size.ensures.exact)
+    both.0
+
+pub bytes_tally-bitlist_len-requires-clause-some :
+    goal.bytes_tally-bitlist_len-requires-clause-some
+bytes_tally-bitlist_len-requires-clause-some t c =
+    let input : IsInput c.args.bytes.now = record
+    { bytes = λ i. omega (arith, c.type_inv.bytes i); short = c.requires.short } in
+    let form = sym c.ty.ensures.form ∙ ap (tree_over c.args.schema.now.trees) c.in-Bitlist.is in
+    let h = HasBits-bitlist (λ l r. l) c.args.schema.now.format
+    (type_of c.args.schema.now c.args.id) c.in-Bitlist.field-0 (depth (type_of c.args.schema.now
+    c.args.id)) c.args.bytes.now form c.ty.ensures.legal input c.requires.faultless refl in
+    h.some
 
 pub bytes_tally-returns-in-Vector : goal.bytes_tally-returns-in-Vector
 bytes_tally-returns-in-Vector t c =
