@@ -30,6 +30,17 @@ pub(crate) fn say_done(out: &mut Vec<u8>)
     }
 }
 
+// Appends the line of a reply, whose statement comes to this outcome.
+fn say(reply: Reply, outcome: Outcome, out: &mut Vec<u8>) -> Result<Outcome, EngineFault>
+    ensures ok { IfOk result (λ said. said ≡ outcome) }
+    ensures text { OnOk result (out.new.items ≡ out.old.items ++ reply_line reply) }
+    ensures err { OnErr result (out.new.items ≡ out.old.items) }
+    ensures memory { IfErr result (λ fault. fault ≡ EngineFault.Memory) }
+{
+    reply_text(&reply, out)?;
+    Ok(outcome)
+}
+
 // A name that is free gets a version.
 fn make<H: PairHash>(
     engine: &mut Engine<H>,
@@ -38,12 +49,13 @@ fn make<H: PairHash>(
     id: TypeId,
     node: NodeId,
     out: &mut Vec<u8>,
-) -> Result<(), EngineFault>
+) -> Result<Outcome, EngineFault>
     requires free { held_at engine.old.entries writer.0 name.now ≡ None }
     requires stands { IsSomeVersion engine.old.types engine.old.arena (id, node) }
     ensures nodes { SameNodes engine.old engine.new }
     ensures entries { OnOk result
         (engine.new.entries ≡ with_held engine.old.entries writer.0 name.now (id, node)) }
+    ensures ok { IfOk result (λ outcome. outcome ≡ Outcome.Accepted) }
     ensures text { OnOk result (out.new.items ≡ out.old.items ++ reply_line Reply.Done) }
     ensures err { OnErr result ((engine.new.entries ≡ engine.old.entries)
         × (out.new.items ≡ out.old.items)) }
@@ -56,7 +68,7 @@ fn make<H: PairHash>(
         Err(_) => unreachable!(),
     }
     say_done(out);
-    Ok(())
+    Ok(Outcome::Accepted)
 }
 
 // A version gets another node.
@@ -66,11 +78,12 @@ fn edit<H: PairHash>(
     name: &Identifier,
     node: NodeId,
     out: &mut Vec<u8>,
-) -> Result<(), EngineFault>
+) -> Result<Outcome, EngineFault>
     requires { CanEdit engine.old writer.0 name.now node }
     ensures nodes { SameNodes engine.old engine.new }
     ensures entries { OnOk result
         (Edits engine.old.entries engine.new.entries writer.0 name.now node) }
+    ensures ok { IfOk result (λ outcome. outcome ≡ Outcome.Accepted) }
     ensures text { OnOk result (out.new.items ≡ out.old.items ++ reply_line Reply.Done) }
     ensures err { OnErr result ((engine.new.entries ≡ engine.old.entries)
         × (out.new.items ≡ out.old.items)) }
@@ -82,7 +95,7 @@ fn edit<H: PairHash>(
         None => unreachable!(),
     }
     say_done(out);
-    Ok(())
+    Ok(Outcome::Accepted)
 }
 
 // A name is given up.
@@ -91,11 +104,12 @@ fn give_up<H: PairHash>(
     writer: Writer,
     name: &Identifier,
     out: &mut Vec<u8>,
-) -> Result<(), EngineFault>
+) -> Result<Outcome, EngineFault>
     requires { IsSome (held_at engine.old.entries writer.0 name.now) }
     ensures nodes { SameNodes engine.old engine.new }
     ensures entries { OnOk result
         (engine.new.entries ≡ without_held engine.old.entries writer.0 name.now) }
+    ensures ok { IfOk result (λ outcome. outcome ≡ Outcome.Accepted) }
     ensures text { OnOk result (out.new.items ≡ out.old.items ++ reply_line Reply.Done) }
     ensures err { OnErr result ((engine.new.entries ≡ engine.old.entries)
         × (out.new.items ≡ out.old.items)) }
@@ -107,7 +121,7 @@ fn give_up<H: PairHash>(
         Err(_) => unreachable!(),
     }
     say_done(out);
-    Ok(())
+    Ok(Outcome::Accepted)
 }
 
 // A file gets these bytes.
@@ -116,10 +130,11 @@ fn save<F: Files>(
     name: &FileName,
     bytes: &[u8],
     out: &mut Vec<u8>,
-) -> Result<(), EngineFault>
+) -> Result<Outcome, EngineFault>
     ensures content { PutsFile result name.now bytes.now (F.content files.old)
         (F.content files.new) }
     ensures told { is_some (F.content files.new) ≡ is_some (F.content files.old) }
+    ensures ok { IfOk result (λ outcome. outcome ≡ Outcome.Accepted) }
     ensures text { OnOk result (out.new.items ≡ out.old.items ++ reply_line Reply.Done) }
     ensures err { OnErr result (out.new.items ≡ out.old.items) }
     ensures readable { (other : List ℕ) → F.readable files.old other → F.readable files.new other }
@@ -133,7 +148,7 @@ fn save<F: Files>(
         Err(PutFault::Memory) => return Err(EngineFault::Memory),
     }
     say_done(out);
-    Ok(())
+    Ok(Outcome::Accepted)
 }
 
 /// Carries out a decision, and appends the line of the reply. All memory is taken before anything
@@ -163,38 +178,20 @@ pub(crate) fn carry_out<F: Files, H: PairHash>(
     match decision {
         Decision::Refused(code) => {
             let fault = None;
-            reply_text(&Reply::Refused { line, code, fault }, out)?;
-            Ok(Outcome::Refused)
+            say(Reply::Refused { line, code, fault }, Outcome::Refused, out)
         }
         Decision::BadBytes(fault) => {
             let (code, fault) = (Reply::BAD_LITERAL, Some(fault));
-            reply_text(&Reply::Refused { line, code, fault }, out)?;
-            Ok(Outcome::Refused)
+            say(Reply::Refused { line, code, fault }, Outcome::Refused, out)
         }
         Decision::BadJson(fault) => {
             let (code, number) = (fault.code, fault.number);
-            reply_text(&Reply::BadJson { line, code, number }, out)?;
-            Ok(Outcome::Refused)
+            say(Reply::BadJson { line, code, number }, Outcome::Refused, out)
         }
-        Decision::Said(reply) => {
-            reply_text(&reply, out)?;
-            Ok(Outcome::Accepted)
-        }
-        Decision::Made(name, id, node) => {
-            make(engine, writer, name, id, node, out)?;
-            Ok(Outcome::Accepted)
-        }
-        Decision::Edited(name, node) => {
-            edit(engine, writer, name, node, out)?;
-            Ok(Outcome::Accepted)
-        }
-        Decision::Dropped(name) => {
-            give_up(engine, writer, name, out)?;
-            Ok(Outcome::Accepted)
-        }
-        Decision::Saved(name, bytes) => {
-            save(files, name, bytes.as_slice(), out)?;
-            Ok(Outcome::Accepted)
-        }
+        Decision::Said(reply) => say(reply, Outcome::Accepted, out),
+        Decision::Made(name, id, node) => make(engine, writer, name, id, node, out),
+        Decision::Edited(name, node) => edit(engine, writer, name, node, out),
+        Decision::Dropped(name) => give_up(engine, writer, name, out),
+        Decision::Saved(name, bytes) => save(files, name, bytes.as_slice(), out),
     }
 }

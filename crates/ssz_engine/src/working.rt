@@ -68,7 +68,9 @@ fn answer<F: Files, H: PairHash>(
         line: 0,
         statement: Some(statement),
     };
-    reply_to(engine, Place::Run, Writer(0), &line, files, hasher, reply)
+    let made = reply_to(engine, Place::Run, Writer(0), &line, files, hasher, reply);
+    drop(line);
+    made
 }
 
 // Does `root w`.
@@ -213,9 +215,6 @@ pub(crate) fn work_through<F: Files, H: PairHash>(
     };
     answer(engine, made, files, hasher, reply)?;
     let edits = work_rounds(engine, seed, count, files, hasher, reply)?;
-    let Ok(asked) = root_w(engine.alloc) else {
-        return Err(EngineFault::Memory);
-    };
-    answer(engine, asked, files, hasher, reply)?;
+    answer_root(engine, files, hasher, reply)?;
     Ok(edits)
 }

@@ -22,14 +22,13 @@ returns-clause-works g c = λ state at.
     (g.F.Files.content c.answer.new.files) in
     let late : Point = point c.work_rounds.new.engine (g.H.PairHash.pairs c.work_rounds.new.hasher)
     (g.F.Files.content c.work_rounds.new.files) in
-    let after : Point = point c.answer-2.new.engine (g.H.PairHash.pairs c.answer-2.new.hasher)
-    (g.F.Files.content c.answer-2.new.files) in
+    let after : Point = point c.answer_root.new.engine (g.H.PairHash.pairs c.answer_root.new.hasher)
+    (g.F.Files.content c.answer_root.new.files) in
     let rules : Rules = rules_of pair_of first in
     let made : Turn = done rules state (New worked c.args.type_name.now) in
     let rest : Rules → Worked = λ r. worked_on r c.args.count c.args.seed (state_of made) in
     let work : Worked = work_of rules state c.args.type_name.now c.args.seed c.args.count in
     let asked : Rules → Turn = λ r. done r work.state (Root worked) in
-    let later : Rules = rules_of pair_of c.work_rounds.new.engine in
     let begun : AreDone (made ∷ []) (state_of made) before mid =
     subst (λ (s : Statement). AreDone (done rules state s ∷ []) (state_of (done rules state s))
     before mid) c.in-Ok.ensures (c.in_ok-answer.ensures.works state at).0 in
@@ -39,14 +38,11 @@ returns-clause-works g c = λ state at.
     let both : AreDone work.turns work.state before late =
     done_then (made ∷ []) (rest rules).turns (state_of made) (rest rules).state before mid late
     begun rounds.0 in
-    let said = subst (λ (s : Statement). AreDone (done later work.state s ∷ [])
-    (state_of (done later work.state s)) late after
-    × Replies (done later work.state s) c.answer-2.new.reply.items) c.in-Ok-root_w.ensures
-    (c.in_ok-answer-2.ensures.works work.state both.at) in
     let last = by_first_rules pair_of first c.work_rounds.new.engine
     (keeps_on c.in_ok-answer.ensures.keeps c.in_ok-edits.ensures.keeps)
     (λ r. AreDone (asked r ∷ []) (state_of (asked r)) late after
-    × Replies (asked r) c.answer-2.new.reply.items) said in (
+    × Replies (asked r) c.answer_root.new.reply.items)
+    (c.in_ok-answer_root.ensures.works work.state both.at) in (
       done_then work.turns (asked rules ∷ []) work.state (state_of (asked rules)) before late after
           both last.0,
       (let edits = rounds.1 in omega (arith, edits), last.1),
