@@ -1,4 +1,5 @@
 pub mod Packing
+pub mod RowChunks
 pub mod Rooted
 pub mod ValueGathering
 pub mod ValueFields

@@ -1,10 +1,10 @@
 //! Roots of values (simple-serialize.md, Merkleization: hash_tree_root).
 //!
 //! `root_of_bytes` goes over the bytes of a value, which have no fault, in one pass: packed parts
-//! straight from the slice, and no value made. `root_of_value` is the root of a value. Both make
-//! one accumulator for each level of nesting, count exactly the pairs of the value, and take no
-//! memory. The chunks of packed parts are those of `ssz_packing`. Known roots are printed by the
-//! program `roots_rows`.
+//! straight from the slice, a row of chunks at a time, and no value made. `root_of_value` is the
+//! root of a value. Both make one accumulator for each level of nesting, count exactly the pairs
+//! of the value, and take no memory. The chunks of packed parts are those of `ssz_packing`. Known
+//! roots are printed by the program `roots_rows`.
 #![tactic(auto)]
 
 mod basic;
@@ -12,6 +12,7 @@ mod bit_values;
 mod bits;
 mod bytes;
 mod packed;
+mod rows;
 mod values;
 
 pub use bytes::root_of_bytes;

@@ -4,6 +4,7 @@ ghost use Rattle.ssz_chunk.specs.Tree.{root, full, grow};
 ghost use Rattle.ssz_merkle.specs.Frontier.{leaves};
 ghost use Rattle.ssz_value.specs.Trees.{pack};
 
+use super::rows::push_chunk_rows;
 use ssz_chunk::{Chunk, PairHash, ZeroTable};
 use ssz_merkle::{Accumulator, chunk_at};
 
@@ -25,7 +26,8 @@ pub fn packed_root<H: PairHash>(
     }
     let count = (bytes.len() + 31) / 32;
     let mut chunks = Accumulator::new(zeros, depth);
-    for i in 0..count {
+    let done = push_chunk_rows(&mut chunks, bytes, count, hasher);
+    for i in done..count {
         chunks.push(&chunk_at(bytes, i), hasher);
     }
     chunks.finish(hasher)

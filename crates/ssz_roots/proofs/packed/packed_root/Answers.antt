@@ -3,11 +3,14 @@ use Rattle.ssz_chunk.specs.Chunk.{CountsUp}
 use Rattle.ssz_chunk.specs.Tree.{root, full, grow}
 use Rattle.ssz_merkle.specs.Frontier.{leaves}
 use Rattle.ssz_value.specs.Trees.{chunks}
-use Rattle.ssz_roots.proofs.Packing.{Packed-start, Packed-room, Packed-more, Packed-root, Packed-counts, one_chunk, no_pairs}
+use Rattle.ssz_roots.proofs.Packing.{Packed-room, Packed-more, Packed-root, Packed-counts, one_chunk, no_pairs}
+use Rattle.ssz_roots.proofs.RowChunks.{Packed-rows}
 use Rattle.ssz_roots.proofs.packed.packed_root.Goals as goal
 
 pub loop-i-init : goal.loop-i-init
-loop-i-init g c = Packed-start _ _ _ _ _ c.new-chunks.ensures.depth c.new-chunks.ensures.holds
+loop-i-init g c = Packed-rows _ c.args.depth _ _ _ _ _ _ c.new-chunks.ensures.depth
+    c.push_chunk_rows-done.ensures.depth c.push_chunk_rows-done.ensures.holds
+    c.push_chunk_rows-done.ensures.counts
 
 pub push-requires : goal.push-requires
 push-requires g c = Packed-room _ _ _ _ _ _ _ c.loop-i.invariant (omega arith)
