@@ -1,9 +1,15 @@
 pub mod Packing
 pub mod RowChunks
+pub mod Halves
+pub mod Pieces
+pub mod Cutting
+pub mod Alike
+pub mod Lanes
 pub mod Rooted
 pub mod ValueGathering
 pub mod ValueFields
 pub mod Gathering
+pub mod ElementRows
 pub mod Unions
 pub mod FieldGathering
 pub mod Arms

@@ -1,17 +1,21 @@
 //! Roots of values (simple-serialize.md, Merkleization: hash_tree_root).
 //!
 //! `root_of_bytes` goes over the bytes of a value, which have no fault, in one pass: packed parts
-//! straight from the slice, a row of chunks at a time, and no value made. `root_of_value` is the
-//! root of a value. Both make one accumulator for each level of nesting, count exactly the pairs
-//! of the value, and take no memory. The chunks of packed parts are those of `ssz_packing`. Known
-//! roots are printed by the program `roots_rows`.
+//! straight from the slice, a row of chunks at a time, and elements of one size eight at a time,
+//! so that each step makes eight pairs together. No value is made. `root_of_value` is the root of
+//! a value. Both make one accumulator for each level of nesting, count exactly the pairs of the
+//! value, and take no memory. The chunks of packed parts are those of `ssz_packing`. Known roots
+//! are printed by the program `roots_rows`.
 #![tactic(auto)]
 
 mod basic;
 mod bit_values;
 mod bits;
 mod bytes;
+mod columns;
+mod eights;
 mod packed;
+mod pushing;
 mod rows;
 mod values;
 

@@ -42,7 +42,7 @@ fn push_row_of<H: PairHash>(pushed: &mut Accumulator<H>, bytes: &[u8], from: usi
     pushed.push_row(7, &mut row, hasher);
 }
 
-/// Pushes as many of the first chunks of the bytes as make whole rows, and says how many these are.
+/// Pushes as many of the first chunks of the bytes as make whole rows, and says how many they are.
 pub(crate) fn push_chunk_rows<H: PairHash>(
     pushed: &mut Accumulator<H>,
     bytes: &[u8],

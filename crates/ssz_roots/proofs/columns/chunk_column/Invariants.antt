@@ -1,0 +1,12 @@
+use Rattle.std.proofs.Common.{◌≡◌, ℕ, ◌<◌, length}
+use Rattle.ssz_chunk.specs.Rows.{chunk_at}
+use Rattle.ssz_merkle.specs.Packing.{chunk_of}
+use Rattle.ssz_roots.specs.Eights.{lane}
+use Rattle.ssz_roots.proofs.columns.chunk_column.Given as goal
+
+abbrev pub invariant-loop-j : goal.invariant-loop-j
+invariant-loop-j g l = record {
+  long : length l.column ≡ 8;
+  each : (j : ℕ) → j < l.j
+      → chunk_at l.column j ≡ chunk_of (lane l.from l.lanes.stride l.size l.lanes.bytes.now j) l.i;
+}

@@ -1,0 +1,146 @@
+// Eight values side by side: columns of eight chunks, one of each lane, and the trees over them.
+ghost use Rattle.std.specs.Prelude.{◌≡◌, ℕ, ◌+◌, ◌-◌, ◌*◌, ◌/◌, ◌<◌, ◌≤◌, ◌^◌, length, drop, min, slice_index};
+ghost use Rattle.ssz_chunk.specs.Chunk.{CountsUp};
+ghost use Rattle.ssz_chunk.specs.Rows.{chunk_at};
+ghost use Rattle.ssz_chunk.specs.Tree.{root, full, grow, zero_tree};
+ghost use Rattle.ssz_value.specs.Trees.{chunks};
+ghost use Rattle.ssz_merkle.specs.Frontier.{leaves};
+ghost use Rattle.ssz_merkle.specs.Packing.{chunk_of};
+ghost use Rattle.ssz_roots.specs.Eights.{AreRoots, lane};
+
+use ssz_chunk::{Chunk, PairHash, ZeroTable};
+use ssz_merkle::chunk_at;
+use ssz_schema::Schema;
+
+/// How many lanes there are.
+pub(crate) const WIDE: usize = 8;
+
+/// A chunk of each lane.
+pub(crate) type Column = [Chunk; WIDE];
+
+/// The bytes of eight values of one type, which begin a stride apart, and what makes their roots.
+#[derive(Drop)]
+pub(crate) struct Lanes<'a, H: PairHash> {
+    pub(crate) schema: &'a Schema,
+    pub(crate) bytes: &'a [u8],
+    pub(crate) stride: usize,
+    pub(crate) zeros: &'a ZeroTable<H>,
+    pub(crate) ghost are_bytes: { (i : ℕ) → slice_index bytes.now i < 256 },
+    pub(crate) ghost short: { length bytes.now < 2 ^ 32 },
+}
+
+// The chunks of two columns, those of each lane side by side.
+fn woven(left: &Column, right: &Column) -> [Chunk; 2 * WIDE]
+    ensures left { (j : ℕ) → j < 8 → chunk_at result (2 * j) ≡ chunk_at left.now j }
+    ensures right { (j : ℕ) → j < 8 → chunk_at result (2 * j + 1) ≡ chunk_at right.now j }
+{
+    let mut row = [Chunk::ZERO; 2 * WIDE];
+    for j in 0..WIDE {
+        row[2 * j] = left[j];
+        row[2 * j + 1] = right[j];
+    }
+    row
+}
+
+// The first half of a row.
+fn first_half(row: &[Chunk; 2 * WIDE]) -> Column
+    ensures { (j : ℕ) → j < 8 → chunk_at result j ≡ chunk_at row.now j }
+{
+    let mut column = [Chunk::ZERO; WIDE];
+    for j in 0..WIDE {
+        column[j] = row[j];
+    }
+    column
+}
+
+/// The chunks of the pairs of each lane.
+pub(crate) fn pair_columns<H: PairHash>(left: &Column, right: &Column, hasher: &mut H) -> Column
+    ensures value { (j : ℕ) → j < 8
+        → chunk_at result j ≡ H.pair_of (chunk_at left.now j) (chunk_at right.now j) }
+    ensures counts { CountsUp 8 (H.pairs hasher.old) (H.pairs hasher.new) }
+{
+    let mut row = woven(left, right);
+    hasher.halve(&mut row);
+    first_half(&row)
+}
+
+/// The root of the full tree of zero chunks of this depth, in each lane.
+pub(crate) fn zero_column<H: PairHash>(depth: u32, zeros: &ZeroTable<H>) -> Column
+    requires { depth ≤ 126 }
+    ensures { AreRoots H.pair_of result (λ j. zero_tree depth) }
+{
+    let mut column = [Chunk::ZERO; WIDE];
+    for j in 0..WIDE {
+        column[j] = *zeros.get(depth);
+    }
+    column
+}
+
+// The bytes of the value in lane j, where that of lane 0 begins at a place.
+fn lane<'a, H: PairHash>(lanes: &Lanes<'a, H>, from: usize, size: usize, j: usize) -> &'a [u8]
+    requires below { j < 8 }
+    requires room { from + 7 * lanes.now.stride + size ≤ length lanes.now.bytes.now }
+    ensures { result.now ≡ lane from lanes.now.stride size lanes.now.bytes.now j }
+{
+    let start = from + j * lanes.stride;
+    let part = &lanes.bytes[start..start + size];
+    part
+}
+
+/// Chunk i of the value in each lane.
+pub(crate) fn chunk_column<H: PairHash>(
+    lanes: &Lanes<'_, H>,
+    from: usize,
+    size: usize,
+    i: usize,
+) -> Column
+    requires room { from + 7 * lanes.now.stride + size ≤ length lanes.now.bytes.now }
+    ensures { (j : ℕ) → j < 8 → chunk_at result j
+        ≡ chunk_of (lane from lanes.now.stride size lanes.now.bytes.now j) i }
+{
+    let mut column = [Chunk::ZERO; WIDE];
+    for j in 0..WIDE {
+        column[j] = chunk_at(lane(lanes, from, size, j), i);
+    }
+    column
+}
+
+/// How many of so many places are in the left half of a tree with two halves of this depth.
+pub(crate) fn left_of(depth: u32, count: u64) -> u64
+    requires { depth ≤ 62 }
+    ensures { result ≡ min (2 ^ depth) count }
+{
+    (1u64 << depth).min(count)
+}
+
+/// The roots of the full trees over so many chunks of the value in each lane, from one on.
+#[cycle(packed)]
+pub(crate) fn chunks_of_eight<H: PairHash>(
+    lanes: &Lanes<'_, H>,
+    depth: u32,
+    from: usize,
+    size: usize,
+    first: u64,
+    count: u64,
+    hasher: &mut H,
+) -> Column
+    requires depth { depth ≤ 62 }
+    requires room { from + 7 * lanes.now.stride + size ≤ length lanes.now.bytes.now }
+    requires few { count ≤ 2 ^ depth }
+    requires small { first + count < 2 ^ 60 }
+    ensures roots { AreRoots H.pair_of result (λ j. full depth (leaves (chunks count
+        (drop (32 * first) (lane from lanes.now.stride size lanes.now.bytes.now j))))) }
+    ensures counts { CountsUp (8 * grow depth count) (H.pairs hasher.old) (H.pairs hasher.new) }
+{
+    if count == 0 {
+        return zero_column(depth, lanes.zeros);
+    }
+    if depth == 0 {
+        return chunk_column(lanes, from, size, first as usize);
+    }
+    let half = left_of(depth - 1, count);
+    let rest = count - half;
+    let left = chunks_of_eight(lanes, depth - 1, from, size, first, half, hasher);
+    let right = chunks_of_eight(lanes, depth - 1, from, size, first + half, rest, hasher);
+    pair_columns(&left, &right, hasher)
+}
