@@ -1,0 +1,172 @@
+//! Edits of values of every form on nodes.
+//!
+//! `new` names a type and has the bytes of its value; the other rows edit the value at hand, `keep`
+//! keeps the one at hand and `swap` exchanges it with the one that was kept. A row's line has the
+//! root of the value afterwards, or why it was not edited. The wanted root is always that of the
+//! whole value made anew.
+ghost use Rattle.std.specs.Prelude.{◌≡◌, ◌<◌, length, IfOk, IfSome};
+ghost use Rattle.ssz_arena.specs.Content.{IsNodeOf, node_count};
+ghost use Rattle.node_rows.specs.Versions.{AreVersions};
+
+use super::edit_calls::edited;
+use super::rows::{schema_of, type_named, value_of_type};
+use anyhow::{Context, Result, bail};
+use ssz_arena::{Arena, NodeId};
+use ssz_chunk::{PairHash, ShaPair};
+use ssz_schema::{Schema, TypeId};
+use ssz_tree::build;
+use std::alloc::Global;
+use std::fs;
+
+/// The type of a value, its node, and the one that was kept.
+#[derive(Clone, Copy, Debug)]
+pub struct Versions {
+    pub id: TypeId,
+    pub now: NodeId,
+    pub kept: NodeId,
+}
+
+// The words of a row, and the digits of the bytes that it has.
+fn cut(row: &str) -> (&str, &str) {
+    row.split_once(" 0x").unwrap_or((row, ""))
+}
+
+// A new value, which is kept too, by the row `new TYPE BYTES`.
+fn started<H: PairHash>(
+    alloc: Global,
+    arena: &mut Arena<H>,
+    schema: &Schema,
+    row: &str,
+) -> Result<Versions>
+    ensures { IfOk result (AreVersions schema.now arena.new) }
+{
+    let (words, digits) = cut(row);
+    let id = type_named(schema, words.strip_prefix("new ").context("no name")?)?;
+    let node = built(alloc, arena, schema, id, digits)?;
+    Ok(Versions {
+        id,
+        now: node,
+        kept: node,
+    })
+}
+
+// The node of the value that the digits encode.
+fn built<H: PairHash>(
+    alloc: Global,
+    arena: &mut Arena<H>,
+    schema: &Schema,
+    id: TypeId,
+    digits: &str,
+) -> Result<NodeId>
+    requires { id < length schema.now.trees }
+    ensures { IfOk result (IsNodeOf arena.new) }
+{
+    let value = value_of_type(alloc, schema, id, digits)?;
+    Ok(build(arena, schema, id, &value)?)
+}
+
+// Prints the words of a row with the root of a node.
+fn print_root<H: PairHash>(
+    rt: &HostRuntime,
+    arena: &mut Arena<H>,
+    hasher: &mut H,
+    row: &str,
+    node: NodeId,
+) -> Result<()>
+    requires { IsNodeOf arena.old node }
+    ensures { node_count arena.new ≡ node_count arena.old }
+{
+    let root = arena.root(node, hasher);
+    let digits = hex::encode(rt.alloc(), root.0.as_slice())?;
+    println!(rt; "{} {digits}", cut(row).0)?;
+    Ok(())
+}
+
+// The versions after an edit of the one at hand, with its line.
+fn after_edit<H: PairHash>(
+    rt: &HostRuntime,
+    arena: &mut Arena<H>,
+    schema: &Schema,
+    hasher: &mut H,
+    old: &Versions,
+    row: &str,
+) -> Result<Versions>
+    requires { AreVersions schema.now arena.old old.now }
+    ensures { IfOk result (AreVersions schema.now arena.new) }
+{
+    match edited(rt.alloc(), arena, schema, old, row)? {
+        Ok(made) => {
+            print_root(rt, arena, hasher, row, made)?;
+            Ok(Versions {
+                id: old.id,
+                now: made,
+                kept: old.kept,
+            })
+        }
+        Err(fault) => {
+            println!(rt; "{} {fault:?}", cut(row).0)?;
+            Ok(Versions {
+                id: old.id,
+                now: old.now,
+                kept: old.kept,
+            })
+        }
+    }
+}
+
+// What a row makes of the versions, with its line.
+fn step<H: PairHash>(
+    rt: &HostRuntime,
+    arena: &mut Arena<H>,
+    schema: &Schema,
+    hasher: &mut H,
+    versions: Option<Versions>,
+    row: &str,
+) -> Result<Versions>
+    requires { IfSome versions (AreVersions schema.now arena.old) }
+    ensures { IfOk result (AreVersions schema.now arena.new) }
+{
+    if row.starts_with("new ") {
+        let new = started(rt.alloc(), arena, schema, row)?;
+        print_root(rt, arena, hasher, row, new.now)?;
+        return Ok(new);
+    }
+    let Some(old) = versions else {
+        bail!("no value yet");
+    };
+    if row == "keep" {
+        return Ok(Versions {
+            id: old.id,
+            now: old.now,
+            kept: old.now,
+        });
+    }
+    if row == "swap" {
+        print_root(rt, arena, hasher, row, old.kept)?;
+        return Ok(Versions {
+            id: old.id,
+            now: old.kept,
+            kept: old.now,
+        });
+    }
+    after_edit(rt, arena, schema, hasher, &old, row)
+}
+
+// Prints a line for each row.
+fn print_rows(rt: &HostRuntime, schema: &Schema, rows: &str) -> Result<()> {
+    let mut hasher = ShaPair::new();
+    let mut arena = Arena::start(rt.alloc(), &mut hasher)?;
+    let mut versions = None;
+    for row in rows.lines() {
+        versions = Some(step(rt, &mut arena, schema, &mut hasher, versions, row)?);
+    }
+    Ok(())
+}
+
+/// Prints what the edits of the rows of edit.txt lead to.
+pub fn print_subject(rt: &HostRuntime) -> Result<()> {
+    println!(rt; "edit")?;
+    let schema = schema_of(rt, "edit_schema.json")?;
+    let rows = fs::read_to_string(rt, "edit.txt")?;
+    print_rows(rt, &schema, rows.as_str())
+}

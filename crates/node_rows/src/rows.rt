@@ -1,0 +1,67 @@
+// What the subjects have alike: the types of a file, and what the words of a row spell.
+ghost use Rattle.std.specs.Prelude.{◌<◌, ◌^◌, length, IfOk};
+ghost use Rattle.ssz_schema.specs.Unfolding.{type_of};
+ghost use Rattle.ssz_value.specs.Standing.{IsValue};
+
+use anyhow::{Context, Result, bail};
+use ssz_codec::decode;
+use ssz_line::read_path;
+use ssz_schema::{PathStep, Schema, TypeId};
+use ssz_schema_json::read_schema;
+use ssz_value::Value;
+use std::alloc::Global;
+use std::fs;
+
+/// The types of a schema file.
+pub fn schema_of(rt: &HostRuntime, file: &str) -> Result<Schema> {
+    let text = fs::read(rt, file)?;
+    match read_schema(rt.alloc(), text.as_slice()) {
+        Ok(schema) => Ok(schema),
+        Err(_) => bail!("no schema"),
+    }
+}
+
+/// The type of this name.
+pub fn type_named(schema: &Schema, name: &str) -> Result<TypeId>
+    ensures { IfOk result (λ id. id < length schema.now.trees) }
+{
+    schema.find(name).context("no such type")
+}
+
+/// The steps of the path that the word spells.
+pub fn steps_of(alloc: Global, word: &str) -> Result<Vec<PathStep>> {
+    match read_path(alloc, word.as_bytes()) {
+        Ok(path) => Ok(path.to_vec(alloc)?),
+        Err(_) => bail!("no path"),
+    }
+}
+
+/// The bytes of the digits.
+pub fn bytes_of(alloc: Global, digits: &str) -> Result<Vec<u8>>
+    ensures { IfOk result (λ bytes. length bytes.items < 2 ^ 32) }
+{
+    let bytes = hex::decode(alloc, digits)?;
+    if bytes.len() > u32::MAX as usize {
+        bail!("too long");
+    }
+    Ok(bytes)
+}
+
+/// The value of the type that the bytes of the digits encode.
+pub fn value_of_type(alloc: Global, schema: &Schema, id: TypeId, digits: &str) -> Result<Value>
+    requires { id < length schema.now.trees }
+    ensures { IfOk result (IsValue (type_of schema.now id)) }
+{
+    let bytes = bytes_of(alloc, digits)?;
+    match decode(alloc, schema, id, bytes.as_slice()) {
+        Ok(value) => Ok(value),
+        Err(_) => bail!("not decoded"),
+    }
+}
+
+/// Prints the digits of the bytes.
+pub fn print_hex(rt: &HostRuntime, bytes: &[u8]) -> Result<()> {
+    let digits = hex::encode(rt.alloc(), bytes)?;
+    print!(rt; "0x{digits}")?;
+    Ok(())
+}
