@@ -2,13 +2,9 @@
 afterwards, or the refusal."""
 import json
 
-from node.edits import Refused, append, choose, edited, pop, set_to
-from node.ssz_edit import BOOL, container, encoded, form, list_of, path_type, root, uint, vector
-
-
-def word(path):
-    words = ("#%d" % step[1] if isinstance(step, tuple) else str(step) for step in path)
-    return "/" + "/".join(words)
+from ssz import (
+    BOOLEAN, Refused, append, bitlist, bitvector, choose, container, edited, encode, form_of, hash_tree_root, list_of,
+    path_type, pop, set_to, text_of_path, uint, union, vector)
 
 
 class Rows:
@@ -22,15 +18,15 @@ class Rows:
         self.rows.append(text)
 
     def root(self, head):
-        self.wanted.append("%s %s" % (head, root(self.type, self.now).hex()))
+        self.wanted.append("%s %s" % (head, hash_tree_root(self.type, self.now).hex()))
 
     def new(self, name, value):
         self.type, self.now, self.kept = TYPES[name], value, value
-        self.row("new %s 0x%s" % (name, encoded(self.type, value).hex()))
+        self.row("new %s 0x%s" % (name, encode(self.type, value).hex()))
         self.root("new " + name)
 
     def edit(self, name, path, edit, literal=None, middle=""):
-        head = "%s %s%s" % (name, word(path), middle)
+        head = "%s %s%s" % (name, text_of_path(path), middle)
         self.row(head + ("" if literal is None else " 0x" + literal.hex()))
         try:
             self.now = edited(self.type, self.now, path, edit)
@@ -41,14 +37,14 @@ class Rows:
     def literal(self, path, new, part=lambda t: t):
         t = path_type(self.type, path)
         t = None if t is None else part(t)
-        return b"\0" if t is None else encoded(t, new)
+        return b"\0" if t is None else encode(t, new)
 
     def set(self, path, new):
         self.edit("set", path, set_to(new), self.literal(path, new))
 
     def append(self, path, new):
         def element(t):
-            return t[1] if t[0] == "list" else BOOL if t[0] == "bitlist" else None
+            return t[1] if t[0] == "list" else BOOLEAN if t[0] == "bitlist" else None
         self.edit("append", path, append(new), self.literal(path, new, element))
 
     def pop(self, path):
@@ -74,8 +70,8 @@ class Rows:
 
 PAIR = container(a=uint(64), b=uint(64))
 NAMED = container(name=list_of(uint(8), 33), pair=PAIR)
-UNION = ("union", [None, uint(64), list_of(uint(16), 40), PAIR])
-NUMBERED = ("union", [uint(64), list_of(uint(8), 4)])
+UNION = union(None, uint(64), list_of(uint(16), 40), PAIR)
+NUMBERED = union(uint(64), list_of(uint(8), 4))
 TYPES = {
     "Number": uint(64),
     "Pair": PAIR,
@@ -83,13 +79,13 @@ TYPES = {
     "One": list_of(uint(8), 1),
     "Halves": list_of(uint(16), 100),
     "Wides": list_of(uint(256), 5),
-    "Flags": list_of(BOOL, 70),
+    "Flags": list_of(BOOLEAN, 70),
     "Long": list_of(uint(64), 2 ** 40),
-    "Bits": ("bitlist", 600),
-    "LongBits": ("bitlist", 2 ** 40),
-    "Mask": ("bitvector", 300),
+    "Bits": bitlist(600),
+    "LongBits": bitlist(2 ** 40),
+    "Mask": bitvector(300),
     "Words": vector(uint(32), 12),
-    "Switches": vector(BOOL, 3),
+    "Switches": vector(BOOLEAN, 3),
     "Pairs": list_of(PAIR, 5),
     "Three": vector(PAIR, 3),
     "Texts": list_of(list_of(uint(8), 40), 3),
@@ -98,17 +94,17 @@ TYPES = {
     "Numbered": NUMBERED,
     "All": container(
         number=uint(64),
-        flag=BOOL,
+        flag=BOOLEAN,
         wide=uint(256),
         halves=vector(uint(16), 20),
         root=vector(uint(8), 32),
         bytes=list_of(uint(8), 100),
-        bits=("bitlist", 600),
-        mask=("bitvector", 300),
+        bits=bitlist(600),
+        mask=bitvector(300),
         pairs=list_of(PAIR, 5),
         named=NAMED,
         option=UNION,
-        masks=vector(("bitvector", 9), 2),
+        masks=vector(bitvector(9), 2),
     ),
 }
 
@@ -343,7 +339,7 @@ def made():
     for part in lists, bits, sequences, unions, refusals, everywhere:
         part(rows)
     types = ",\n".join(
-        "  " + json.dumps([name, form(t)], separators=(",", ":")) for name, t in TYPES.items())
+        "  " + json.dumps([name, form_of(t)], separators=(",", ":")) for name, t in TYPES.items())
     files = {
         "edit_schema.json": '{"ssz":1,"types":[\n%s\n]}\n' % types,
         "edit.txt": "\n".join(rows.rows) + "\n",

@@ -7,11 +7,10 @@ formats.
 """
 import json
 
-import node.ssz_edit as plain
-from node.script import MAX_BYTES, TYPES, Script
+from node.script import MAX_BYTES, TYPES, Script, hexed
 from node.scripts import SCRIPTS
-from node.ssz_engine import hexed, le, number, sha_pair, xor_pair
 from node.texts import TEXTS
+from ssz import HASHES, ZERO, form_of, le, number_chunk, xor
 
 # Files that are no texts.
 OCTETS = {"short": b"\xaa", "long": bytes(MAX_BYTES + 1), "longs": le(7, 8) + le(8, 8)}
@@ -22,8 +21,8 @@ OCTETS = {"short": b"\xaa", "long": bytes(MAX_BYTES + 1), "longs": le(7, 8) + le
 # sink the lines.
 FAULTY = ["new V P", "save V f", "root V", "load W P longs", "root W"]
 OK = "ok\n"
-OF_ZERO = "root " + hexed(bytes(32)) + "\n"
-OF_LONGS = "root " + hexed(xor_pair(number(7), number(8))) + "\n"
+OF_ZERO = "root " + hexed(ZERO) + "\n"
+OF_LONGS = "root " + hexed(xor(number_chunk(7), number_chunk(8))) + "\n"
 FAILING = [(0, 0), (1, 0), (2, 0), (0, 1), (0, 2), (0, 3), (0, 4)]
 ENDINGS = [
     (0, OK + OK + OF_ZERO + OK + OF_LONGS, bytes(16)),
@@ -66,7 +65,7 @@ def scripts():
     """The runs of the scripts, and the wanted lines."""
     runs, wanted = "", []
     for name, fill, is_weave in SCRIPTS:
-        for hasher, pair in [("sha", sha_pair), ("xor", xor_pair)]:
+        for hasher, pair in HASHES.items():
             script = Script(name, pair, is_weave)
             fill(script)
             wanted += wanted_of(script, hasher)
@@ -91,7 +90,7 @@ def made():
     """The files of the subject, and the wanted lines."""
     runs, wanted = scripts()
     failing_runs, failing_wanted = failing()
-    types = [[name, plain.form(t)] for name, t in TYPES.items()]
+    types = [[name, form_of(t)] for name, t in TYPES.items()]
     files = {
         "engine_schema.json": json.dumps({"ssz": 1, "types": types}) + "\n",
         "engine.txt": runs + failing_runs,

@@ -1,5 +1,5 @@
 """The scripts of JSON texts."""
-from node.ssz_engine import le
+from ssz import le
 
 
 def texts(script):

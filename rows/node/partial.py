@@ -2,41 +2,29 @@
 
 A root after an edit is that of the edited value, made anew from the value.
 """
-import hashlib
 import json
 
-from node.ssz_partial import basic, helper_indices, node_at, root, step_index, tree
-from node.ssz_reading import form, step_type, steps_of, width
+from ssz import (
+    BOOLEAN, LEN, SEL, Refused, at, bitlist, bitvector, calculated, chunk, container, edited,
+    encode, fixed_size, form_of, hash_tree_root, helper_indices, is_basic, le, list_of, number_chunk, part_at,
+    path_of, path_type, root, set_to, spot, step_index, step_type, tree, uint, union, vector)
 
 MOST = 2 ** 62
 
-PICK = ("union", [None, "uint256", ("list", "uint16", 40)])
-KID = ("container", [("x", "boolean"), ("y", "uint32")])
-STATE = ("container", [
-    ("slot", "uint64"),
-    ("live", "boolean"),
-    ("scores", ("list", "uint64", 64)),
-    ("marks", ("bitlist", 600)),
-    ("fixed", ("bitvector", 300)),
-    ("kids", ("list", KID, 8)),
-    ("pair", ("vector", "uint128", 3)),
-    ("pick", PICK),
-    ("wide", "uint256"),
-])
+PICK = union(None, uint(256), list_of(uint(16), 40))
+STATE = container(
+    slot=uint(64), live=BOOLEAN, scores=list_of(uint(64), 64), marks=bitlist(600), fixed=bitvector(300),
+    kids=list_of(container(x=BOOLEAN, y=uint(32)), 8), pair=vector(uint(128), 3), pick=PICK, wide=uint(256))
 TYPES = {
-    "Q": ("container", [("a", "uint8"), ("b", "uint8")]),
-    "M": ("container", [("a", "uint16"), ("b", ("list", "uint8", 4))]),
-    "P": ("container", [("a", "uint64"), ("b", "uint64")]),
-    "Bytes": ("list", "uint8", 200),
+    "Q": container(a=uint(8), b=uint(8)),
+    "M": container(a=uint(16), b=list_of(uint(8), 4)),
+    "P": container(a=uint(64), b=uint(64)),
+    "Bytes": list_of(uint(8), 200),
     "Pick": PICK,
-    "Longs": ("list", "uint64", MOST),
-    "Bits": ("bitlist", MOST),
+    "Longs": list_of(uint(64), MOST),
+    "Bits": bitlist(MOST),
     "State": STATE,
 }
-
-
-class Refused(Exception):
-    pass
 
 
 class Block:
@@ -45,16 +33,16 @@ class Block:
     def __init__(self, name, value, leaves):
         self.type, self.value, self.name = TYPES[name], value, name
         whole = tree(self.type, value)
-        self.begin({g: root(node_at(whole, g)) for g in leaves},
-                   {g: root(node_at(whole, g)) for g in helper_indices(leaves)})
+        self.begin({g: root(at(whole, g)) for g in leaves},
+                   {g: root(at(whole, g)) for g in helper_indices(leaves)})
 
     @classmethod
     def of_chunks(cls, name, leaves):
         """Chunks of no value; the helpers have the bytes of their index."""
         block = cls.__new__(cls)
         block.type, block.value, block.name = TYPES[name], None, name
-        block.begin({g: chunk.ljust(32, b"\0") for g, chunk in leaves.items()},
-                    {g: g.to_bytes(32, "little") for g in helper_indices(leaves)})
+        block.begin({g: chunk(said) for g, said in leaves.items()},
+                    {g: number_chunk(g) for g in helper_indices(leaves)})
         return block
 
     def begin(self, leaves, nodes):
@@ -69,12 +57,6 @@ class Block:
         self.rows.append(row)
         self.wanted.append("%s: %s" % (row, answer))
 
-    def calculated(self, g=1):
-        """The root from the chunks that are known."""
-        if g in self.known:
-            return self.known[g]
-        return hashlib.sha256(self.calculated(2 * g) + self.calculated(2 * g + 1)).digest()
-
     def need(self, g):
         if g not in self.known:
             raise Refused("Blind(Gindex { number: %d })" % g)
@@ -82,91 +64,62 @@ class Block:
 
     def found(self, path, sets):
         """The type of the part, the index of its node, and where in the chunk it lies."""
-        steps, t = steps_of(path), self.type
-        for step in steps:
-            t = step_type(t, step)
-            if t is None:
-                raise Refused("BadPath")
-        if width(t) is None or sets and steps and steps[-1] in ("#len", "#sel"):
+        steps = path_of(path)
+        part = path_type(self.type, steps)
+        if part is None:
+            raise Refused("BadPath")
+        if not is_basic(part) or sets and steps and steps[-1] in (LEN, SEL):
             raise Refused("NotThat")
-        t, k, at, bit = self.type, 1, 0, None
+        t, k, place, bit = self.type, 1, 0, None
         for step in steps:
-            if t[0] in ("list", "bitlist") and step.isdigit():
-                if int.from_bytes(self.need(2 * k + 1), "little") <= int(step):
+            if isinstance(step, int) and t[0] in ("list", "bitlist"):
+                if int.from_bytes(self.need(2 * k + 1), "little") <= step:
                     raise Refused("Absent")
-            if t[0] == "union" and step != "#sel":
-                if int.from_bytes(self.need(2 * k + 1), "little") != int(step[1:]):
-                    raise Refused("Absent")
-            k, at, bit = step_index(k, t, step)
+            if isinstance(step, tuple) and int.from_bytes(self.need(2 * k + 1), "little") != step[1]:
+                raise Refused("Absent")
+            k, (place, bit) = step_index(k, t, step), spot(t, step)
             t = step_type(t, step)
         self.need(k)
-        return t, k, at, bit
+        return t, k, place, bit
 
     def get(self, *paths):
         for path in paths:
             try:
-                t, k, at, bit = self.found(path, False)
-                part = self.known[k][at:at + width(t)]
+                t, k, place, bit = self.found(path, False)
+                part = self.known[k][place:place + fixed_size(t)]
                 if bit is not None:
                     part = bytes([part[0] >> bit & 1])
-                if self.value is not None and part != basic(t, self.part(path)):
+                if self.value is not None and part != encode(*part_at(self.type, self.value, path_of(path))):
                     raise AssertionError("%s: the chunk has not what the value has" % path)
-                answer = "len %d, chunk 0x%s" % (len(part), part.ljust(32, b"\0").hex())
+                answer = "len %d, chunk 0x%s" % (len(part), chunk(part).hex())
             except Refused as fault:
                 answer = str(fault)
             self.row("get " + path, answer)
 
-    def set(self, path, new, new_type="uint8"):
-        steps, t = steps_of(path), self.type
-        for step in steps:
-            t = t and step_type(t, step)
-        if t is not None and width(t) is not None:
-            new_type = t
-        row = "set %s 0x%s" % (path, basic(new_type, new).hex())
+    def set(self, path, new, new_type=uint(8)):
+        steps = path_of(path)
+        t = path_type(self.type, steps)
+        literal = le(int(new), fixed_size(t if t is not None and is_basic(t) else new_type))
         try:
-            t, k, at, bit = self.found(path, True)
-            chunk = bytearray(self.known[k])
+            t, k, place, bit = self.found(path, True)
+            octets = bytearray(self.known[k])
             if bit is None:
-                chunk[at:at + width(t)] = basic(t, new)
+                octets[place:place + fixed_size(t)] = literal
             else:
-                chunk[at] = chunk[at] & ~(1 << bit) | int(new) << bit
-            self.known[k] = bytes(chunk)
+                octets[place] = octets[place] & ~(1 << bit) | int(new) << bit
+            self.known[k] = bytes(octets)
             if self.value is not None:
-                self.value = edited(self.type, self.value, steps, new)
+                self.value = edited(self.type, self.value, steps, set_to(new))
             answer = "ok"
         except Refused as fault:
             answer = str(fault)
-        self.row(row, answer)
+        self.row("set %s 0x%s" % (path, literal.hex()), answer)
 
     def root(self):
-        calculated = self.calculated()
-        if self.value is not None and calculated != root(tree(self.type, self.value)):
+        made = calculated(self.known)
+        if self.value is not None and made != hash_tree_root(self.type, self.value):
             raise AssertionError("the root is not the value's")
-        self.row("root", "0x" + calculated.hex())
-
-    def part(self, path):
-        t, v = self.type, self.value
-        for step in steps_of(path):
-            v = len(v) if step == "#len" else v[0] if step == "#sel" else inner(t, v, step)
-            t = step_type(t, step)
-        return v
-
-
-def inner(t, v, step):
-    if t[0] == "union":
-        return v[1]
-    return v[[name for name, _ in t[1]].index(step) if t[0] == "container" else int(step)]
-
-
-def edited(t, v, steps, new):
-    """The value with another part."""
-    if not steps:
-        return new
-    part = edited(step_type(t, steps[0]), inner(t, v, steps[0]), steps[1:], new)
-    if t[0] == "union":
-        return (v[0], part)
-    i = [name for name, _ in t[1]].index(steps[0]) if t[0] == "container" else int(steps[0])
-    return v[:i] + [part] + v[i + 1:]
+        self.row("root", "0x" + made.hex())
 
 
 # The rows.
@@ -319,7 +272,7 @@ def made():
     """The files of the subject, and the wanted lines."""
     makers = (pairs, lists, unions, state, chunks_of_no_value)
     blocks = [block for make in makers for block in make()]
-    types = ",\n".join(json.dumps([name, form(t)]) for name, t in TYPES.items())
+    types = ",\n".join(json.dumps([name, form_of(t)]) for name, t in TYPES.items())
     files = {
         "partial_schema.json": '{"ssz":2,"types":[\n%s]}\n' % types,
         "partial.txt": "\n\n".join("\n".join(block.rows) for block in blocks) + "\n",

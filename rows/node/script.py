@@ -1,37 +1,35 @@
 """Lines of scripts, with the replies that an engine is to make."""
-import node.ssz_edit as plain
-from node.edits import Refused, append, choose, edited, pop, set_to
-from node.ssz_edit import BOOL, container, encoded, list_of, uint, vector
-from node.ssz_engine import (
-    at, default, hashed, helpers, hexed, index_of, part, steps, text_of, tree)
 from node.texts import TEXTS
+from ssz import (
+    BOOLEAN, BUILT_IN, Refused, append, are_flat, at, bitlist, bitvector, choose, container, default, edited, encode,
+    generalized_index, helper_indices, json_text, list_of, part_at, path_of, pop, root, set_to, tree, uint, union, vector)
 
 MAX_BYTES = 64
 
 P = container(a=uint(64), b=uint(64))
 M = container(a=uint(16), b=list_of(uint(8), 4))
 WIDE = container(
-    wide=uint(256), flags=("bitvector", 10), marks=("bitlist", 300), texts=list_of(M, 3),
-    pick=("union", [None, uint(64), M]), truths=list_of(BOOL, 40), halves=vector(uint(16), 20))
+    wide=uint(256), flags=bitvector(10), marks=bitlist(300), texts=list_of(M, 3),
+    pick=union(None, uint(64), M), truths=list_of(BOOLEAN, 40), halves=vector(uint(16), 20))
 TYPES = {
     "P": P,
     "Q": container(a=uint(8), b=uint(8)),
     "O": container(a=uint(64)),
     "M": M,
-    "K": container(a=BOOL, b=list_of(uint(8), 4)),
-    "U": ("union", [None, uint(64)]),
+    "K": container(a=BOOLEAN, b=list_of(uint(8), 4)),
+    "U": union(None, uint(64)),
     "L": list_of(uint(8), 1),
     "Eight": list_of(uint(64), 8),
     "Lists": list_of(list_of(uint(8), 4), 4),
-    "Marks": ("bitlist", 8),
-    "Few": ("bitlist", 3),
-    "Four": ("bitvector", 4),
+    "Marks": bitlist(8),
+    "Few": bitlist(3),
+    "Four": bitvector(4),
     "None": list_of(uint(64), 0),
     "Far": list_of(uint(64), 2 ** 40),
-    "Bits": ("bitlist", 512),
+    "Bits": bitlist(512),
     "Long": vector(uint(8), 80),
     "Nine": vector(uint(64), 9),
-    "Three": ("bitvector", 3),
+    "Three": bitvector(3),
     "Wides": list_of(uint(256), 2),
     "Wide": WIDE,
 }
@@ -41,15 +39,17 @@ CODES = {
     "NoNode": 13, "Nested": 14, "NotHere": 15,
     "BadJson": 18,
 }
-BUILT_IN = {"uint%d" % bits: uint(bits) for bits in (8, 16, 32, 64, 128, 256)} | {"boolean": BOOL}
+
+
+def hexed(octets):
+    return "0x" + octets.hex()
 
 
 class Script:
     """Lines, with the replies that are wanted. A weave has two writers, who say a line in turn."""
 
     def __init__(self, name, pair, is_weave=False):
-        plain.pair = pair
-        self.name, self.is_weave = name, is_weave
+        self.name, self.pair, self.is_weave = name, pair, is_weave
         self.lines, self.wanted, self.saved = [], [], {}
         self.versions = [{}, {}]
 
@@ -97,7 +97,7 @@ class Script:
         self.line("new %s %s" % (v, name), lambda: self.made(v, name, None, self.own()))
 
     def lit(self, v, name, value):
-        text = hexed(encoded(self.type_of(name), value))
+        text = hexed(encode(self.type_of(name), value))
         self.line("lit %s %s %s" % (v, name, text), lambda: self.made(v, name, value, self.own()))
 
     def load(self, v, name, value, file):
@@ -128,7 +128,7 @@ class Script:
     def edit(self, head, v, path, edit, tail=""):
         def reply():
             t, value = self.held(v)
-            self.own()[v] = (t, edited(t, value, steps(path), edit))
+            self.own()[v] = (t, edited(t, value, path_of(path), edit))
             return "ok"
         self.line("%s %s %s%s" % (head, v, path, tail), reply)
 
@@ -147,11 +147,11 @@ class Script:
         self.edit("choose", v, path, choose(selector, value), tail)
 
     def root(self, v):
-        self.line("root " + v, lambda: "root " + hexed(hashed(tree(*self.held(v)))))
+        self.line("root " + v, lambda: "root " + hexed(root(tree(*self.held(v)), self.pair)))
 
     def bytes(self, v, path):
         def reply():
-            octets = encoded(*part(*self.held(v), steps(path)))
+            octets = encode(*part_at(*self.held(v), path_of(path)))
             if len(octets) > MAX_BYTES:
                 raise Refused("TooLong")
             return "bytes " + hexed(octets)
@@ -159,7 +159,7 @@ class Script:
 
     def json(self, v, path):
         def reply():
-            text = text_of(*part(*self.held(v), steps(path)))
+            text = json_text(*part_at(*self.held(v), path_of(path)))
             if len(text) > MAX_BYTES:
                 raise Refused("TooLong")
             return "json " + text
@@ -167,13 +167,13 @@ class Script:
 
     def loadjson(self, v, name, value, file):
         """The file has the text of the value."""
-        assert TEXTS[file] == text_of(self.type_of(name), value)
+        assert TEXTS[file] == json_text(self.type_of(name), value)
         text = "loadjson %s %s %s" % (v, name, file)
         self.line(text, lambda: self.made(v, name, value, self.own()))
 
     def len(self, v, path):
         def reply():
-            t, value = part(*self.held(v), steps(path))
+            t, value = part_at(*self.held(v), path_of(path))
             if t[0] not in ("vector", "list", "bitvector", "bitlist"):
                 raise Refused("NotThat")
             return "len %d" % len(value)
@@ -183,7 +183,7 @@ class Script:
         def reply():
             if self.is_weave:
                 raise Refused("NotHere")
-            octets = encoded(*self.held(v))
+            octets = encode(*self.held(v))
             if len(octets) > MAX_BYTES:
                 raise Refused("TooLong")
             self.saved[file] = octets
@@ -192,7 +192,7 @@ class Script:
 
     def gindex(self, name, path):
         def reply():
-            index = index_of(self.type_of(name), steps(path))
+            index = generalized_index(self.type_of(name), path_of(path))
             if index is None:
                 raise Refused("BadPath")
             return "gindex %d" % index
@@ -203,7 +203,7 @@ class Script:
             t, value = self.held(v)
             asked = []
             for word in words:
-                index = index_of(t, steps(word)) if isinstance(word, str) else word
+                index = generalized_index(t, path_of(word)) if isinstance(word, str) else word
                 if index is None:
                     raise Refused("BadPath")
                 asked.append(index)
@@ -211,13 +211,12 @@ class Script:
             whole = tree(t, value)
             if any(at(whole, index) is None for index in asked):
                 raise Refused("NoNode")
-            if any(a != b and b >> (b.bit_length() - a.bit_length()) == a
-                   for a in asked for b in asked if b >= a):
+            if not are_flat(asked):
                 raise Refused("Nested")
 
             def entries(indices):
-                return "".join(" %d=%s" % (i, hexed(hashed(at(whole, i)))) for i in indices)
-            return "proof%s /%s" % (entries(asked), entries(helpers(asked)))
+                return "".join(" %d=%s" % (i, hexed(root(at(whole, i), self.pair))) for i in indices)
+            return "proof%s /%s" % (entries(asked), entries(helper_indices(asked)))
         self.line("prove %s %s" % (v, " ".join(str(word) for word in words)), reply)
 
     def hashes(self, count):

@@ -1,6 +1,6 @@
 """The scripts that an engine is to run."""
 from node.json_scripts import spelled, texts
-from node.ssz_engine import le
+from ssz import le
 
 
 def lists_and_edits(script):

@@ -5,7 +5,8 @@ these are pairs.
 """
 import json
 
-from node.ssz_tree import Type, of_bytes, of_default
+import ssz
+from ssz import Pair
 
 TYPES = [
     ("Number", "uint64"),
@@ -156,24 +157,56 @@ DEFAULTS = [
 ]
 
 
-def line(words, part):
-    root, nodes, pairs = part
-    return "%s %s %d %d" % (words, root.hex(), nodes, pairs)
+def made_for(node):
+    """The nodes that are made for a tree, and how many of these are pairs; a zero tree is there from the start."""
+    if isinstance(node, bytes):
+        return 1, 0
+    parts = [made_for(part) for part in (node if isinstance(node, Pair) else node.parts)]
+    pairs = above(len(parts), 1 if isinstance(node, Pair) else node.depth)
+    return sum(nodes for nodes, _ in parts) + pairs, sum(pairs for _, pairs in parts) + pairs
+
+
+def above(count, depth):
+    """The pairs of a full tree of this depth over so many parts."""
+    return sum(-(-count // 2 ** level) for level in range(1, depth + 1))
+
+
+def made_for_default(t):
+    """The same of a default: no leaf is made, since each is a zero chunk, and each subtree of a vector is made once."""
+    kind = t[0]
+    if kind in ("list", "bitlist"):
+        return 1, 1
+    if kind == "union":
+        nodes, pairs = made_for_default(t[1][0]) if t[1][0] else (0, 0)
+        return nodes + 1, pairs + 1
+    if kind == "container":
+        parts = [made_for_default(field) for field in ssz.field_types(t)]
+        pairs = above(len(parts), ssz.depth(t))
+        return sum(nodes for nodes, _ in parts) + pairs, sum(pairs for _, pairs in parts) + pairs
+    if kind == "vector" and not ssz.is_basic(t[1]):
+        # on each level the subtrees of copies alone are one node, and one more has copies and zeros
+        pairs = sum((t[2] >= 1 << d) + (t[2] % (1 << d) > 0) for d in range(1, ssz.depth(t) + 1))
+        nodes, inner = made_for_default(t[1])
+        return nodes + pairs, inner + pairs
+    return 0, 0
+
+
+def line(words, t, value, made):
+    return "%s %s %d %d" % (words, ssz.hash_tree_root(t, value).hex(), *made)
 
 
 def made():
     """The files of the subject, and the wanted lines."""
-    types = ",\n".join("  " + json.dumps(each, separators=(",", ":")) for each in TYPES)
-    names = dict(TYPES)
+    forms = ",\n".join("  " + json.dumps(each, separators=(",", ":")) for each in TYPES)
+    document = '{"ssz":2,"types":[\n%s\n]}\n' % forms
+    types = ssz.types_of(document)
     rows, wanted = [], []
     for name, digits in VALUES:
+        value = ssz.decode(types[name], bytes.fromhex(digits))
         rows.append("%s 0x%s" % (name, digits))
-        wanted.append(line(name, of_bytes(Type(name, names), bytes.fromhex(digits))))
+        wanted.append(line(name, types[name], value, made_for(ssz.tree(types[name], value))))
     for name in DEFAULTS:
         rows.append("default " + name)
-        wanted.append(line("default " + name, of_default(Type(name, names))))
-    files = {
-        "tree_schema.json": '{"ssz":2,"types":[\n%s\n]}\n' % types,
-        "tree.txt": "\n".join(rows) + "\n",
-    }
-    return files, wanted
+        value = ssz.default(types[name])
+        wanted.append(line("default " + name, types[name], value, made_for_default(types[name])))
+    return {"tree_schema.json": document, "tree.txt": "\n".join(rows) + "\n"}, wanted
