@@ -1,7 +1,7 @@
 #!/usr/bin/env python3
 """Prints what the gate takes of each crate, of its tests and of its must-fail edits, in seconds of processor time.
 
-  python3 bench/gate.py            starts rt ci in a fresh clone of what is committed
+  python3 bench/gate.py            starts rt ci --anew, which proves all, in a fresh clone of what is committed
   python3 bench/gate.py --pid N    watches the rt ci that is process N from here on, to its end
 
 A check is a process `rattle .. --crate-name NAME`: of tests where its words hold --test, of an edit where it works in a
@@ -83,11 +83,12 @@ def watch(top, is_over):
 
 
 def run_in_clone():
-    """Starts rt ci in a fresh clone and watches it: its checks, the seconds of all, and its last line."""
+    """Starts rt ci --anew in a fresh clone and watches it: its checks, the seconds of all, and its last line."""
     with tempfile.TemporaryDirectory(prefix="gate-") as room, open(f"{room}/log", "w+", errors="replace") as log:
         subprocess.run(["git", "clone", "-q", TOP, f"{room}/clone"], check=True)
         before = os.times()
-        gate = subprocess.Popen(["rt", "ci"], cwd=f"{room}/clone", stdout=log, stderr=subprocess.STDOUT, stdin=subprocess.DEVNULL)
+        print(f"{room}/log has what it says", file=sys.stderr, flush=True)
+        gate = subprocess.Popen(["rt", "ci", "--anew"], cwd=f"{room}/clone", stdout=log, stderr=subprocess.STDOUT, stdin=subprocess.DEVNULL)
         checks, _ = watch(gate.pid, lambda: gate.poll() is not None)
         after = os.times()
         log.seek(0)

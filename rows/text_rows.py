@@ -52,4 +52,5 @@ def main():
     written(os.path.join(CRATE, "stdout"), "".join(parts))
 
 
-main()
+if __name__ == "__main__":
+    main()
