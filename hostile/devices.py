@@ -14,7 +14,7 @@ import subprocess
 import threading
 
 import rows
-from rows import Row, chunk, full, hexed, pair, root_of_p
+from rows import Row, chunk, hexed, merkleize, pair, root_of_p
 from runs import BEFORE, Place, Tally
 
 NOBODY = 65534
@@ -192,7 +192,7 @@ def cut_files(place, tally):
     place.give(Row("", [], {"s": rows.schema('["B",{"list":["byte",1048576]}]'), "v": data}, 0, []))
     for number, length in (3, 0), (4, 65536), (5, 131072), (6, 196608), (7, 200000):
         chunks = [data[at:min(at + 32, length)].ljust(32, b"\0") for at in range(0, length, 32)]
-        wanted = "root %s\n" % hexed(pair(full(15, chunks), chunk(length)))
+        wanted = "root %s\n" % hexed(pair(merkleize(chunks, 15), chunk(length)))
         ended = place.run(["root", "s", "B", "v"], end=number)
         tally.check("end at read %d" % number, ended == (0, wanted.encode()), ended)
     wanted = 3, b"schema S1\n"

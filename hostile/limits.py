@@ -12,7 +12,7 @@ import subprocess
 import sys
 import tempfile
 
-from rows import SSZ, TYPES, USAGE, chunk, full, hexed, pair, proof, root_of_p, schema
+from rows import SSZ, TYPES, USAGE, chunk, hexed, merkleize, pair, proof, root_of_p, schema
 
 MOST = 1 << 26
 DEFAULT = 268435456
@@ -33,14 +33,14 @@ def padded(text, length):
 
 
 def zeros_of(depth):
-    return full(depth, [])
+    return merkleize([], depth)
 
 
 def leaves(depth):
     """A proof of all places of a depth, each with its number as chunk, and its root."""
     places = range(1 << depth, 2 << depth)
     return (proof([(place, chunk(place)) for place in places], []).encode(),
-            full(depth, [chunk(place) for place in places]))
+            merkleize([chunk(place) for place in places], depth))
 
 
 # Each case: a name, the words, the files, the status and the output.
@@ -65,7 +65,7 @@ def root_cases():
         files = {"s": schema(nested(count)), "v": b"\0"}
         yield "nesting %d" % (count + 1), words, files, status, said
     wide = {"s": WIDE, "v": chunk(7)[:8]}
-    said = "root " + hexed(pair(full(60, [chunk(7)]), chunk(1)))
+    said = "root " + hexed(pair(merkleize([chunk(7)], 60), chunk(1)))
     yield "a list of 2^62 with one", ["root", "s", "W", "v"], wide, 0, said
     words = ["root", "s", "B", "v"]
     said = "root " + hexed(pair(deepen(zeros_of(23), 23, 35), chunk(DEFAULT)))
@@ -115,12 +115,12 @@ def run_cases():
     said = "ok\n" + proof([(1, pair(deepen(chunk(0), 0, 35), chunk(0)))], [])
     yield case("an index 33 million times", text, 0, said)
     text = b"new V W\nappend V / 0x0700000000000000\nroot V\nlen V /\n"
-    said = "ok\nok\nroot %s\nlen 1" % hexed(pair(full(60, [chunk(7)]), chunk(1)))
+    said = "ok\nok\nroot %s\nlen 1" % hexed(pair(merkleize([chunk(7)], 60), chunk(1)))
     yield case("an append to a list of 2^62", text, 0, said)
     text = b"new V LL\nappend V / 0x\nappend V /0 0x0500000000000000\nroot V\ngindex LL /0/0\n"
-    inner = pair(full(60, [chunk(5)]), chunk(1))
+    inner = pair(merkleize([chunk(5)], 60), chunk(1))
     said = ("ok\nok\nok\nroot %s\ngindex 21267647932558653966460912964485513216"
-            % hexed(pair(full(62, [inner]), chunk(1))))
+            % hexed(pair(merkleize([inner], 62), chunk(1))))
     yield case("lists of 2^62 in one another", text, 0, said)
     text = b"load V W v\nbytes V /\njson V /\nsave V f\nlen V /\n"
     said = 'ok\nbytes 0x0700000000000000\njson ["7"]\nok\nlen 1'
@@ -180,7 +180,7 @@ def clash_cases():
     last = proof([((2 << 19) - 1, chunk(0))], [])[5:-2].encode()
     other = text[:text.rindex(b" 1048575=")] + last + b" /"
     chunks = [chunk(place) for place in range(1 << 19, (2 << 19) - 1)] + [chunk(0)]
-    said = "otherroot %s %s" % (hexed(root), hexed(full(19, chunks)))
+    said = "otherroot %s %s" % (hexed(root), hexed(merkleize(chunks, 19)))
     yield "clash, the last differs", words, {"p": text, "q": other}, 1, said
     yield "clash, long first", words, {"p": padded(text, MOST + 1), "q": text}, 1, "badproof 1"
     yield "clash, long second", words, {"p": text, "q": padded(text, MOST + 1)}, 1, "badproof 2"

@@ -4,36 +4,17 @@ A row is a command with its files. The wanted lines follow from the rules of doc
 roots from simple-serialize.md and the proofs from merkle-proofs.md (consensus-specs v1.4.0), by
 hashlib; nothing comes from the program.
 """
-import hashlib
 import os
 import sys
 from dataclasses import dataclass, field
 
 TOP = os.path.join(os.path.dirname(os.path.abspath(__file__)), "..")
 sys.path.append(os.path.join(TOP, "rows"))
+from ssz import merkleize, number_chunk as chunk, sha as pair
 SSZ = os.path.abspath(os.path.join(TOP, "crates", "ssz_cli", "out", "ssz_cli"))
 USAGE = ("usage: ssz root SCHEMA TYPE FILE | run SCHEMA SCRIPT"
          " | weave SCHEMA BASE ORDER SCRIPT.. | verify ROOT FILE | work SCHEMA TYPE SEED EDITS"
          " | part SCHEMA TYPE FILE PATH | partial SCHEMA TYPE PROOF SCRIPT | clash FILE FILE")
-
-
-def pair(left, right):
-    return hashlib.sha256(left + right).digest()
-
-
-def chunk(number):
-    return number.to_bytes(32, "little")
-
-
-def full(depth, chunks):
-    """The root of a full tree with these chunks in front and zero chunks behind."""
-    zero = bytes(32)
-    for _ in range(depth):
-        if len(chunks) % 2:
-            chunks = chunks + [zero]
-        chunks = [pair(*two) for two in zip(chunks[::2], chunks[1::2])]
-        zero = pair(zero, zero)
-    return chunks[0] if chunks else zero
 
 
 def hexed(data):
@@ -121,7 +102,7 @@ def root_rows():
     yield one_file("root of a list", ["root", "s", "M", "v"], data, 0, line)
     data = bytes.fromhex("aabb070000000102")
     yield one_file("root, bad offset", ["root", "s", "M", "v"], data, 1, "invalid F4 2")
-    line = "root " + hexed(pair(full(38, [chunk(5)]), chunk(1)))
+    line = "root " + hexed(pair(merkleize([chunk(5)], 38), chunk(1)))
     yield one_file("root, far limit", ["root", "s", "Long", "v"], chunk(5)[:8], 0, line)
     for name, text, line in [
         ("no JSON", b"{", "schema S1"),
@@ -183,10 +164,10 @@ FAILING = [
 ]
 GROWN = [
     ("new V L8", "ok"),
-    ("root V", "root " + hexed(pair(full(1, []), chunk(0)))),
+    ("root V", "root " + hexed(pair(merkleize([], 1), chunk(0)))),
     *[("append V / 0x0100000000000000", "ok")] * 5,
     *[("pop V /", "ok")] * 5,
-    ("root V", "root " + hexed(pair(full(1, []), chunk(0)))),
+    ("root V", "root " + hexed(pair(merkleize([], 1), chunk(0)))),
 ]
 FORKED = [
     ("new A P", "ok"),
@@ -264,12 +245,12 @@ def run_rows():
         ("lit V P 0x01000000000000000200000000000000", "ok"),
         ("upgrade V W N", "ok"),
         ("bytes W /", "bytes 0x0200000000000000" + 9 * "00"),
-        ("root W", "root " + hexed(full(2, [chunk(2)]))),
+        ("root W", "root " + hexed(merkleize([chunk(2)], 2))),
         ("upgrade V X U", "refused 5 16 NotContainer"),
         ("upgrade V W N", "refused 6 4 NameTaken"),
         ("drop V", "ok"),
         ("compact", "ok"),
-        ("root W", "root " + hexed(full(2, [chunk(2)]))),
+        ("root W", "root " + hexed(merkleize([chunk(2)], 2))),
     ]
     yield script("run, upgrade and compact", upgraded, 1)
     yield script("run, nothing", [], 0)
