@@ -14,8 +14,7 @@ ghost use Rattle.ssz_chunk.specs.Rows.{IsHalved};
 ghost use Rattle.ssz_chunk.specs.Tree.{root, zero_tree};
 
 use crate::rows::make_some;
-use sha2::{Digest, Sha256};
-use ssz_lanes::LANES;
+use ssz_lanes::{LANES, sha256_pair};
 use std::marker::{Model, PhantomData};
 
 mod laws;
@@ -101,8 +100,7 @@ const FEW: usize = 3;
 fn sha_of(left: &Chunk, right: &Chunk) -> Chunk
     ensures { result.0 ≡ sha_pair left.now.0 right.now.0 }
 {
-    let hasher = Sha256::new_with_prefix(&left.0).chain_update(&right.0);
-    Chunk(hasher.finalize())
+    Chunk(sha256_pair(&left.0, &right.0))
 }
 
 impl PairHash for ShaPair {
