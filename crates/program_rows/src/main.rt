@@ -19,7 +19,7 @@
 
 mod files;
 
-use anyhow::{Context, Result, bail};
+use anyhow::{Result, bail};
 use files::{files_of, print_saved};
 use ssz_chunk::{PairHash, ShaPair, XorPair};
 use ssz_outside::{MemFiles, MemSink};
@@ -57,7 +57,13 @@ fn words_of(alloc: Global, head: &str) -> Result<Vec<String>, AllocError> {
 
 // The number of the call that is to fail.
 fn number_of(word: Option<&str>) -> Result<u64> {
-    Ok(word.context("a number")?.parse()?)
+    let Some(word) = word else {
+        bail!("a run has two numbers");
+    };
+    match word.parse() {
+        Ok(number) => Ok(number),
+        Err(_) => bail!("no number"),
+    }
 }
 
 fn print_taken(rt: &HostRuntime, status: u8, taken: &[u8]) -> Result<()> {
@@ -68,6 +74,17 @@ fn print_taken(rt: &HostRuntime, status: u8, taken: &[u8]) -> Result<()> {
     Ok(())
 }
 
+// The call alone, so that what it promises is weighed in no other function.
+fn status_of<H: PairHash>(
+    alloc: Global,
+    words: &[String],
+    files: &mut MemFiles,
+    out: &mut MemSink,
+    hasher: &mut H,
+) -> u8 {
+    run(alloc, words, files, out, hasher) as u8
+}
+
 fn print_answer<H: PairHash>(
     rt: &HostRuntime,
     words: &[String],
@@ -76,7 +93,7 @@ fn print_answer<H: PairHash>(
     hasher: &mut H,
 ) -> Result<()> {
     let mut out = MemSink::new(rt.alloc(), &[puts])?;
-    let status = run(rt.alloc(), words, files, &mut out, hasher) as u8;
+    let status = status_of(rt.alloc(), words, files, &mut out, hasher);
     print_taken(rt, status, out.taken())
 }
 
