@@ -1,0 +1,117 @@
+// Edits leaves of a tree and asks its root after each edit or after all of them, or makes as many
+// pairs in a bare loop: same|near|far|bulk|pairs DEPTH COUNT.
+ghost use Rattle.std.specs.Prelude.{IfOk, ◌≤◌};
+ghost use Rattle.ssz_arena.specs.Content.{IsNodeOf};
+
+use super::inputs::number;
+use anyhow::{Context, Result, bail};
+use ssz_arena::{Arena, NodeId};
+use ssz_chunk::{Chunk, PairHash, ShaPair};
+use ssz_gindex::Gindex;
+use std::alloc::Global;
+
+const USAGE: &str =
+    "usage: bench arena same|near|far|bulk|pairs DEPTH COUNT, with a depth of at most 32";
+
+// From an edit's leaf to the next one's: an odd number that leads all over the leaves.
+const FAR: u32 = 2_654_435_761;
+
+// The tree with another leaf at an index.
+fn replaced<H: PairHash>(arena: &mut Arena<H>, top: NodeId, index: Gindex) -> Result<NodeId>
+    requires { IsNodeOf arena.old top }
+    ensures { IfOk result (IsNodeOf arena.new) }
+{
+    arena.reserve(index.levels() as usize + 1)?;
+    let leaf = arena.leaf(Chunk([7; 32]));
+    let made = arena
+        .replace(top, index, leaf)
+        .context("the tree has this leaf")?;
+    Ok(made)
+}
+
+// Edits a zero tree, one leaf and then the one so many places on, with the root after each, and
+// says how many nodes there are then.
+fn edit<H: PairHash>(
+    alloc: Global,
+    depth: u32,
+    count: u32,
+    stride: u32,
+    hasher: &mut H,
+) -> Result<usize>
+    requires { depth ≤ 32 }
+{
+    let places = 1 << depth;
+    let mut arena = Arena::start(alloc, hasher)?;
+    let mut top = arena.zero(depth);
+    for i in 0..count {
+        let place = u128::from(i.wrapping_mul(stride)) % places;
+        let index = Gindex::new(places | place).context("not 0")?;
+        top = replaced(&mut arena, top, index)?;
+        arena.root(top, hasher);
+    }
+    Ok(arena.len())
+}
+
+// Edits as many leaves, all over the tree, with one root behind them.
+fn bulk<H: PairHash>(alloc: Global, depth: u32, count: u32, hasher: &mut H) -> Result<usize>
+    requires { depth ≤ 32 }
+{
+    let places = 1 << depth;
+    let mut arena = Arena::start(alloc, hasher)?;
+    let mut top = arena.zero(depth);
+    for i in 0..count {
+        let place = u128::from(i.wrapping_mul(FAR)) % places;
+        let index = Gindex::new(places | place).context("not 0")?;
+        top = replaced(&mut arena, top, index)?;
+    }
+    arena.root(top, hasher);
+    Ok(arena.len())
+}
+
+// Makes as many pairs as the edits do.
+fn pair<H: PairHash>(depth: u32, count: u32, hasher: &mut H) -> Chunk {
+    let mut chunk = Chunk([7; 32]);
+    for _ in 0..count {
+        for _ in 0..depth {
+            chunk = hasher.pair(&chunk, &Chunk::ZERO);
+        }
+    }
+    chunk
+}
+
+// The number that is printed, and of what.
+fn work<H: PairHash>(
+    alloc: Global,
+    what: &str,
+    depth: u32,
+    count: u32,
+    hasher: &mut H,
+) -> Result<(usize, &'static str)>
+    requires { depth ≤ 32 }
+{
+    let nodes = match what {
+        "same" => edit(alloc, depth, count, 0, hasher)?,
+        "near" => edit(alloc, depth, count, 1, hasher)?,
+        "far" => edit(alloc, depth, count, FAR, hasher)?,
+        "bulk" => bulk(alloc, depth, count, hasher)?,
+        "pairs" => return Ok((usize::from(pair(depth, count, hasher).0[0]), "first")),
+        _ => bail!(USAGE),
+    };
+    Ok((nodes, "nodes"))
+}
+
+/// Does the work of the words, and says how many nodes and pairs were made.
+pub fn run(rt: &HostRuntime, words: &[String]) -> Result<()> {
+    let [what, depth, count] = words else {
+        bail!(USAGE);
+    };
+    let (depth, count) = (number(depth)?, number(count)?);
+    if depth > 32 {
+        bail!(USAGE);
+    }
+    let mut hasher = ShaPair::new();
+    let (said, of) = work(rt.alloc(), what, depth, count, &mut hasher)?;
+    let pairs = hasher.count();
+    println!(rt; "{said} {of}\n{pairs} pairs")?;
+    Ok(())
+}

@@ -1,0 +1,82 @@
+//! Does a piece of work so many times, to be timed from outside.
+//!
+//! `bench WORK WORDS..` does one, as its module says. `bench all FILE` does those of the lines of a
+//! file, one after another: words.txt has each of them with small counts.
+#![tactic(auto)]
+
+mod arena;
+mod codec;
+mod edit;
+mod inputs;
+mod json;
+mod numbers;
+mod pairs;
+mod partial;
+mod prove;
+mod reading;
+mod root;
+mod schema;
+mod script;
+mod slices;
+mod tree;
+mod versions;
+
+use anyhow::{Context, Result, bail};
+use std::alloc::{AllocError, Global};
+use std::{env, fs};
+
+const USAGE: &str = "usage: bench WORK WORDS.., or bench all FILE, with a work in each line";
+
+// Does the work that the first word names, with the words behind it.
+fn work(rt: &HostRuntime, words: &[String]) -> Result<()> {
+    let Some((name, words)) = words.split_first() else {
+        bail!(USAGE);
+    };
+    match name.as_str() {
+        "arena" => arena::run(rt, words),
+        "codec" => codec::run(rt, words),
+        "edit" => edit::run(rt, words),
+        "json" => json::run(rt, words),
+        "pairs" => pairs::run(rt, words),
+        "partial" => partial::run(rt, words),
+        "prove" => prove::run(rt, words),
+        "reading" => reading::run(rt, words),
+        "root" => root::run(rt, words),
+        "schema" => schema::run(rt, words),
+        "script" => script::run(rt, words),
+        "slices" => slices::run(rt, words),
+        "tree" => tree::run(rt, words),
+        "versions" => versions::run(rt, words),
+        _ => bail!(USAGE),
+    }
+}
+
+fn words_of(alloc: Global, line: &str) -> Result<Vec<String>, AllocError> {
+    let mut words = Vec::new(alloc);
+    for word in line.split_whitespace() {
+        words.push(String::from_str(alloc, word)?)?;
+    }
+    Ok(words)
+}
+
+// Does the work of each line.
+fn all(rt: &HostRuntime, text: &str) -> Result<()> {
+    for line in text.lines() {
+        let words = words_of(rt.alloc(), line)?;
+        work(rt, words.as_slice())?;
+    }
+    Ok(())
+}
+
+fn run(rt: &HostRuntime, words: &[String]) -> Result<()> {
+    if words.len() != 2 || words[0].as_str() != "all" {
+        return work(rt, words);
+    }
+    let text = fs::read_to_string(rt, words[1].as_str())?;
+    all(rt, text.as_str())
+}
+
+fn main(rt: HostRuntime) -> Result<()> {
+    let words: Vec<String> = env::args(&rt)?.skip(1).collect(rt.alloc())?;
+    run(&rt, words.as_slice())
+}
