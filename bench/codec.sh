@@ -1,18 +1,15 @@
 #!/bin/sh
 # Speed of check, decode and encode of three kinds of value at five sizes, beside a copy of the same
 # bytes; and, where valgrind is there, the instructions that each takes a byte, at three sizes.
-# Run it after 'rt run' in crates/bench_codec, which builds the program, on an idle machine.
-#
-# The C library's allocator is told to keep the memory that is given back to it. By default it hands
-# large pieces back to the system, which zeroes each page anew: then a second decode of a large value
-# is charged for the system's work, and one of a small value is not.
+# Run it after 'rt run' in crates/bench, which builds the program, on an idle machine:
+# bench/codec.sh [ROUNDS].
 set -eu
 cd "$(dirname "$0")/.."
-exec python3 - crates/bench_codec/out/bench_codec "${1:-3}" <<'PY'
-import os, re, resource, shutil, subprocess, sys, tempfile
+exec env PYTHONPATH=bench python3 - "$@" <<'PY'
+import os, re, shutil, subprocess, tempfile
+from measure import BENCH, KEEP_MORE, least_of, numbers
 
-program, rounds = os.path.abspath(sys.argv[1]), int(sys.argv[2])
-KEEP = dict(os.environ, MALLOC_MMAP_MAX_="0", MALLOC_TRIM_THRESHOLD_=str(1 << 40), MALLOC_TOP_PAD_=str(1 << 26))
+rounds, = numbers(3)
 
 SCHEMA = """{"ssz":1,"types":[
 ["Numbers",{"list":["uint64",1099511627776]}],
@@ -32,17 +29,10 @@ def variables(count):
     return offsets + (os.urandom(8) + (12).to_bytes(4, "little") + os.urandom(20)) * count
 
 def command(work, name, times):
-    return [program, work, "schema.json", name, "value.bin", str(times)]
+    return [BENCH, "codec", work, "schema.json", name, "value.bin", str(times)]
 
-# The processor time, of the program and of the system for it, least of so many runs.
 def seconds(work, name, times):
-    taken = []
-    for _ in range(rounds):
-        before = resource.getrusage(resource.RUSAGE_CHILDREN)
-        subprocess.run(command(work, name, times), check=True, capture_output=True, env=KEEP)
-        after = resource.getrusage(resource.RUSAGE_CHILDREN)
-        taken.append(after.ru_utime + after.ru_stime - before.ru_utime - before.ru_stime)
-    return min(taken)
+    return least_of(rounds, *command(work, name, times), env=KEEP_MORE)
 
 # What one more repetition takes, from as many as take about half a second.
 def one_more(work, name):
@@ -54,8 +44,8 @@ def one_more(work, name):
 def instructions(work, name):
     counts = []
     for times in (1, 2):
-        run = ["valgrind", "--tool=callgrind", "--callgrind-out-file=/dev/null", *command(work, name, times)]
-        told = subprocess.run(run, check=True, capture_output=True, text=True, env=KEEP).stderr
+        words = ["valgrind", "--tool=callgrind", "--callgrind-out-file=/dev/null", *command(work, name, times)]
+        told = subprocess.run(words, check=True, capture_output=True, text=True, env=KEEP_MORE).stderr
         counts.append(int(re.search(r"Collected : (\d+)", told).group(1)))
     return counts[1] - counts[0]
 

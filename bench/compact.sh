@@ -5,24 +5,19 @@
 # Run it after 'rt run' in crates/ssz_cli, which builds the program: bench/compact.sh [ROUNDS]
 set -eu
 cd "$(dirname "$0")/.."
-exec python3 - "$@" <<'PY'
-import os, subprocess, sys, tempfile
+exec env PYTHONPATH=bench python3 - "$@" <<'PY'
+import os, tempfile
+from measure import FAR, SSZ, numbers, print_load, run
 
-rounds = int(sys.argv[1]) if len(sys.argv) > 1 else 3
-SSZ = os.path.abspath("crates/ssz_cli/out/ssz_cli")
-FAR, COUNT, EVERY = 2654435761, 1 << 20, 10000
+rounds, = numbers(3)
+COUNT, EVERY = 1 << 20, 10000
 
 # Processor time in seconds and the peak of memory in MiB.
-def run(script):
+def told(script):
     with open("all", "w") as file:
         file.writelines(script)
-    with open("out", "w") as out:
-        child = subprocess.Popen((SSZ, "run", "s", "all"), stdout=out)
-        _, status, used = os.wait4(child.pid, 0)
-        child.returncode = os.waitstatus_to_exitcode(status)
-    if child.returncode != 0:
-        sys.exit(f"status {child.returncode}")
-    return used.ru_utime + used.ru_stime, used.ru_maxrss / 1024
+    one = run(SSZ, "run", "s", "all")
+    return one.seconds, one.peak / 2**20
 
 def sets(count, compacts):
     yield "load V L v\nroot V\n"
@@ -32,7 +27,7 @@ def sets(count, compacts):
             yield "root V\ncompact\n"
     yield "root V\n"
 
-print("load", " ".join("%.1f" % load for load in os.getloadavg()))
+print_load()
 with tempfile.TemporaryDirectory() as room:
     os.chdir(room)
     with open("s", "w") as file:
@@ -41,7 +36,7 @@ with tempfile.TemporaryDirectory() as room:
         file.write(b"\1" * 8 * COUNT)
     print("%-10s %10s %10s %10s %10s" % ("edits", "seconds", "peak MiB", "without", "peak MiB"))
     for edits in 10000, 100000, 1000000:
-        kept, grown = run(sets(edits, True)), run(sets(edits, False))
+        kept, grown = (told(sets(edits, compacts)) for compacts in (True, False))
         # the script itself lies in memory too
         script = os.path.getsize("all") / 2**20
         print("%-10d %10.2f %10.1f %10.2f %10.1f   script %.1f MiB" % (edits, *kept, *grown, script), flush=True)
@@ -53,9 +48,9 @@ with tempfile.TemporaryDirectory() as room:
                 file.write(os.urandom(500 * 32))
         before, after = [], []
         for _ in range(rounds):
-            before.append(run(["load V L v\nroot V\n"]))
-            after.append(run(["load V L v\nroot V\n", "compact\n" * 10]))
+            before.append(told(["load V L v\nroot V\n"]))
+            after.append(told(["load V L v\nroot V\n", "compact\n" * 10]))
         one = (min(after)[0] - min(before)[0]) / 10
         print("%-10d %10.3f %10.1f %10.1f %10.1f" % (nodes, one, one / nodes * 1e9, after[0][1], before[0][1]), flush=True)
-print("load", " ".join("%.1f" % load for load in os.getloadavg()))
+print_load()
 PY

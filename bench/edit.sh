@@ -4,31 +4,15 @@
 # of deneb's BeaconState. Beside each stands a bare loop of as many pairs as the edits hashed. What a run
 # takes without edits is taken off; each number is the least of the rounds. The last columns say how many
 # nodes an edit makes and how many bytes of memory it takes, by the peaks of the two runs.
-# Run it after 'rt run' in crates/bench_edit and in crates/bench_pairs, which build the programs:
+# Run it after 'rt run' in crates/bench and in crates/ssz_cli, which build the programs:
 # bench/edit.sh [ROUNDS [EDITS]].
 set -eu
 cd "$(dirname "$0")/.."
-exec python3 - "$@" <<'PY'
-import json, os, subprocess, sys, tempfile
+exec env PYTHONPATH=bench python3 - "$@" <<'PY'
+import json, os, subprocess, tempfile
+from measure import BENCH, DENEB, SSZ, TYPES, least, numbers, print_load, run
 
-EDIT, PAIRS = (os.path.abspath("crates/%s/out/%s" % (it, it)) for it in ("bench_edit", "bench_pairs"))
-SCHEMA = os.path.abspath("crates/bench_edit/data/schema.json")
-DENEB = os.path.abspath("examples/ethereum/deneb.json")
-rounds = int(sys.argv[1]) if len(sys.argv) > 1 else 3
-edits = int(sys.argv[2]) if len(sys.argv) > 2 else 100000
-
-# Processor time in seconds, the peak of memory in bytes, and the numbers that a run prints.
-def run(*words):
-    reader, writer = os.pipe()
-    child = subprocess.Popen([str(word) for word in words], stdout=writer)
-    os.close(writer)
-    with os.fdopen(reader) as said:
-        text = said.read()
-    _, status, used = os.wait4(child.pid, 0)
-    child.returncode = os.waitstatus_to_exitcode(status)
-    if child.returncode != 0:
-        sys.exit("%s: status %d" % (words, child.returncode))
-    return used.ru_utime + used.ru_stime, used.ru_maxrss * 1024, text.split()
+rounds, edits = numbers(3, 100000)
 
 # The size of a type of the schema, None where it is variable.
 def size(types, form):
@@ -51,7 +35,7 @@ def state(count):
         script, saved = os.path.join(room, "script"), "state.ssz"
         with open(script, "w") as file:
             file.write("new V BeaconState\nsave V %s\n" % saved)
-        run_in = subprocess.run([os.path.abspath("crates/ssz_cli/out/ssz_cli"), "run", DENEB, script], cwd=room,
+        run_in = subprocess.run([SSZ, "run", DENEB, script], cwd=room,
                                 stdout=subprocess.PIPE, check=True)
         with open(os.path.join(room, saved), "rb") as file:
             bytes_ = bytearray(file.read())
@@ -69,20 +53,20 @@ def state(count):
     return bytes(bytes_[:start]) + validators + bytes(bytes_[start:])
 
 def row(what, schema, name, file, items, field, count, how):
-    words = EDIT, schema, name, file, items, field, count
+    words = BENCH, "edit", schema, name, file, items, field, count
     turns = []
     for _ in range(rounds):
         all_, none = run(*words, edits, how), run(*words, 0, how)
-        _, nodes, made, pairs, hashed = all_[2]
-        turns.append((all_, none, run(PAIRS, int(hashed) - int(pairs))))
-    taken = min(turn[0][0] for turn in turns) - min(turn[1][0] for turn in turns)
-    bare = min(turn[2][0] for turn in turns)
-    room = min(turn[0][1] - turn[1][1] for turn in turns) / edits
+        _, nodes, made, pairs, hashed = all_.last.split()
+        turns.append((all_, none, run(BENCH, "pairs", int(hashed) - int(pairs))))
+    whole, before, bare = map(least, zip(*turns))
+    taken = whole - before
+    room = min(all_.peak - none.peak for all_, none, _ in turns) / edits
     print("%-22s %8d %9.3f %9.3f %7.2f %7.2f %11.1f %11.0f"
           % (what, count, taken, bare, taken / bare, taken * 1e6 / edits,
              (int(made) - int(nodes)) / edits, room), flush=True)
 
-print("load", " ".join("%.1f" % load for load in os.getloadavg()))
+print_load()
 print("%-22s %8s %9s %9s %7s %7s %11s %11s"
       % ("edit", "length", "seconds", "bare", "ratio", "us", "nodes/edit", "bytes/edit"))
 with tempfile.NamedTemporaryFile() as file:
@@ -93,12 +77,12 @@ with tempfile.NamedTemporaryFile() as file:
         file.flush()
         for how in "set", "append", "pop":
             if how != "pop" or edits <= 1 << depth:
-                row("uint64 " + how, SCHEMA, "L", file.name, "-", "-", 1 << depth, how)
+                row("uint64 " + how, TYPES, "L", file.name, "-", "-", 1 << depth, how)
     for count in 1000, 1000000:
         file.seek(0)
         file.truncate()
         file.write(state(count))
         file.flush()
         row("BeaconState validator", DENEB, "BeaconState", file.name, "validators", "effective_balance", count, "set")
-print("load", " ".join("%.1f" % load for load in os.getloadavg()))
+print_load()
 PY

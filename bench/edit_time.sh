@@ -2,26 +2,14 @@
 # Processor time of edits of a list of uint64 with a root after each: by the calls of ssz_edit and
 # Arena::root, by the statements of a script, and as many bare pairs as the edits hash. Other work on the
 # machine only ever adds to a time, so that each is the least of many short rounds, which take turns.
-# Run it after 'rt run' in crates/bench_edit, crates/bench_pairs and crates/ssz_cli: bench/edit_time.sh [ROUNDS]
+# Run it after 'rt run' in crates/bench and crates/ssz_cli: bench/edit_time.sh [ROUNDS]
 set -eu
 cd "$(dirname "$0")/.."
-exec python3 - "$@" <<'PY'
-import os, subprocess, sys, tempfile
+exec env PYTHONPATH=bench python3 - "$@" <<'PY'
+import os, tempfile
+from measure import BENCH, FAR, SSZ, TYPES, least, numbers, print_load, run
 
-EDIT, PAIRS, SSZ = (os.path.abspath("crates/%s/out/%s" % (it, it)) for it in ("bench_edit", "bench_pairs", "ssz_cli"))
-SCHEMA = os.path.abspath("crates/bench_edit/data/schema.json")
-rounds = int(sys.argv[1]) if len(sys.argv) > 1 else 8
-FAR = 2654435761
-
-# Processor time in seconds, and what was printed.
-def run(*words):
-    child = subprocess.Popen([str(word) for word in words], stdout=subprocess.PIPE)
-    text = child.stdout.read().split()
-    _, status, used = os.wait4(child.pid, 0)
-    child.returncode = os.waitstatus_to_exitcode(status)
-    if child.returncode != 0:
-        sys.exit("%s: status %d" % (words, child.returncode))
-    return used.ru_utime + used.ru_stime, text
+rounds, = numbers(8)
 
 def statement(how, i, length):
     if how == "pop":
@@ -35,17 +23,17 @@ def row(how, length, edits):
     with open("all", "w") as file:
         file.write("load V L v\nroot V\n")
         file.writelines(statement(how, i, length) for i in range(edits))
-    words = EDIT, SCHEMA, "L", "v", "-", "-", length
+    words = BENCH, "edit", TYPES, "L", "v", "-", "-", length
     programs = [(*words, edits, how), (*words, 0, how), (SSZ, "run", "s", "all"), (SSZ, "run", "s", "none")]
-    _, _, _, pairs, hashed = run(*programs[0])[1]
-    programs.append((PAIRS, int(hashed) - int(pairs)))
-    turns = [[run(*program)[0] for program in programs] for _ in range(rounds)]
-    whole, before, script, empty, bare = map(min, zip(*turns))
+    _, _, _, pairs, hashed = run(*programs[0]).last.split()
+    programs.append((BENCH, "pairs", int(hashed) - int(pairs)))
+    turns = [[run(*program) for program in programs] for _ in range(rounds)]
+    whole, before, script, empty, bare = map(least, zip(*turns))
     calls, statements = whole - before, script - empty
     print("%8d %-6s %7d %9.3f %9.3f %9.3f %11.2f %16.2f"
           % (length, how, edits, bare, calls, statements, calls / bare, statements / calls), flush=True)
 
-print("load", " ".join("%.1f" % load for load in os.getloadavg()))
+print_load()
 print("%8s %-6s %7s %9s %9s %9s %11s %16s"
       % ("length", "edit", "edits", "bare, s", "calls, s", "script, s", "calls/bare", "script/calls"))
 with tempfile.TemporaryDirectory() as room:
@@ -58,5 +46,5 @@ with tempfile.TemporaryDirectory() as room:
         for how in "set", "append", "pop":
             if how != "pop" or edits <= 1 << depth:
                 row(how, 1 << depth, edits)
-print("load", " ".join("%.1f" % load for load in os.getloadavg()))
+print_load()
 PY

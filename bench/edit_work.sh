@@ -1,17 +1,16 @@
 #!/bin/sh
 # Instructions of edits on nodes with a root after each, as callgrind counts them, which do not depend on
-# what else the machine does: by the calls themselves (bench_edit) and by the statements of a script, each
+# what else the machine does: by the calls themselves (`bench edit`) and by the statements of a script, each
 # beside as many bare pairs as they hash. What a run takes without edits is taken off.
-# Wants valgrind, and 'rt run' in crates/ssz_cli, crates/bench_edit and crates/bench_pairs before it, which
-# builds the programs: bench/edit_work.sh [EDITS [DEPTH..]]
+# Wants valgrind, and 'rt run' in crates/ssz_cli and crates/bench before it, which builds the programs:
+# bench/edit_work.sh [EDITS [DEPTH..]]
 set -eu
 cd "$(dirname "$0")/.."
-exec python3 - "$@" <<'PY'
+exec env PYTHONPATH=bench python3 - "$@" <<'PY'
 import os, re, subprocess, sys, tempfile
+from measure import BENCH, FAR, SSZ, numbers
 
-SSZ, EDIT, PAIRS = (os.path.abspath(f"crates/{it}/out/{it}") for it in ("ssz_cli", "bench_edit", "bench_pairs"))
-FAR = 2654435761
-edits = int(sys.argv[1]) if len(sys.argv) > 1 else 1000
+edits, = numbers(1000)
 depths = [int(word) for word in sys.argv[2:]] or [10, 14, 18]
 
 def count(*words):
@@ -22,7 +21,7 @@ def count(*words):
 
 def rise(*words):
     """The instructions of so many edits, the nodes that they make and the pairs that they hash."""
-    (all_, last), (none, _) = count(EDIT, *words, edits, how), count(EDIT, *words, 0, how)
+    (all_, last), (none, _) = (count(BENCH, "edit", *words, some, how) for some in (edits, 0))
     _, nodes, made, pairs, hashed = last
     return all_ - none, int(made) - int(nodes), int(hashed) - int(pairs)
 
@@ -41,7 +40,7 @@ with tempfile.TemporaryDirectory() as room:
     os.chdir(room)
     with open("s", "w") as file:
         file.write('{"ssz":1,"types":[["L",{"list":["uint64",1099511627776]}]]}')
-    bare = (count(PAIRS, 11000)[0] - count(PAIRS, 1000)[0]) / 10000
+    bare = (count(BENCH, "pairs", 11000)[0] - count(BENCH, "pairs", 1000)[0]) / 10000
     print("a bare pair %d" % bare)
     print("%-7s %8s %10s %8s %7s %10s %7s" % ("edit", "length", "an edit", "pairs", "ratio", "in script", "ratio"))
     for depth in depths:

@@ -4,10 +4,10 @@
 # Run it after 'rt run' in crates/ssz_cli, which builds the program.
 set -eu
 cd "$(dirname "$0")/.."
-exec python3 - crates/ssz_cli/out/ssz_cli <<'PY'
-import os, subprocess, sys, tempfile
+exec env PYTHONPATH=bench python3 - "$@" <<'PY'
+import os, tempfile
+from measure import SSZ, least, run
 
-program = os.path.abspath(sys.argv[1])
 CHUNK = "0x" + "00" * 32
 
 def text(leaves, nodes):
@@ -33,17 +33,6 @@ def deep(depth):
         index //= 2
     return text([leaf], nodes)
 
-def run(path):
-    best, most = None, 0
-    for _ in range(3):
-        subprocess.run(["/usr/bin/time", "-q", "-f", "%U %S %M", "-o", "took", program, "verify", "0" * 64, path],
-                       capture_output=True)
-        user, system, kib = open("took").read().split()[-3:]
-        taken = float(user) + float(system)
-        best = taken if best is None else min(best, taken)
-        most = max(most, int(kib))
-    return best, most
-
 print("%-8s %6s %10s %9s %9s %9s" % ("what", "depth", "bytes", "seconds", "ns/byte", "peak MiB"))
 with tempfile.TemporaryDirectory() as folder:
     os.chdir(folder)
@@ -52,7 +41,9 @@ with tempfile.TemporaryDirectory() as folder:
             proof = make(depth)
             with open("proof.txt", "w") as file:
                 file.write(proof)
-            taken, kib = run("proof.txt")
+            # none of them leads to a root of zeros
+            runs = [run(SSZ, "verify", "0" * 64, "proof.txt", status=1) for _ in range(3)]
+            taken, peak = least(runs), max(one.peak for one in runs)
             print("%-8s %6d %10d %9.2f %9.1f %9d"
-                  % (make.__name__, depth, len(proof), taken, taken * 1e9 / len(proof), kib >> 10), flush=True)
+                  % (make.__name__, depth, len(proof), taken, taken * 1e9 / len(proof), peak >> 20), flush=True)
 PY

@@ -3,18 +3,16 @@
 # measured, beside `encode` of the same value as a `Value`, and the `Value` read, beside `decode`, at a
 # smaller size. Three kinds of value at three sizes. What a run takes to make the value or its nodes is
 # taken off: each number is that of one repetition more, the least of the rounds.
-# Run it after 'rt run' in crates/bench_reading, which builds the program: bench/reading.sh [ROUNDS [SIZE..]],
-# the sizes in bytes. As in bench/codec.sh the C library's allocator is told to keep the memory that is given
-# back to it.
+# Run it after 'rt run' in crates/bench, which builds the program: bench/reading.sh [ROUNDS [SIZE..]],
+# the sizes in bytes. The C library's allocator keeps the memory that is given back to it, as in bench/codec.sh.
 set -eu
 cd "$(dirname "$0")/.."
-exec python3 - crates/bench_reading/out/bench_reading "$@" <<'PY'
-import os, resource, subprocess, sys, tempfile
+exec env PYTHONPATH=bench python3 - "$@" <<'PY'
+import os, sys, tempfile
+from measure import BENCH, KEEP_MORE, numbers, print_load, run
 
-program = os.path.abspath(sys.argv[1])
-rounds = int(sys.argv[2]) if len(sys.argv) > 2 else 3
-sizes = [int(size) for size in sys.argv[3:]] or [1 << 24, 1 << 26, 1 << 28]
-KEEP = dict(os.environ, MALLOC_MMAP_MAX_="0", MALLOC_TRIM_THRESHOLD_=str(1 << 40), MALLOC_TOP_PAD_=str(1 << 26))
+rounds, = numbers(3)
+sizes = [int(size) for size in sys.argv[2:]] or [1 << 24, 1 << 26, 1 << 28]
 
 SCHEMA = """{"ssz":1,"types":[
 ["Numbers",{"list":["uint64",1099511627776]}],
@@ -33,13 +31,8 @@ def variables(count):
     offsets = b"".join((4 * count + 32 * i).to_bytes(4, "little") for i in range(count))
     return offsets + (os.urandom(8) + (12).to_bytes(4, "little") + os.urandom(20)) * count
 
-# The processor time of a run, of the program and of the system for it.
 def seconds(work, name, times):
-    before = resource.getrusage(resource.RUSAGE_CHILDREN)
-    subprocess.run([program, work, "schema.json", name, "value.bin", str(times)], check=True,
-                   capture_output=True, env=KEEP)
-    after = resource.getrusage(resource.RUSAGE_CHILDREN)
-    return after.ru_utime + after.ru_stime - before.ru_utime - before.ru_stime
+    return run(BENCH, "reading", work, "schema.json", name, "value.bin", times, env=KEEP_MORE).seconds
 
 # What one repetition more takes, in ns a byte, from as many as take about a second: the least runs.
 def one_more(work, name, size):
@@ -64,7 +57,7 @@ with tempfile.TemporaryDirectory() as folder:
     os.chdir(folder)
     with open("schema.json", "w") as file:
         file.write(SCHEMA)
-    print("load", " ".join("%.1f" % load for load in os.getloadavg()))
+    print_load()
     print("%-10s %10s %8s %8s %6s %8s %6s %10s %8s %8s %6s"
           % ("ns a byte", "bytes", "encode", "write", "ratio", "measure", "ratio", "bytes", "decode", "read", "ratio"))
     for name, make, one in KINDS:
@@ -78,5 +71,5 @@ with tempfile.TemporaryDirectory() as folder:
             print("%-10s %10d %8.3f %8.3f %6.2f %8.3f %6.2f %10d %8.3f %8.3f %6.2f"
                   % (name, size, encode, write, write / encode, measure, measure / encode, less, decode, read,
                      read / decode), flush=True)
-    print("load", " ".join("%.1f" % load for load in os.getloadavg()))
+    print_load()
 PY

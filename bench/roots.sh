@@ -2,12 +2,11 @@
 # Time and peak memory of `ssz root`, on a List[uint64, 2^40] of 256 MiB and on a list of a million
 # containers of eight uint64s, reading the file included: as a ratio to a bare loop that makes as many
 # pairs, and beside a C program over OpenSSL that computes the same roots.
-# Run it after 'rt run' in crates/ssz_cli and in crates/bench_pairs. It needs gcc and, of Debian,
+# Run it after 'rt run' in crates/ssz_cli and in crates/bench. It needs gcc and, of Debian,
 # libssl-dev.
 set -eu
 cd "$(dirname "$0")/.."
-ssz=$PWD/crates/ssz_cli/out/ssz_cli
-bare=$PWD/crates/bench_pairs/out/bench_pairs
+top=$PWD
 room=$(mktemp -d)
 trap 'rm -rf "$room"' EXIT
 gcc -O2 -w -o "$room/roots" bench/roots.c -lcrypto
@@ -28,21 +27,15 @@ with open("containers.bin", "wb") as file:
     for _ in range(64):
         file.write(random.randbytes(1000000))
 P
-exec python3 - "$ssz" "$bare" "$room/roots" <<'P'
-import resource, subprocess, sys
+env PYTHONPATH="$top/bench" python3 - "$room/roots" <<'P'
+import sys
+from measure import BENCH, SSZ, run
 
-ssz, bare, openssl = sys.argv[1:]
+openssl = sys.argv[1]
 
 # The pairs of a full tree of this depth above its first n places.
 def grow(depth, n):
     return sum(-(-n // 2 ** j) for j in range(1, depth + 1))
-
-# What a run takes of the processor, how much memory at most, and what it prints.
-def run(*words):
-    command = ["/usr/bin/time", "-f", "%U %S %M", "-o", "took", *words]
-    said = subprocess.run(command, check=True, capture_output=True, text=True).stdout.split()
-    user, system, kib = open("took").read().split()
-    return float(user) + float(system), int(kib) // 1024, said
 
 ROWS = [
     ("Numbers", "list", grow(38, 1 << 23) + 1),
@@ -54,17 +47,17 @@ for name, kind, of_value in ROWS:
     # Taken in turns, so that all three see the same machine.
     for _ in range(3):
         runs = {
-            "ssz root": run(ssz, "root", "schema.json", name, kind + ".bin"),
-            "as many pairs": run(bare, str(pairs)),
+            "ssz root": run(SSZ, "root", "schema.json", name, kind + ".bin"),
+            "as many pairs": run(BENCH, "pairs", pairs),
             "OpenSSL": run(openssl, kind, kind + ".bin"),
         }
         for what, result in runs.items():
             best[what] = min(best.get(what, result), result)
     print("%s.bin, %d pairs" % (kind, pairs))
-    for what, (seconds, mib, said) in best.items():
-        print("  %-14s %6.2f s, peak %3d MiB" % (what, seconds, mib))
-    print("  ssz root / as many pairs: %.3f" % (best["ssz root"][0] / best["as many pairs"][0]))
-    if best["ssz root"][2][-1] != best["OpenSSL"][2][-1]:
+    for what, one in best.items():
+        print("  %-14s %6.2f s, peak %3d MiB" % (what, one.seconds, one.peak >> 20))
+    print("  ssz root / as many pairs: %.3f" % (best["ssz root"].seconds / best["as many pairs"].seconds))
+    if best["ssz root"].last.split()[-1] != best["OpenSSL"].last.split()[-1]:
         sys.exit("the roots differ")
     print("  the roots are equal")
 P

@@ -2,33 +2,22 @@
 # Processor time and peak of memory of scripts, by the program: edits of a list of 2^20 uint64 with
 # a root after each, beside as many pairs in a bare loop as they hash; and a load of numbers, its
 # root, and a save. Each time is the least of some rounds.
-# Run it after 'rt run' in crates/ssz_cli and in crates/bench_pairs, which build the programs:
+# Run it after 'rt run' in crates/ssz_cli and in crates/bench, which build the programs:
 # bench/run.sh [ROUNDS]
 set -eu
 cd "$(dirname "$0")/.."
-exec python3 - "$@" <<'PY'
-import os, subprocess, sys, tempfile
+exec env PYTHONPATH=bench python3 - "$@" <<'PY'
+import os, tempfile
+from measure import BENCH, FAR, SSZ, least, numbers, print_load, run
 
-rounds = int(sys.argv[1]) if len(sys.argv) > 1 else 3
-SSZ, PAIRS = (os.path.abspath(f"crates/{it}/out/{it}") for it in ("ssz_cli", "bench_pairs"))
-FAR, COUNT = 2654435761, 1 << 20
+rounds, = numbers(3)
+COUNT = 1 << 20
 
-# Processor time in seconds, the peak of memory in MiB, and the last line.
-def run(*words):
-    with open("out", "w+") as out:
-        child = subprocess.Popen(words, stdout=out)
-        _, status, used = os.wait4(child.pid, 0)
-        child.returncode = os.waitstatus_to_exitcode(status)
-        out.seek(max(0, out.seek(0, 2) - 100))
-        last = out.read().split("\n")[-2]
-    if child.returncode != 0:
-        sys.exit(f"{words}: status {child.returncode}")
-    return used.ru_utime + used.ru_stime, used.ru_maxrss / 1024, last
+# How many pairs a script says that were hashed.
+def hashes(script):
+    return int(run(SSZ, "run", "s", script).last.split()[1])
 
-def least(turns):
-    return min(turn[0] for turn in turns)
-
-print("load", " ".join("%.1f" % load for load in os.getloadavg()))
+print_load()
 with tempfile.TemporaryDirectory() as room:
     os.chdir(room)
     with open("s", "w") as file:
@@ -44,13 +33,13 @@ with tempfile.TemporaryDirectory() as room:
             for i in range(edits):
                 file.write("set V /%d 0x%016x\nroot V\n" % (i * FAR % 2**64 % COUNT, i))
             file.write("hashes\n")
-        pairs = int(run(SSZ, "run", "s", "all")[2].split()[1]) - int(run(SSZ, "run", "s", "none")[2].split()[1])
-        turns = [(run(SSZ, "run", "s", "all"), run(SSZ, "run", "s", "none"), run(PAIRS, str(pairs)))
+        pairs = hashes("all") - hashes("none")
+        turns = [(run(SSZ, "run", "s", "all"), run(SSZ, "run", "s", "none"), run(BENCH, "pairs", pairs))
                  for _ in range(rounds)]
-        script = least([turn[0] for turn in turns]) - least([turn[1] for turn in turns])
-        bare = least([turn[2] for turn in turns])
+        whole, before, bare = map(least, zip(*turns))
+        script = whole - before
         print("%-12d %9.3f %9d %9.3f %7.2f %9.1f"
-              % (2 * edits, script, pairs, bare, script / bare, turns[0][0][1]), flush=True)
+              % (2 * edits, script, pairs, bare, script / bare, turns[0][0].peak / 2**20), flush=True)
     print("%-12s %9s %9s %9s %9s" % ("MiB", "load", "and root", "and save", "peak MiB"))
     for size in 16, 64, 256:
         with open("v", "wb") as file:
@@ -62,6 +51,6 @@ with tempfile.TemporaryDirectory() as room:
                 file.write(script)
             row.append(min(run(SSZ, "run", "s", "all") for _ in range(rounds)))
         print("%-12d %9.3f %9.3f %9.3f %9.1f"
-              % (size, *(one[0] for one in row), row[0][1]), flush=True)
-print("load", " ".join("%.1f" % load for load in os.getloadavg()))
+              % (size, *(one.seconds for one in row), row[0].peak / 2**20), flush=True)
+print_load()
 PY

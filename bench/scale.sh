@@ -3,20 +3,19 @@
 # validators, through `root`, through scripts that load it, set a thousand fields with a root after
 # each, prove a hundred fields and save it, and through a weave of ten writers; each as a ratio to
 # as many pairs in a bare loop as it hashes. Roots of up to 2^17 are compared with hashlib's.
-# Run it after 'rt run' in crates/ssz_cli and in crates/bench_pairs, which build the programs:
+# Run it after 'rt run' in crates/ssz_cli and in crates/bench, which build the programs:
 # bench/scale.sh [VALIDATORS..]
 set -eu
 cd "$(dirname "$0")/.."
-exec python3 - "$@" <<'PY'
-import hashlib, json, os, random, resource, subprocess, sys, tempfile
+exec env PYTHONPATH=bench python3 - "$@" <<'PY'
+import hashlib, json, os, random, sys, tempfile
+from measure import BENCH, DENEB, FAR, SSZ, least, print_load, run
 
 SIZES = [int(word) for word in sys.argv[1:]] or [1 << 14, 1 << 17, 1 << 20]
-SSZ, PAIRS = (os.path.abspath(f"crates/{it}/out/{it}") for it in ("ssz_cli", "bench_pairs"))
-SCHEMA = os.path.abspath("examples/ethereum/deneb.json")
-TYPES = dict(json.load(open(SCHEMA))["types"])
+TYPES = dict(json.load(open(DENEB))["types"])
 UINTS = {"uint%d" % bits: bits // 8 for bits in (8, 16, 32, 64, 128, 256)}
 UINTS |= {"byte": 1, "boolean": 1}
-FAR, CHECKED = 2654435761, 1 << 17
+CHECKED = 1 << 17
 # How many elements a list of this name has, where it is not a list of all validators.
 FEW = {"historical_roots": 700, "eth1_data_votes": 1000, "historical_summaries": 300,
        "extra_data": 20}
@@ -112,17 +111,12 @@ def root(one, data):
     return merkleize([root(part, data[start:end if end is not None else next(ends)])
                       for (_, part), (start, end) in zip(rest, places)], len(rest))
 
-def run(*words):
-    """Processor time in seconds, the least of so many runs as take ten, three at least and fifteen at
-    most (other work only adds to a time); the peak of memory in MiB, and the lines."""
-    took = []
-    while len(took) < 3 or (len(took) < 15 and sum(took) < 10):
-        before = resource.getrusage(resource.RUSAGE_CHILDREN)
-        ran = subprocess.run(["/usr/bin/time", "-f", "%M", "-o", "peak", *words],
-                             capture_output=True, text=True, check=True)
-        after = resource.getrusage(resource.RUSAGE_CHILDREN)
-        took.append(after.ru_utime + after.ru_stime - before.ru_utime - before.ru_stime)
-    return min(took), int(open("peak").read()) / 1024, ran.stdout.split("\n")[:-1]
+def often(*words):
+    """The least of so many runs as take ten seconds, three at least and fifteen at most."""
+    runs = []
+    while len(runs) < 3 or (len(runs) < 15 and sum(one.seconds for one in runs) < 10):
+        runs.append(run(*words))
+    return runs[-1]._replace(seconds=least(runs))
 
 def script(name, *lines):
     with open(name, "w") as file:
@@ -144,11 +138,11 @@ JOBS = [
 ]
 
 def row(count, what, taken, pairs, base=0.0):
-    bare = run(PAIRS, str(pairs))[0] if pairs else 0
-    seconds = taken[0] - base
+    bare = often(BENCH, "pairs", pairs).seconds if pairs else 0
+    seconds = taken.seconds - base
     print("%-8d %-22s %9.3f %10d %8.3f %6s %9.1f" % (
         count, what, seconds, pairs, bare, "%.2f" % (seconds / bare) if bare > 0.05 else "",
-        taken[1]), flush=True)
+        taken.peak / 2**20), flush=True)
 
 def weave():
     """Ten writers, each with a thousand sets on its own fork of the base's state, in turns."""
@@ -157,9 +151,9 @@ def weave():
     for writer in range(10):
         names.append("w%d" % writer)
         script(names[-1], "fork S T", *sets("T", count, 1000 * writer))
-    return run(SSZ, "weave", SCHEMA, "base", "0123456789" * 2001, *names)
+    return often(SSZ, "weave", DENEB, "base", "0123456789" * 2001, *names)
 
-print("load", " ".join("%.1f" % load for load in os.getloadavg()))
+print_load()
 print("%-8s %-22s %9s %10s %8s %6s %9s"
       % ("count", "what", "seconds", "pairs", "bare", "ratio", "peak MiB"))
 with tempfile.TemporaryDirectory() as room:
@@ -169,27 +163,27 @@ with tempfile.TemporaryDirectory() as room:
         state = drawn("BeaconState", "", count)
         with open("state", "wb") as file:
             file.write(state)
-        taken = run(SSZ, "root", SCHEMA, "BeaconState", "state")
-        wanted = taken[2]
-        if count <= CHECKED and wanted != ["root 0x" + root("BeaconState", state).hex()]:
+        taken = often(SSZ, "root", DENEB, "BeaconState", "state")
+        wanted = taken.last
+        if count <= CHECKED and wanted != "root 0x" + root("BeaconState", state).hex():
             sys.exit("another root: %s" % wanted)
         first, edits = ["load S BeaconState state", "root S"], 0
         for what, lines in JOBS:
             script("script", *first, *lines(count), "hashes")
-            job = run(SSZ, "run", SCHEMA, "script")
-            pairs = int(job[2][-1].split()[1])
+            job = often(SSZ, "run", DENEB, "script")
+            pairs = int(job.last.split()[1])
             if what == "load":
-                base, all_pairs = job[0], pairs
+                base, all_pairs = job.seconds, pairs
                 row(count, "root", taken, pairs + 126)
                 row(count, "run, load and root", job, pairs + 126)
             else:
                 row(count, "run, " + what, job, pairs - all_pairs, base)
                 edits = edits or pairs - all_pairs
-            if job[2][1:2] != wanted:
+            if job.first[1] != wanted:
                 sys.exit("another root")
         if open("saved", "rb").read() != state:
             sys.exit("another state saved")
         # Each writer's sets hash as many pairs as those of the script.
         row(count, "weave, ten thousand", weave(), 10 * edits, base)
-print("load", " ".join("%.1f" % load for load in os.getloadavg()))
+print_load()
 PY

@@ -1,12 +1,11 @@
 #!/bin/sh
 # Processor time to read schema files of three sizes each: the time per byte should not grow.
-# Run it after 'rt run' in crates/bench_schema, which builds the program.
+# Run it after 'rt run' in crates/bench, which builds the program.
 set -eu
 cd "$(dirname "$0")/.."
-exec python3 - crates/bench_schema/out/bench_schema <<'PY'
-import os, resource, subprocess, sys, tempfile
-
-program = sys.argv[1]
+exec env PYTHONPATH=bench python3 - "$@" <<'PY'
+import os, sys, tempfile
+from measure import BENCH, least, run
 
 def document(definitions):
     return '{"ssz":1,"types":[' + definitions + "]}"
@@ -24,16 +23,10 @@ def vectors(n):
 
 # The least processor time of three runs.
 def seconds(path):
-    best = None
-    for _ in range(3):
-        before = resource.getrusage(resource.RUSAGE_CHILDREN)
-        out = subprocess.run([program, path], check=True, capture_output=True).stdout
-        after = resource.getrusage(resource.RUSAGE_CHILDREN)
-        taken = after.ru_utime + after.ru_stime - before.ru_utime - before.ru_stime
-        if out != b"accepted\n":
-            sys.exit("%s: %r" % (path, out))
-        best = taken if best is None else min(best, taken)
-    return best
+    runs = [run(BENCH, "schema", path) for _ in range(3)]
+    if any(one.last != "accepted" for one in runs):
+        sys.exit("%s: %s" % (path, runs[0].last))
+    return least(runs)
 
 rows = [
     ("definitions", definitions, (1 << 16, 1 << 18, 1 << 20)),

@@ -1,13 +1,12 @@
 #!/bin/sh
 # Processor time and peak memory of reading scripts of three sizes each, the largest of 2^26 bytes: the
 # time per byte should not grow, and memory should be the file's.
-# Run it after 'rt run' in crates/bench_script, which builds the program.
+# Run it after 'rt run' in crates/bench, which builds the program.
 set -eu
 cd "$(dirname "$0")/.."
-exec python3 - crates/bench_script/out/bench_script <<'PY'
-import os, subprocess, sys, tempfile
-
-program = os.path.abspath(sys.argv[1])
+exec env PYTHONPATH=bench python3 - "$@" <<'PY'
+import os, tempfile
+from measure import BENCH, least, run
 
 def statements(size):
     line = b"set A_version /some_field/12345/#len 0x0123456789abcdef\n"
@@ -24,16 +23,6 @@ def many_steps(size):
     return b"bytes V " + b"/a" * ((size - 8) // 2)
 
 # The least processor time of three runs, and the greatest memory.
-def run(path):
-    best, most = None, 0
-    for _ in range(3):
-        subprocess.run(["/usr/bin/time", "-f", "%U %S %M", "-o", "took", program, path], check=True, capture_output=True)
-        user, system, kib = open("took").read().split()
-        taken = float(user) + float(system)
-        best = taken if best is None else min(best, taken)
-        most = max(most, int(kib))
-    return best, most
-
 print("%-12s %10s %9s %9s %9s" % ("what", "bytes", "seconds", "ns/byte", "peak MiB"))
 with tempfile.TemporaryDirectory() as folder:
     os.chdir(folder)
@@ -42,7 +31,8 @@ with tempfile.TemporaryDirectory() as folder:
             script = make(1 << bits)
             with open("script.txt", "wb") as file:
                 file.write(script)
-            taken, kib = run("script.txt")
+            runs = [run(BENCH, "script", "script.txt") for _ in range(3)]
+            taken, peak = least(runs), max(one.peak for one in runs)
             print("%-12s %10d %9.2f %9.1f %9d"
-                  % (make.__name__, len(script), taken, taken * 1e9 / len(script), kib >> 10), flush=True)
+                  % (make.__name__, len(script), taken, taken * 1e9 / len(script), peak >> 20), flush=True)
 PY

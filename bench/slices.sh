@@ -3,16 +3,14 @@
 # of variable size, at four lengths: elements all over the list, one after another. What a run takes
 # without that, to read the file and to check it once, is taken off: each number is that of a run that
 # finds so many less that of a run that finds none, the least of the rounds.
-# Run it after 'rt run' in crates/bench_slices, which builds the program: bench/slices.sh [ROUNDS [TIMES]].
+# Run it after 'rt run' in crates/bench, which builds the program: bench/slices.sh [ROUNDS [TIMES]].
 set -eu
 cd "$(dirname "$0")/.."
-exec python3 - crates/bench_slices "$@" <<'PY'
-import os, subprocess, sys, tempfile
+exec env PYTHONPATH=bench python3 - "$@" <<'PY'
+import sys, tempfile
+from measure import BENCH, TYPES, numbers, print_load, run
 
-folder = sys.argv[1]
-rounds = int(sys.argv[2]) if len(sys.argv) > 2 else 5
-times = int(sys.argv[3]) if len(sys.argv) > 3 else 2000000
-program, schema = folder + "/out/bench_slices", folder + "/data/schema.json"
+rounds, times = numbers(5, 2000000)
 
 def fixeds(count):
     return (bytes(8) + b"\1" + bytes(32)) * count
@@ -22,17 +20,9 @@ def variables(count):
     return offsets + (bytes(8) + (12).to_bytes(4, "little") + bytes(20)) * count
 
 # The user time of a run, and the sum that it prints.
-def run(name, path, field, times):
-    reader, writer = os.pipe()
-    child = subprocess.Popen([program, schema, name, path, field, str(times)], stdout=writer)
-    os.close(writer)
-    with os.fdopen(reader) as said:
-        text = said.read()
-    _, status, used = os.wait4(child.pid, 0)
-    child.returncode = os.waitstatus_to_exitcode(status)
-    if child.returncode != 0:
-        sys.exit("%s %s: status %d" % (name, path, child.returncode))
-    return used.ru_utime, int(text)
+def find(name, path, field, times):
+    one = run(BENCH, "slices", TYPES, name, path, field, times)
+    return one.user, int(one.last)
 
 # The sum of the starts, by the sizes alone.
 def wanted(name, count, times):
@@ -41,7 +31,7 @@ def wanted(name, count, times):
         return sum(41 * i + 8 for i in indices)
     return sum(4 * count + 32 * i + 12 for i in indices)
 
-print("load", " ".join("%.1f" % load for load in os.getloadavg()))
+print_load()
 print("%-10s %10s %14s" % ("elements", "length", "us an element"))
 for name, field, make in ("Fixeds", "flag", fixeds), ("Variables", "bytes", variables):
     for count in 1000, 10000, 100000, 1000000:
@@ -50,10 +40,10 @@ for name, field, make in ("Fixeds", "flag", fixeds), ("Variables", "bytes", vari
             file.flush()
             least = []
             for some in times, 0:
-                runs = [run(name, file.name, field, some) for _ in range(rounds)]
+                runs = [find(name, file.name, field, some) for _ in range(rounds)]
                 if any(total != wanted(name, count, some) for _, total in runs):
                     sys.exit("%s: wrong starts" % name)
                 least.append(min(taken for taken, _ in runs))
             print("%-10s %10d %14.3f" % (name, count, (least[0] - least[1]) * 1e6 / times), flush=True)
-print("load", " ".join("%.1f" % load for load in os.getloadavg()))
+print_load()
 PY

@@ -2,24 +2,14 @@
 # Processor time of a call of make, get, fork and drop_version at 10^3 to 10^6 versions, in
 # microseconds, the making of names left out: for names that ascend (up), that descend (down), that
 # come all over (far), and that ascend and have 56 of 64 bytes alike (long).
-# Run it after 'rt run' in crates/bench_versions, which builds the program.
+# Run it after 'rt run' in crates/bench, which builds the program.
 set -eu
 cd "$(dirname "$0")/.."
-exec python3 - crates/bench_versions/out/bench_versions <<'PY'
-import resource, subprocess, sys
+exec env PYTHONPATH=bench python3 - "$@" <<'PY'
+from measure import BENCH, least_of
 
-program = sys.argv[1]
-
-# The least processor time of some runs.
 def seconds(work, order, count):
-    best = None
-    for _ in range(3):
-        before = resource.getrusage(resource.RUSAGE_CHILDREN)
-        subprocess.run([program, work, order, str(count)], check=True)
-        after = resource.getrusage(resource.RUSAGE_CHILDREN)
-        taken = after.ru_utime + after.ru_stime - before.ru_utime - before.ru_stime
-        best = taken if best is None else min(best, taken)
-    return best
+    return least_of(3, BENCH, "versions", work, order, count)
 
 print("%-5s %8s %9s %9s %9s %9s" % ("names", "count", "make", "get", "fork", "drop"))
 for order in "up", "down", "far", "long":

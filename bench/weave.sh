@@ -4,25 +4,16 @@
 # Run it after 'rt run' in crates/ssz_cli, which builds the program: bench/weave.sh [ROUNDS [EDITS]]
 set -eu
 cd "$(dirname "$0")/.."
-exec python3 - "$@" <<'PY'
-import os, subprocess, sys, tempfile
+exec env PYTHONPATH=bench python3 - "$@" <<'PY'
+import os, tempfile
+from measure import FAR, SSZ, least, numbers, print_load, run
 
-SSZ = os.path.abspath("crates/ssz_cli/out/ssz_cli")
-rounds = int(sys.argv[1]) if len(sys.argv) > 1 else 5
-edits = int(sys.argv[2]) if len(sys.argv) > 2 else 2000
-FAR = 2654435761
+rounds, edits = numbers(5, 2000)
 
-# Processor time in seconds, the peak of memory in MiB, and the last line.
-def run(*words):
-    child = subprocess.Popen([SSZ, "weave", "s", "base", *words], stdout=subprocess.PIPE)
-    text = child.stdout.read()
-    _, status, used = os.wait4(child.pid, 0)
-    child.returncode = os.waitstatus_to_exitcode(status)
-    if child.returncode != 0:
-        sys.exit("%s: status %d" % (words, child.returncode))
-    return used.ru_utime + used.ru_stime, used.ru_maxrss / 1024, text.split(b"\n")[-2:]
+def weave(*words):
+    return run(SSZ, "weave", "s", "base", *words)
 
-print("load", " ".join("%.1f" % load for load in os.getloadavg()))
+print_load()
 print("%8s %9s %12s %12s %7s %10s" % ("length", "edits", "woven, s", "alone, s", "ratio", "peak MiB"))
 with tempfile.TemporaryDirectory() as room:
     os.chdir(room)
@@ -41,17 +32,16 @@ with tempfile.TemporaryDirectory() as room:
                 for i in range(edits):
                     place = (i + writer * edits) * FAR % 2**64 % (1 << depth)
                     file.write("set V /%d 0x%016x\nroot V\n" % (place, i))
-        none, alone, woven, peak = [], [[] for _ in names], [], 0
+        none, alone, woven = [], [[] for _ in names], []
         for _ in range(rounds):
-            none.append(run("0", "none")[0])
-            for times, name in zip(alone, names):
-                times.append(run("0", name)[0])
+            none.append(weave("0", "none"))
+            for runs, name in zip(alone, names):
+                runs.append(weave("0", name))
             # a word has at most 131,071 bytes
-            took, peak, _ = run(order[:100000], *names)
-            woven.append(took)
-        one = min(none)
-        apart, together = sum(min(times) - one for times in alone), min(woven) - one
+            woven.append(weave(order[:100000], *names))
+        one = least(none)
+        apart, together = sum(least(runs) - one for runs in alone), least(woven) - one
         print("%8d %9d %12.3f %12.3f %7.2f %10.1f"
-              % (1 << depth, 10 * edits, together, apart, together / apart, peak), flush=True)
-print("load", " ".join("%.1f" % load for load in os.getloadavg()))
+              % (1 << depth, 10 * edits, together, apart, together / apart, woven[-1].peak / 2**20), flush=True)
+print_load()
 PY

@@ -12,23 +12,9 @@ sys.path.insert(0, "rows")
 from program.machine import Machine
 from program.works import Generator, walk
 
-SSZ = os.path.abspath("crates/ssz_cli/out/ssz_cli")
-DENEB = os.path.abspath("examples/ethereum/deneb.json")
-rounds = int(sys.argv[1]) if len(sys.argv) > 1 else 3
+rounds, = numbers(3)
 counts = [int(word) for word in sys.argv[2:]] or [10000, 100000, 1000000]
 SEED, MOST = 20, 100000
-
-def run(*words):
-    """Processor time in seconds, the peak of memory in bytes, and the last line."""
-    with open("out", "w+") as out:
-        child = subprocess.Popen([SSZ, *map(str, words)], stdout=out)
-        _, status, used = os.wait4(child.pid, 0)
-        child.returncode = os.waitstatus_to_exitcode(status)
-        out.seek(max(0, out.seek(0, 2) - 100))
-        last = out.read().split("\n")[-2]
-    if child.returncode != 0:
-        sys.exit("%s: status %d" % (words, child.returncode))
-    return used.ru_utime + used.ru_stime, used.ru_maxrss * 1024, last
 
 def script(schema, name, edits):
     """The same edits as a script, by the rules of docs/formats.md."""
@@ -43,30 +29,30 @@ def script(schema, name, edits):
                 file.write(edit + "\n")
             file.write("root w\n")
 
-def least(*words):
-    turns = [run(*words) for _ in range(rounds)]
-    return min(turn[0] for turn in turns), turns[0][1], turns[0][2]
+def least_run(*words):
+    runs = [run(SSZ, *words) for _ in range(rounds)]
+    return least(runs), runs[0].peak, runs[0].last
 
-print("load", " ".join("%.1f" % load for load in os.getloadavg()))
+print_load()
 with tempfile.TemporaryDirectory() as room:
     os.chdir(room)
     with open("s", "w") as file:
         json.dump({"ssz": 1, "types": [["List", {"list": ["uint64", 1 << 20]}], ["Vector", {"vector": ["uint64", 1 << 20]}]]}, file)
     print("%-12s %9s %9s %9s %9s %9s %9s" % ("type", "edits", "seconds", "us/edit", "script", "peak MiB", "B/edit"))
     for schema, name in ("s", "List"), ("s", "Vector"), (DENEB, "BeaconState"):
-        none = least("work", schema, name, SEED, 0)
+        none = least_run("work", schema, name, SEED, 0)
         for edits in counts:
-            took = least("work", schema, name, SEED, edits)
+            took = least_run("work", schema, name, SEED, edits)
             told = "-"
             # the machine copies a whole vector at each edit
             if edits <= MOST and name != "Vector":
                 script(schema, name, edits)
-                again = least("run", schema, "script")
+                again = least_run("run", schema, "script")
                 if again[2] != took[2]:
                     sys.exit("%s, %d edits: %s by work, %s by its script" % (name, edits, took[2], again[2]))
                 told = "%9.2f" % (again[0] - none[0])
             print("%-12s %9d %9.2f %9.2f %9s %9.1f %9.0f"
                   % (name, edits, took[0] - none[0], 1e6 * (took[0] - none[0]) / edits, told, took[1] / 2**20,
                      (took[1] - none[1]) / edits), flush=True)
-print("load", " ".join("%.1f" % load for load in os.getloadavg()))
+print_load()
 PY

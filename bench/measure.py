@@ -1,0 +1,62 @@
+"""What the scripts of this folder share: what a run of a program takes, and the least of some."""
+import collections
+import os
+import subprocess
+import sys
+import tempfile
+
+TOP = os.path.dirname(os.path.dirname(os.path.abspath(__file__)))
+BENCH, SSZ = (f"{TOP}/crates/{it}/out/{it}" for it in ("bench", "ssz_cli"))
+TYPES, DENEB = f"{TOP}/crates/bench/data/schema.json", f"{TOP}/examples/ethereum/deneb.json"
+
+# From an element to the next one: an odd number that leads all over a list.
+FAR = 2654435761
+
+# The C library's allocator keeps the memory that is given back to it. By default it hands large pieces back to
+# the system, which zeroes each page anew: then a second decode of a large value is charged for the system's
+# work, and one of a small value is not.
+KEEP = dict(os.environ, MALLOC_MMAP_MAX_="0", MALLOC_TRIM_THRESHOLD_=str(1 << 40))
+KEEP_MORE = dict(KEEP, MALLOC_TOP_PAD_=str(1 << 26))
+
+# Processor time in seconds, the user's part of it, the peak of memory in bytes, and the first lines and the
+# last one that were printed.
+Run = collections.namedtuple("Run", "seconds user peak first last")
+
+
+def run(*words, env=None, status=0):
+    """A run of a program, which has to end with this status. Its peak of memory is what `time` says, which is
+    small: that of a child of this process would be at least what this process holds. Its lines go to a file."""
+    with tempfile.TemporaryFile() as out, tempfile.NamedTemporaryFile("r") as peak:
+        time = ["/usr/bin/time", "-q", "-f", "%M", "-o", peak.name]
+        child = subprocess.Popen([*time, *map(str, words)], stdout=out, env=env)
+        _, ended, used = os.wait4(child.pid, 0)
+        child.returncode = os.waitstatus_to_exitcode(ended)
+        if child.returncode != status:
+            sys.exit("%s: status %d" % (" ".join(map(str, words)), child.returncode))
+        size = out.seek(0, os.SEEK_END)
+        out.seek(0)
+        first = out.read(4096).decode().splitlines()
+        out.seek(max(0, size - 4096))
+        last = out.read().decode().splitlines()[-1:]
+        return Run(used.ru_utime + used.ru_stime, used.ru_utime, int(peak.read()) << 10, first, "".join(last))
+
+
+def least(runs):
+    """The least processor time of runs: other work on the machine only adds to a time."""
+    return min(one.seconds for one in runs)
+
+
+def least_of(rounds, *words, env=None):
+    """The least processor time of so many runs of a program."""
+    return least(run(*words, env=env) for _ in range(rounds))
+
+
+def numbers(*defaults):
+    """The words of the command line as numbers, and what stands for those that are left out."""
+    given = [int(word) for word in sys.argv[1 : 1 + len(defaults)]]
+    return given + list(defaults[len(given) :])
+
+
+def print_load():
+    """Prints what else the machine does."""
+    print("load", " ".join("%.1f" % load for load in os.getloadavg()), flush=True)
