@@ -6,9 +6,9 @@
 # Run it after 'rt run' in crates/ssz_cli, which builds the program: bench/work.sh [ROUNDS [EDITS..]]
 set -eu
 cd "$(dirname "$0")/.."
-exec python3 - "$@" <<'PY'
-import json, os, subprocess, sys, tempfile
-sys.path.insert(0, "rows")
+exec env PYTHONPATH=bench:rows python3 - "$@" <<'PY'
+import json, os, sys, tempfile
+from measure import DENEB, SSZ, least, numbers, print_load, run
 from program.machine import Machine
 from program.works import Generator, walk
 
