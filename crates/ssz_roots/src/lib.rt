@@ -5,7 +5,7 @@
 //! so that each step makes eight pairs together. No value is made. `root_of_value` is the root of
 //! a value. Both make one accumulator for each level of nesting, count exactly the pairs of the
 //! value, and take no memory. The chunks of packed parts are those of `ssz_packing`. Known roots
-//! are printed by the program `roots_rows`.
+//! are printed by the program `text_rows`.
 #![tactic(auto)]
 
 mod basic;
