@@ -17,7 +17,11 @@ static Chunk pair(const Chunk *left, const Chunk *right) {
     Chunk out;
     memcpy(both, left->b, 32);
     memcpy(both + 32, right->b, 32);
-    SHA256(both, 64, out.b);
+    // the low-level calls: SHA256() of OpenSSL 3 looks for its digest anew each time
+    SHA256_CTX state;
+    SHA256_Init(&state);
+    SHA256_Update(&state, both, 64);
+    SHA256_Final(out.b, &state);
     return out;
 }
 

@@ -8,108 +8,12 @@
 set -eu
 cd "$(dirname "$0")/.."
 exec env PYTHONPATH=bench python3 - "$@" <<'PY'
-import hashlib, json, os, random, sys, tempfile
+import os, random, sys, tempfile
 from measure import BENCH, DENEB, FAR, SSZ, least, print_load, run
+from states import TYPES, drawn, root
 
 SIZES = [int(word) for word in sys.argv[1:]] or [1 << 14, 1 << 17, 1 << 20]
-TYPES = dict(json.load(open(DENEB))["types"])
-UINTS = {"uint%d" % bits: bits // 8 for bits in (8, 16, 32, 64, 128, 256)}
-UINTS |= {"byte": 1, "boolean": 1}
-CHECKED = 1 << 17
-# How many elements a list of this name has, where it is not a list of all validators.
-FEW = {"historical_roots": 700, "eth1_data_votes": 1000, "historical_summaries": 300,
-       "extra_data": 20}
-
-def form(one):
-    while isinstance(one, str) and one in TYPES:
-        one = TYPES[one]
-    return one
-
-def fixed(one):
-    """The size of a type of fixed size, or None."""
-    one = form(one)
-    if isinstance(one, str):
-        return UINTS[one]
-    (kind, rest), = one.items()
-    if kind == "bitvector":
-        return (rest + 7) // 8
-    if kind == "vector":
-        return fixed(rest[0]) * rest[1]
-    sizes = [fixed(part) for _, part in rest] if kind == "container" else [None]
-    return None if None in sizes else sum(sizes)
-
-def zeros_in(one):
-    """The places of the bytes of a type of fixed size that are left zero: its booleans and bits."""
-    one = form(one)
-    if isinstance(one, str):
-        return [0] if one == "boolean" else []
-    (kind, rest), = one.items()
-    if kind != "container":
-        return range(fixed(one)) if kind == "bitvector" else []
-    starts = [sum(fixed(part) for _, part in rest[:field]) for field in range(len(rest))]
-    return [start + place for start, (_, part) in zip(starts, rest) for place in zeros_in(part)]
-
-def drawn(one, name, count):
-    """The encoding of a value of a type, drawn at random."""
-    one = form(one)
-    (kind, rest), = one.items() if isinstance(one, dict) else [("", None)]
-    if kind == "list" or fixed(one):
-        element, length = (rest[0], FEW.get(name, count)) if kind == "list" else (one, 1)
-        data, size = bytearray(random.randbytes(fixed(element) * length)), fixed(element)
-        for place in zeros_in(element):
-            data[place::size] = bytes(length)
-        return bytes(data)
-    parts = [(fixed(part), drawn(part, field, count)) for field, part in rest]
-    heads, bodies, at = [], [], sum(size or 4 for size, _ in parts)
-    for size, part in parts:
-        heads.append(part if size else (at + sum(map(len, bodies))).to_bytes(4, "little"))
-        bodies += [] if size else [part]
-    return b"".join(heads + bodies)
-
-def pair(left, right):
-    return hashlib.sha256(left + right).digest()
-
-ZEROS = [bytes(32)]
-for _ in range(64):
-    ZEROS.append(pair(ZEROS[-1], ZEROS[-1]))
-
-def merkleize(chunks, limit):
-    for level in range((limit - 1).bit_length()):
-        if len(chunks) % 2:
-            chunks.append(ZEROS[level])
-        chunks = [pair(chunks[i], chunks[i + 1]) for i in range(0, len(chunks), 2)]
-        chunks = chunks or [ZEROS[level + 1]]
-    return chunks[0] if chunks else ZEROS[0]
-
-def packed(data):
-    return [data[at:at + 32].ljust(32, b"\0") for at in range(0, len(data), 32)]
-
-def root(one, data):
-    """hash_tree_root of the value with this encoding, by simple-serialize.md."""
-    one = form(one)
-    if isinstance(one, str):
-        return data.ljust(32, b"\0")
-    (kind, rest), = one.items()
-    if kind == "bitvector":
-        return merkleize(packed(data), (rest + 255) // 256)
-    if kind in ("vector", "list"):
-        size, limit = fixed(rest[0]), rest[1]
-        if isinstance(form(rest[0]), str):
-            made = merkleize(packed(data), (limit * size + 31) // 32)
-        else:
-            parts = range(0, len(data), size)
-            made = merkleize([root(rest[0], data[at:at + size]) for at in parts], limit)
-        return made if kind == "vector" else pair(made, (len(data) // size).to_bytes(32, "little"))
-    places, at = [], 0
-    for _, part in rest:
-        size = fixed(part)
-        start = at if size else int.from_bytes(data[at:at + 4], "little")
-        places.append((start, start + size if size else None))
-        at += size or 4
-    starts = [start for start, end in places if end is None] + [len(data)]
-    ends = iter(starts[1:])
-    return merkleize([root(part, data[start:end if end is not None else next(ends)])
-                      for (_, part), (start, end) in zip(rest, places)], len(rest))
+CHECKED, STATE = 1 << 17, TYPES["BeaconState"]
 
 def often(*words):
     """The least of so many runs as take ten seconds, three at least and fifteen at most."""
@@ -160,12 +64,12 @@ with tempfile.TemporaryDirectory() as room:
     os.chdir(room)
     for count in SIZES:
         random.seed(count)
-        state = drawn("BeaconState", "", count)
+        state = drawn(STATE, count)
         with open("state", "wb") as file:
             file.write(state)
         taken = often(SSZ, "root", DENEB, "BeaconState", "state")
         wanted = taken.last
-        if count <= CHECKED and wanted != "root 0x" + root("BeaconState", state).hex():
+        if count <= CHECKED and wanted != "root 0x" + root(STATE, state).hex():
             sys.exit("another root: %s" % wanted)
         first, edits = ["load S BeaconState state", "root S"], 0
         for what, lines in JOBS:
