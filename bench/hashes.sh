@@ -30,7 +30,7 @@ numbers, validators = ssz.list_of(ssz.uint(64), 2 ** 40), TYPES["BeaconState"][1
 validators = dict(validators)["validators"]
 with open("types.json", "w") as file:
     file.write(ssz.document_of({"Numbers": numbers, "Validators": validators}))
-FILES = {"numbers": random.randbytes(256 * FILLED), "validators": drawn(validators, COUNT),
+FILES = {"numbers": b"".join(random.randbytes(256) for _ in range(FILLED)), "validators": drawn(validators, COUNT),
          "state": drawn(TYPES["BeaconState"], COUNT)}
 for name, data in FILES.items():
     with open(name, "wb") as file:
