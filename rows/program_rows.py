@@ -31,7 +31,8 @@ SCHEMAS = {
     "weave.json": weaves.TYPES,
     "work.json": works.TYPES,
     "partial.json": partials.SCHEMA,
-    **{name: example(name) for name in ethereum.SCHEMAS + ["upgrade.json"]},
+    **{name: example(file) for name, file in ethereum.SCHEMAS.items()},
+    "upgrade.json": example("upgrade.json"),
 }
 
 

@@ -1,35 +1,78 @@
-"""Known roots and generalized indices of the consensus layer's types.
+"""Known roots, sizes and generalized indices of the consensus layer's types, in both presets.
 
-The root of ForkData is that of Ethereum's mainnet, whose fork digest of phase 0 begins with
-b5303f2a; the empty list of deposits has the root of the empty deposit contract; a header of zeros
-has the root of eight zero chunks. The indices are those of the light client's specification
-(FINALIZED_ROOT_INDEX, CURRENT_SYNC_COMMITTEE_INDEX, NEXT_SYNC_COMMITTEE_INDEX) and of deneb's
-(EXECUTION_PAYLOAD_INDEX).
+Roots: of ForkData and of the genesis block's header and body, those of Ethereum's mainnet (a fork's digest is the first four bytes of
+its ForkData's root; fulu's is masked besides, so the root of its ForkData is hashlib's alone); of the empty list of deposits, that of
+the deposit contract before its first deposit. Indices: those that the specifications of the light client, of deneb and of electra name.
+Sizes: those of the default states, as the clients' generated code has them; in the minimal preset hashlib and the sums of the fields
+are all there is to compare with.
 """
-from program.runs import Run, Shared
+import os
 
-SCHEMAS = ["phase0.json", "altair.json", "bellatrix.json", "capella.json", "deneb.json"]
-# A type, a value's bytes, and its root
+import ssz
+from program.runs import ETHEREUM, Run, Shared
+
+FORKS = ["phase0", "altair", "bellatrix", "capella", "deneb", "electra", "fulu"]
+# The copies in data/ by their names, of the files in examples/ethereum
+SCHEMAS = {**{f"{fork}.json": f"{fork}.json" for fork in FORKS},
+           **{f"minimal-{fork}.json": os.path.join("minimal", f"{fork}.json") for fork in FORKS}}
+GENESIS_VALIDATORS = "4b363db94e286120d76eb905340fdd4e54bfe9f06bf33ff6cf5ad27f511bfe95"
+GENESIS_STATE = "7e76880eb67bbdc86250aa578958e9d0675e64e714337855204fb5abaaf82c2b"
+GENESIS_BODY = "ccb62460692be0ec813b56be97f68a82cf57abc102e27bf49ebf4190ff22eedd"
+GENESIS_BLOCK = "4d611d5b93fdab69013a7f0a2f961caca0c853f87cfe9595fe50038163079360"
+# Of each fork the first bytes of ForkData's root on mainnet
+DIGESTS = ["b5303f2a", "afcaaba0", "4a26c58b", "bba4da96", "6a95a1a9", "ad532ceb", "82fae541"]
+STATE_SIZES = [2687377, 2736629, 2737169, 2737221, 2737237, 2737297, 2737809]
+# A type, a value's bytes, and its root, the same in all forks
 ROOTS = [
-    ("ForkData", "000000004b363db94e286120d76eb905340fdd4e54bfe9f06bf33ff6cf5ad27f511bfe95",
-     "b5303f2ad2010d699a76c8e62350947421a3e4a979779642cfdb0f6668986b25"),
     ("DepositDataList", "", "d70a234731285c6804c2a4f56711ddb8c82c99740f207854891028af34e27e5e"),
-    ("BeaconBlockHeader", "00" * 112,
-     "c78009fdf07fc56a11f122370658a353aaa542ed63e44c4bc15ff4cd105ab33c"),
+    ("BeaconBlockHeader", "00" * 112, "c78009fdf07fc56a11f122370658a353aaa542ed63e44c4bc15ff4cd105ab33c"),
+    ("BeaconBlockHeader", "00" * 48 + GENESIS_STATE + GENESIS_BODY, GENESIS_BLOCK),
 ]
+FINALITY, CURRENT, NEXT = "/finalized_checkpoint/root", "/current_sync_committee", "/next_sync_committee"
+# A schema, a type, a path, and its index
 INDICES = [
-    ("BeaconState", "/finalized_checkpoint/root", 105),
-    ("BeaconState", "/current_sync_committee", 54),
-    ("BeaconState", "/next_sync_committee", 55),
-    ("BeaconBlockBody", "/execution_payload", 25),
+    *[(schema, "BeaconState", path, index) for schema in ("altair", "deneb", "minimal-deneb")
+      for path, index in ((FINALITY, 105), (CURRENT, 54), (NEXT, 55))],
+    *[(schema, "BeaconState", path, index) for schema in ("electra", "fulu", "minimal-fulu")
+      for path, index in ((FINALITY, 169), (CURRENT, 86), (NEXT, 87))],
+    *[(schema, "BeaconBlockBody", "/execution_payload", 25) for schema in ("capella", "deneb", "electra", "fulu")],
+    ("deneb", "BeaconBlockBody", "/blob_kzg_commitments", 27),
+    ("deneb", "BeaconBlockBody", "/blob_kzg_commitments/0", 221184),
 ]
+
+
+def fork_data(number):
+    """The bytes of mainnet's ForkData."""
+    return bytes([number, 0, 0, 0]) + bytes.fromhex(GENESIS_VALIDATORS)
+
+
+def types(schema):
+    with open(os.path.join(ETHEREUM, SCHEMAS[f"{schema}.json"]), encoding="ascii") as file:
+        return ssz.types_of(file.read())
+
+
+def values():
+    """A schema, a type, the bytes of a value, and its root."""
+    for number, (fork, digest, size) in enumerate(zip(FORKS, DIGESTS, STATE_SIZES)):
+        named = types(fork)
+        root = ssz.hash_tree_root(named["ForkData"], ssz.decode(named["ForkData"], fork_data(number)))
+        assert root.hex().startswith(digest), fork
+        assert len(ssz.encode(named["BeaconState"], ssz.default(named["BeaconState"]))) == size, fork
+        yield fork, "ForkData", fork_data(number), root.hex()
+        for name, digits, wanted in ROOTS:
+            yield fork, name, bytes.fromhex(digits), wanted
+    body = types("phase0")["BeaconBlockBody"]
+    yield "phase0", "BeaconBlockBody", ssz.encode(body, ssz.default(body)), GENESIS_BODY
+    for schema in (f"{preset}{fork}" for preset in ("", "minimal-") for fork in FORKS):
+        body = types(schema)["SignedBeaconBlock"]
+        root = ssz.hash_tree_root(body, ssz.default(body))
+        yield schema, "SignedBeaconBlock", ssz.encode(body, ssz.default(body)), root.hex()
 
 
 def runs():
-    for schema in SCHEMAS:
-        for name, digits, root in ROOTS:
-            files = {"schema": Shared(schema), "value": bytes.fromhex(digits)}
-            yield Run("sha", ["root", "schema", name, "value"], files, 0, "root 0x%s\n" % root)
-    for name, path, index in INDICES:
-        files = {"schema": Shared("deneb.json"), "script": "gindex %s %s\n" % (name, path)}
+    for schema, name, value, root in values():
+        files = {"schema": Shared(f"{schema}.json"), "value": value}
+        yield Run("sha", ["root", "schema", name, "value"], files, 0, "root 0x%s\n" % root)
+    for schema, name, path, index in INDICES:
+        files = {"schema": Shared(f"{schema}.json"), "script": "gindex %s %s\n" % (name, path)}
         yield Run("sha", ["run", "schema", "script"], files, 0, "gindex %d\n" % index)
