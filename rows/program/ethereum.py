@@ -9,6 +9,7 @@ are all there is to compare with.
 import os
 
 import ssz
+from program import tasks
 from program.runs import ETHEREUM, Run, Shared
 
 FORKS = ["phase0", "altair", "bellatrix", "capella", "deneb", "electra", "fulu"]
@@ -76,3 +77,4 @@ def runs():
     for schema, name, path, index in INDICES:
         files = {"schema": Shared(f"{schema}.json"), "script": "gindex %s %s\n" % (name, path)}
         yield Run("sha", ["run", "schema", "script"], files, 0, "gindex %d\n" % index)
+    yield from tasks.runs()
