@@ -49,7 +49,8 @@ fields_of_eight-returns-then-count-eq0-clause-counts g t c =
     let trees = c.args.lanes.now.schema.now.trees in
     let d : ℕ = c.args.depth in
     let costs : List Part → ℕ → ℕ = λ ps j. grow d (length ps) + pairs_in trees ps
-    (pieces (sizes_of trees ps) (c.args.from + j * c.args.lanes.now.stride) c.args.lanes.now.bytes.now) in
+    (pieces (sizes_of trees ps) (c.args.from + j * c.args.lanes.now.stride)
+    c.args.lanes.now.bytes.now) in
     let none : c.args.fields.now ≡ [] = no_items c.args.fields.now (omega arith) in
     let each : (j : ℕ) → j < 8 → 0 ≡ costs c.args.fields.now j = λ j below.
     sym (ap (λ ps. costs ps j) none ∙ omega (arith, grow-zero d)) in
@@ -90,13 +91,15 @@ fields_of_eight-fields_of_eight-next-requires g t c κs within =
     let trees = c.args.lanes.now.schema.now.trees in
     let parts : List Part = c.args.fields.now in
     let half : ℕ = c.left_of-half.result in
-    let made = λ (a : ℕ). cut_fields trees parts half a c.args.lanes.now.bytes.now c.requires.fixed in
+    let made = λ (a : ℕ). cut_fields trees parts half a c.args.lanes.now.bytes.now
+    c.requires.fixed in
     let before : AllByRecursion (λ (part : Part). part.1 < c.args.id) (take half parts) =
     known-front c.args.id parts half c.requires.before in
     let few : length (take half parts) ≤ 2 ^ (c.args.depth - 1) =
     omega (arith, length-take half parts, c.left_of-half.ensures) in
     let fixed : AreFixed (sizes_of trees (take half parts)) = (made 0).front_fixed in
-    let room : c.args.from + 7 * c.args.lanes.now.stride + heads_length (sizes_of trees (take half parts))
+    let room : c.args.from + 7 * c.args.lanes.now.stride
+    + heads_length (sizes_of trees (take half parts))
     ≤ length c.args.lanes.now.bytes.now = omega (arith, (made 0).heads, c.requires.room) in
     let good : (j : ℕ) → j < 8 → AreFaultless (fields_over trees (take half parts))
     (pieces (sizes_of trees (take half parts)) (c.args.from + j * c.args.lanes.now.stride)
@@ -115,7 +118,8 @@ fields_of_eight-fields_of_eight-end-requires g t c κs within =
     let deep : c.args.depth ≡ suc (c.args.depth - 1) = omega (arith, c.if-depth-eq0.false) in
     let all : length parts ≤ 2 ^ suc (c.args.depth - 1) =
     subst (λ k. length parts ≤ 2 ^ k) deep c.requires.few in
-    let made = λ (a : ℕ). cut_fields trees parts half a c.args.lanes.now.bytes.now c.requires.fixed in
+    let made = λ (a : ℕ). cut_fields trees parts half a c.args.lanes.now.bytes.now
+    c.requires.fixed in
     let before : AllByRecursion (λ (part : Part). part.1 < c.args.id) (behind half parts) =
     known-behind c.args.id parts half c.requires.before in
     let few : length (behind half parts) ≤ 2 ^ (c.args.depth - 1) =
@@ -123,14 +127,16 @@ fields_of_eight-fields_of_eight-end-requires g t c κs within =
     let fixed : AreFixed (sizes_of trees (behind half parts)) = (made 0).back_fixed in
     let place : next ≡ c.args.from + heads_length (sizes_of trees (take half parts)) =
     c.fields_of_eight-next.ensures.place in
-    let room : next + 7 * c.args.lanes.now.stride + heads_length (sizes_of trees (behind half parts))
+    let room : next + 7 * c.args.lanes.now.stride
+    + heads_length (sizes_of trees (behind half parts))
     ≤ length c.args.lanes.now.bytes.now = omega (arith, (made 0).heads, c.requires.room, place) in
     let good : (j : ℕ) → j < 8 → AreFaultless (fields_over trees (behind half parts))
     (pieces (sizes_of trees (behind half parts)) (next + j * c.args.lanes.now.stride)
     c.args.lanes.now.bytes.now) =
     λ j below. subst (λ a. AreFaultless (fields_over trees (behind half parts))
     (pieces (sizes_of trees (behind half parts)) a c.args.lanes.now.bytes.now))
-    (moved c.args.from (j * c.args.lanes.now.stride) (heads_length (sizes_of trees (take half parts))) next
+    (moved c.args.from (j * c.args.lanes.now.stride)
+    (heads_length (sizes_of trees (take half parts))) next
     place) ((made (c.args.from + j * c.args.lanes.now.stride)).faultless
     (c.requires.faultless j below)).1 in
     search rules
@@ -159,8 +165,8 @@ fields_of_eight-returns-clause-roots g t c j below =
 
 pub fields_of_eight-returns-clause-place : goal.fields_of_eight-returns-clause-place
 fields_of_eight-returns-clause-place g t c =
-    let made = cut_fields c.args.lanes.now.schema.now.trees c.args.fields.now c.left_of-half.result 0
-    c.args.lanes.now.bytes.now c.requires.fixed in
+    let made = cut_fields c.args.lanes.now.schema.now.trees c.args.fields.now c.left_of-half.result
+    0 c.args.lanes.now.bytes.now c.requires.fixed in
     omega (
       arith,
       made.heads,
@@ -208,7 +214,8 @@ elements_of_eight-returns-then-count-eq0-clause-counts g t c =
     let ty = type_of c.args.lanes.now.schema.now c.args.elem in
     let d : ℕ = c.args.depth in
     let costs : ℕ → ℕ → ℕ = λ n j. grow d n + pairs_of ty
-    (pieces (replicate n (fixed_size ty)) (c.args.from + j * c.args.lanes.now.stride) c.args.lanes.now.bytes.now) in
+    (pieces (replicate n (fixed_size ty)) (c.args.from + j * c.args.lanes.now.stride)
+    c.args.lanes.now.bytes.now) in
     let each : (j : ℕ) → j < 8 → 0 ≡ costs c.args.count j = λ j below.
     sym (ap (λ n. costs n j) c.if-count-eq0.true ∙ omega (arith, grow-zero d)) in
     subst (λ n. CountsUp n (g.H.PairHash.pairs c.args.hasher.now)
@@ -223,7 +230,8 @@ elements_of_eight-one_of_eight-requires g t c κs within =
     let one : c.args.count ≡ 1 = omega (arith, few, c.if-count-eq0.false) in
     let fixed : AreFixed (replicate 1 (fixed_size ty)) =
     subst (λ n. AreFixed (replicate n (fixed_size ty))) one c.requires.fixed in
-    let room : c.args.from + 7 * c.args.lanes.now.stride + heads_length (replicate 1 (fixed_size ty))
+    let room : c.args.from + 7 * c.args.lanes.now.stride
+    + heads_length (replicate 1 (fixed_size ty))
     ≤ length c.args.lanes.now.bytes.now = subst (λ n. c.args.from + 7 * c.args.lanes.now.stride
     + heads_length (replicate n (fixed_size ty)) ≤ length c.args.lanes.now.bytes.now) one
     c.requires.room in
@@ -243,7 +251,8 @@ elements_of_eight-returns-then-depth-eq0-clause-roots g t c j below =
     let one : c.args.count ≡ 1 = omega (arith, few, c.if-count-eq0.false) in
     c.one_of_eight.ensures.roots j below
     ∙ one_element g.H.PairHash.pair_of ty (fixed_size ty) c.args.count c.args.depth
-    (c.args.from + j * c.args.lanes.now.stride) c.args.lanes.now.bytes.now one c.if-depth-eq0.true c.requires.fixed
+    (c.args.from + j * c.args.lanes.now.stride) c.args.lanes.now.bytes.now one c.if-depth-eq0.true
+    c.requires.fixed
 
 pub elements_of_eight-returns-then-depth-eq0-clause-counts :
     goal.elements_of_eight-returns-then-depth-eq0-clause-counts
@@ -253,8 +262,8 @@ elements_of_eight-returns-then-depth-eq0-clause-counts g t c =
     c.requires.few in
     let one : c.args.count ≡ 1 = omega (arith, few, c.if-count-eq0.false) in
     let same = eight-same _ _ (λ j below. one_element_pairs ty (fixed_size ty) c.args.count
-    c.args.depth (c.args.from + j * c.args.lanes.now.stride) c.args.lanes.now.bytes.now one c.if-depth-eq0.true
-    c.requires.fixed) in
+    c.args.depth (c.args.from + j * c.args.lanes.now.stride) c.args.lanes.now.bytes.now one
+    c.if-depth-eq0.true c.requires.fixed) in
     subst (λ n. CountsUp n (g.H.PairHash.pairs c.args.hasher.now)
     (g.H.PairHash.pairs c.one_of_eight.new.hasher)) same c.one_of_eight.ensures.counts
 
@@ -268,7 +277,8 @@ elements_of_eight-elements_of_eight-next-requires g t c κs within =
     let made = cut_elements (fixed_size ty) c.args.count half 0 c.args.lanes.now.bytes.now less
     c.requires.fixed in
     let fixed : AreFixed (replicate half (fixed_size ty)) = made.front_fixed in
-    let room : c.args.from + 7 * c.args.lanes.now.stride + heads_length (replicate half (fixed_size ty))
+    let room : c.args.from + 7 * c.args.lanes.now.stride
+    + heads_length (replicate half (fixed_size ty))
     ≤ length c.args.lanes.now.bytes.now = omega (arith, made.heads, c.requires.room) in
     let good : (j i : ℕ) → j < 8 → i < half → why ty 0 (get_or
     (pieces (replicate half (fixed_size ty)) (c.args.from + j * c.args.lanes.now.stride)
@@ -324,14 +334,15 @@ elements_of_eight-returns-clause-roots g t c j below =
     c.left_of-half.ensures c.requires.fixed (c.elements_of_eight-next.ensures.roots j below)
     (c.elements_of_eight-end.ensures.roots j below
     ∙ ap (λ p. root g.H.PairHash.pair_of (full d (trees_of ty
-    (pieces (replicate (c.args.count - half) (fixed_size ty)) p c.args.lanes.now.bytes.now)))) (sym place))
-    (c.pair_columns.ensures.value j below)
+    (pieces (replicate (c.args.count - half) (fixed_size ty)) p c.args.lanes.now.bytes.now))))
+    (sym place)) (c.pair_columns.ensures.value j below)
     ∙ ap (λ k. root g.H.PairHash.pair_of (full k (trees_of ty
     (pieces (replicate c.args.count (fixed_size ty)) a c.args.lanes.now.bytes.now)))) deep
 
 pub elements_of_eight-returns-clause-place : goal.elements_of_eight-returns-clause-place
 elements_of_eight-returns-clause-place g t c =
-    let made = cut_elements (fixed_size (type_of c.args.lanes.now.schema.now c.args.elem)) c.args.count
+    let made = cut_elements (fixed_size (type_of c.args.lanes.now.schema.now c.args.elem))
+    c.args.count
     c.left_of-half.result 0 c.args.lanes.now.bytes.now (omega (arith, c.left_of-half.ensures))
     c.requires.fixed in
     omega (
@@ -352,7 +363,8 @@ elements_of_eight-returns-clause-counts g t c =
     subst (λ k. c.args.count ≤ 2 ^ k) (sym deep) c.requires.few in
     let costs : ℕ → ℕ → ℕ → ℕ = λ k n a. grow k n + pairs_of ty
     (pieces (replicate n (fixed_size ty)) a c.args.lanes.now.bytes.now) in
-    let each : (j : ℕ) → j < 8 → costs (suc d) c.args.count (c.args.from + j * c.args.lanes.now.stride)
+    let each : (j : ℕ) → j < 8
+    → costs (suc d) c.args.count (c.args.from + j * c.args.lanes.now.stride)
     ≡ costs d half (c.args.from + j * c.args.lanes.now.stride)
     + costs d (c.args.count - half) (next + j * c.args.lanes.now.stride) + 1 =
     λ j below. elements-pairs ty (fixed_size ty) c.args.count d half
@@ -362,7 +374,8 @@ elements_of_eight-returns-clause-counts g t c =
     + costs d (c.args.count - half) p + 1) (moved c.args.from (j * c.args.lanes.now.stride)
     (heads_length (replicate half (fixed_size ty))) next
     c.elements_of_eight-next.ensures.place) in
-    subst (λ k. CountsUp (eight (λ j. costs k c.args.count (c.args.from + j * c.args.lanes.now.stride)))
+    subst
+    (λ k. CountsUp (eight (λ j. costs k c.args.count (c.args.from + j * c.args.lanes.now.stride)))
     (g.H.PairHash.pairs c.args.hasher.now) (g.H.PairHash.pairs c.pair_columns.new.hasher)) deep
     (subst (λ n. CountsUp n (g.H.PairHash.pairs c.args.hasher.now)
     (g.H.PairHash.pairs c.pair_columns.new.hasher))
@@ -378,12 +391,13 @@ pub roots_of_eight-returns-in-Uint-clause-roots : goal.roots_of_eight-returns-in
 roots_of_eight-returns-in-Uint-clause-roots g t c j below =
     let input : IsInput c.args.lanes.now.bytes.now = record
     { bytes = c.args.lanes.now.are_bytes; short = c.args.lanes.now.short } in
-    let form = sym c.ty.ensures.form ∙ ap (tree_over c.args.lanes.now.schema.now.trees) c.in-Uint.is in
+    let form = sym c.ty.ensures.form ∙ ap (tree_over c.args.lanes.now.schema.now.trees)
+    c.in-Uint.is in
     c.chunk_column.ensures j below
     ∙ basic_root g.H.PairHash.pair_of c.args.lanes.now.schema.now.format
     (type_of c.args.lanes.now.schema.now c.args.id) _
-    (lane c.args.from c.args.lanes.now.stride c.args.size c.args.lanes.now.bytes.now j) (ap basic_size form)
-    c.ty.ensures.legal (record {
+    (lane c.args.from c.args.lanes.now.stride c.args.size c.args.lanes.now.bytes.now j)
+    (ap basic_size form) c.ty.ensures.legal (record {
       input = IsInput-range c.args.lanes.now.bytes.now _ _ input;
       none = c.requires.faultless j below;
     })
@@ -413,9 +427,11 @@ roots_of_eight-fields_of_eight-made-requires g t c κs within =
     let room : c.args.from + 7 * c.args.lanes.now.stride + heads_length (sizes_of trees parts)
     ≤ length c.args.lanes.now.bytes.now = omega (arith, law.heads, c.requires.room) in
     let good : (j : ℕ) → j < 8 → AreFaultless (fields_over trees parts)
-    (pieces (sizes_of trees parts) (c.args.from + j * c.args.lanes.now.stride) c.args.lanes.now.bytes.now) =
+    (pieces (sizes_of trees parts) (c.args.from + j * c.args.lanes.now.stride)
+    c.args.lanes.now.bytes.now) =
     λ j below. (container_lane g.H.PairHash.pair_of format ty trees parts
-    c.depth-in-Container.result (c.args.from + j * c.args.lanes.now.stride) c.args.size c.args.lanes.now.bytes.now is
+    c.depth-in-Container.result (c.args.from + j * c.args.lanes.now.stride) c.args.size
+    c.args.lanes.now.bytes.now is
     c.ty.ensures.legal c.depth-in-Container.ensures.exact input c.requires.fixed
     (c.requires.faultless j below)).none in
     search rules
@@ -435,7 +451,8 @@ roots_of_eight-returns-in-Container-clause-roots g t c j below =
     ∙ ap (λ (ps : List Part). container (fields_over trees ps)) fields in
     c.fields_of_eight-made.ensures.roots j below
     ∙ (container_lane g.H.PairHash.pair_of c.args.lanes.now.schema.now.format ty trees parts
-    c.depth-in-Container.result (c.args.from + j * c.args.lanes.now.stride) c.args.size c.args.lanes.now.bytes.now is
+    c.depth-in-Container.result (c.args.from + j * c.args.lanes.now.stride) c.args.size
+    c.args.lanes.now.bytes.now is
     c.ty.ensures.legal c.depth-in-Container.ensures.exact input c.requires.fixed
     (c.requires.faultless j below)).same
 
@@ -454,7 +471,8 @@ roots_of_eight-returns-in-Container-clause-counts g t c =
     ∙ ap (λ (ps : List Part). container (fields_over trees ps)) fields in
     let same = eight-same _ _ (λ j below. (container_lane g.H.PairHash.pair_of
     c.args.lanes.now.schema.now.format ty trees parts
-    c.depth-in-Container.result (c.args.from + j * c.args.lanes.now.stride) c.args.size c.args.lanes.now.bytes.now is
+    c.depth-in-Container.result (c.args.from + j * c.args.lanes.now.stride) c.args.size
+    c.args.lanes.now.bytes.now is
     c.ty.ensures.legal c.depth-in-Container.ensures.exact input c.requires.fixed
     (c.requires.faultless j below)).costs) in
     subst (λ n. CountsUp n (g.H.PairHash.pairs c.args.hasher.now)
@@ -468,8 +486,8 @@ roots_of_eight-vector_of_eight-requires g t c κs within =
     let bytes = lane c.args.from c.args.lanes.now.stride c.args.size c.args.lanes.now.bytes.now in
     let form = sym c.ty.ensures.form ∙ ap (tree_over trees) c.in-Vector.is in
     let h = λ (j : ℕ) (below : j < 8). vector_elements c.args.lanes.now.schema.now.format
-    (type_of c.args.lanes.now.schema.now c.args.id) ty c.in-Vector.count c.depth-depth.result (bytes j) form
-    c.ty.ensures.legal (c.requires.faultless j below) c.depth-depth.ensures.exact in
+    (type_of c.args.lanes.now.schema.now c.args.id) ty c.in-Vector.count c.depth-depth.result
+    (bytes j) form c.ty.ensures.legal (c.requires.faultless j below) c.depth-depth.ensures.exact in
     let first = h 0 (omega arith) in
     let below : c.in-Vector.elem < c.args.id = subst (AreBelow c.args.id)
     c.in-Vector.is c.ty.ensures.before in
@@ -529,7 +547,8 @@ roots_of_eight-chunks_of_eight-requires-clause-few g t c =
     let long : length bytes ≡ c.args.size = length-lane c.args.lanes.now.bytes.now
     (c.args.from + 0 * c.args.lanes.now.stride) c.args.size (omega (arith, c.requires.room)) in
     let few : (c.args.size + 31) / 32 ≤ 2 ^ depth (type_of c.args.lanes.now.schema.now c.args.id) =
-    subst (λ n. (n + 31) / 32 ≤ 2 ^ depth (type_of c.args.lanes.now.schema.now c.args.id)) long h.few in
+    subst (λ n. (n + 31) / 32 ≤ 2 ^ depth (type_of c.args.lanes.now.schema.now c.args.id)) long
+    h.few in
     subst (λ d. c.chunk_count-count.result ≤ 2 ^ d) (sym c.depth.ensures.exact)
     (subst (λ n. n ≤ 2 ^ depth (type_of c.args.lanes.now.schema.now c.args.id))
     (sym c.chunk_count-count.ensures) few)
@@ -539,7 +558,8 @@ pub roots_of_eight-returns-in-Bitvector-clause-roots :
 roots_of_eight-returns-in-Bitvector-clause-roots g t c j below =
     let input : IsInput c.args.lanes.now.bytes.now = record
     { bytes = c.args.lanes.now.are_bytes; short = c.args.lanes.now.short } in
-    let bytes : List ℕ = lane c.args.from c.args.lanes.now.stride c.args.size c.args.lanes.now.bytes.now j in
+    let bytes : List ℕ = lane c.args.from c.args.lanes.now.stride c.args.size
+    c.args.lanes.now.bytes.now j in
     let h = IsPackedBits-bitvector g.H.PairHash.pair_of c.args.lanes.now.schema.now.format
     (type_of c.args.lanes.now.schema.now c.args.id) c.in-Bitvector.field-0 bytes
     (sym c.ty.ensures.form ∙ ap (tree_over c.args.lanes.now.schema.now.trees) c.in-Bitvector.is)
@@ -547,8 +567,8 @@ roots_of_eight-returns-in-Bitvector-clause-roots g t c j below =
     (c.requires.faultless j below) in
     let long : length bytes ≡ c.args.size = length-lane c.args.lanes.now.bytes.now
     (c.args.from + j * c.args.lanes.now.stride) c.args.size
-    (lane_room c.args.from c.args.lanes.now.stride c.args.size (length c.args.lanes.now.bytes.now) j below
-    c.requires.room) in
+    (lane_room c.args.from c.args.lanes.now.stride c.args.size (length c.args.lanes.now.bytes.now) j
+    below c.requires.room) in
     c.chunks_of_eight.ensures.roots j below
     ∙ ap (λ n. root g.H.PairHash.pair_of (full c.depth.result
     (leaves (chunks n bytes)))) (c.chunk_count-count.ensures
@@ -562,7 +582,8 @@ roots_of_eight-returns-in-Bitvector-clause-counts g t c =
     let input : IsInput c.args.lanes.now.bytes.now = record
     { bytes = c.args.lanes.now.are_bytes; short = c.args.lanes.now.short } in
     let ty = type_of c.args.lanes.now.schema.now c.args.id in
-    let bytes : ℕ → List ℕ = lane c.args.from c.args.lanes.now.stride c.args.size c.args.lanes.now.bytes.now in
+    let bytes : ℕ → List ℕ = lane c.args.from c.args.lanes.now.stride c.args.size
+    c.args.lanes.now.bytes.now in
     let each : (j : ℕ) → j < 8 → grow c.depth.result c.chunk_count-count.result
     ≡ pairs ty (value_in ty (bytes j)) =
     λ j below.
@@ -573,8 +594,8 @@ roots_of_eight-returns-in-Bitvector-clause-counts g t c =
     (c.requires.faultless j below) in
     let long : length (bytes j) ≡ c.args.size = length-lane c.args.lanes.now.bytes.now
     (c.args.from + j * c.args.lanes.now.stride) c.args.size
-    (lane_room c.args.from c.args.lanes.now.stride c.args.size (length c.args.lanes.now.bytes.now) j below
-    c.requires.room) in
+    (lane_room c.args.from c.args.lanes.now.stride c.args.size (length c.args.lanes.now.bytes.now) j
+    below c.requires.room) in
     ap (grow c.depth.result) (c.chunk_count-count.ensures
     ∙ ap (λ n. (n + 31) / 32) (sym long))
     ∙ ap (λ d. grow d ((length (bytes j) + 31) / 32)) c.depth.ensures.exact
@@ -592,13 +613,14 @@ vector_of_eight-chunks_of_eight-requires-clause-few g t c =
     let input : IsInput c.args.lanes.now.bytes.now = record
     { bytes = c.args.lanes.now.are_bytes; short = c.args.lanes.now.short } in
     let ty = type_of c.args.lanes.now.schema.now c.args.elem in
-    let room = lane_room c.args.from c.args.lanes.now.stride c.args.size (length c.args.lanes.now.bytes.now) 0
-    (omega arith) c.requires.room in
-    let long = length-lane c.args.lanes.now.bytes.now (c.args.from + 0 * c.args.lanes.now.stride) c.args.size room in
+    let room = lane_room c.args.from c.args.lanes.now.stride c.args.size
+    (length c.args.lanes.now.bytes.now) 0 (omega arith) c.requires.room in
+    let long = length-lane c.args.lanes.now.bytes.now (c.args.from + 0 * c.args.lanes.now.stride)
+    c.args.size room in
     let packed = packed_lane g.H.PairHash.pair_of c.args.depth c.args.lanes.now.schema.now.format ty
     c.in-Some.field-0 c.args.count (c.args.from + 0 * c.args.lanes.now.stride) c.args.size
-    c.args.lanes.now.bytes.now (sym c.in-Some.ensures.exact) c.requires.legal input room c.requires.fixed
-    (c.requires.faultless 0 (omega arith)) in
+    c.args.lanes.now.bytes.now (sym c.in-Some.ensures.exact) c.requires.legal input room
+    c.requires.fixed (c.requires.faultless 0 (omega arith)) in
     subst (λ n. n ≤ 2 ^ c.args.depth) (sym (c.chunk_count-chunks.ensures
     ∙ ap (λ n. (n + 31) / 32) (sym long) ∙ packed.chunks)) c.requires.few
 
@@ -607,14 +629,16 @@ vector_of_eight-returns-in-Some-clause-roots g t c j below =
     let input : IsInput c.args.lanes.now.bytes.now = record
     { bytes = c.args.lanes.now.are_bytes; short = c.args.lanes.now.short } in
     let ty = type_of c.args.lanes.now.schema.now c.args.elem in
-    let bytes : List ℕ = lane c.args.from c.args.lanes.now.stride c.args.size c.args.lanes.now.bytes.now j in
-    let room = lane_room c.args.from c.args.lanes.now.stride c.args.size (length c.args.lanes.now.bytes.now) j
-    below c.requires.room in
-    let long = length-lane c.args.lanes.now.bytes.now (c.args.from + j * c.args.lanes.now.stride) c.args.size room in
+    let bytes : List ℕ = lane c.args.from c.args.lanes.now.stride c.args.size
+    c.args.lanes.now.bytes.now j in
+    let room = lane_room c.args.from c.args.lanes.now.stride c.args.size
+    (length c.args.lanes.now.bytes.now) j below c.requires.room in
+    let long = length-lane c.args.lanes.now.bytes.now (c.args.from + j * c.args.lanes.now.stride)
+    c.args.size room in
     let packed = packed_lane g.H.PairHash.pair_of c.args.depth c.args.lanes.now.schema.now.format ty
     c.in-Some.field-0 c.args.count (c.args.from + j * c.args.lanes.now.stride) c.args.size
-    c.args.lanes.now.bytes.now (sym c.in-Some.ensures.exact) c.requires.legal input room c.requires.fixed
-    (c.requires.faultless j below) in
+    c.args.lanes.now.bytes.now (sym c.in-Some.ensures.exact) c.requires.legal input room
+    c.requires.fixed (c.requires.faultless j below) in
     c.chunks_of_eight.ensures.roots j below
     ∙ ap (λ n. root g.H.PairHash.pair_of (full c.args.depth (leaves (chunks n bytes))))
     (c.chunk_count-chunks.ensures ∙ ap (λ n. (n + 31) / 32) (sym long))
@@ -627,18 +651,20 @@ vector_of_eight-returns-in-Some-clause-counts g t c =
     { bytes = c.args.lanes.now.are_bytes; short = c.args.lanes.now.short } in
     let ty = type_of c.args.lanes.now.schema.now c.args.elem in
     let d : ℕ = c.args.depth in
-    let bytes : ℕ → List ℕ = lane c.args.from c.args.lanes.now.stride c.args.size c.args.lanes.now.bytes.now in
+    let bytes : ℕ → List ℕ = lane c.args.from c.args.lanes.now.stride c.args.size
+    c.args.lanes.now.bytes.now in
     let each : (j : ℕ) → j < 8 → grow d c.chunk_count-chunks.result
     ≡ grow d (element_chunks (basic_size ty) c.args.count)
     + sum_by (pairs ty) (element_values ty c.args.count (bytes j)) =
     λ j below.
-    let room = lane_room c.args.from c.args.lanes.now.stride c.args.size (length c.args.lanes.now.bytes.now) j
-    below c.requires.room in
-    let long = length-lane c.args.lanes.now.bytes.now (c.args.from + j * c.args.lanes.now.stride) c.args.size room in
+    let room = lane_room c.args.from c.args.lanes.now.stride c.args.size
+    (length c.args.lanes.now.bytes.now) j below c.requires.room in
+    let long = length-lane c.args.lanes.now.bytes.now (c.args.from + j * c.args.lanes.now.stride)
+    c.args.size room in
     let packed = packed_lane g.H.PairHash.pair_of d c.args.lanes.now.schema.now.format ty
     c.in-Some.field-0 c.args.count (c.args.from + j * c.args.lanes.now.stride) c.args.size
-    c.args.lanes.now.bytes.now (sym c.in-Some.ensures.exact) c.requires.legal input room c.requires.fixed
-    (c.requires.faultless j below) in
+    c.args.lanes.now.bytes.now (sym c.in-Some.ensures.exact) c.requires.legal input room
+    c.requires.fixed (c.requires.faultless j below) in
     ap (grow d) (c.chunk_count-chunks.ensures ∙ ap (λ n. (n + 31) / 32) (sym long)
     ∙ packed.chunks) ∙ omega (arith, packed.no_pairs) in
     subst (λ n. CountsUp n (g.H.PairHash.pairs c.args.hasher.now)
@@ -666,8 +692,8 @@ vector_of_eight-elements_of_eight-made-requires g t c κs within =
     (pieces (replicate c.args.count (fixed_size ty)) (c.args.from + j * c.args.lanes.now.stride)
     c.args.lanes.now.bytes.now) i []) ≡ None =
     λ j i below inside. elements_none c.args.lanes.now.schema.now.format ty c.args.count
-    (c.args.from + j * c.args.lanes.now.stride) c.args.size c.args.lanes.now.bytes.now c.requires.legal input law.0
-    law.1 (c.requires.faultless j below) i inside in
+    (c.args.from + j * c.args.lanes.now.stride) c.args.size c.args.lanes.now.bytes.now
+    c.requires.legal input law.0 law.1 (c.requires.faultless j below) i inside in
     search rules
 
 pub vector_of_eight-returns-in-None-clause-roots : goal.vector_of_eight-returns-in-None-clause-roots
@@ -690,10 +716,11 @@ vector_of_eight-returns-in-None-clause-counts g t c =
     let d : ℕ = c.args.depth in
     let n : ℕ = c.args.count in
     let law = fixed_elements n c.args.size (fixed_size ty) c.requires.fixed in
-    let bytes : ℕ → List ℕ = lane c.args.from c.args.lanes.now.stride c.args.size c.args.lanes.now.bytes.now in
+    let bytes : ℕ → List ℕ = lane c.args.from c.args.lanes.now.stride c.args.size
+    c.args.lanes.now.bytes.now in
     let same = eight-same (λ j. grow d n + pairs_of ty
-    (pieces (replicate n (fixed_size ty)) (c.args.from + j * c.args.lanes.now.stride) c.args.lanes.now.bytes.now))
-    (λ j. grow d (element_chunks (basic_size ty) n)
+    (pieces (replicate n (fixed_size ty)) (c.args.from + j * c.args.lanes.now.stride)
+    c.args.lanes.now.bytes.now)) (λ j. grow d (element_chunks (basic_size ty) n)
     + sum_by (pairs ty) (element_values ty n (bytes j)))
     (λ j below. ap (λ xs. grow d n + pairs_of ty xs)
     (sym (elements_within (fixed_size ty) n (c.args.from + j * c.args.lanes.now.stride)

@@ -40,14 +40,14 @@ pub returns-clause-holds : goal.returns-clause-holds
 returns-clause-holds g c =
     let last : c.rows.i ≡ c.args.count / 128 = omega arith in
     subst (λ i. Holds g.H.PairHash.pair_of (roots_to g.H.PairHash.pair_of
-    (type_of c.args.lanes.now.schema.now c.args.elem) c.args.count c.args.lanes.now.bytes.now (128 * i))
-    c.rows.pushed) last c.rows.invariant.gathered.holds
+    (type_of c.args.lanes.now.schema.now c.args.elem) c.args.count c.args.lanes.now.bytes.now
+    (128 * i)) c.rows.pushed) last c.rows.invariant.gathered.holds
 
 pub returns-clause-counts : goal.returns-clause-counts
 returns-clause-counts g c =
     let last : c.rows.i ≡ c.args.count / 128 = omega arith in
     let ty = type_of c.args.lanes.now.schema.now c.args.elem in
     subst (λ i. CountsUp (whole_pairs c.args.pushed.now.depth (128 * i)
-    + costs_to ty c.args.count c.args.lanes.now.bytes.now (128 * i)) (g.H.PairHash.pairs c.args.hasher.now)
-    (g.H.PairHash.pairs c.rows.hasher)) last
+    + costs_to ty c.args.count c.args.lanes.now.bytes.now (128 * i))
+    (g.H.PairHash.pairs c.args.hasher.now) (g.H.PairHash.pairs c.rows.hasher)) last
     (FirstElements-counted _ _ _ _ _ _ _ _ _ c.rows.invariant (omega arith))

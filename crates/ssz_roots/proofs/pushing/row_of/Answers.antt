@@ -52,13 +52,13 @@ returns-clause-roots g c =
     let whole : take (8 * c.loop-k.k) c.loop-k.row ≡ c.loop-k.row =
     take_all (8 * c.loop-k.k) c.loop-k.row (omega (arith, last, c.loop-k.invariant.long)) in
     sym (ap bytes_of whole) ∙ c.loop-k.invariant.made
-    ∙ ap (λ k. roots_from g.H.PairHash.pair_of ty c.args.count c.args.lanes.now.bytes.now c.args.first
-    (8 * k)) last
+    ∙ ap (λ k. roots_from g.H.PairHash.pair_of ty c.args.count c.args.lanes.now.bytes.now
+    c.args.first (8 * k)) last
 
 pub returns-clause-counts : goal.returns-clause-counts
 returns-clause-counts g c =
     let ty = type_of c.args.lanes.now.schema.now c.args.elem in
     let last : c.loop-k.k ≡ 16 = omega arith in
-    subst (λ k. CountsUp (costs_from ty c.args.count c.args.lanes.now.bytes.now c.args.first (8 * k))
-    (g.H.PairHash.pairs c.args.hasher.now) (g.H.PairHash.pairs c.loop-k.hasher)) last
+    subst (λ k. CountsUp (costs_from ty c.args.count c.args.lanes.now.bytes.now c.args.first
+    (8 * k)) (g.H.PairHash.pairs c.args.hasher.now) (g.H.PairHash.pairs c.loop-k.hasher)) last
     c.loop-k.invariant.counted
