@@ -77,6 +77,13 @@ CountsUp-finish depth last low q old new is counted =
     omega (arith, grow-whole_pairs depth last low q is) in
     subst (λ n. CountsUp n old new) made counted
 
+-- one pair for each level from the lowest on
+pub CountsUp-level : (low level first now end : ℕ) → low ≤ level → CountsUp (level - low) first now
+    → CountsUp 1 now end → CountsUp (level + 1 - low) first end
+CountsUp-level low level first now end above before pair =
+    let sum : level - low + 1 ≡ level + 1 - low = omega arith in
+    subst (λ n. CountsUp n first end) sum (CountsUp-add _ _ first now end before pair)
+
 -- nothing is hashed where nothing was pushed
 pub CountsUp-empty : (depth pushed count : ℕ) → pushed ≡ 0
     → CountsUp (grow depth pushed - whole_pairs depth pushed) count count
