@@ -60,6 +60,11 @@ impl<'a, H: PairHash> Accumulator<'a, H> {
         }
     }
 
+    /// The table of zero trees that it was made with.
+    pub fn zeros(&self) -> &'a ZeroTable<H> {
+        self.zeros
+    }
+
     /// Takes one more chunk: fewer than 2^depth were pushed so far.
     /// Hashes the pairs of which the chunk is the last one.
     pub fn push(&mut self, chunk: &Chunk, hasher: &mut H)

@@ -14,7 +14,7 @@ ghost use Rattle.ssz_parts.specs.PartValues.{element_values};
 use super::columns::{Column, Lanes, WIDE};
 use super::eights::roots_of_eight;
 use super::rows::ROW;
-use ssz_chunk::{Chunk, PairHash, ZeroTable};
+use ssz_chunk::{Chunk, PairHash};
 use ssz_merkle::Accumulator;
 use ssz_schema::{Schema, TypeId};
 
@@ -117,7 +117,6 @@ pub(crate) fn push_eights<H: PairHash>(
     count: u64,
     bytes: &[u8],
     pushed: &mut Accumulator<H>,
-    zeros: &ZeroTable<H>,
     hasher: &mut H,
 ) -> u64
     requires known { elem < length schema.now.trees }
@@ -145,7 +144,7 @@ pub(crate) fn push_eights<H: PairHash>(
         schema,
         bytes,
         stride,
-        zeros,
+        zeros: pushed.zeros(),
     };
     let done = push_element_rows(&lanes, elem, count, pushed, hasher);
     let eights = count / 8;
