@@ -402,6 +402,22 @@ roots_of_eight-returns-in-Uint-clause-roots g t c j below =
       none = c.requires.faultless j below;
     })
 
+pub roots_of_eight-returns-in-Boolean-clause-roots :
+    goal.roots_of_eight-returns-in-Boolean-clause-roots
+roots_of_eight-returns-in-Boolean-clause-roots g t c j below =
+    let input : IsInput c.args.lanes.now.bytes.now = record
+    { bytes = c.args.lanes.now.are_bytes; short = c.args.lanes.now.short } in
+    let form = sym c.ty.ensures.form ∙ ap (tree_over c.args.lanes.now.schema.now.trees)
+    c.in-Boolean.is in
+    c.chunk_column-in-Boolean.ensures j below
+    ∙ basic_root g.H.PairHash.pair_of c.args.lanes.now.schema.now.format
+    (type_of c.args.lanes.now.schema.now c.args.id) _
+    (lane c.args.from c.args.lanes.now.stride c.args.size c.args.lanes.now.bytes.now j)
+    (ap basic_size form) c.ty.ensures.legal (record {
+      input = IsInput-range c.args.lanes.now.bytes.now _ _ input;
+      none = c.requires.faultless j below;
+    })
+
 pub roots_of_eight-fields_of_eight-made-requires : goal.roots_of_eight-fields_of_eight-made-requires
 roots_of_eight-fields_of_eight-made-requires g t c κs within =
     let input : IsInput c.args.lanes.now.bytes.now = record

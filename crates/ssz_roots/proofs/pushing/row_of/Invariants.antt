@@ -11,6 +11,6 @@ invariant-loop-k g l = record {
   made : bytes_of (take (8 * l.k) l.row) ≡ roots_from g.H.PairHash.pair_of
       (type_of l.lanes.schema.now l.elem) l.count l.lanes.bytes.now l.first (8 * l.k);
   counted : CountsUp (costs_from (type_of l.lanes.schema.now l.elem) l.count l.lanes.bytes.now
-  l.first (8 * l.k))
+      l.first (8 * l.k))
       (g.H.PairHash.pairs l.fn.hasher) (g.H.PairHash.pairs l.hasher);
 }
