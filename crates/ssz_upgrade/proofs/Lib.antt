@@ -1,4 +1,5 @@
 pub mod Weighing
 pub mod Picking
 pub mod Walking
+pub mod Sharing
 pub mod Upgraded

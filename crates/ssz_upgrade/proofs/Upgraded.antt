@@ -13,7 +13,7 @@ use Rattle.ssz_schema.specs.Legal.{IsLegal}
 use Rattle.ssz_schema.specs.Unfolding.{fields_over}
 use Rattle.ssz_schema.proofs.DepthLemmas.{depth_of-holds}
 use Rattle.ssz_arena.specs.declared.node.NodeId.{NodeId}
-use Rattle.ssz_arena.specs.Content.{Content, tree_of, todo, IsNodeOf}
+use Rattle.ssz_arena.specs.Content.{Content, tree_of, todo, node_count, IsNodeOf}
 use Rattle.ssz_arena.specs.Laws.{LawOfParts}
 use Rattle.ssz_value.specs.Values.{SszValue, sequence, Values, values, items, FitFields}
 use Rattle.ssz_value.specs.Trees.{tree, field_trees}
@@ -23,12 +23,13 @@ use Rattle.ssz_value.proofs.Sequences.{items-values}
 use Rattle.ssz_places.specs.PlaceLaws.{IsTreeOf}
 use Rattle.ssz_forms.specs.Upgrades.{all_taken, upgraded, upgraded_fields}
 use Rattle.ssz_tree.specs.Added.{Adds, IsPart}
-use Rattle.ssz_tree.specs.Given.{parts_with, part_with, pairs_with}
+use Rattle.ssz_tree.specs.Given.{parts_with, part_with, pairs_with, shared_with}
 use Rattle.ssz_tree.proofs.DefaultForms.{count-fields}
 use Rattle.ssz_upgrade.specs.Fields.{AreFieldNodes, pick}
-use Rattle.ssz_upgrade.specs.Upgraded.{Answers, IsUpgrade}
+use Rattle.ssz_upgrade.specs.Upgraded.{Answers, IsUpgrade, upgrade_nodes}
 use Rattle.ssz_upgrade.proofs.Weighing.{weights-few}
 use Rattle.ssz_upgrade.proofs.Picking.{trees_taken, all_fit, costs_taken, costs_left}
+use Rattle.ssz_upgrade.proofs.Sharing.{nodes_left, upgrade_few}
 use Rattle.ssz_upgrade.proofs.Walking.{trees_alike}
 
 -- the parts of fields are as many as the fields
@@ -72,8 +73,8 @@ pub record Made (format : Format) (old new : Content) (node made : NodeId) (fs g
   pub fields : AreFieldNodes old node (depth (container fs)) (field_count fs) nodes
   pub picks : given ≡ map (pick nodes) (all_taken fs gs)
   pub part : IsPart new (part_with old (container gs) given) made
-  pub count : ℕ
-  pub adds : Adds count (min count (pairs_with (container gs) given)) old new
+  pub adds : (let nodes = shared_with (container gs) given in
+      Adds nodes (min nodes (pairs_with (container gs) given)) old new)
 
 -- the value is a sequence of the fields' values
 made_of : (format : Format) (old new : Content) (node made : NodeId) (fs gs : Fields)
@@ -94,6 +95,14 @@ made_of format old new node made fs gs nodes given h vs fit whole =
     let all = costs_taken old nodes fs (items vs) gs fit trees in
     let few = weights-few (todo old) fs nodes gs h.legal.2 in
     let left = ap (λ ns. pairs_with (container gs) ns) h.picks in
+    let nodes_made = ap (λ ns. shared_with (container gs) ns) h.picks in
+    let shares : node_count new ≤ node_count old + upgrade_nodes (container fs) (container gs) =
+    omega (
+      arith,
+      h.adds.count,
+      nodes_made,
+      nodes_left old nodes fs (items vs) gs fit trees,
+    ) in
     record {
       known = part.node;
       fits = subst (FitFields gs) (sym back)
@@ -115,6 +124,8 @@ made_of format old new node made fs gs nodes given h vs fit whole =
         left,
         costs_left old nodes fs (items vs) gs fit trees,
       );
+      shares = shares;
+      few = omega (arith, shares, upgrade_few format fs gs h.legal.1);
     }
 
 -- for each value of the old type

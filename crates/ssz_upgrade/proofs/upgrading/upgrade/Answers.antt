@@ -67,7 +67,6 @@ returns-clause-answers g c =
       part = subst (λ u. IsPart c.build_fields.new.arena
           (part_with c.args.arena.now u c.as_slice-5.result.now) c.in_ok-made.made) form_new
           c.in_ok-made.ensures.part;
-      count = _;
       adds = subst (λ u. Adds (shared_with u c.as_slice-5.result.now)
           (min (shared_with u c.as_slice-5.result.now) (pairs_with u c.as_slice-5.result.now))
           c.args.arena.now c.build_fields.new.arena) form_new c.in_ok-made.ensures.adds;
