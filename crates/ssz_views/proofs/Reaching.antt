@@ -1,7 +1,9 @@
 -- What a view reaches by a path.
-use Rattle.std.proofs.Common.{ℕ, ◌%◌, ◌<◌, ◌≡◌, [], ◌∷◌, length, Option, Some, None, refl, sym, ap, ◌∙◌, subst, arith}
+use Rattle.std.proofs.Common.{ℕ, ◌%◌, ◌<◌, ◌≡◌, Bool, true, eqb, [], ◌∷◌, length, Option, Some, None, refl, sym, ap, ◌∙◌, subst, arith}
+use Rattle.std.proofs.lemmas.Bool.{eqb-true}
 use Rattle.std.proofs.lemmas.Option.{none-some, same_Some}
-use Rattle.ssz_chunk.specs.Index.{at}
+use Rattle.ssz_chunk.specs.Index.{at, at_way}
+use Rattle.ssz_chunk.proofs.Digits.{way-one}
 use Rattle.ssz_schema.specs.declared.format.Format.{Format}
 use Rattle.ssz_schema.specs.declared.path.PathStep.{PathStep}
 use Rattle.ssz_schema.specs.declared.path.PathStep.TheVariants.{Field, Index, Len, Selector, Option as Chosen}
@@ -101,10 +103,36 @@ tree_there view path u v is some typed stands =
     whole_value view (type_seen view) v is refl
     (composite_path (type_seen view) path u some typed) stands
 
+-- below a value with parts, the spot of the value itself is passed over
+spot_onward : (from : Spot) (t : SszType) (path : Path) → 0 < length path
+    → spot_from from t path ≡ spot_from whole t path
+spot_onward from t [] some = absurd (omega arith)
+spot_onward from t (step ∷ path) some = refl
+
 -- the view of a place
 abbrev pub view_of : Looking → Place → Looking
 view_of view place =
     record view { id = place.id; node = place.node; lies = spot_of place.spot }
+
+-- the view itself, where no step leads on
+pub Reaches-none : (view new : Looking) (path : Path) {b : Bool} → b ≡ eqb (length path) 0
+    → b ≡ true → new ≡ view → Reaches view path new
+Reaches-none view new [] is none same = subst (Reaches view []) (sym same) (record {
+  arena = refl;
+  types = refl;
+  type_at = refl;
+  tree_at = λ g e.
+      let here : at (tree_of view.arena view.node) 1 ≡ Some (tree_of view.arena view.node) =
+      ap (at_way (tree_of view.arena view.node)) way-one in
+      let first : g ≡ 1 = sym (same_Some 1 g e) in
+      ap (at (tree_of view.arena view.node)) first ∙ here;
+  spot_at = refl;
+  part = λ v stands. record { value = v; is = refl; stands = stands };
+})
+Reaches-none view new (step ∷ path) is none same =
+    let short : length (step ∷ path) ≡ 0 =
+    eqb-true (length (step ∷ path)) 0 (sym is ∙ none) in
+    absurd (omega (arith, short))
 
 module _ (view : Looking) (path : Path) (is : IsView view) (some : 0 < length path) where
   pub CanLie-found : (place : Place)
@@ -121,6 +149,10 @@ module _ (view : Looking) (path : Path) (is : IsView view) (some : 0 < length pa
     arena = refl;
     types = refl;
     type_at = found.led.type_at;
+    tree_at = λ g e.
+        let same : g ≡ place.index = same_Some g place.index (sym e ∙ found.led.index_at) in
+        ap (at (tree_of view.arena view.node)) same ∙ found.led.tree_at;
+    spot_at = spot_onward view.lies (type_seen view) path some ∙ found.led.spot_at;
     part = λ v stands.
         let of : IsTreeOf (type_seen view) v (tree_of view.arena view.node) =
         tree_there view path (type_of view.types place.id) v is some found.led.type_at stands in

@@ -1,9 +1,10 @@
 -- What a view stands for, and what is read of it.
 use Rattle.std.specs.Prelude.{ℕ, ◌+◌, ◌*◌, ◌≤◌, ◌<◌, ◌≡◌, Bool, List, length, Option, Some, None, IsSome}
+use Rattle.ssz_chunk.specs.Index.{at}
 use Rattle.ssz_schema.specs.Types.{SszType, vector, list, bitvector, bitlist}
 use Rattle.ssz_schema.specs.Sizes.{basic_size}
 use Rattle.ssz_schema.specs.Unfolding.{Types, type_of}
-use Rattle.ssz_schema.specs.Indices.{Spot, whole, byte, bit}
+use Rattle.ssz_schema.specs.Indices.{Spot, whole, byte, bit, generalized_index, spot_from}
 use Rattle.ssz_schema.specs.Paths.{Path, path_type}
 use Rattle.ssz_value.specs.Values.{SszValue, number, wide, truth, sequence, bits, chosen, chosen_none, items, Fits}
 use Rattle.ssz_value.specs.Parts.{part}
@@ -57,11 +58,15 @@ pub record IsPartSeen (old : Looking) (path : Path) (new : Looking) (v : SszValu
   pub is : part (type_seen old) v path ≡ Some value
   pub stands : StandsFor new value
 
--- the new view stands for the part at the path of what the old one stands for
+-- the new view stands for the part at the path of what the old one stands for: at the path's index
+-- below the old node, so in the very leaf in which the part lies, and at the spot that the path has
 pub record Reaches (old : Looking) (path : Path) (new : Looking) : Type 0 where
   pub arena : new.arena ≡ old.arena
   pub types : new.types ≡ old.types
   pub type_at : path_type (type_seen old) path ≡ Some (type_seen new)
+  pub tree_at : (g : ℕ) → generalized_index (type_seen old) path ≡ Some g
+      → at (tree_of old.arena old.node) g ≡ Some (tree_of new.arena new.node)
+  pub spot_at : spot_from old.lies (type_seen old) path ≡ Some new.lies
   pub part : ForPart old (IsPartSeen old path new)
 
 -- the path does not fit the type; or it fits, and the part is not there

@@ -136,7 +136,7 @@ impl<'a, H: PairHash> View<'a, H> {
         // Every type of a schema is legal.
         let _legal = self.schema.ty(self.id);
         match find_field(self.arena, self.schema, self.id, self.node, name.as_bytes()) {
-            Ok(place) => Ok(self.to(place)),
+            Ok(field) => Ok(self.to(field)),
             Err(fault) => Err(fault),
         }
     }

@@ -2,13 +2,18 @@ use Rattle.std.proofs.Common.{◌≡◌, ◌<◌, Bool, false, eqb, List, [], �
 use Rattle.ssz_schema.specs.Unfolding.{type_of}
 use Rattle.ssz_walk.specs.Found.{spot_of}
 use Rattle.ssz_views.specs.Looking.{Looking, CanLie, Misses, Reaches}
-use Rattle.ssz_views.proofs.Reaching.{CanLie-found, Reaches-found, Misses-lost, view_of}
+use Rattle.ssz_views.proofs.Reaching.{CanLie-found, Reaches-found, Reaches-none, Misses-lost, view_of}
 use Rattle.ssz_views.proofs.view.View.at.Goals as goal
 
 some_path : {X : Type 0} (path : List X) {b : Bool} → b ≡ eqb (length path) 0 → b ≡ false
     → 0 < length path
 some_path [] is none = cc
 some_path (step ∷ path) is none = omega arith
+
+pub returns-then-is_empty-clause-reached : goal.returns-then-is_empty-clause-reached
+returns-then-is_empty-clause-reached g c =
+    Reaches-none c.args.self.now c.same.result c.args.path.now c.is_empty.ensures
+    c.if-is_empty.true c.same.ensures
 
 pub to-requires-clause-lies : goal.to-requires-clause-lies
 to-requires-clause-lies g c =

@@ -15,11 +15,11 @@ to-requires-clause-lies g c =
       node = c.self.inside.node;
       lies = spot_of c.self.inside.spot;
     } in
-    subst (λ (view : Looking). CanLie (type_of view.types c.in-Ok.place.id)
-    (spot_of c.in-Ok.place.spot)) c.self.view_is
-    (CanLie-found inside (Field c.args.name.now ∷ []) c.self.invariant (lit< tt) c.in-Ok.place
+    subst (λ (view : Looking). CanLie (type_of view.types c.in-Ok.field.id)
+    (spot_of c.in-Ok.field.spot)) c.self.view_is
+    (CanLie-found inside (Field c.args.name.now ∷ []) c.self.invariant (lit< tt) c.in-Ok.field
     (subst (λ name. IsFound c.self.inside.schema.now c.self.inside.arena.now c.self.inside.id
-    c.self.inside.node (Field name ∷ []) c.in-Ok.place) c.as_bytes.ensures.value
+    c.self.inside.node (Field name ∷ []) c.in-Ok.field) c.as_bytes.ensures.value
     c.in-Ok.ensures.found))
 
 pub returns-in-Ok-clause-reached : goal.returns-in-Ok-clause-reached
@@ -33,11 +33,11 @@ returns-in-Ok-clause-reached g c =
     } in
     subst (Reaches c.args.self.now (Field c.args.name.now ∷ [])) (sym c.to.ensures)
     (subst (λ (view : Looking). Reaches view (Field c.args.name.now ∷ [])
-    (view_of view c.in-Ok.place)) c.self.view_is
-    (Reaches-found inside (Field c.args.name.now ∷ []) c.self.invariant (lit< tt) c.in-Ok.place
+    (view_of view c.in-Ok.field)) c.self.view_is
+    (Reaches-found inside (Field c.args.name.now ∷ []) c.self.invariant (lit< tt) c.in-Ok.field
     c.self.inside.schema.now.format c.ty-legal.ensures.legal
     (subst (λ name. IsFound c.self.inside.schema.now c.self.inside.arena.now c.self.inside.id
-    c.self.inside.node (Field name ∷ []) c.in-Ok.place) c.as_bytes.ensures.value
+    c.self.inside.node (Field name ∷ []) c.in-Ok.field) c.as_bytes.ensures.value
     c.in-Ok.ensures.found)))
 
 pub returns-in-Err-clause-missed : goal.returns-in-Err-clause-missed
