@@ -1,8 +1,9 @@
 -- Fields and options that are compared one after another.
-use Rattle.std.proofs.Common.{ℕ, zero, suc, ◌+◌, ◌<◌, ◌≡◌, ◌&&◌, Bool, true, false, List, [], ◌∷◌, length, get_or, drop, Option, Some, None, refl, sym, ap, ap₂, ◌∙◌, arith, bytes_eq}
+use Rattle.std.proofs.Common.{ℕ, zero, suc, ◌+◌, ◌<◌, ◌≡◌, ◌&&◌, Bool, true, false, List, [], ◌∷◌, length, get_or, drop, Option, Some, None, refl, sym, ap, ap₂, ◌∙◌, subst, arith, bytes_eq}
+use Rattle.std.specs.List.{AllByRecursion}
 use Rattle.std.proofs.lemmas.Bool.{and_from}
 use Rattle.ssz_schema.specs.Types.{SszType}
-use Rattle.ssz_schema.specs.Unfolding.{tree_at, fields_over, options_over}
+use Rattle.ssz_schema.specs.Unfolding.{tree_at, fields_over, options_over, IsBelow}
 use Rattle.ssz_schema.proofs.WalkFields.{drop_at}
 use Rattle.ssz_value.proofs.PartLemmas.{Part}
 use Rattle.ssz_forms.specs.Answers.{same_option}
@@ -156,3 +157,11 @@ pub OptionsFrom-end : (trees : List SszType) (xs ys : List (Option ℕ)) (i : �
 OptionsFrom-end trees xs ys i so_far out even =
     so_far.left
     ∙ ap₂ (options_alike trees) (drop_end xs i out) (drop_end ys i (λ h. out (omega arith)))
+
+pub option_below : (count : ℕ) (options : List (Option ℕ)) (i : ℕ) (option : Option ℕ)
+    → i < length options → option ≡ get_or options i option
+    → AllByRecursion (IsBelow count) options → IsBelow count option
+option_below count [] i option h e all = absurd (omega arith)
+option_below count (o ∷ options) zero option h e all = subst (IsBelow count) (sym e) all.0
+option_below count (o ∷ options) (suc i) option h e all =
+    option_below count options i option (omega arith) e all.1

@@ -1,11 +1,12 @@
-use Rattle.std.proofs.Common.{◌∙◌, List, map, sym, ap, subst}
+use Rattle.std.proofs.Common.{◌∙◌, ◌<◌, List, length, map, sym, ap, subst}
+use Rattle.std.specs.List.{AllByRecursion}
 use Rattle.ssz_schema.specs.Types.{container}
-use Rattle.ssz_schema.specs.Unfolding.{tree_over, fields_over, type_of}
+use Rattle.ssz_schema.specs.Unfolding.{tree_over, fields_over, type_of, AreBelow}
 use Rattle.ssz_value.specs.declared.value.Value.{Value}
 use Rattle.ssz_value.specs.Standing.{value_of, IsValue}
 use Rattle.ssz_value.specs.Shapes.{AreFields}
 use Rattle.ssz_value.proofs.FormLemmas.{seq_fields}
-use Rattle.ssz_value.proofs.PartLemmas.{Part}
+use Rattle.ssz_value.proofs.PartLemmas.{Part, known_weaker}
 use Rattle.ssz_forms.specs.Taking.{AreUpgraded}
 use Rattle.ssz_forms.proofs.Upgrading.{plain_done}
 use Rattle.ssz_forms.proofs.plain.plain_upgrade.Goals as goal
@@ -37,3 +38,27 @@ returns c =
     plain_done (type_of c.args.schema.now c.args.from) (type_of c.args.schema.now c.args.to)
     (fields_over trees c.as_slice-3.result.now) (fields_over trees c.as_slice-4.result.now)
     c.args.value.now c.in-Seq.parts c.in_ok-made.made form_old form_new c.in-Seq.is made
+
+pub fields_taken-requires-clause-old : goal.fields_taken-requires-clause-old
+fields_taken-requires-clause-old c =
+    let known = λ (parts : List Part). AllByRecursion (λ (part : Part).
+    part.1 < length c.args.schema.now.trees) parts in
+    subst known (sym c.as_slice.ensures.value)
+    (known_weaker c.args.from (length c.args.schema.now.trees) c.in-Container.old.items
+    c.requires.from (subst (AreBelow c.args.from) c.in-Container.is c.ty.ensures.before))
+
+pub fields_taken-requires-clause-new : goal.fields_taken-requires-clause-new
+fields_taken-requires-clause-new c =
+    let known = λ (parts : List Part). AllByRecursion (λ (part : Part).
+    part.1 < length c.args.schema.now.trees) parts in
+    subst known (sym c.as_slice-2.ensures.value)
+    (known_weaker c.args.to (length c.args.schema.now.trees) c.in-Container-ty.new.items
+    c.requires.to (subst (AreBelow c.args.to) c.in-Container-ty.is c.ty-2.ensures.before))
+
+pub upgraded_parts-requires-clause-new : goal.upgraded_parts-requires-clause-new
+upgraded_parts-requires-clause-new c =
+    let known = λ (parts : List Part). AllByRecursion (λ (part : Part).
+    part.1 < length c.args.schema.now.trees) parts in
+    subst known (sym c.as_slice-4.ensures.value)
+    (known_weaker c.args.to (length c.args.schema.now.trees) c.in-Container-ty.new.items
+    c.requires.to (subst (AreBelow c.args.to) c.in-Container-ty.is c.ty-2.ensures.before))
