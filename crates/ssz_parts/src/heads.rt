@@ -1,4 +1,4 @@
-ghost use Rattle.std.specs.Prelude.{◌≡◌, ◌+◌, ◌-◌, ◌*◌, ◌<◌, ◌≤◌, ◌^◌, length, replicate, IfOk, Option, None, nat_lt, if◌then◌else◌};
+ghost use Rattle.std.specs.Prelude.{◌≡◌, ◌+◌, ◌-◌, ◌*◌, ◌<◌, ◌≤◌, ◌^◌, length, replicate, IfOk, Option, Some, None, nat_lt, if◌then◌else◌};
 ghost use Rattle.std.specs.Option.{ForSome};
 ghost use Rattle.std.specs.Result.{result_err};
 ghost use Rattle.ssz_bytes.specs.Faults.{extra};
@@ -50,43 +50,57 @@ pub fn count_of(size: Option<u64>, limit: u64, start: u64, bytes: &[u8]) -> Resu
     ensures ok { IfOk result (λ n. n ≡ element_count size bytes.now) }
     ensures fault { result_err result ≡ count_fault size limit start bytes.now }
 {
-    let len = bytes.len() as u64;
-    let fault = |code| {
-        Err(Fault {
-            code,
-            position: start,
-        })
-    };
     match size {
-        Some(size) => {
-            if len % size != 0 {
-                return fault(Fault::RAGGED);
-            }
-            if limit < len / size {
-                return fault(Fault::TOO_MANY);
-            }
-            Ok(len / size)
-        }
-        None => {
-            if len == 0 {
-                return Ok(0);
-            }
-            if len < 4 {
-                return fault(Fault::SHORT);
-            }
-            let first = u64::from(offset_at(bytes, 0));
-            if first == 0 || first % 4 != 0 {
-                return fault(Fault::FIRST_OFFSET);
-            }
-            if len < first {
-                return fault(Fault::OFFSET_RANGE);
-            }
-            if limit < first / 4 {
-                return fault(Fault::TOO_MANY);
-            }
-            Ok(first / 4)
-        }
+        Some(size) => fixed_count(size, limit, start, bytes),
+        None => variable_count(limit, start, bytes),
     }
+}
+
+// The same of elements of this size.
+fn fixed_count(size: u64, limit: u64, start: u64, bytes: &[u8]) -> Result<u64, Fault>
+    requires { 0 < size }
+    ensures ok { IfOk result (λ n. n ≡ element_count (Some size) bytes.now) }
+    ensures fault { result_err result ≡ count_fault (Some size) limit start bytes.now }
+{
+    let len = bytes.len() as u64;
+    if len % size != 0 {
+        return Err(fault_at(Fault::RAGGED, start));
+    }
+    if limit < len / size {
+        return Err(fault_at(Fault::TOO_MANY, start));
+    }
+    Ok(len / size)
+}
+
+// The same of elements of variable size, by the first offset.
+fn variable_count(limit: u64, start: u64, bytes: &[u8]) -> Result<u64, Fault>
+    ensures ok { IfOk result (λ n. n ≡ element_count None bytes.now) }
+    ensures fault { result_err result ≡ count_fault None limit start bytes.now }
+{
+    let len = bytes.len() as u64;
+    if len == 0 {
+        return Ok(0);
+    }
+    if len < 4 {
+        return Err(fault_at(Fault::SHORT, start));
+    }
+    let first = u64::from(offset_at(bytes, 0));
+    if first == 0 || first % 4 != 0 {
+        return Err(fault_at(Fault::FIRST_OFFSET, start));
+    }
+    if len < first {
+        return Err(fault_at(Fault::OFFSET_RANGE, start));
+    }
+    if limit < first / 4 {
+        return Err(fault_at(Fault::TOO_MANY, start));
+    }
+    Ok(first / 4)
+}
+
+fn fault_at(code: u8, position: u64) -> Fault
+    ensures { result ≡ record { code = code; position = position } }
+{
+    Fault { code, position }
 }
 
 /// The first fault of the head of count variable-size parts.
