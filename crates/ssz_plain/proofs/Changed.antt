@@ -1,7 +1,8 @@
 -- An edit along a path, at its first step.
-use Rattle.std.proofs.Common.{ℕ, ◌≡◌, ◌<◌, ◌≤◌, Bool, true, false, List, [], ◌∷◌, length, set, get_or, slice_get, Vec, Global, Option, Some, None, option_map, Result, Ok, Err, refl, sym, ap, ap₂, subst, ◌∙◌, cond, eq-eqb}
+use Rattle.std.proofs.Common.{ℕ, ◌≡◌, ◌<◌, ◌≤◌, ◌-◌, Bool, true, false, List, [], ◌∷◌, length, set, take, drop, get_or, slice_get, Vec, Global, Option, Some, None, option_map, Result, Ok, Err, refl, sym, ap, ap₂, subst, ◌∙◌, cond, eq-eqb}
 use Rattle.std.specs.Prelude.{OnErr, IfSome, is_some, option_and_then}
 use Rattle.std.specs.declared.boxed.Box.{Box}
+use Rattle.std.proofs.lemmas.List.{take_rest}
 use Rattle.std.proofs.lemmas.Option.{none-some, same_Some, slice_get-get_or, slice_get_past}
 use Rattle.std.proofs.Math.Seq.{map-set_same}
 use Rattle.ssz_schema.specs.declared.path.PathStep.{PathStep}
@@ -22,6 +23,9 @@ use Rattle.ssz_value.specs.Parts.{numbered, part_at}
 use Rattle.ssz_value.specs.Edits.{Edited, given, replaced_at, replaced_in, changed}
 use Rattle.ssz_value.specs.Standing.{value_of, IsValue}
 use Rattle.ssz_value.proofs.ValueLemmas.{uint_is, wide_is, flag_is, seq_is, bytes_are, bits_are, chosen_is}
+use Rattle.ssz_plain.specs.declared.leading.Place.{Place}
+use Rattle.ssz_plain.specs.declared.leading.Lead.{Lead}
+use Rattle.ssz_plain.specs.Leading.{IsLead, LeadsBy, step_to}
 use Rattle.ssz_plain.specs.declared.edit.Edit.{Edit}
 use Rattle.ssz_plain.specs.declared.edit.Edit.TheVariants.{Set, Append, Pop, Choose}
 use Rattle.ssz_plain.specs.Making.{edit_of, SuitsEdit, SuitsPath, Tells, Leaves, Makes, put_at, new_byte, new_bit, number_of, truth_of}
@@ -339,3 +343,21 @@ suited types t path edit (Some id) there is h = record {
   typed = sym is;
   suits = subst (λ o. IfSome o (λ u. SuitsEdit u edit)) (sym is) h;
 }
+
+-- the step at the head of the path leads on
+pub leads_by : (types : Types) (id : ℕ) (path : Path) (step : PathStep) (rest : Path)
+    (lead : Lead) (place : Place) → path ≡ step ∷ rest → IsLead types id step lead
+    → lead.place ≡ place → LeadsBy types id path lead.id place
+leads_by types id path step rest lead place is led at = record {
+  step = step;
+  rest = rest;
+  path_is = is;
+  known = led.known;
+  typed = led.typed;
+  numbered = led.numbered ∙ ap step_to at;
+}
+
+-- what follows the first step
+pub rest_is : (path : Path) (step : PathStep) (rest : Path) → path ≡ step ∷ rest
+    → take (length path - 1) (drop 1 path) ≡ rest
+rest_is path step rest is = take_rest path 1 ∙ ap (drop 1) is

@@ -1,9 +1,9 @@
 -- Where a step leads in a value.
-use Rattle.std.specs.Prelude.{ℕ, ◌≡◌, ◌<◌, length, Option, Some, IfSome}
+use Rattle.std.specs.Prelude.{ℕ, ◌≡◌, ◌<◌, ◌∷◌, length, Option, Some, IfSome}
 use Rattle.ssz_schema.specs.declared.path.PathStep.{PathStep}
 use Rattle.ssz_schema.specs.declared.path.PathStep.TheVariants.{Index, Len, Selector, Option as Chosen}
 use Rattle.ssz_schema.specs.Types.{SszType}
-use Rattle.ssz_schema.specs.Paths.{step_type}
+use Rattle.ssz_schema.specs.Paths.{Path, step_type}
 use Rattle.ssz_schema.specs.Unfolding.{Types, type_of}
 use Rattle.ssz_value.specs.declared.value.Value.{Value}
 use Rattle.ssz_value.specs.Parts.{numbered}
@@ -26,6 +26,15 @@ pub record IsLead (types : Types) (id : ℕ) (step : PathStep) (lead : Lead) : T
   pub known : lead.id < length types.trees
   pub typed : step_type (type_of types id) step ≡ Some (type_of types lead.id)
   pub numbered : numbered (type_of types id) step ≡ step_to lead.place
+
+-- the first step of the path leads to the part of this type at this place
+pub record LeadsBy (types : Types) (id : ℕ) (path : Path) (part : ℕ) (place : Place) : Type 0 where
+  pub step : PathStep
+  pub rest : Path
+  pub path_is : path ≡ step ∷ rest
+  pub known : part < length types.trees
+  pub typed : step_type (type_of types id) step ≡ Some (type_of types part)
+  pub numbered : numbered (type_of types id) step ≡ step_to place
 
 -- what is found at the place is one of the type that a step to it leads to
 abbrev pub Suits : Value → PathStep → Option PartRef → Type 0

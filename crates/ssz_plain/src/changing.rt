@@ -5,6 +5,8 @@ ghost use Rattle.ssz_schema.specs.Types.{uint, boolean};
 ghost use Rattle.ssz_schema.specs.Unfolding.{type_of};
 ghost use Rattle.ssz_value.specs.Standing.{IsValue, value_of};
 ghost use Rattle.ssz_value.specs.Edits.{changed};
+ghost use Rattle.ssz_plain.specs.declared.leading.Place.TheVariants.{Item, Inner};
+ghost use Rattle.ssz_plain.specs.Leading.{LeadsBy};
 ghost use Rattle.ssz_plain.specs.Making.{Makes, Leaves, edit_of, takes_memory, SuitsPath, SuitsEdit, put_at, new_byte, new_bit};
 
 use super::edit::Edit;
@@ -15,6 +17,7 @@ use ssz_schema::{PathStep, Schema, TypeId};
 use ssz_value::{EditFault, Value};
 
 // Makes the edit of the part at the path, which fits the type of the value.
+#[cycle(change)]
 pub(crate) fn change(
     schema: &Schema,
     id: TypeId,
@@ -29,39 +32,102 @@ pub(crate) fn change(
         Makes (takes_memory edit) t (changed (edit_of edit) t (value_of value.old) path.now)
         value.old value.new result }
 {
-    let Some((step, rest)) = path.split_first() else {
+    let Some((step, _rest)) = path.split_first() else {
         return make(schema, id, value, edit);
     };
+    // An edit that is refused is let go by a call, else each exit lets go of each of its forms.
     let Some(next) = step_lead(schema, id, step) else {
+        drop(edit);
         return Err(EditFault::BadPath);
     };
     match next.place {
-        Place::Item(i) => match value {
-            Value::Seq(parts) => {
-                if i >= parts.len() as u64 {
-                    return Err(EditFault::Absent);
-                }
-                change(schema, next.id, &mut parts[i as usize], rest, edit)
-            }
-            Value::Bytes(run) => change_byte(run, i, edit),
-            Value::Bits(run) => change_bit(run, i, edit),
-            _ => Err(EditFault::Absent),
-        },
+        Place::Item(i) => change_item(schema, id, value, path, (next.id, i), edit),
         // They cannot be changed alone.
-        Place::Length => Err(EditFault::NotThat),
-        Place::Selector => Err(EditFault::NotThat),
-        Place::Inner(number) => match value {
-            Value::Union { selector, inner } => {
-                if *selector != number {
-                    return Err(EditFault::Absent);
-                }
-                match inner {
-                    Some(part) => change(schema, next.id, part.as_mut(), rest, edit),
-                    None => Err(EditFault::Absent),
+        Place::Length => {
+            drop(edit);
+            Err(EditFault::NotThat)
+        }
+        Place::Selector => {
+            drop(edit);
+            Err(EditFault::NotThat)
+        }
+        Place::Inner(number) => change_inner(schema, id, value, path, (next.id, number), edit),
+    }
+}
+
+// The same, where the path leads to the item of this type and number.
+#[cycle(change)]
+fn change_item(
+    schema: &Schema,
+    id: TypeId,
+    value: &mut Value,
+    path: &[PathStep],
+    at: (TypeId, u64),
+    edit: Edit,
+) -> Result<(), EditFault>
+    requires known { id < length schema.now.trees }
+    requires value { IsValue (type_of schema.now id) value.old }
+    requires suits { SuitsPath (type_of schema.now id) path.now edit }
+    requires led { LeadsBy schema.now id path.now at.0 (Item at.1) }
+    ensures { let t = type_of schema.now id in
+        Makes (takes_memory edit) t (changed (edit_of edit) t (value_of value.old) path.now)
+        value.old value.new result }
+{
+    let i = at.1;
+    match value {
+        Value::Seq(parts) => {
+            if i >= parts.len() as u64 {
+                drop(edit);
+                return Err(EditFault::Absent);
+            }
+            change(schema, at.0, &mut parts[i as usize], &path[1..], edit)
+        }
+        Value::Bytes(run) => change_byte(run, i, edit),
+        Value::Bits(run) => change_bit(run, i, edit),
+        _ => {
+            drop(edit);
+            Err(EditFault::Absent)
+        }
+    }
+}
+
+// The same, where it leads to what a union holds by the option of this type and number.
+#[cycle(change)]
+fn change_inner(
+    schema: &Schema,
+    id: TypeId,
+    value: &mut Value,
+    path: &[PathStep],
+    at: (TypeId, u8),
+    edit: Edit,
+) -> Result<(), EditFault>
+    requires known { id < length schema.now.trees }
+    requires value { IsValue (type_of schema.now id) value.old }
+    requires suits { SuitsPath (type_of schema.now id) path.now edit }
+    requires led { LeadsBy schema.now id path.now at.0 (Inner at.1) }
+    ensures { let t = type_of schema.now id in
+        Makes (takes_memory edit) t (changed (edit_of edit) t (value_of value.old) path.now)
+        value.old value.new result }
+{
+    let number = at.1;
+    match value {
+        Value::Union { selector, inner } => {
+            if *selector != number {
+                drop(edit);
+                return Err(EditFault::Absent);
+            }
+            match inner {
+                Some(part) => change(schema, at.0, part.as_mut(), &path[1..], edit),
+                None => {
+                    drop(edit);
+                    Err(EditFault::Absent)
                 }
             }
-            _ => Err(EditFault::Absent),
-        },
+        }
+        _ => {
+            drop(edit);
+            Err(EditFault::Absent)
+        }
     }
 }
 
@@ -71,13 +137,19 @@ fn change_byte(run: &mut ByteRun, i: u64, edit: Edit) -> Result<(), EditFault>
     ensures { Leaves false (put_at i (new_byte edit) run.old) run.old run.new result }
 {
     if i >= run.len() as u64 {
+        drop(edit);
         return Err(EditFault::Absent);
     }
-    let Edit::Set(new) = edit else {
-        return Err(EditFault::NotThat);
-    };
-    run.set(i as usize, byte_of(&new));
-    Ok(())
+    match edit {
+        Edit::Set(new) => {
+            run.set(i as usize, byte_of(&new));
+            Ok(())
+        }
+        other => {
+            drop(other);
+            Err(EditFault::NotThat)
+        }
+    }
 }
 
 // Makes the edit of bit i.
@@ -86,11 +158,17 @@ fn change_bit(run: &mut BitRun, i: u64, edit: Edit) -> Result<(), EditFault>
     ensures { Leaves false (put_at i (new_bit edit) run.old) run.old run.new result }
 {
     if i >= run.len() as u64 {
+        drop(edit);
         return Err(EditFault::Absent);
     }
-    let Edit::Set(new) = edit else {
-        return Err(EditFault::NotThat);
-    };
-    run.set(i as usize, bit_of(&new));
-    Ok(())
+    match edit {
+        Edit::Set(new) => {
+            run.set(i as usize, bit_of(&new));
+            Ok(())
+        }
+        other => {
+            drop(other);
+            Err(EditFault::NotThat)
+        }
+    }
 }

@@ -52,13 +52,22 @@ fn append(schema: &Schema, id: TypeId, value: &mut Value, new: Value) -> Result<
         Ty::List(_, limit) => match value {
             Value::Seq(parts) => push_part(parts, *limit, new),
             Value::Bytes(run) => push_byte(run, *limit, byte_of(&new)),
-            _ => Err(EditFault::NotThat),
+            _ => {
+                drop(new);
+                Err(EditFault::NotThat)
+            }
         },
         Ty::Bitlist(limit) => match value {
             Value::Bits(run) => push_bit(run, *limit, bit_of(&new)),
-            _ => Err(EditFault::NotThat),
+            _ => {
+                drop(new);
+                Err(EditFault::NotThat)
+            }
         },
-        _ => Err(EditFault::NotThat),
+        _ => {
+            drop(new);
+            Err(EditFault::NotThat)
+        }
     }
 }
 
