@@ -1,6 +1,8 @@
 use Rattle.std.proofs.Common.{◌∙◌, ◌≡◌, ◌*◌, ◌≤◌, ◌+◌, ◌^◌, ℕ, ap, ap₂, sym, subst, arith, rules, slice_range, length, List, ◌<◌}
-use Rattle.ssz_schema.specs.Types.{container}
-use Rattle.ssz_schema.specs.Unfolding.{type_of, tree_at, tree_over, AreBelow, IsBelow, fields_over}
+use Rattle.std.proofs.lemmas.List.{take_rest}
+use Rattle.ssz_schema.specs.Types.{SszType, container, union}
+use Rattle.ssz_schema.specs.Sizes.{head_size, fixed_size}
+use Rattle.ssz_schema.specs.Unfolding.{type_of, tree_at, tree_over, AreBelow, IsBelow, fields_over, options_over}
 use Rattle.std.specs.List.{AllByRecursion}
 use Rattle.ssz_schema.specs.Legal.{IsLegal}
 use Rattle.ssz_schema.proofs.SizeLemmas.{vector_few}
@@ -8,8 +10,9 @@ use Rattle.ssz_value.specs.Faults.{why}
 use Rattle.ssz_value.proofs.Agree.{length_from_fault}
 use Rattle.ssz_codec.proofs.PlainLemmas.{clean_of, elements_clean}
 use Rattle.ssz_parts.proofs.ElementFaults.{FixedFrom-more, FixedFrom-found, FixedFrom-end, VariableFrom-start, VariableFrom-part, VariableFrom-more, VariableFrom-found, fixed_found_head}
-use Rattle.ssz_parts.proofs.FieldLemmas.{FieldsFrom-start, FieldsFrom-found}
-use Rattle.ssz_value.proofs.PartLemmas.{known_weaker}
+use Rattle.ssz_parts.proofs.FieldLemmas.{FieldsFrom, FieldsFrom-start, FieldsFrom-found, FieldsFrom-more, FieldsFrom-end}
+use Rattle.ssz_value.proofs.PartLemmas.{known_weaker, part_known}
+use Rattle.ssz_codec.proofs.ReadLemmas.{field_range, field_room}
 use Rattle.ssz_codec.proofs.checking.+check.Goals as goal
 
 pub scope-elements-requires : goal.scope-elements-requires
@@ -143,3 +146,109 @@ scope-container-requires t c =
     ∙ ap (λ fs. container (fields_over c.args.schema.now.trees fs))
     (sym c.as_slice-in-Container.ensures.value) in
     search rules
+
+pub
+    container-fields_head_fault-requires-clause-known :
+    goal.container-fields_head_fault-requires-clause-known
+container-fields_head_fault-requires-clause-known t c =
+    known_weaker c.args.id (length c.args.schema.now.trees) c.args.fields.now c.requires.known
+    c.requires.before
+
+pub container-fixed_size-requires : goal.container-fixed_size-requires
+container-fixed_size-requires t c =
+    let below : c.index-fields-i.result.1 < c.args.id =
+    part_known c.args.id c.args.fields.now c.loop-i.i c.index-fields-i.result c.loop-i-test.true
+    c.index-fields-i.is c.requires.before in
+    omega (arith, below, c.requires.known)
+
+pub
+    container-part_range-from-requires-clause-field :
+    goal.container-part_range-from-requires-clause-field
+container-part_range-from-requires-clause-field t c =
+    let below : c.index-fields-i.result.1 < c.args.id =
+    part_known c.args.id c.args.fields.now c.loop-i.i c.index-fields-i.result c.loop-i-test.true
+    c.index-fields-i.is c.requires.before in
+    omega (arith, below, c.requires.known)
+
+pub
+    container-part_range-from-requires-clause-room :
+    goal.container-part_range-from-requires-clause-room
+container-part_range-from-requires-clause-room t c =
+    field_room c.args.schema.now.trees c.args.fields.now c.args.start c.args.bytes.now
+    c.loop-i.i c.loop-i.place c.index-fields-i.result c.loop-i.invariant c.loop-i-test.true
+    c.index-fields-i.is
+
+pub container-slice_bounds-part-count : goal.container-slice_bounds-part-count
+container-slice_bounds-part-count t c =
+    let range = field_range c.args.schema.now.trees c.args.fields.now c.args.start
+    c.args.bytes.now c.loop-i.i c.loop-i.place c.part_range-from.result.0
+    c.part_range-from.result.1 c.index-fields-i.result c.loop-i.invariant c.loop-i-test.true
+    c.index-fields-i.is c.part_range-from.ensures in
+    omega (arith, range.0, range.1)
+
+pub container-slice_bounds-part-end : goal.container-slice_bounds-part-end
+container-slice_bounds-part-end t c =
+    let range = field_range c.args.schema.now.trees c.args.fields.now c.args.start
+    c.args.bytes.now c.loop-i.i c.loop-i.place c.part_range-from.result.0
+    c.part_range-from.result.1 c.index-fields-i.result c.loop-i.invariant c.loop-i-test.true
+    c.index-fields-i.is c.part_range-from.ensures in
+    omega (arith, range.0, range.1)
+
+pub container-slice_bounds-part-start : goal.container-slice_bounds-part-start
+container-slice_bounds-part-start t c =
+    let range = field_range c.args.schema.now.trees c.args.fields.now c.args.start
+    c.args.bytes.now c.loop-i.i c.loop-i.place c.part_range-from.result.0
+    c.part_range-from.result.1 c.index-fields-i.result c.loop-i.invariant c.loop-i-test.true
+    c.index-fields-i.is c.part_range-from.ensures in
+    omega (arith, range.0, range.1)
+
+pub container-overflow_add-start : goal.container-overflow_add-start
+container-overflow_add-start t c =
+    let range = field_range c.args.schema.now.trees c.args.fields.now c.args.start
+    c.args.bytes.now c.loop-i.i c.loop-i.place c.part_range-from.result.0
+    c.part_range-from.result.1 c.index-fields-i.result c.loop-i.invariant c.loop-i-test.true
+    c.index-fields-i.is c.part_range-from.ensures in
+    let inside : c.part_range-from.result.0 ≤ length c.args.bytes.now =
+    omega (arith, range.0, range.1) in
+    search rules
+
+pub container-scope-requires : goal.container-scope-requires
+container-scope-requires t c =
+    let below : c.index-fields-i.result.1 < c.args.id =
+    part_known c.args.id c.args.fields.now c.loop-i.i c.index-fields-i.result c.loop-i-test.true
+    c.index-fields-i.is c.requires.before in
+    let range = field_range c.args.schema.now.trees c.args.fields.now c.args.start
+    c.args.bytes.now c.loop-i.i c.loop-i.place c.part_range-from.result.0
+    c.part_range-from.result.1 c.index-fields-i.result c.loop-i.invariant c.loop-i-test.true
+    c.index-fields-i.is c.part_range-from.ensures in
+    let up : c.part_range-from.result.0 ≤ c.part_range-from.result.1 = range.0 in
+    let within : c.part_range-from.result.1 ≤ length c.args.bytes.now = range.1 in
+    search rules
+
+pub container-loop-i-preserved : goal.container-loop-i-preserved
+container-loop-i-preserved t c =
+    let size : head_size (fixed_size (tree_at c.args.schema.now.trees c.index-fields-i.result.1))
+    ≡ c.head_len.result = sym (c.head_len.ensures ∙ ap head_size c.fixed_size.ensures.exact) in
+    subst (FieldsFrom c.args.schema.now.trees c.args.fields.now c.args.start c.args.bytes.now
+    (c.loop-i.i + 1)) (ap (λ n. c.loop-i.place + n) size)
+    (FieldsFrom-more c.args.schema.now.trees c.args.fields.now c.args.start c.args.bytes.now
+    c.loop-i.i c.loop-i.place c.part_range-from.result.0 c.part_range-from.result.1
+    c.index-fields-i.result c.loop-i.invariant c.loop-i-test.true c.index-fields-i.is
+    c.part_range-from.ensures (sym c.in_default-scope.ensures))
+
+pub container-returns : goal.container-returns
+container-returns t c =
+    sym (FieldsFrom-end c.args.schema.now.trees c.args.fields.now c.args.start c.args.bytes.now
+    c.loop-i.i c.loop-i.place c.loop-i.invariant (omega arith))
+
+pub scope-returns-in-Ok-union_head : goal.scope-returns-in-Ok-union_head
+scope-returns-in-Ok-union_head t c =
+    let form : union (options_over c.args.schema.now.trees c.as_slice.result.now)
+    ≡ type_of c.args.schema.now c.args.id =
+    ap (λ os. union (options_over c.args.schema.now.trees os)) c.as_slice.ensures.value
+    ∙ ap (tree_over c.args.schema.now.trees) (sym c.in-Union.is) ∙ c.ty.ensures.form in
+    c.scope.ensures
+    ∙ ap (why (type_of c.args.schema.now c.in-Ok-union_head.option) (c.args.start + 1))
+    (take_rest c.args.bytes.now 1)
+    ∙ sym (c.in-Ok-union_head.ensures.ok c.args.schema.now.trees)
+    ∙ ap (λ (ty : SszType). why ty c.args.start c.args.bytes.now) form

@@ -1,4 +1,4 @@
-use Rattle.std.proofs.Common.{◌∙◌, ◌≤◌, ◌+◌, ◌*◌, ◌^◌, ◌≡◌, ℕ, ap, ap₂, sym, subst, arith, rules, slice_range, length, List, ◌<◌, map, get_or, Some, None}
+use Rattle.std.proofs.Common.{◌∙◌, ◌≤◌, ◌+◌, ◌*◌, ◌^◌, ◌≡◌, ℕ, ap, ap₂, sym, subst, arith, rules, slice_range, length, List, ◌<◌, map, get_or, Option, Some, None}
 use Rattle.std.specs.List.{AllByRecursion}
 use Rattle.std.proofs.lemmas.List.{take_rest, length_push}
 use Rattle.std.proofs.lemmas.Result.{err_from_is_err_and}
@@ -7,7 +7,7 @@ use Rattle.ssz_schema.specs.Unfolding.{type_of, tree_at, tree_over, AreBelow, op
 use Rattle.ssz_schema.specs.Legal.{IsLegal}
 use Rattle.ssz_schema.specs.Sizes.{byte_count, head_size, fixed_size}
 use Rattle.ssz_schema.proofs.SizeLemmas.{vector_few}
-use Rattle.ssz_value.specs.Faults.{why}
+use Rattle.ssz_value.specs.Faults.{why, elements_fault}
 use Rattle.ssz_value.specs.Values.{chosen, sequence, values}
 use Rattle.ssz_value.specs.Reading.{value_in, elements_in}
 use Rattle.ssz_value.specs.Shapes.{StandAlike}
@@ -19,10 +19,11 @@ use Rattle.ssz_value.proofs.ValueLemmas.{chosen_is, seq_is}
 use Rattle.ssz_parts.proofs.UnionLemmas.{union_past, union_some, some_byte}
 use Rattle.ssz_parts.proofs.ElementFaults.{FixedFrom-more, FixedFrom-found, FixedFrom-end, VariableFrom-start, VariableFrom-part, VariableFrom-more, VariableFrom-found, VariableFrom-end, fixed_found_head}
 use Rattle.ssz_parts.proofs.FieldLemmas.{FieldsFrom, FieldsFrom-start, FieldsFrom-found, FieldsFrom-more, FieldsFrom-end}
-use Rattle.ssz_value.proofs.PartLemmas.{known_weaker, values_push}
-use Rattle.ssz_value.proofs.FormLemmas.{formed_push, chosen_formed, seq_formed_fields, no_fields_formed, fields_push}
+use Rattle.ssz_value.proofs.OptionLemmas.{option_below}
+use Rattle.ssz_value.proofs.PartLemmas.{known_weaker, part_known, values_push}
+use Rattle.ssz_value.proofs.FormLemmas.{formed_push, seq_formed_alike, chosen_formed, seq_formed_fields, no_fields_formed, fields_push}
 use Rattle.ssz_codec.specs.Answers.{Decodes, Faulty}
-use Rattle.ssz_codec.proofs.ReadLemmas.{ReadFrom, ReadFrom-start, ReadFrom-fixed, ReadFrom-variable, ReadFrom-end, FieldsRead, FieldsRead-start, FieldsRead-more, FieldsRead-end, error_of_part, list_decodes}
+use Rattle.ssz_codec.proofs.ReadLemmas.{ReadFrom, ReadFrom-start, ReadFrom-fixed, ReadFrom-variable, ReadFrom-end, FieldsRead, FieldsRead-start, FieldsRead-more, FieldsRead-end, error_of_part, list_decodes, field_range, field_room}
 use Rattle.ssz_codec.proofs.OptionLemmas.{union_value, none_decodes}
 use Rattle.ssz_codec.proofs.decoding.+scope.Goals as goal
 
@@ -370,3 +371,135 @@ variable_elements-loop-i-preserved t c =
           (formed_push (type_of c.args.schema.now c.args.elem) c.loop-i.parts.items
           c.in_ok-value.value c.loop-i.invariant.formed c.in_ok-value.ensures.1.formed);
     }
+
+pub
+    container-fields_head_fault-requires-clause-known :
+    goal.container-fields_head_fault-requires-clause-known
+container-fields_head_fault-requires-clause-known t c =
+    known_weaker c.args.id (length c.args.schema.now.trees) c.args.fields.now c.requires.known
+    c.requires.before
+
+pub container-fixed_size-requires : goal.container-fixed_size-requires
+container-fixed_size-requires t c =
+    let below : c.index-fields-i.result.1 < c.args.id =
+    part_known c.args.id c.args.fields.now c.loop-i.i c.index-fields-i.result c.loop-i-test.true
+    c.index-fields-i.is c.requires.before in
+    omega (arith, below, c.requires.known)
+
+pub
+    container-part_range-from-requires-clause-field :
+    goal.container-part_range-from-requires-clause-field
+container-part_range-from-requires-clause-field t c =
+    let below : c.index-fields-i.result.1 < c.args.id =
+    part_known c.args.id c.args.fields.now c.loop-i.i c.index-fields-i.result c.loop-i-test.true
+    c.index-fields-i.is c.requires.before in
+    omega (arith, below, c.requires.known)
+
+pub
+    container-part_range-from-requires-clause-room :
+    goal.container-part_range-from-requires-clause-room
+container-part_range-from-requires-clause-room t c =
+    field_room c.args.schema.now.trees c.args.fields.now c.args.start c.args.bytes.now
+    c.loop-i.i c.loop-i.place c.index-fields-i.result c.loop-i.invariant.faultless
+    c.loop-i-test.true c.index-fields-i.is
+
+pub container-slice_bounds-part-count : goal.container-slice_bounds-part-count
+container-slice_bounds-part-count t c =
+    let range = field_range c.args.schema.now.trees c.args.fields.now c.args.start
+    c.args.bytes.now c.loop-i.i c.loop-i.place c.part_range-from.result.0
+    c.part_range-from.result.1 c.index-fields-i.result c.loop-i.invariant.faultless
+    c.loop-i-test.true c.index-fields-i.is c.part_range-from.ensures in
+    omega (arith, range.0, range.1)
+
+pub container-slice_bounds-part-end : goal.container-slice_bounds-part-end
+container-slice_bounds-part-end t c =
+    let range = field_range c.args.schema.now.trees c.args.fields.now c.args.start
+    c.args.bytes.now c.loop-i.i c.loop-i.place c.part_range-from.result.0
+    c.part_range-from.result.1 c.index-fields-i.result c.loop-i.invariant.faultless
+    c.loop-i-test.true c.index-fields-i.is c.part_range-from.ensures in
+    omega (arith, range.0, range.1)
+
+pub container-slice_bounds-part-start : goal.container-slice_bounds-part-start
+container-slice_bounds-part-start t c =
+    let range = field_range c.args.schema.now.trees c.args.fields.now c.args.start
+    c.args.bytes.now c.loop-i.i c.loop-i.place c.part_range-from.result.0
+    c.part_range-from.result.1 c.index-fields-i.result c.loop-i.invariant.faultless
+    c.loop-i-test.true c.index-fields-i.is c.part_range-from.ensures in
+    omega (arith, range.0, range.1)
+
+pub container-overflow_add-start : goal.container-overflow_add-start
+container-overflow_add-start t c =
+    let range = field_range c.args.schema.now.trees c.args.fields.now c.args.start
+    c.args.bytes.now c.loop-i.i c.loop-i.place c.part_range-from.result.0
+    c.part_range-from.result.1 c.index-fields-i.result c.loop-i.invariant.faultless
+    c.loop-i-test.true c.index-fields-i.is c.part_range-from.ensures in
+    let inside : c.part_range-from.result.0 ≤ length c.args.bytes.now =
+    omega (arith, range.0, range.1) in
+    search rules
+
+pub container-scope-requires : goal.container-scope-requires
+container-scope-requires t c =
+    let below : c.index-fields-i.result.1 < c.args.id =
+    part_known c.args.id c.args.fields.now c.loop-i.i c.index-fields-i.result c.loop-i-test.true
+    c.index-fields-i.is c.requires.before in
+    let range = field_range c.args.schema.now.trees c.args.fields.now c.args.start
+    c.args.bytes.now c.loop-i.i c.loop-i.place c.part_range-from.result.0
+    c.part_range-from.result.1 c.index-fields-i.result c.loop-i.invariant.faultless
+    c.loop-i-test.true c.index-fields-i.is c.part_range-from.ensures in
+    let up : c.part_range-from.result.0 ≤ c.part_range-from.result.1 = range.0 in
+    let within : c.part_range-from.result.1 ≤ length c.args.bytes.now = range.1 in
+    search rules
+
+pub chosen-scope-requires : goal.chosen-scope-requires
+chosen-scope-requires t c =
+    let below : c.in-Some-Some.option < c.args.id =
+    option_below c.args.options.now _ c.in-Some-Some.option c.args.id
+    (ap Some (sym c.in-Some-Some.field-0-is) ∙ c.in-Some-Some.ensures) c.requires.before in
+    search rules
+
+pub variable_elements-scope-requires : goal.variable_elements-scope-requires
+variable_elements-scope-requires t c =
+    let part = VariableFrom-part
+    (why (type_of c.args.schema.now c.args.elem)) c.args.count c.args.start c.args.bytes.now
+    c.loop-i.i c.loop-i.invariant.faultless (omega arith) in
+    let up : c.offset_at-from.result ≤ c.end_of_part.result =
+    omega (arith, c.offset_at-from.ensures, c.end_of_part.ensures, part.up) in
+    let within : c.end_of_part.result ≤ length c.args.bytes.now =
+    omega (arith, c.end_of_part.ensures, part.inside) in
+    search rules
+
+pub elements-returns-in_ok-parts-in-Some : goal.elements-returns-in_ok-parts-in-Some
+elements-returns-in_ok-parts-in-Some t c =
+    let size : Some c.in-Some.size ≡ fixed_size (type_of c.args.schema.now c.args.elem) =
+    sym c.in-Some.is ∙ c.fixed_size.ensures.exact in (
+      ap (λ (z : Option ℕ). elements_fault (why (type_of c.args.schema.now c.args.elem)) z
+          c.args.count c.args.start c.args.bytes.now) (sym size)
+          ∙ c.in_ok-parts-in-Some.ensures.0,
+      record {
+        value = seq_is c.in_ok-parts-in-Some.parts
+            ∙ ap (λ vs. sequence (values vs)) (c.in_ok-parts-in-Some.ensures.1.value
+            ∙ ap (λ (z : Option ℕ). map (value_in (type_of c.args.schema.now c.args.elem))
+            (elements_in z c.args.count c.args.bytes.now)) size);
+        formed = seq_formed_alike (type_of c.args.schema.now c.args.elem) c.args.count
+            c.in_ok-parts-in-Some.parts (sym c.is_byte.ensures ∙ c.if-is_byte.false)
+            c.in_ok-parts-in-Some.ensures.1.formed;
+      },
+    )
+
+pub elements-returns-in_ok-parts-in-None : goal.elements-returns-in_ok-parts-in-None
+elements-returns-in_ok-parts-in-None t c =
+    let size : None ≡ fixed_size (type_of c.args.schema.now c.args.elem) =
+    sym c.in-None.is ∙ c.fixed_size.ensures.exact in (
+      ap (λ (z : Option ℕ). elements_fault (why (type_of c.args.schema.now c.args.elem)) z
+          c.args.count c.args.start c.args.bytes.now) (sym size)
+          ∙ c.in_ok-parts-in-None.ensures.0,
+      record {
+        value = seq_is c.in_ok-parts-in-None.parts
+            ∙ ap (λ vs. sequence (values vs)) (c.in_ok-parts-in-None.ensures.1.value
+            ∙ ap (λ (z : Option ℕ). map (value_in (type_of c.args.schema.now c.args.elem))
+            (elements_in z c.args.count c.args.bytes.now)) size);
+        formed = seq_formed_alike (type_of c.args.schema.now c.args.elem) c.args.count
+            c.in_ok-parts-in-None.parts (sym c.is_byte.ensures ∙ c.if-is_byte.false)
+            c.in_ok-parts-in-None.ensures.1.formed;
+      },
+    )

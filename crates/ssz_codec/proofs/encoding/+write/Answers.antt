@@ -15,7 +15,7 @@ use Rattle.ssz_value.proofs.ExactLaw.{agrees}
 use Rattle.ssz_value.proofs.ValueLemmas.{seq_is, bytes_are, chosen_none_is}
 use Rattle.ssz_value.proofs.Sequences.{items-values}
 use Rattle.ssz_value.proofs.OptionLemmas.{option_below}
-use Rattle.ssz_value.proofs.PartLemmas.{part_known}
+use Rattle.ssz_value.proofs.PartLemmas.{part_known, known_weaker, field_count_is}
 use Rattle.ssz_value.specs.Shapes.{IsSequence, AreFields, parts_of}
 use Rattle.ssz_codec.specs.Writing.{Writes}
 use Rattle.ssz_value.proofs.FormLemmas.{seq_elements, bytes_elements, seq_fields, chosen_fits, union_inner, chosen_option, value_of_chosen, element_at, vector_sequence, list_sequence}
@@ -488,3 +488,15 @@ write_value-write_container-requires t c =
     (value_of c.args.value.now)) ≤ length c.args.room.now =
     omega (arith, c.requires.room, ap (λ ty. length (enc ty (value_of c.args.value.now))) is) in
     search rules
+
+pub write_fields-heads_len-heads-requires-clause-known :
+    goal.write_fields-heads_len-heads-requires-clause-known
+write_fields-heads_len-heads-requires-clause-known t c =
+    known_weaker c.args.id (length c.args.schema.now.trees) c.args.fields.now c.requires.known
+    c.requires.before
+
+pub put_fields-bounds-parts-i : goal.put_fields-bounds-parts-i
+put_fields-bounds-parts-i t c =
+    let even = field_count_is c.args.schema.now.trees c.args.fields.now c.args.parts.now
+    c.requires.parts in
+    omega (arith, even)

@@ -1,19 +1,20 @@
 use Rattle.std.proofs.Common.{◌∙◌, ◌+◌, ◌≡◌, ap, ap₂, sym, subst, arith, rules, map, sum_by, Some, None, slice_get, ◌<◌}
 use Rattle.std.specs.List.{AllByRecursion}
-use Rattle.ssz_schema.specs.Types.{container, union}
+use Rattle.ssz_schema.specs.Types.{SszType, container, union}
 use Rattle.ssz_schema.specs.Sizes.{fixed_size, part_length}
-use Rattle.ssz_schema.specs.Unfolding.{type_of, fields_over, options_over}
+use Rattle.ssz_schema.specs.Unfolding.{type_of, tree_over, AreBelow, fields_over, options_over}
 use Rattle.ssz_value.specs.Values.{SszValue, number}
 use Rattle.ssz_value.specs.Standing.{value_of, IsValue}
 use Rattle.ssz_value.specs.Sizes.{size, fields_size}
 use Rattle.ssz_value.proofs.ValueLemmas.{seq_is, bytes_are}
 use Rattle.ssz_value.proofs.Sequences.{items-values}
+use Rattle.ssz_value.proofs.PartLemmas.{Part, field_count_is}
 use Rattle.ssz_value.proofs.OptionLemmas.{option_below}
 use Rattle.ssz_value.specs.Shapes.{IsSequence, AreFields, parts_of}
 use Rattle.ssz_value.specs.Written.{capped}
 use Rattle.ssz_value.proofs.FormLemmas.{seq_elements, bytes_elements, seq_fields, chosen_fits, union_inner, chosen_option, value_of_chosen}
 use Rattle.ssz_parts.proofs.PartSizes.{fixed_part}
-use Rattle.ssz_codec.proofs.LengthLemmas.{sum_of_bytes, option_size_at, fixed_sum}
+use Rattle.ssz_codec.proofs.LengthLemmas.{SumFrom-more, SumFrom-end, FieldSumFrom-end, sum_of_bytes, option_size_at, fixed_sum}
 use Rattle.ssz_codec.proofs.measuring.+length.Goals as goal
 
 pub sequence_len-elements_len-requires : goal.sequence_len-elements_len-requires
@@ -151,3 +152,47 @@ elements_len-returns-in-Some t c =
     c.in-Some.size
     c.args.parts.now c.ty-legal.ensures.legal fixed c.requires.parts in
     c.saturating_mul.ensures ∙ sym (ap capped sum)
+
+pub elements_len-loop-part-preserved : goal.elements_len-loop-part-preserved
+elements_len-loop-part-preserved t c =
+    SumFrom-more (λ v. part_length (fixed_size (type_of c.args.schema.now c.args.elem))
+    (size (type_of c.args.schema.now c.args.elem) v)) c.args.parts.now c.loop-part.part-index
+    c.loop-part.total c.saturating_add-total.result c.part-item.result c.loop-part.invariant
+    c.loop-part-test.true c.part-item.is
+    (c.saturating_add-total.ensures
+    ∙ ap (λ n. capped (c.loop-part.total + n)) c.part_len.ensures)
+
+pub elements_len-returns : goal.elements_len-returns
+elements_len-returns t c =
+    SumFrom-end (λ v. part_length (fixed_size (type_of c.args.schema.now c.args.elem))
+    (size (type_of c.args.schema.now c.args.elem) v)) c.args.parts.now c.loop-part.part-index
+    c.loop-part.total c.loop-part.invariant c.loop-part-test.false
+
+pub fields_len-bounds-parts-i : goal.fields_len-bounds-parts-i
+fields_len-bounds-parts-i t c =
+    let even = field_count_is c.args.schema.now.trees c.args.fields.now c.args.parts.now
+    c.requires.parts in
+    omega (arith, even)
+
+pub fields_len-returns : goal.fields_len-returns
+fields_len-returns t c =
+    FieldSumFrom-end c.args.schema.now.trees c.args.fields.now c.args.parts.now c.loop-i.i
+    c.loop-i.total c.loop-i.invariant c.loop-i-test.false
+
+pub value_len-container_len-requires : goal.value_len-container_len-requires
+value_len-container_len-requires t c =
+    let before : AllByRecursion (λ (part : Part). part.1 < c.args.id)
+    c.as_slice-in-Container.result.now =
+    subst (AllByRecursion (λ (part : Part). part.1 < c.args.id))
+    (sym c.as_slice-in-Container.ensures.value)
+    (subst (AreBelow c.args.id) c.in-Container.is c.ty.ensures.before) in
+    let form : type_of c.args.schema.now c.args.id
+    ≡ container (fields_over c.args.schema.now.trees c.as_slice-in-Container.result.now) =
+    sym c.ty.ensures.form ∙ ap (tree_over c.args.schema.now.trees) c.in-Container.is
+    ∙ ap (λ fs. container (fields_over c.args.schema.now.trees fs))
+    (sym c.as_slice-in-Container.ensures.value) in
+    let value : IsValue
+    (container (fields_over c.args.schema.now.trees c.as_slice-in-Container.result.now))
+    c.args.value.now = subst (λ (ty : SszType). IsValue ty c.args.value.now) form
+    c.requires.value in
+    search rules
