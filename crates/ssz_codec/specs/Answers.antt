@@ -1,5 +1,5 @@
 -- What the calls answer.
-use Rattle.std.specs.Prelude.{ℕ, ◌≡◌, List, map, Option, Some, None, Result, Ok, Err}
+use Rattle.std.specs.Prelude.{ℕ, ◌≡◌, List, [], ◌∷◌, ◌++◌, map, Option, Some, None, Result, Ok, Err}
 use Rattle.ssz_bytes.specs.declared.fault.Fault.{Fault}
 use Rattle.ssz_schema.specs.declared.width.Width.{Width}
 use Rattle.ssz_schema.specs.Types.{SszType, uint}
@@ -25,6 +25,11 @@ Decodes fault P (Err e) = Faulty fault e
 -- of bytes that begin at start: the value of the type which they stand for, or their first fault
 abbrev pub DecodesTo : SszType → ℕ → List ℕ → Result Value DecodeFault → Type 0
 DecodesTo t start b = Decodes (why t start b) (Stands t (value_in t b))
+
+-- the value is put behind the others, or memory ran out
+abbrev pub Keeps : List Value → Value → List Value → Result Unit DecodeFault → Type 0
+Keeps old value new (Ok done) = new ≡ old ++ value ∷ []
+Keeps old value new (Err e) = e ≡ Memory
 
 -- these are count numbers of this width one after another
 abbrev pub AreNumbers : Width → ℕ → List ℕ → List Value → Type 0

@@ -12,7 +12,7 @@ ghost use Rattle.ssz_value.specs.Laws.{Encodes};
 ghost use Rattle.ssz_value.specs.Standing.{value_of, IsValue, Stands};
 ghost use Rattle.ssz_value.specs.Shapes.{StandAlike};
 ghost use Rattle.ssz_codec.specs.declared.fault.DecodeFault.TheVariants.{Bad};
-ghost use Rattle.ssz_codec.specs.Answers.{Decodes, DecodesTo};
+ghost use Rattle.ssz_codec.specs.Answers.{Decodes, DecodesTo, Keeps};
 
 use super::basics::{bitlist, bitvector, boolean, byte_elements, number, numbers};
 use super::fault::DecodeFault;
@@ -141,7 +141,7 @@ fn fixed_elements(
         let place = (i * size) as usize;
         let part = &bytes[place..place + size as usize];
         let value = scope(alloc, schema, elem, start + place as u64, part)?;
-        parts.push(value)?;
+        keep(&mut parts, value)?;
     }
     Ok(parts)
 }
@@ -173,9 +173,19 @@ fn variable_elements(
         let from = offset_at(bytes, (4 * i) as usize) as usize;
         let part = &bytes[from..end_of_part(count, i, bytes)];
         let value = scope(alloc, schema, elem, start + from as u64, part)?;
-        parts.push(value)?;
+        keep(&mut parts, value)?;
     }
     Ok(parts)
+}
+
+// Puts the value behind the others.
+fn keep(parts: &mut Vec<Value>, value: Value) -> Result<(), DecodeFault>
+    ensures { Keeps parts.old.items value parts.new.items result }
+{
+    match parts.push(value) {
+        Ok(()) => Ok(()),
+        Err(_) => Err(DecodeFault::Memory),
+    }
 }
 
 // Of a union of these options, whose types stand before id.
@@ -256,7 +266,7 @@ fn container(
         let (from, to) = part_range(schema, field.1, fields, i, place, bytes);
         let part = &bytes[from..to];
         let value = scope(alloc, schema, field.1, start + from as u64, part)?;
-        parts.push(value)?;
+        keep(&mut parts, value)?;
         place += head_len(schema.fixed_size(field.1)) as usize;
     }
     Ok(Value::Seq(parts))

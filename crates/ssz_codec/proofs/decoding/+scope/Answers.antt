@@ -182,23 +182,23 @@ container-loop-i-preserved t c =
           c.part_range-from.ensures c.in_ok-value.ensures.0);
       read = subst (λ (place : ℕ).
           FieldsRead c.args.schema.now.trees c.args.fields.now c.args.bytes.now
-          (c.loop-i.i + 1) place (map value_of c.push.new.self.items)) next
+          (c.loop-i.i + 1) place (map value_of c.keep.new.parts.items)) next
           (subst (FieldsRead c.args.schema.now.trees c.args.fields.now c.args.bytes.now
           (c.loop-i.i + 1) (c.loop-i.place + head_size
           (fixed_size (tree_at c.args.schema.now.trees c.index-fields-i.result.1))))
-          (sym (values_push _ _ c.in_ok-value.value c.in_ok-push.ensures.items))
+          (sym (values_push _ _ c.in_ok-value.value c.in_ok-keep.ensures))
           (FieldsRead-more c.args.schema.now.trees c.args.fields.now c.args.bytes.now c.loop-i.i
           c.loop-i.place c.part_range-from.result.0 c.part_range-from.result.1
           c.index-fields-i.result _ _
           c.loop-i.invariant.read c.loop-i-test.true c.index-fields-i.is c.part_range-from.ensures
           c.in_ok-value.ensures.1.value));
       formed = subst (FieldsFormed (fields_over c.args.schema.now.trees c.args.fields.now))
-          (sym c.in_ok-push.ensures.items)
+          (sym c.in_ok-keep.ensures)
           (fields_push c.args.schema.now.trees c.args.fields.now c.loop-i.parts.items c.loop-i.i
           c.index-fields-i.result c.in_ok-value.value c.loop-i.invariant.formed
           c.loop-i.invariant.count c.loop-i-test.true c.index-fields-i.is
           c.in_ok-value.ensures.1.formed);
-      count = ap length c.in_ok-push.ensures.items
+      count = ap length c.in_ok-keep.ensures
           ∙ length_push c.loop-i.parts.items c.in_ok-value.value
           ∙ ap (λ n. n + 1) c.loop-i.invariant.count;
     }
@@ -265,12 +265,12 @@ fixed_elements-loop-i-preserved t c =
       read = subst (ReadFrom (type_of c.args.schema.now c.args.elem)
           (Some c.args.size) c.args.count c.args.bytes.now (c.loop-i.i + 1)
           ((c.loop-i.i + 1) * c.args.size))
-          (sym (values_push _ _ c.in_ok-value.value c.in_ok-push.ensures.items))
+          (sym (values_push _ _ c.in_ok-value.value c.in_ok-keep.ensures))
           (ReadFrom-fixed (type_of c.args.schema.now c.args.elem) c.args.size c.args.count
           c.args.bytes.now c.loop-i.i _ _ c.loop-i.invariant.read c.loop-i-test.true
           c.in_ok-value.ensures.1.value);
       formed = subst (AllByRecursion (IsFormed (type_of c.args.schema.now c.args.elem)))
-          (sym c.in_ok-push.ensures.items)
+          (sym c.in_ok-keep.ensures)
           (formed_push (type_of c.args.schema.now c.args.elem) c.loop-i.parts.items
           c.in_ok-value.value c.loop-i.invariant.formed c.in_ok-value.ensures.1.formed);
     }
@@ -362,12 +362,12 @@ variable_elements-loop-i-preserved t c =
           ∙ c.in_ok-value.ensures.0);
       read = subst (ReadFrom (type_of c.args.schema.now c.args.elem) None c.args.count
           c.args.bytes.now (c.loop-i.i + 1) (4 * (c.loop-i.i + 1)))
-          (sym (values_push _ _ c.in_ok-value.value c.in_ok-push.ensures.items))
+          (sym (values_push _ _ c.in_ok-value.value c.in_ok-keep.ensures))
           (ReadFrom-variable (type_of c.args.schema.now c.args.elem) c.args.count c.args.bytes.now
           c.loop-i.i _ _ c.loop-i.invariant.read c.loop-i-test.true
           (c.in_ok-value.ensures.1.value ∙ value));
       formed = subst (AllByRecursion (IsFormed (type_of c.args.schema.now c.args.elem)))
-          (sym c.in_ok-push.ensures.items)
+          (sym c.in_ok-keep.ensures)
           (formed_push (type_of c.args.schema.now c.args.elem) c.loop-i.parts.items
           c.in_ok-value.value c.loop-i.invariant.formed c.in_ok-value.ensures.1.formed);
     }
@@ -503,3 +503,27 @@ elements-returns-in_ok-parts-in-None t c =
             c.in_ok-parts-in-None.ensures.1.formed;
       },
     )
+
+pub container-returns-in_err-keep : goal.container-returns-in_err-keep
+container-returns-in_err-keep t c =
+    let p = err_from_is_err_and c.from_residual-in_err-keep.result
+    c.from_residual-in_err-keep.ensures.1 in
+    rw (p.1, p.2) (subst (Faulty (why
+    (container (fields_over c.args.schema.now.trees c.args.fields.now)) c.args.start
+    c.args.bytes.now)) (sym c.in_err-keep.ensures) tt)
+
+pub fixed_elements-returns-in_err-keep : goal.fixed_elements-returns-in_err-keep
+fixed_elements-returns-in_err-keep t c =
+    let p = err_from_is_err_and c.from_residual-in_err-keep.result
+    c.from_residual-in_err-keep.ensures.1 in
+    rw (p.1, p.2) (subst (Faulty (elements_fault
+    (why (type_of c.args.schema.now c.args.elem)) (Some c.args.size) c.args.count c.args.start
+    c.args.bytes.now)) (sym c.in_err-keep.ensures) tt)
+
+pub variable_elements-returns-in_err-keep : goal.variable_elements-returns-in_err-keep
+variable_elements-returns-in_err-keep t c =
+    let p = err_from_is_err_and c.from_residual-in_err-keep.result
+    c.from_residual-in_err-keep.ensures.1 in
+    rw (p.1, p.2) (subst (Faulty (elements_fault
+    (why (type_of c.args.schema.now c.args.elem)) None c.args.count c.args.start
+    c.args.bytes.now)) (sym c.in_err-keep.ensures) tt)
