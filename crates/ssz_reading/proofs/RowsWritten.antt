@@ -3,7 +3,7 @@ use Rattle.std.proofs.Common.{ℕ, zero, suc, get_or, ◌+◌, ◌-◌, ◌^◌,
 use Rattle.std.specs.List.{AllByRecursion}
 use Rattle.ssz_chunk.specs.Tree.{Tree, leaf, full}
 use Rattle.ssz_schema.specs.Types.{SszType, Fields, container}
-use Rattle.ssz_schema.specs.Sizes.{depth, fixed_size, head_size, part_sizes}
+use Rattle.ssz_schema.specs.Sizes.{basic_size, depth, fixed_size, head_size, part_sizes}
 use Rattle.ssz_schema.specs.Unfolding.{fields_over}
 use Rattle.ssz_value.specs.Values.{SszValue, Fits, items}
 use Rattle.ssz_value.proofs.PartLemmas.{Part}
@@ -87,6 +87,22 @@ pub record RowsSoFar (arena : Content) (t : SszType) (vs : List SszValue) (i : �
   pub holds : HoldsRows arena (map (tree t) rest) ahead
   pub count : i + length rest ≡ length vs
   pub is : out ++ rooms (alike t rest) (map (enc t) rest) ≡ all
+
+pub RowsSoFar-start : (arena : Content) (t : SszType) (depth count : ℕ) (vs : List SszValue)
+    (out : List ℕ) (node : NodeId) (ahead : RowsAhead) → basic_size t ≡ None
+    → AreElements t depth count vs (tree_of arena node)
+    → ((trees : List Tree) → length trees ≤ 2 ^ depth → tree_of arena node ≡ full depth trees
+    → HoldsRows arena trees ahead)
+    → RowsSoFar arena t vs 0 (out ++ rooms (alike t vs) (map (enc t) vs)) out ahead
+RowsSoFar-start arena t depth count vs out node ahead none are holds =
+    let trees = AreElements-trees t depth count vs (tree_of arena node) none are in
+    record {
+      rest = vs;
+      fit = are.fit;
+      holds = holds (map (tree t) vs) trees.0 trees.1;
+      count = omega arith;
+      is = refl;
+    }
 
 pub RowsSoFar-more : (arena : Content) (t : SszType) (depth : ℕ) (vs : List SszValue) (i : ℕ)
     (all out written : List ℕ) (old new : RowsAhead) (row : List NodeId)

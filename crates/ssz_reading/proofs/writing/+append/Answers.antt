@@ -1,19 +1,20 @@
 use Rattle.std.proofs.Common.{◌+◌, ◌-◌, ◌*◌, ◌^◌, ◌%◌, ◌/◌, ◌<◌, ◌≤◌, ◌≡◌, ◌++◌, min, length, map, slice_get, Some, None, sym, ap, ◌∙◌, subst, arith, rules}
 use Rattle.std.specs.List.{AllByRecursion}
 use Rattle.ssz_schema.specs.Types.{container, vector, list, bitvector, bitlist, union}
-use Rattle.ssz_schema.specs.Sizes.{depth, fixed_size, head_size, part_sizes}
+use Rattle.ssz_schema.specs.Sizes.{basic_size, depth, fixed_size, head_size, part_sizes}
 use Rattle.ssz_schema.specs.Unfolding.{type_of, tree_over, fields_over, options_over, AreBelow}
 use Rattle.ssz_schema.specs.Legal.{IsLegal}
 use Rattle.ssz_value.specs.Encoding.{enc, heads, bodies, field_encodings, joined_alike}
-use Rattle.ssz_value.proofs.PartLemmas.{Part}
+use Rattle.ssz_value.proofs.PartLemmas.{Part, known_weaker}
+use Rattle.ssz_packing.proofs.Options.{below_at}
 use Rattle.ssz_arena.specs.Content.{tree_of}
-use Rattle.ssz_reading.specs.Shown.{ForValue, Adds, Fills, room_of, rooms}
+use Rattle.ssz_reading.specs.Shown.{Extends, ForValue, Adds, Fills, room_of, rooms}
 use Rattle.ssz_reading.proofs.Formed.{union_few}
 use Rattle.ssz_reading.proofs.Chunked.{Extends-same, Extends-trans}
 use Rattle.ssz_reading.proofs.Walked.{at_place}
 use Rattle.ssz_reading.proofs.Written.{on_ok, alike, element_rooms, HeadsSoFar-start, HeadsSoFar-more, BodiesSoFar-start, BodiesSoFar-more, elements_adds, packed_adds}
 use Rattle.ssz_reading.specs.Ahead.{IsRowOf}
-use Rattle.ssz_reading.proofs.RowsWritten.{leaf_adds, row_value, field_before, FieldHeads-end, RowsSoFar-more, RowBodiesSoFar-start, RowBodiesSoFar-more}
+use Rattle.ssz_reading.proofs.RowsWritten.{RowsSoFar-start, leaf_adds, row_value, field_before, FieldHeads-end, RowsSoFar-more, RowBodiesSoFar-start, RowBodiesSoFar-more}
 use Rattle.ssz_reading.proofs.Rooms.{fixed_filled, fixed_room, no_size}
 use Rattle.ssz_reading.proofs.FieldsWritten.{FieldHeads-start, FieldHeads-more, FieldBodies-start, FieldBodies-more, FieldBodies-end, fixed_fields_add, fields_adds, vector_adds, list_adds, container_adds, bitvector_adds, bitlist_adds, option_adds, none_adds}
 use Rattle.ssz_reading.proofs.writing.+append.Goals as goal
@@ -558,3 +559,293 @@ append_bodies-append_rows-requires g t c =
     let fields = c.few_fields.ensures c.in-Some-few_fields.fields c.in-Some-few_fields.is in
     let variable = sym c.fixed_size.ensures.exact ∙ c.in_default.is in
     search rules
+
+pub append_bodies-returns-clause-kept : goal.append_bodies-returns-clause-kept
+append_bodies-returns-clause-kept g t c = c.loop-i.invariant.2
+
+pub append_bodies-returns-in-Some-clause-kept : goal.append_bodies-returns-in-Some-clause-kept
+append_bodies-returns-in-Some-clause-kept g t c = λ front within kept. kept
+
+pub append_bodies-returns-in-Some-few_fields-clause-kept :
+    goal.append_bodies-returns-in-Some-few_fields-clause-kept
+append_bodies-returns-in-Some-few_fields-clause-kept g t c = c.append_rows.ensures.kept
+
+pub append_bodies-returns-in_err-append_body-clause-kept :
+    goal.append_bodies-returns-in_err-append_body-clause-kept
+append_bodies-returns-in_err-append_body-clause-kept g t c =
+    λ front within kept. c.append_body.ensures.kept front within
+    (c.loop-i.invariant.2 front within kept)
+
+pub append_body-returns-clause-kept : goal.append_body-returns-clause-kept
+append_body-returns-clause-kept g t c =
+    λ front within kept. Extends-trans front c.put_end.new.out.items c.append_value.new.out.items
+    (c.put_end.ensures.kept front within kept) c.append_value.ensures.kept
+
+pub append_body-returns-in_err-put_end-clause-kept :
+    goal.append_body-returns-in_err-put_end-clause-kept
+append_body-returns-in_err-put_end-clause-kept g t c = c.put_end.ensures.kept
+
+pub append_chosen-returns-in-None-clause-kept : goal.append_chosen-returns-in-None-clause-kept
+append_chosen-returns-in-None-clause-kept g t c = c.append_byte.ensures.kept
+
+pub append_chosen-returns-in-Some-None-clause-kept :
+    goal.append_chosen-returns-in-Some-None-clause-kept
+append_chosen-returns-in-Some-None-clause-kept g t c = c.append_byte.ensures.kept
+
+pub append_chosen-returns-in-Some-Some-clause-kept :
+    goal.append_chosen-returns-in-Some-Some-clause-kept
+append_chosen-returns-in-Some-Some-clause-kept g t c =
+    Extends-trans c.args.out.now.items c.append_byte.new.out.items c.append_value.new.out.items
+    c.append_byte.ensures.kept c.append_value.ensures.kept
+
+pub append_chosen-returns-in_err-append_byte-clause-kept :
+    goal.append_chosen-returns-in_err-append_byte-clause-kept
+append_chosen-returns-in_err-append_byte-clause-kept g t c = c.append_byte.ensures.kept
+
+pub append_containers-returns-clause-kept : goal.append_containers-returns-clause-kept
+append_containers-returns-clause-kept g t c = c.loop-i.invariant.2
+
+pub append_containers-returns-in_err-append_row_heads-clause-kept :
+    goal.append_containers-returns-in_err-append_row_heads-clause-kept
+append_containers-returns-in_err-append_row_heads-clause-kept g t c =
+    Extends-trans c.args.out.now.items c.loop-i.out.items c.append_row_heads.new.out.items
+    c.loop-i.invariant.2 c.append_row_heads.ensures.kept
+
+pub append_field_bodies-returns-clause-kept : goal.append_field_bodies-returns-clause-kept
+append_field_bodies-returns-clause-kept g t c = c.loop-i.invariant.1
+
+pub append_field_bodies-returns-in_err-append_field_body-clause-kept :
+    goal.append_field_bodies-returns-in_err-append_field_body-clause-kept
+append_field_bodies-returns-in_err-append_field_body-clause-kept g t c =
+    λ front within kept. c.append_field_body.ensures.kept front within
+    (c.loop-i.invariant.1 front within kept)
+
+pub append_field_body-returns-in-None-clause-kept :
+    goal.append_field_body-returns-in-None-clause-kept
+append_field_body-returns-in-None-clause-kept g t c = c.append_body.ensures.kept
+
+pub append_field_body-returns-in-Some-clause-kept :
+    goal.append_field_body-returns-in-Some-clause-kept
+append_field_body-returns-in-Some-clause-kept g t c = λ front within kept. kept
+
+pub append_field_head-returns-in-Some-clause-kept :
+    goal.append_field_head-returns-in-Some-clause-kept
+append_field_head-returns-in-Some-clause-kept g t c = c.append_value.ensures.kept
+
+pub append_field_heads-returns-clause-kept : goal.append_field_heads-returns-clause-kept
+append_field_heads-returns-clause-kept g t c = c.loop-i.invariant.0
+
+pub append_field_heads-returns-in_err-append_field_head-clause-kept :
+    goal.append_field_heads-returns-in_err-append_field_head-clause-kept
+append_field_heads-returns-in_err-append_field_head-clause-kept g t c =
+    Extends-trans c.args.out.now.items c.loop-i.out.items c.append_field_head.new.out.items
+    c.loop-i.invariant.0 c.append_field_head.ensures.kept
+
+pub append_fields-returns-clause-kept : goal.append_fields-returns-clause-kept
+append_fields-returns-clause-kept g t c =
+    c.append_field_bodies.ensures.kept c.args.out.now.items
+    (omega (arith, c.len-start.ensures, c.args.out.now.ok.0)) c.append_field_heads.ensures.kept
+
+pub append_fields-returns-in-Some-clause-kept : goal.append_fields-returns-in-Some-clause-kept
+append_fields-returns-in-Some-clause-kept g t c = c.append_field_heads.ensures.kept
+
+pub append_fields-returns-in_err-append_field_heads-clause-kept :
+    goal.append_fields-returns-in_err-append_field_heads-clause-kept
+append_fields-returns-in_err-append_field_heads-clause-kept g t c =
+    c.append_field_heads.ensures.kept
+
+pub append_heads-returns-clause-kept : goal.append_heads-returns-clause-kept
+append_heads-returns-clause-kept g t c = c.loop-i.invariant.1
+
+pub append_heads-returns-in-Some-clause-kept : goal.append_heads-returns-in-Some-clause-kept
+append_heads-returns-in-Some-clause-kept g t c = c.append_containers.ensures.kept
+
+pub append_heads-returns-in_err-append_value-clause-kept :
+    goal.append_heads-returns-in_err-append_value-clause-kept
+append_heads-returns-in_err-append_value-clause-kept g t c =
+    Extends-trans c.args.out.now.items c.loop-i.out.items c.append_value.new.out.items
+    c.loop-i.invariant.1 c.append_value.ensures.kept
+
+pub append_heads-returns-then-is_variable-clause-kept :
+    goal.append_heads-returns-then-is_variable-clause-kept
+append_heads-returns-then-is_variable-clause-kept g t c = c.append_rooms.ensures.kept
+
+pub append_part-returns-in-Some-clause-kept : goal.append_part-returns-in-Some-clause-kept
+append_part-returns-in-Some-clause-kept g t c = c.append_value.ensures.kept
+
+pub append_part-returns-in_err-append_leaf-clause-kept :
+    goal.append_part-returns-in_err-append_leaf-clause-kept
+append_part-returns-in_err-append_leaf-clause-kept g t c = c.append_leaf.ensures.kept
+
+pub append_part-returns-then-len-gt0-clause-kept :
+    goal.append_part-returns-then-len-gt0-clause-kept
+append_part-returns-then-len-gt0-clause-kept g t c = c.append_leaf.ensures.kept
+
+pub append_part_body-returns-in-None-clause-kept :
+    goal.append_part_body-returns-in-None-clause-kept
+append_part_body-returns-in-None-clause-kept g t c = c.append_body.ensures.kept
+
+pub append_part_body-returns-in-Some-clause-kept :
+    goal.append_part_body-returns-in-Some-clause-kept
+append_part_body-returns-in-Some-clause-kept g t c = λ front within kept. kept
+
+pub append_row-returns-clause-kept : goal.append_row-returns-clause-kept
+append_row-returns-clause-kept g t c =
+    c.append_row_bodies.ensures.kept c.args.out.now.items
+    (omega (arith, c.len-start.ensures, c.args.out.now.ok.0)) c.append_row_heads.ensures.kept
+
+pub append_row-returns-in_err-append_row_heads-clause-kept :
+    goal.append_row-returns-in_err-append_row_heads-clause-kept
+append_row-returns-in_err-append_row_heads-clause-kept g t c = c.append_row_heads.ensures.kept
+
+pub append_row_bodies-returns-clause-kept : goal.append_row_bodies-returns-clause-kept
+append_row_bodies-returns-clause-kept g t c = c.loop-i.invariant.1
+
+pub append_row_bodies-returns-in_err-append_part_body-clause-kept :
+    goal.append_row_bodies-returns-in_err-append_part_body-clause-kept
+append_row_bodies-returns-in_err-append_part_body-clause-kept g t c =
+    λ front within kept. c.append_part_body.ensures.kept front within
+    (c.loop-i.invariant.1 front within kept)
+
+pub append_row_body-returns-clause-kept : goal.append_row_body-returns-clause-kept
+append_row_body-returns-clause-kept g t c =
+    λ front within kept. Extends-trans front c.put_end.new.out.items c.append_row.new.out.items
+    (c.put_end.ensures.kept front within kept) c.append_row.ensures.kept
+
+pub append_row_body-returns-in_err-put_end-clause-kept :
+    goal.append_row_body-returns-in_err-put_end-clause-kept
+append_row_body-returns-in_err-put_end-clause-kept g t c = c.put_end.ensures.kept
+
+pub append_row_heads-returns-clause-kept : goal.append_row_heads-returns-clause-kept
+append_row_heads-returns-clause-kept g t c = c.loop-i.invariant.0
+
+pub append_row_heads-returns-in_err-append_part-clause-kept :
+    goal.append_row_heads-returns-in_err-append_part-clause-kept
+append_row_heads-returns-in_err-append_part-clause-kept g t c =
+    Extends-trans c.args.out.now.items c.loop-i.out.items c.append_part.new.out.items
+    c.loop-i.invariant.0 c.append_part.ensures.kept
+
+pub append_rows-returns-clause-kept : goal.append_rows-returns-clause-kept
+append_rows-returns-clause-kept g t c = c.loop-i.invariant.3
+
+pub append_rows-returns-in_err-append_row_body-clause-kept :
+    goal.append_rows-returns-in_err-append_row_body-clause-kept
+append_rows-returns-in_err-append_row_body-clause-kept g t c =
+    λ front within kept. c.append_row_body.ensures.kept front within
+    (c.loop-i.invariant.3 front within kept)
+
+pub append_sequence-returns-in-Some-clause-kept : goal.append_sequence-returns-in-Some-clause-kept
+append_sequence-returns-in-Some-clause-kept g t c = c.append_packed.ensures.kept
+
+pub append_sequence-returns-in_err-make_room-in-None-clause-kept :
+    goal.append_sequence-returns-in_err-make_room-in-None-clause-kept
+append_sequence-returns-in_err-make_room-in-None-clause-kept g t c =
+    subst (Extends c.args.out.now.items) (sym c.make_room.ensures)
+    (Extends-same c.args.out.now.items)
+
+pub append_sequence-returns-in_err-append_heads-in-None-clause-kept :
+    goal.append_sequence-returns-in_err-append_heads-in-None-clause-kept
+append_sequence-returns-in_err-append_heads-in-None-clause-kept g t c =
+    subst (λ old. Extends old c.append_heads.new.out.items) c.make_room.ensures
+    c.append_heads.ensures.kept
+
+pub append_sequence-returns-in_ok-append_heads-in-None-clause-kept :
+    goal.append_sequence-returns-in_ok-append_heads-in-None-clause-kept
+append_sequence-returns-in_ok-append_heads-in-None-clause-kept g t c =
+    subst (λ old. Extends old c.append_bodies.new.out.items) c.make_room.ensures
+    (c.append_bodies.ensures.kept c.make_room.new.out.items
+    (omega (arith, c.len-start.ensures, c.make_room.new.out.ok.0)) c.append_heads.ensures.kept)
+
+pub append_value-returns-in-Bitlist-clause-kept : goal.append_value-returns-in-Bitlist-clause-kept
+append_value-returns-in-Bitlist-clause-kept g t c = c.append_bitlist.ensures.kept
+
+pub append_value-returns-in-Bitvector-clause-kept :
+    goal.append_value-returns-in-Bitvector-clause-kept
+append_value-returns-in-Bitvector-clause-kept g t c = c.append_packed.ensures.kept
+
+pub append_value-returns-in-Boolean-clause-kept : goal.append_value-returns-in-Boolean-clause-kept
+append_value-returns-in-Boolean-clause-kept g t c = c.append_basic-in-Boolean.ensures.kept
+
+pub append_value-returns-in-Container-clause-kept :
+    goal.append_value-returns-in-Container-clause-kept
+append_value-returns-in-Container-clause-kept g t c = c.append_fields.ensures.kept
+
+pub append_value-returns-in-List-clause-kept : goal.append_value-returns-in-List-clause-kept
+append_value-returns-in-List-clause-kept g t c = c.append_sequence-in-List.ensures.kept
+
+pub append_value-returns-in-Uint-clause-kept : goal.append_value-returns-in-Uint-clause-kept
+append_value-returns-in-Uint-clause-kept g t c = c.append_basic.ensures.kept
+
+pub append_value-returns-in-Union-clause-kept : goal.append_value-returns-in-Union-clause-kept
+append_value-returns-in-Union-clause-kept g t c = c.append_chosen.ensures.kept
+
+pub append_value-returns-in-Vector-clause-kept : goal.append_value-returns-in-Vector-clause-kept
+append_value-returns-in-Vector-clause-kept g t c = c.append_sequence.ensures.kept
+
+pub append_chosen-append_value-requires : goal.append_chosen-append_value-requires
+append_chosen-append_value-requires g t c =
+    let here : slice_get c.args.options.now (c.mixed_in-number.result.1 % 256)
+    ≡ Some (Some c.in-Some-Some.option) =
+    sym c.option_at.ensures ∙ c.in-Some-Some.is ∙ ap Some c.in-Some-Some.field-0-is in
+    let below : c.in-Some-Some.option < c.args.id =
+    below_at c.args.id c.args.options.now (c.mixed_in-number.result.1 % 256)
+    (Some c.in-Some-Some.option) here c.requires.before in
+    search rules
+
+pub append_containers-leaf_lens-lens-requires-clause-known :
+    goal.append_containers-leaf_lens-lens-requires-clause-known
+append_containers-leaf_lens-lens-requires-clause-known g t c =
+    known_weaker c.args.elem (length c.args.schema.now.trees) c.args.fields.now c.requires.known
+    c.requires.fields.before
+
+pub append_rows-leaf_lens-lens-requires-clause-known :
+    goal.append_rows-leaf_lens-lens-requires-clause-known
+append_rows-leaf_lens-lens-requires-clause-known g t c =
+    known_weaker c.args.elem (length c.args.schema.now.trees) c.args.fields.now c.requires.known
+    c.requires.fields.before
+
+pub append_containers-loop-i-init : goal.append_containers-loop-i-init
+append_containers-loop-i-init g t c = (
+  c.new-rows.ensures.nodes c.args.arena.now c.requires.node,
+  c.new-rows.ensures.depth ∙ c.depth.ensures.exact,
+  Extends-same c.args.out.now.items,
+  λ vs are. RowsSoFar-start c.args.arena.now (type_of c.args.schema.now c.args.elem)
+      c.args.depth c.args.count vs c.args.out.now.items c.args.node c.new-rows.result
+      (ap basic_size c.requires.fields.form) are (c.new-rows.ensures.holds c.args.arena.now),
+)
+
+pub append_field_heads-append_field_head-requires :
+    goal.append_field_heads-append_field_head-requires
+append_field_heads-append_field_head-requires g t c =
+    let below : c.index-fields-i.result.1 < c.args.id =
+    field_before c.args.fields.now c.args.id c.loop-i.i c.index-fields-i.result
+    c.requires.before c.loop-i-test.true c.index-fields-i.is in
+    search rules
+
+pub append_field_heads-returns-clause-value : goal.append_field_heads-returns-clause-value
+append_field_heads-returns-clause-value g t c = λ vs are.
+    FieldHeads-end c.args.schema.now.trees c.args.fields.now c.loop-i.i c.args.depth _
+    c.loop-i.out.items (tree_of c.args.arena.now c.args.node) (c.loop-i.invariant.1 vs are)
+    c.loop-i-test.false
+
+pub append_field_bodies-append_field_body-requires :
+    goal.append_field_bodies-append_field_body-requires
+append_field_bodies-append_field_body-requires g t c =
+    let below : c.index-fields-i.result.1 < c.args.id =
+    field_before c.args.fields.now c.args.id c.loop-i.i c.index-fields-i.result
+    c.requires.before c.loop-i-test.true c.index-fields-i.is in
+    search rules
+
+pub append_field_bodies-fixed_size-requires : goal.append_field_bodies-fixed_size-requires
+append_field_bodies-fixed_size-requires g t c =
+    let below : c.index-fields-i.result.1 < c.args.id =
+    field_before c.args.fields.now c.args.id c.loop-i.i c.index-fields-i.result
+    c.requires.before c.loop-i-test.true c.index-fields-i.is in
+    omega (arith, below, c.requires.known)
+
+pub append_row_bodies-fixed_size-requires : goal.append_row_bodies-fixed_size-requires
+append_row_bodies-fixed_size-requires g t c =
+    let below : c.index-fields-i.result.1 < c.args.id =
+    field_before c.args.fields.now c.args.id c.loop-i.i c.index-fields-i.result
+    c.requires.fields.before c.loop-i-test.true c.index-fields-i.is in
+    omega (arith, below, c.requires.known)
