@@ -6,6 +6,7 @@ use Rattle.ssz_schema.specs.Sizes.{fixed_size, depth}
 use Rattle.ssz_schema.specs.Unfolding.{type_of, tree_over, fields_over, options_over, AreBelow}
 use Rattle.ssz_schema.specs.Legal.{IsLegal}
 use Rattle.ssz_value.specs.Sizes.{size}
+use Rattle.ssz_packing.proofs.Options.{below_at}
 use Rattle.ssz_arena.specs.Content.{tree_of}
 use Rattle.ssz_value.specs.Written.{capped}
 use Rattle.ssz_reading.specs.Shown.{ForValue}
@@ -213,3 +214,13 @@ variable_len-returns-in-Container g t c =
     (container_len (fields_over c.args.schema.now.trees c.as_slice-in-Container.result.now)
     c.depth-depth.result c.fields_len.result (tree_of c.args.arena.now c.args.node)
     (c.depth-depth.ensures.exact ∙ ap depth (sym form)) c.fields_len.ensures)
+
+pub chosen_len-node_len-requires : goal.chosen_len-node_len-requires
+chosen_len-node_len-requires g t c =
+    let here : slice_get c.args.options.now (c.mixed_in-selector.result.1 % 256)
+    ≡ Some (Some c.in-Some-Some.option) =
+    sym c.option_at.ensures ∙ c.in-Some-Some.is ∙ ap Some c.in-Some-Some.field-0-is in
+    let below : c.in-Some-Some.option < c.args.id =
+    below_at c.args.id c.args.options.now (c.mixed_in-selector.result.1 % 256)
+    (Some c.in-Some-Some.option) here c.requires.before in
+    search rules

@@ -8,6 +8,7 @@ use Rattle.ssz_value.specs.declared.value.Value.{Value}
 use Rattle.ssz_value.specs.Standing.{Stands}
 use Rattle.ssz_value.specs.declared.value.Value.TheVariants.{Bits}
 use Rattle.ssz_value.proofs.PartLemmas.{Part, part_known}
+use Rattle.ssz_packing.proofs.Options.{below_at}
 use Rattle.ssz_arena.specs.Content.{tree_of}
 use Rattle.ssz_reading.specs.Shown.{ForValue, basic_type}
 use Rattle.ssz_reading.proofs.Formed.{union_few}
@@ -222,3 +223,13 @@ read_value-returns-in-Container g t c =
     (container_read (fields_over c.args.schema.now.trees c.as_slice-in-Container.result.now)
     c.depth-depth.result (tree_of c.args.arena.now c.args.node) c.read_fields.result
     (c.depth-depth.ensures.exact ∙ ap depth (sym form)) c.read_fields.ensures)
+
+pub read_chosen-read_value-requires : goal.read_chosen-read_value-requires
+read_chosen-read_value-requires g t c =
+    let here : slice_get c.args.options.now (c.mixed_in-number.result.1 % 256)
+    ≡ Some (Some c.in-Some-Some.option) =
+    sym c.option_at.ensures ∙ c.in-Some-Some.is ∙ ap Some c.in-Some-Some.field-0-is in
+    let below : c.in-Some-Some.option < c.args.id =
+    below_at c.args.id c.args.options.now (c.mixed_in-number.result.1 % 256)
+    (Some c.in-Some-Some.option) here c.requires.before in
+    search rules
