@@ -10,5 +10,6 @@ pub mod ArgsLemmas
 pub mod CommandLemmas
 pub mod TakenLemmas
 pub mod PlainWalks
+pub mod DigitLemmas
 pub mod EnterLemmas
 pub mod PlainLemmas

@@ -1,14 +1,15 @@
 -- When words are taken, in the terms of a command line.
-use Rattle.std.specs.Prelude.{Some, ◌≡◌, ◌↔◌, ◌<◌, ◌≤◌, ◌==◌, ◌∷◌, ◌^◌, ℕ, Bool, true, false, List}
-use Rattle.std.specs.Prelude.{[], length, IfSome, IsSome, codes, if◌then◌else◌}
+use Rattle.std.specs.Prelude.{Some, ◌≡◌, ◌↔◌, ◌<◌, ◌≤◌, ◌==◌, ◌-◌, ◌^◌, ℕ, Bool, true, false, List}
+use Rattle.std.specs.Prelude.{[], ◌∷◌, length, map, IfSome, IsSome, codes, if◌then◌else◌}
 use Rattle.std.specs.List.{AllPass}
+use Rattle.std.specs.Str.Parse.{digits_value}
 use Rattle.clap.specs.Words.{Row, Text, all_of, fault_of, first_of, subcommand_of}
 use Rattle.hex.specs.Hex.{is_hex_digit}
 use Rattle.ssz_words.specs.CommandSet.{program}
 use Rattle.ssz_words.specs.Values.{is_digit_below, root_value, without_mark}
 use Rattle.ssz_words.specs.Words.{command_of}
-use Rattle.ssz_words.specs.declared.commands.Command.TheVariants.{Root, Run, Verify, Part, Partial}
-use Rattle.ssz_words.specs.declared.commands.Command.TheVariants.{Clash}
+use Rattle.ssz_words.specs.declared.commands.Command.TheVariants.{Root, Run, Weave, Verify, Work}
+use Rattle.ssz_words.specs.declared.commands.Command.TheVariants.{Part, Partial, Clash}
 
 -- one or more decimal digits, each below n
 abbrev pub IsOrder : ℕ → Text → Type 0
@@ -44,8 +45,11 @@ abbrev pub is_plain : Text → Bool
 is_plain [] = true
 is_plain (x ∷ xs) = if x == 45 then false else true
 
--- Plain words after the name of one of these commands are its arguments, in order, and max-bytes is
--- 2 ^ 28.
+-- one or more decimal digits
+abbrev pub IsDigits : Text → Type 0
+IsDigits text = (0 < length text) × AllPass (is_digit_below 10) text
+
+-- Plain words after the name of a command are its arguments, in order, and max-bytes is 2 ^ 28.
 pub record TakesPlainWords : Type 0 where
   pub root : (program schema type_name file : Text)
       → is_plain schema ≡ true → is_plain type_name ≡ true → is_plain file ≡ true
@@ -59,10 +63,31 @@ pub record TakesPlainWords : Type 0 where
   pub run : (program schema script : Text) → is_plain schema ≡ true → is_plain script ≡ true
       → command_of (program ∷ codes "run" ∷ schema ∷ script ∷ [])
       ≡ Some (Run (record { schema = schema; script = script; max_bytes = 2 ^ 28 }))
+  pub weave : (program schema base order : Text) (scripts : List Text)
+      → is_plain schema ≡ true → is_plain base ≡ true → IsOrder (length scripts) order
+      → AllPass is_plain scripts → length scripts ≤ 10
+      → command_of (program ∷ codes "weave" ∷ schema ∷ base ∷ order ∷ scripts)
+      ≡ Some (Weave (record {
+        schema = schema;
+        base = base;
+        order = map (λ digit. digit - 48) order;
+        scripts = scripts;
+        max_bytes = 2 ^ 28;
+      }))
   pub verify : (program text file : Text) (bytes : List ℕ)
       → is_plain text ≡ true → is_plain file ≡ true → root_value text ≡ Some bytes
       → command_of (program ∷ codes "verify" ∷ text ∷ file ∷ [])
       ≡ Some (Verify (record { root = bytes; file = file }))
+  pub work : (program schema type_name seed edits : Text)
+      → is_plain schema ≡ true → is_plain type_name ≡ true → IsDigits seed → IsDigits edits
+      → digits_value 10 seed < 2 ^ 64 → digits_value 10 edits ≤ 1000000
+      → command_of (program ∷ codes "work" ∷ schema ∷ type_name ∷ seed ∷ edits ∷ [])
+      ≡ Some (Work (record {
+        schema = schema;
+        type_name = type_name;
+        seed = digits_value 10 seed;
+        edits = digits_value 10 edits;
+      }))
   pub part : (program schema type_name file path : Text)
       → is_plain schema ≡ true → is_plain type_name ≡ true → is_plain file ≡ true
       → is_plain path ≡ true

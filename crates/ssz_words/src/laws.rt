@@ -8,8 +8,9 @@ pub fn takes_exactly()
     ensures { TakesExactly }
 {}
 
-/// Words after the name of `root`, `run`, `verify`, `part`, `partial` or `clash` of which none
-/// begins with a hyphen are its arguments in order, and the limit of bytes is then 2^28.
+/// Words after the name of a command of which none begins with a hyphen are its arguments in order,
+/// and the limit of bytes is then 2^28. The order of a `weave` is one digit a turn; the numbers of a
+/// `work` are written in decimal digits.
 pub fn takes_plain_words()
     ensures { TakesPlainWords }
 {}
