@@ -1,5 +1,7 @@
--- Statements with too few words or too many.
-use Rattle.std.proofs.Common.{◌≡◌, ◌≢◌, List, [], ◌∷◌, length, Option, None, refl}
+-- Statements with too few words or too many, and of one shape.
+use Rattle.std.proofs.Common.{◌≡◌, ◌≢◌, List, [], ◌∷◌, length, Option, Some, None, refl}
+use Rattle.std.proofs.Common.{option_map}
+use Rattle.ssz_line.specs.Paths.{◌>>=◌}
 use Rattle.ssz_line.specs.Single.{Reader}
 use Rattle.ssz_script.specs.Grammar.{Word, one, two, three, three_or_four}
 
@@ -37,3 +39,40 @@ not_three_or_four make a b c d (w ∷ v ∷ []) h k = refl
 not_three_or_four make a b c d (w ∷ v ∷ u ∷ []) h k = absurd (h refl)
 not_three_or_four make a b c d (w ∷ v ∷ u ∷ t ∷ []) h k = absurd (k refl)
 not_three_or_four make a b c d (w ∷ v ∷ u ∷ t ∷ s ∷ rest) h k = refl
+
+-- ---- what is made of words, by what they are read as
+
+both_is : {A B S : Type 0} (make : A → B → S) (x : Option A) (y : Option B)
+    → (x >>= λ k. y >>= λ l. Some (make k l))
+    ≡ option_map (λ (p : A × B). make p.0 p.1) (x >>= λ k. y >>= λ l. Some (k, l))
+both_is make None y = refl
+both_is make (Some k) None = refl
+both_is make (Some k) (Some l) = refl
+
+pub two_is : {A B S : Type 0} (make : A → B → S) (a : Reader A) (b : Reader B)
+    (words : List Word)
+    → two make a b words ≡ option_map (λ (p : A × B). make p.0 p.1) (two (λ x y. (x, y)) a b words)
+unfolding two
+two_is make a b [] = refl
+two_is make a b (w ∷ []) = refl
+two_is make a b (w ∷ v ∷ []) = both_is make (a w) (b v)
+two_is make a b (w ∷ v ∷ u ∷ rest) = refl
+
+all_is : {A B C S : Type 0} (make : A → B → C → S) (x : Option A) (y : Option B) (z : Option C)
+    → (x >>= λ k. y >>= λ l. z >>= λ m. Some (make k l m))
+    ≡ option_map (λ (p : A × B × C). make p.0 p.1 p.2) (x >>= λ k. y >>= λ l. z >>= λ m. Some (k, l, m))
+all_is make None y z = refl
+all_is make (Some k) None z = refl
+all_is make (Some k) (Some l) None = refl
+all_is make (Some k) (Some l) (Some m) = refl
+
+pub three_is : {A B C S : Type 0} (make : A → B → C → S) (a : Reader A) (b : Reader B)
+    (c : Reader C) (words : List Word)
+    → three make a b c words
+    ≡ option_map (λ (p : A × B × C). make p.0 p.1 p.2) (three (λ x y z. (x, y, z)) a b c words)
+unfolding three
+three_is make a b c [] = refl
+three_is make a b c (w ∷ []) = refl
+three_is make a b c (w ∷ v ∷ []) = refl
+three_is make a b c (w ∷ v ∷ u ∷ []) = all_is make (a w) (b v) (c u)
+three_is make a b c (w ∷ v ∷ u ∷ t ∷ rest) = refl

@@ -9,19 +9,67 @@ ghost use Rattle.ssz_script.specs.declared.statement.Statement.TheVariants.{New,
 use super::indices::Indices;
 use super::statement::Statement;
 use super::words::{end, one_word, three_or_four_words, three_words, two_words, word};
+use ssz_bytes::ByteRun;
 use ssz_line::{
-    Index, LineFault, Words, read_file, read_index, read_literal, read_name, read_path,
-    read_selector,
+    FileName, Identifier, Index, LineFault, Steps, Words, read_file, read_index, read_literal,
+    read_name, read_path, read_selector,
 };
 use std::alloc::Global;
 
+// Two names.
 #[tactic(auto, using(crate::proofs::Shapes::not_two), unfolding(crate::specs::Grammar::two))]
+fn two_names(alloc: Global, words: Words<'_>) -> Result<(Identifier, Identifier), LineFault>
+    ensures { Reads result (two (λ v w. (v, w)) name name words.entry) }
+{
+    let (first, second) = two_words(words)?;
+    let first = read_name(alloc, first)?;
+    Ok((first, read_name(alloc, second)?))
+}
+
+// A name and a path.
+#[tactic(auto, using(crate::proofs::Shapes::not_two), unfolding(crate::specs::Grammar::two))]
+fn name_and_path(alloc: Global, words: Words<'_>) -> Result<(Identifier, Steps), LineFault>
+    ensures { Reads result (two (λ v place. (v, place)) name path words.entry) }
+{
+    let (first, place) = two_words(words)?;
+    let first = read_name(alloc, first)?;
+    Ok((first, read_path(alloc, place)?))
+}
+
+// Two names and the name of a file.
+#[tactic(auto, using(crate::proofs::Shapes::not_three), unfolding(crate::specs::Grammar::three))]
+fn names_and_file(
+    alloc: Global,
+    words: Words<'_>,
+) -> Result<(Identifier, Identifier, FileName), LineFault>
+    ensures { Reads result (three (λ v t from. (v, t, from)) name name file words.entry) }
+{
+    let (v, t, from) = three_words(words)?;
+    let v = read_name(alloc, v)?;
+    let t = read_name(alloc, t)?;
+    Ok((v, t, read_file(alloc, from)?))
+}
+
+// A name, a path and a literal.
+#[tactic(auto, using(crate::proofs::Shapes::not_three), unfolding(crate::specs::Grammar::three))]
+fn place_and_literal(
+    alloc: Global,
+    words: Words<'_>,
+) -> Result<(Identifier, Steps, ByteRun), LineFault>
+    ensures { Reads result (three (λ v place run. (v, place, run)) name path literal words.entry) }
+{
+    let (v, place, value) = three_words(words)?;
+    let v = read_name(alloc, v)?;
+    let place = read_path(alloc, place)?;
+    Ok((v, place, read_literal(alloc, value)?))
+}
+
+#[tactic(auto, using(crate::proofs::Shapes::two_is))]
 pub fn read_new(alloc: Global, words: Words<'_>) -> Result<Statement, LineFault>
     ensures { Reads result (two New name name words.entry) }
 {
-    let (v, t) = two_words(words)?;
-    let v = read_name(alloc, v)?;
-    Ok(Statement::New(v, read_name(alloc, t)?))
+    let (v, t) = two_names(alloc, words)?;
+    Ok(Statement::New(v, t))
 }
 
 #[tactic(auto, using(crate::proofs::Shapes::not_three), unfolding(crate::specs::Grammar::three))]
@@ -34,23 +82,20 @@ pub fn read_lit(alloc: Global, words: Words<'_>) -> Result<Statement, LineFault>
     Ok(Statement::Lit(v, t, read_literal(alloc, value)?))
 }
 
-#[tactic(auto, using(crate::proofs::Shapes::not_three), unfolding(crate::specs::Grammar::three))]
+#[tactic(auto, using(crate::proofs::Shapes::three_is))]
 pub fn read_load(alloc: Global, words: Words<'_>) -> Result<Statement, LineFault>
     ensures { Reads result (three Load name name file words.entry) }
 {
-    let (v, t, from) = three_words(words)?;
-    let v = read_name(alloc, v)?;
-    let t = read_name(alloc, t)?;
-    Ok(Statement::Load(v, t, read_file(alloc, from)?))
+    let (v, t, from) = names_and_file(alloc, words)?;
+    Ok(Statement::Load(v, t, from))
 }
 
-#[tactic(auto, using(crate::proofs::Shapes::not_two), unfolding(crate::specs::Grammar::two))]
+#[tactic(auto, using(crate::proofs::Shapes::two_is))]
 pub fn read_fork(alloc: Global, words: Words<'_>) -> Result<Statement, LineFault>
     ensures { Reads result (two Fork name name words.entry) }
 {
-    let (v, w) = two_words(words)?;
-    let v = read_name(alloc, v)?;
-    Ok(Statement::Fork(v, read_name(alloc, w)?))
+    let (v, w) = two_names(alloc, words)?;
+    Ok(Statement::Fork(v, w))
 }
 
 #[tactic(auto, using(crate::proofs::Shapes::not_one), unfolding(crate::specs::Grammar::one))]
@@ -69,33 +114,28 @@ pub fn read_list(words: Words<'_>) -> Result<Statement, LineFault>
     Ok(Statement::List)
 }
 
-#[tactic(auto, using(crate::proofs::Shapes::not_three), unfolding(crate::specs::Grammar::three))]
+#[tactic(auto, using(crate::proofs::Shapes::three_is))]
 pub fn read_set(alloc: Global, words: Words<'_>) -> Result<Statement, LineFault>
     ensures { Reads result (three Set name path literal words.entry) }
 {
-    let (v, place, value) = three_words(words)?;
-    let v = read_name(alloc, v)?;
-    let place = read_path(alloc, place)?;
-    Ok(Statement::Set(v, place, read_literal(alloc, value)?))
+    let (v, place, value) = place_and_literal(alloc, words)?;
+    Ok(Statement::Set(v, place, value))
 }
 
-#[tactic(auto, using(crate::proofs::Shapes::not_three), unfolding(crate::specs::Grammar::three))]
+#[tactic(auto, using(crate::proofs::Shapes::three_is))]
 pub fn read_append(alloc: Global, words: Words<'_>) -> Result<Statement, LineFault>
     ensures { Reads result (three Append name path literal words.entry) }
 {
-    let (v, place, value) = three_words(words)?;
-    let v = read_name(alloc, v)?;
-    let place = read_path(alloc, place)?;
-    Ok(Statement::Append(v, place, read_literal(alloc, value)?))
+    let (v, place, value) = place_and_literal(alloc, words)?;
+    Ok(Statement::Append(v, place, value))
 }
 
-#[tactic(auto, using(crate::proofs::Shapes::not_two), unfolding(crate::specs::Grammar::two))]
+#[tactic(auto, using(crate::proofs::Shapes::two_is))]
 pub fn read_pop(alloc: Global, words: Words<'_>) -> Result<Statement, LineFault>
     ensures { Reads result (two Pop name path words.entry) }
 {
-    let (v, place) = two_words(words)?;
-    let v = read_name(alloc, v)?;
-    Ok(Statement::Pop(v, read_path(alloc, place)?))
+    let (v, place) = name_and_path(alloc, words)?;
+    Ok(Statement::Pop(v, place))
 }
 
 #[tactic(auto, using(crate::proofs::Shapes::not_one), unfolding(crate::specs::Grammar::one))]
@@ -106,22 +146,20 @@ pub fn read_root(alloc: Global, words: Words<'_>) -> Result<Statement, LineFault
     Ok(Statement::Root(read_name(alloc, v)?))
 }
 
-#[tactic(auto, using(crate::proofs::Shapes::not_two), unfolding(crate::specs::Grammar::two))]
+#[tactic(auto, using(crate::proofs::Shapes::two_is))]
 pub fn read_bytes(alloc: Global, words: Words<'_>) -> Result<Statement, LineFault>
     ensures { Reads result (two Bytes name path words.entry) }
 {
-    let (v, place) = two_words(words)?;
-    let v = read_name(alloc, v)?;
-    Ok(Statement::Bytes(v, read_path(alloc, place)?))
+    let (v, place) = name_and_path(alloc, words)?;
+    Ok(Statement::Bytes(v, place))
 }
 
-#[tactic(auto, using(crate::proofs::Shapes::not_two), unfolding(crate::specs::Grammar::two))]
+#[tactic(auto, using(crate::proofs::Shapes::two_is))]
 pub fn read_len(alloc: Global, words: Words<'_>) -> Result<Statement, LineFault>
     ensures { Reads result (two Len name path words.entry) }
 {
-    let (v, place) = two_words(words)?;
-    let v = read_name(alloc, v)?;
-    Ok(Statement::Len(v, read_path(alloc, place)?))
+    let (v, place) = name_and_path(alloc, words)?;
+    Ok(Statement::Len(v, place))
 }
 
 #[tactic(auto, using(crate::proofs::Shapes::not_two), unfolding(crate::specs::Grammar::two))]
@@ -133,13 +171,12 @@ pub fn read_save(alloc: Global, words: Words<'_>) -> Result<Statement, LineFault
     Ok(Statement::Save(v, read_file(alloc, to)?))
 }
 
-#[tactic(auto, using(crate::proofs::Shapes::not_two), unfolding(crate::specs::Grammar::two))]
+#[tactic(auto, using(crate::proofs::Shapes::two_is))]
 pub fn read_gindex(alloc: Global, words: Words<'_>) -> Result<Statement, LineFault>
     ensures { Reads result (two Gindex name path words.entry) }
 {
-    let (t, place) = two_words(words)?;
-    let t = read_name(alloc, t)?;
-    Ok(Statement::Gindex(t, read_path(alloc, place)?))
+    let (t, place) = name_and_path(alloc, words)?;
+    Ok(Statement::Gindex(t, place))
 }
 
 #[tactic(auto, unfolding(crate::specs::Grammar::alone))]
@@ -160,23 +197,20 @@ pub fn read_upgrade(alloc: Global, words: Words<'_>) -> Result<Statement, LineFa
     Ok(Statement::Upgrade(v, w, read_name(alloc, t)?))
 }
 
-#[tactic(auto, using(crate::proofs::Shapes::not_two), unfolding(crate::specs::Grammar::two))]
+#[tactic(auto, using(crate::proofs::Shapes::two_is))]
 pub fn read_json(alloc: Global, words: Words<'_>) -> Result<Statement, LineFault>
     ensures { Reads result (two Json name path words.entry) }
 {
-    let (v, place) = two_words(words)?;
-    let v = read_name(alloc, v)?;
-    Ok(Statement::Json(v, read_path(alloc, place)?))
+    let (v, place) = name_and_path(alloc, words)?;
+    Ok(Statement::Json(v, place))
 }
 
-#[tactic(auto, using(crate::proofs::Shapes::not_three), unfolding(crate::specs::Grammar::three))]
+#[tactic(auto, using(crate::proofs::Shapes::three_is))]
 pub fn read_loadjson(alloc: Global, words: Words<'_>) -> Result<Statement, LineFault>
     ensures { Reads result (three LoadJson name name file words.entry) }
 {
-    let (v, t, from) = three_words(words)?;
-    let v = read_name(alloc, v)?;
-    let t = read_name(alloc, t)?;
-    Ok(Statement::LoadJson(v, t, read_file(alloc, from)?))
+    let (v, t, from) = names_and_file(alloc, words)?;
+    Ok(Statement::LoadJson(v, t, from))
 }
 
 #[tactic(auto, using(crate::proofs::Shapes::not_three_or_four), unfolding(crate::specs::Grammar::three_or_four))]
