@@ -10,12 +10,23 @@ use Rattle.clap.specs.Walk.{Row, Text, all_of, first_of}
 use Rattle.hex.specs.Hex.{decode_sized}
 use Rattle.hex.proofs.HexLemmas.{IsOk-decode_sized}
 use Rattle.ssz_words.specs.Laws.{IsOrder, IsRoot}
-use Rattle.ssz_words.specs.Reading.{◌>>=◌, some_if}
+use Rattle.ssz_words.specs.Reading.{◌>>=◌, Reads, some_if}
 use Rattle.ssz_words.specs.Values.{is_digit_below, number_at, order_value, root_value, without_mark}
 use Rattle.ssz_words.specs.Words.{named_args}
 use Rattle.ssz_words.specs.declared.commands.Command.{Command}
 use Rattle.ssz_words.specs.declared.commands.Command.TheVariants.{Root, Run, Weave, Verify, Work}
 use Rattle.ssz_words.specs.declared.commands.Command.TheVariants.{Part, Partial, Clash}
+use Rattle.ssz_words.specs.declared.faults.WordsFault.{WordsFault}
+use Rattle.ssz_words.specs.declared.faults.WordsFault.TheVariants.{NotTaken, Memory}
+
+abbrev failed : {A : Type 0} → WordsFault → Result A WordsFault
+failed fault = Err fault
+
+-- what is missing for a part of the arguments is missing for all
+pub missing_reads : {A B : Type 0} (fault : WordsFault) (read : Option B)
+    → (failed {A = A} fault ≡ failed NotTaken → read ≡ None) → Reads (failed fault) read
+missing_reads NotTaken read missing = missing refl
+missing_reads Memory read missing = tt
 
 pub root_args_are : (rows : List Row) (schema type_name file : Text) (n : ℕ)
     → first_of (codes "schema") rows ≡ Some schema → first_of (codes "type") rows ≡ Some type_name

@@ -10,6 +10,13 @@ use Rattle.ssz_words.specs.declared.commands.Command.{Command}
 use Rattle.ssz_words.specs.declared.commands.Command.TheVariants.{Root, Run, Weave, Verify, Work}
 use Rattle.ssz_words.specs.declared.commands.Command.TheVariants.{Part, Partial, Clash}
 
+-- what a schema and a type are followed by
+abbrev pub after_schema_and_type : (Text → Text → Option Command) → List Row → Option Command
+after_schema_and_type rest rows = do
+  schema ← first_of (codes "schema") rows
+  type_name ← first_of (codes "type") rows
+  rest schema type_name
+
 -- `root SCHEMA TYPE FILE`, by what was found for its arguments
 abbrev pub root_args : List Row → Option Command
 root_args rows = do

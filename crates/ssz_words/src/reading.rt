@@ -1,10 +1,11 @@
 //! What the words of a command line ask for.
-ghost use Rattle.std.specs.Prelude.{◌≡◌, ◌≢◌, IfOk, map, string_bytes};
-ghost use Rattle.clap.specs.Words.{subcommand_rows_of};
+ghost use Rattle.std.specs.Prelude.{◌≡◌, ◌≢◌, IfOk, Option, codes, map, string_bytes};
+ghost use Rattle.clap.specs.Words.{Text, first_of, subcommand_rows_of};
 ghost use Rattle.ssz_words.specs.Limits.{IsWithinLimits};
 ghost use Rattle.ssz_words.specs.Reading.{Reads};
 ghost use Rattle.ssz_words.specs.Values.{rows_in};
-ghost use Rattle.ssz_words.specs.Words.{clash_args, command_of, found_in, named_args, part_args};
+ghost use Rattle.ssz_words.specs.Words.{after_schema_and_type, clash_args, command_of, found_in};
+ghost use Rattle.ssz_words.specs.Words.{named_args, part_args};
 ghost use Rattle.ssz_words.specs.Words.{partial_args, root_args, run_args, verify_args};
 ghost use Rattle.ssz_words.specs.Words.{weave_args, work_args};
 
@@ -13,6 +14,7 @@ use crate::commands::{
     ClashArgs, Command, PartArgs, PartialArgs, RootArgs, RunArgs, VerifyArgs, WeaveArgs, WorkArgs,
 };
 use crate::faults::WordsFault;
+use crate::names::{FileName, TypeName};
 use crate::values::{
     file_at, file_names, number_at, path_at, read_order, read_root, seed_at, type_at, word_at,
     words_at,
@@ -79,12 +81,27 @@ fn named_command(alloc: Global, name: &str, found: &ArgMatches<'_>) -> Result<Co
     }
 }
 
+// The file of the schema and the name of the type, with which the words of some commands begin.
+fn schema_and_type(
+    alloc: Global,
+    found: &ArgMatches<'_>,
+) -> Result<(FileName, TypeName), WordsFault>
+    ensures found { let rows = rows_in found.now in IfOk result (λ p.
+        (first_of (codes "schema") rows ≡ Some p.0) × (first_of (codes "type") rows ≡ Some p.1)) }
+    ensures missing { (rest : Text → Text → Option Command) → result ≡ Err WordsFault.NotTaken
+        → after_schema_and_type rest (rows_in found.now) ≡ None }
+{
+    let schema = file_at(alloc, found, "schema")?;
+    Ok((schema, type_at(alloc, found, "type")?))
+}
+
 fn root_command(alloc: Global, found: &ArgMatches<'_>) -> Result<Command, WordsFault>
     ensures { Reads result (root_args (rows_in found.now)) }
 {
+    let (schema, type_name) = schema_and_type(alloc, found)?;
     Ok(Command::Root(RootArgs {
-        schema: file_at(alloc, found, "schema")?,
-        type_name: type_at(alloc, found, "type")?,
+        schema,
+        type_name,
         file: file_at(alloc, found, "file")?,
         max_bytes: number_at(found, "max-bytes")?,
     }))
@@ -133,9 +150,10 @@ fn verify_command(alloc: Global, found: &ArgMatches<'_>) -> Result<Command, Word
 fn work_command(alloc: Global, found: &ArgMatches<'_>) -> Result<Command, WordsFault>
     ensures { Reads result (work_args (rows_in found.now)) }
 {
+    let (schema, type_name) = schema_and_type(alloc, found)?;
     Ok(Command::Work(WorkArgs {
-        schema: file_at(alloc, found, "schema")?,
-        type_name: type_at(alloc, found, "type")?,
+        schema,
+        type_name,
         seed: seed_at(found, "seed")?,
         edits: number_at(found, "edits")?,
     }))
@@ -144,9 +162,10 @@ fn work_command(alloc: Global, found: &ArgMatches<'_>) -> Result<Command, WordsF
 fn part_command(alloc: Global, found: &ArgMatches<'_>) -> Result<Command, WordsFault>
     ensures { Reads result (part_args (rows_in found.now)) }
 {
+    let (schema, type_name) = schema_and_type(alloc, found)?;
     Ok(Command::Part(PartArgs {
-        schema: file_at(alloc, found, "schema")?,
-        type_name: type_at(alloc, found, "type")?,
+        schema,
+        type_name,
         file: file_at(alloc, found, "file")?,
         path: path_at(alloc, found, "path")?,
         max_bytes: number_at(found, "max-bytes")?,
@@ -156,9 +175,10 @@ fn part_command(alloc: Global, found: &ArgMatches<'_>) -> Result<Command, WordsF
 fn partial_command(alloc: Global, found: &ArgMatches<'_>) -> Result<Command, WordsFault>
     ensures { Reads result (partial_args (rows_in found.now)) }
 {
+    let (schema, type_name) = schema_and_type(alloc, found)?;
     Ok(Command::Partial(PartialArgs {
-        schema: file_at(alloc, found, "schema")?,
-        type_name: type_at(alloc, found, "type")?,
+        schema,
+        type_name,
         proof: file_at(alloc, found, "proof")?,
         script: file_at(alloc, found, "script")?,
     }))
