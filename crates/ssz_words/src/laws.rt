@@ -9,8 +9,8 @@ pub fn takes_exactly()
 {}
 
 /// Words after the name of a command of which none begins with a hyphen are its arguments in order,
-/// and the limit of bytes is then 2^28. The order of a `weave` is one digit a turn; the numbers of a
-/// `work` are written in decimal digits.
+/// and the limit of bytes is then 2^28. The order of a `weave` is one digit a turn; the numbers of
+/// a `work` are written in decimal digits.
 pub fn takes_plain_words()
     ensures { TakesPlainWords }
 {}
