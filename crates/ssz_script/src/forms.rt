@@ -244,9 +244,10 @@ fn indices(alloc: Global, first: Index, mut words: Words<'_>) -> Result<Indices,
 pub fn read_prove(alloc: Global, mut words: Words<'_>) -> Result<Statement, LineFault>
     ensures { Reads result (one_and_more Prove name index words.entry) }
 {
-    let version = read_name(alloc, word(&mut words)?)?;
+    let version = word(&mut words)?;
     let first = read_index(alloc, word(&mut words)?)?;
-    Ok(Statement::Prove(version, indices(alloc, first, words)?))
+    let indices = indices(alloc, first, words)?;
+    Ok(Statement::Prove(read_name(alloc, version)?, indices))
 }
 
 #[tactic(auto, unfolding(crate::specs::Grammar::alone))]

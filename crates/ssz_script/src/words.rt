@@ -51,6 +51,19 @@ pub fn three_words<'a>(mut words: Words<'a>) -> Result<(&'a [u8], &'a [u8], &'a 
     Ok((first, second, third))
 }
 
+// The words, which are one or two.
+fn one_or_two_words<'a>(mut words: Words<'a>) -> Result<(&'a [u8], Option<&'a [u8]>), LineFault>
+    ensures words { IfOk result (λ all. MatchOption all.1 (words.entry ≡ all.0.now ∷ [])
+        (λ last. words.entry ≡ all.0.now ∷ last.now ∷ [])) }
+    ensures others { IfErr result
+        (λ e. (e ≡ LineFault.Syntax) × (length words.entry ≢ 1) × (length words.entry ≢ 2)) }
+{
+    let first = word(&mut words)?;
+    let last = words.next();
+    end(words)?;
+    Ok((first, last))
+}
+
 /// The words, which are three or four.
 pub fn three_or_four_words<'a>(
     mut words: Words<'a>,
@@ -63,8 +76,6 @@ pub fn three_or_four_words<'a>(
 {
     let first = word(&mut words)?;
     let second = word(&mut words)?;
-    let third = word(&mut words)?;
-    let last = words.next();
-    end(words)?;
+    let (third, last) = one_or_two_words(words)?;
     Ok((first, second, third, last))
 }
