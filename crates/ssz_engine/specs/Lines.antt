@@ -1,7 +1,7 @@
 -- What a line of a script does, as the plain machine does it.
 use Rattle.std.specs.Prelude.{◌≡◌, ◌≢◌, ℕ, ◌-◌, true, List, [], ◌∷◌, ◌++◌, take, Option, Some, None, Result, Ok, Err}
 use Rattle.ssz_arena.specs.Content.{unhashed}
-use Rattle.ssz_outside.specs.Outcome.{Rose}
+use Rattle.ssz_outside.specs.Outcome.{RoseOnce}
 use Rattle.ssz_outside.specs.Pieces.{Told, told_append}
 use Rattle.ssz_outside.specs.declared.status.Status.{Status}
 use Rattle.ssz_outside.specs.declared.status.Status.TheVariants as status
@@ -84,8 +84,8 @@ Prints (Err status.WriteFault) piece old new =
 Prints (Err status.Memory) piece old new = new ≡ old
 Prints (Err other) piece old new = ⊥
 
--- a failed print is counted
+-- a failed print is counted once
 abbrev pub CountsPrint : {T : Type 0} → Result T Status → ℕ → ℕ → Type 0
 CountsPrint (Ok done) before now = now ≡ before
-CountsPrint (Err status.WriteFault) before now = Rose before now
+CountsPrint (Err status.WriteFault) before now = RoseOnce before now
 CountsPrint (Err other) before now = now ≡ before

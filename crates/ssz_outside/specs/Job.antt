@@ -3,7 +3,7 @@ use Rattle.std.specs.Prelude.{◌≡◌, ◌≤◌, ◌<◌, ◌⊎◌, ⊤, ℕ
 use Rattle.std.specs.Prelude.{List, [], ◌∷◌, ◌++◌, take, Bool, false, IsTrue, Some, None}
 use Rattle.std.specs.declared.option.Option.{Option}
 use Rattle.ssz_outside.specs.Content.{Content}
-use Rattle.ssz_outside.specs.Outcome.{Rose, Tears}
+use Rattle.ssz_outside.specs.Outcome.{RoseOnce, Tears}
 use Rattle.ssz_outside.specs.Pieces.{Told, told_append}
 use Rattle.ssz_outside.specs.declared.status.Status.{Status}
 use Rattle.ssz_outside.specs.declared.status.Status.TheVariants as status
@@ -94,7 +94,7 @@ CountsNone gets gets_now puts puts_now sinks sinks_now =
     (gets_now ≡ gets) × (puts_now ≡ puts) × (sinks_now ≡ sinks)
 
 -- The three counts of faults, before and after a run that ended with this status: the fault that
--- the status names was counted, and no other.
+-- the status names was counted, once, and no other.
 abbrev pub CountsRun : Status → ℕ → ℕ → ℕ → ℕ → ℕ → ℕ → Type 0
 CountsRun status.Accepted gets gets_now puts puts_now sinks sinks_now =
     CountsNone gets gets_now puts puts_now sinks sinks_now
@@ -105,10 +105,11 @@ CountsRun status.Usage gets gets_now puts puts_now sinks sinks_now =
 CountsRun status.SchemaFault gets gets_now puts puts_now sinks sinks_now =
     CountsNone gets gets_now puts puts_now sinks sinks_now
 CountsRun status.ReadFault gets gets_now puts puts_now sinks sinks_now =
-    Rose gets gets_now × (puts_now ≡ puts) × (sinks_now ≡ sinks)
+    RoseOnce gets gets_now × (puts_now ≡ puts) × (sinks_now ≡ sinks)
 CountsRun status.WriteFault gets gets_now puts puts_now sinks sinks_now =
     (gets_now ≡ gets)
-    × ((Rose puts puts_now × (sinks_now ≡ sinks)) ⊎ ((puts_now ≡ puts) × Rose sinks sinks_now))
+    × ((RoseOnce puts puts_now × (sinks_now ≡ sinks))
+    ⊎ ((puts_now ≡ puts) × RoseOnce sinks sinks_now))
 CountsRun status.Memory gets gets_now puts puts_now sinks sinks_now =
     CountsNone gets gets_now puts puts_now sinks sinks_now
 

@@ -20,22 +20,26 @@ next_count n = min (n + 1) (2 ^ 64 - 1)
 abbrev pub Rose : ℕ → ℕ → Type 0
 Rose before now = (before ≤ now) × (next_count before ≤ now)
 
+-- it rose by one, or stands at the greatest `u64`
+abbrev pub RoseOnce : ℕ → ℕ → Type 0
+RoseOnce before now = (before ≤ now) × (now ≡ next_count before)
+
 -- what a `get` read of a name that holds these bytes, or is absent
 abbrev pub Gets : Option (List ℕ) → ℕ → Result Got GetFault → List ℕ → Type 0
 Gets held limit (Ok Whole) read = held ≡ Some read
 Gets held limit (Ok TooLong) read = IsSomeAnd held (λ bytes. limit < length bytes)
 Gets held limit (Err fault) read = ⊤
 
--- a failed `get` is counted, and no other is
+-- a failed `get` is counted once, and no other is
 abbrev pub CountsGet : Result Got GetFault → ℕ → ℕ → Type 0
 CountsGet (Ok got) before now = now ≡ before
-CountsGet (Err get_fault.Failed) before now = Rose before now
+CountsGet (Err get_fault.Failed) before now = RoseOnce before now
 CountsGet (Err get_fault.Memory) before now = now ≡ before
 
--- a failed `put` is counted, and no other is
+-- a failed `put` is counted once, and no other is
 abbrev pub CountsPut : {T : Type 0} → Result T PutFault → ℕ → ℕ → Type 0
 CountsPut (Ok done) before now = now ≡ before
-CountsPut (Err put_fault.Failed) before now = Rose before now
+CountsPut (Err put_fault.Failed) before now = RoseOnce before now
 CountsPut (Err put_fault.Memory) before now = now ≡ before
 
 -- a failed `put` left what was held, or a prefix of the bytes under the name

@@ -1,7 +1,7 @@
 -- What the answers of the private calls stand for.
 use Rattle.std.specs.Prelude.{◌≡◌, ℕ, ◌<◌, ◌≤◌, ◌^◌, List, length, Bool, false, Option, Some, None, Result, Ok, Err, ⊤, string_bytes}
 use Rattle.ssz_outside.specs.Content.{Content}
-use Rattle.ssz_outside.specs.Outcome.{Rose}
+use Rattle.ssz_outside.specs.Outcome.{RoseOnce}
 use Rattle.ssz_outside.specs.declared.status.Status.TheVariants as status
 use Rattle.ssz_proof.specs.Calculation.{PairOf}
 use Rattle.ssz_proof.specs.Multiproof.{Multiproof, IsProofOf}
@@ -35,10 +35,10 @@ abbrev pub IsWithin : ℕ → Loaded → Type 0
 IsWithin limit (loaded.Whole bytes) = length bytes.items ≤ limit
 IsWithin limit loaded.TooLong = ⊤
 
--- a failed read is counted, and nothing else is
+-- a failed read is counted once, and nothing else is
 abbrev pub CountsStop : {T : Type 0} → Result T Stop → ℕ → ℕ → Type 0
 CountsStop (Ok done) before now = now ≡ before
-CountsStop (Err stop.Read) before now = Rose before now
+CountsStop (Err stop.Read) before now = RoseOnce before now
 CountsStop (Err stop.Memory) before now = now ≡ before
 
 -- what a schema file gave is what it was to give
