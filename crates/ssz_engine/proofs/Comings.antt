@@ -84,8 +84,8 @@ module _ (pair_of : PairOf) (place : Place) (course : Course) where
       record {
         numbers = u.numbers ++ last before left;
         ends = ends_without_memory course.rules place course.events course.first c.done c.state left
-            u (last before left) course.pieces after.pieces after.told (pieces ∙ c.at.printed)
-            (told ∙ c.at.files);
+            u (last before left) course.ample course.pieces after.pieces after.told
+            (pieces ∙ c.at.printed) (told ∙ c.at.files);
         now = before.hashed;
         rest = unhashed before.engine.arena;
         pays = settled course.rules place course.base before.hashed (unhashed before.engine.arena)
@@ -136,7 +136,7 @@ module _ (pair_of : PairOf) (place : Place) (course : Course) where
     line_unread missed pieces hashes = record {
       numbers = numbers_before;
       ends = ends_unread course.rules place course.events course.first c.done c.state writer line
-          left number c.at.under (last before left) course.pieces after.pieces after.told
+          left number c.at.under (last before left) course.ample course.pieces after.pieces after.told
           missed.reads (pieces ∙ c.at.printed) (missed.files ∙ c.at.files);
       now = before.hashed;
       rest = unhashed before.engine.arena;
@@ -156,8 +156,8 @@ module _ (pair_of : PairOf) (place : Place) (course : Course) where
     line_unwritten part pieces hashes = record {
       numbers = numbers_before;
       ends = ends_torn_file course.rules place course.events course.first c.done c.state writer line
-          left number c.at.under (last before left) course.pieces after.pieces after.told part.0
-          part.1 (pieces ∙ c.at.printed)
+          left number c.at.under (last before left) course.ample course.pieces after.pieces
+          after.told part.0 part.1 (pieces ∙ c.at.printed)
           (subst (λ (told : Option Files). Tears part.0.name part.0.bytes told after.told)
           c.at.files part.2);
       now = before.hashed;
@@ -194,9 +194,9 @@ module _ (pair_of : PairOf) (place : Place) (course : Course) where
 
       -- the line was done and printed
       pub line_done : after.pieces ≡ told_append before.pieces (piece ∷ [])
-          → Keeps before.engine after.engine
+          → Keeps before.engine after.engine → after.ample ≡ before.ample
           → Comes pair_of place course left (is_refusal made || was) after
-      line_done printed keeps = record {
+      line_done printed keeps ample = record {
         done = c.done ++ turn ∷ [];
         state = state_of turn;
         at = record {
@@ -208,6 +208,7 @@ module _ (pair_of : PairOf) (place : Place) (course : Course) where
           printed = printed ∙ ap (λ (t : Told). told_append t (piece ∷ [])) c.at.printed
               ∙ told_append-twice course.pieces (shown_all place c.done) (piece ∷ [])
               ∙ ap (told_append course.pieces) (sym more_lines);
+          ample = ample ∙ c.at.ample;
           answer = any-append c.done turn was (is_refusal made) c.at.answer makes.outcome;
           pays = pays_after;
         };
@@ -229,8 +230,8 @@ module _ (pair_of : PairOf) (place : Place) (course : Course) where
       line_cut count printed = record {
         numbers = numbers_after;
         ends = ends_torn_line course.rules place course.events course.first c.done c.state writer
-            line left number c.at.under (last after left) course.pieces after.pieces after.told
-            count
+            line left number c.at.under (last after left) course.ample course.pieces after.pieces
+            after.told count
             (printed ∙ ap (λ (t : Told). told_append t (take count piece ∷ [])) c.at.printed
             ∙ told_append-twice course.pieces (shown_all place c.done) (take count piece ∷ [])
             ∙ ap (λ p. told_append course.pieces (shown_all place c.done ++ take count p ∷ []))
@@ -246,13 +247,13 @@ module _ (pair_of : PairOf) (place : Place) (course : Course) where
       }
 
       -- it was done, and there was no memory to print it
-      pub line_ahead : after.pieces ≡ before.pieces
+      pub line_ahead : before.ample ≡ false → after.pieces ≡ before.pieces
           → IsCutShort place course status.Memory before after
-      line_ahead same = record {
+      line_ahead wanting same = record {
         numbers = numbers_after;
         ends = ends_ahead course.rules place course.events course.first c.done c.state writer line
-            left number c.at.under (last after left) course.pieces after.pieces after.told
-            (same ∙ c.at.printed) makes.files;
+            left number c.at.under (last after left) course.ample course.pieces after.pieces
+            after.told (sym c.at.ample ∙ wanting) (same ∙ c.at.printed) makes.files;
         now = after.hashed;
         rest = unhashed after.engine.arena;
         pays = pays_settled;

@@ -1,5 +1,5 @@
 -- What a sink was given of a weave, writer by writer.
-use Rattle.std.proofs.Common.{ℕ, zero, suc, ◌+◌, ◌≡◌, ◌≤◌, ◌<◌, true, false, cond, inl, inr, List, [], ◌∷◌, ◌++◌, length, map, take, drop, Option, refl, sym, ap, ◌∙◌, subst, arith, append_assoc, take-append-drop}
+use Rattle.std.proofs.Common.{ℕ, zero, suc, ◌+◌, ◌≡◌, ◌≤◌, ◌<◌, Bool, true, false, cond, inl, inr, List, [], ◌∷◌, ◌++◌, length, map, take, drop, Option, refl, sym, ap, ◌∙◌, subst, arith, append_assoc, take-append-drop}
 use Rattle.std.specs.Prelude.{nat_eq}
 use Rattle.std.specs.List.{starts_with}
 use Rattle.std.proofs.lemmas.Bool.Decides.{Decides-eqb}
@@ -142,26 +142,26 @@ module _ (rules : Rules) (base order : List ℕ) (scripts : List (List ℕ)) (fi
               ∙ (isolates writer known).whole;
         }
 
-    pub isolates_all : (ended : Status)
-        → Ends ended (weave_job rules first base order scripts) old new held
+    pub isolates_all : (ample : Bool) (ended : Status)
+        → Ends ample ended (weave_job rules first base order scripts) old new held
         → IsolatesFrom rules base scripts first ended old new
-    isolates_all status.Accepted ends = at_end status.Accepted ends
-    isolates_all status.Refused ends = at_end status.Refused ends
-    isolates_all status.Usage ends = at_end status.Usage ends
-    isolates_all status.SchemaFault ends = at_end status.SchemaFault ends
-    isolates_all status.ReadFault (k, few_steps, reads, stands) =
+    isolates_all ample status.Accepted ends = at_end status.Accepted ends
+    isolates_all ample status.Refused ends = at_end status.Refused ends
+    isolates_all ample status.Usage ends = at_end status.Usage ends
+    isolates_all ample status.SchemaFault ends = at_end status.SchemaFault ends
+    isolates_all ample status.ReadFault (k, few_steps, reads, stands) =
         at_front status.ReadFault k stands.printed (λ done. done)
-    isolates_all status.WriteFault (k, below, inl torn) =
+    isolates_all ample status.WriteFault (k, below, inl torn) =
         at_front status.WriteFault k torn.printed (λ done. done)
-    isolates_all status.WriteFault (k, below, inr torn) = record {
+    isolates_all ample status.WriteFault (k, below, inr torn) = record {
       pieces = shown_all Weave (take k turns) ++ take torn.count torn.line ∷ [];
       given = torn.printed;
       first_lines = cut_first k torn.count torn.line torn.whole;
       all_lines = λ done. absurd done;
     }
-    isolates_all status.Memory (k, inl (few_steps, stands)) =
+    isolates_all ample status.Memory (k, inl (few_steps, stands)) =
         at_front status.Memory k stands.printed (λ done. done)
-    isolates_all status.Memory (k, inr (below, ahead)) =
+    isolates_all ample status.Memory (k, inr (below, ahead)) =
         at_front status.Memory k ahead.printed (λ done. done)
 
 -- so it is of a weave that ended as its job does
@@ -171,4 +171,4 @@ pub ends_isolated : (pair_of : PairOf) (base order : List ℕ) (scripts : List (
     → IsolatesWriters pair_of base scripts ended before after
 ends_isolated pair_of base order scripts ended before after few ends first stands told =
     isolates_all (rules_of pair_of before.engine) base order scripts first few before.pieces
-    after.pieces after.told ended (ends first stands told).ends
+    after.pieces after.told before.ample ended (ends first stands told).ends

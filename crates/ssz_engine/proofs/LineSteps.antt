@@ -1,5 +1,5 @@
 -- What a line that was done, or was not, makes of a run.
-use Rattle.std.proofs.Common.{ℕ, ◌-◌, ◌≡◌, Bool, List, [], ◌∷◌, subst}
+use Rattle.std.proofs.Common.{ℕ, ◌-◌, ◌≡◌, Bool, false, List, [], ◌∷◌, refl, subst}
 use Rattle.std.specs.Prelude.{Result, Ok, Err, ◌||◌}
 use Rattle.ssz_outside.specs.declared.status.Status.{Status}
 use Rattle.ssz_outside.specs.declared.status.Status.TheVariants as status
@@ -53,19 +53,20 @@ module _ (pair_of : PairOf) (place : Place) (writer : ℕ) (line : Line) (was : 
   pub print_goes : (printed : Result (Unit {0}) Status) (made : Outcome)
       → DoesLine pair_of place writer line (Ok made) before after text more
       → text ≡ front place writer → Prints printed more before.pieces after.pieces
-      → Keeps before.engine after.engine
+      → Keeps before.engine after.engine → (printed ≡ Err status.Memory → before.ample ≡ false)
+      → after.ample ≡ before.ample
       → Goes pair_of place (says writer line ∷ []) printed was (is_refusal made || was) before after
-  print_goes (Ok x) made does fronted prints keeps course left c =
+  print_goes (Ok x) made does fronted prints keeps memory ample course left c =
       line_done pair_of place course writer line left was before after c made text more
-      (line_does (Ok made) course left c does) fronted prints keeps
-  print_goes (Err status.WriteFault) made does fronted prints keeps course left c =
+      (line_does (Ok made) course left c does) fronted prints keeps ample
+  print_goes (Err status.WriteFault) made does fronted prints keeps memory ample course left c =
       line_cut pair_of place course writer line left was before after c made text more
       (line_does (Ok made) course left c does) fronted prints.0 prints.1
-  print_goes (Err status.Memory) made does fronted prints keeps course left c =
+  print_goes (Err status.Memory) made does fronted prints keeps memory ample course left c =
       line_ahead pair_of place course writer line left was before after c made text more
-      (line_does (Ok made) course left c does) fronted prints
-  print_goes (Err status.Accepted) made does fronted prints keeps course left c = absurd prints
-  print_goes (Err status.Refused) made does fronted prints keeps course left c = absurd prints
-  print_goes (Err status.Usage) made does fronted prints keeps course left c = absurd prints
-  print_goes (Err status.SchemaFault) made does fronted prints keeps course left c = absurd prints
-  print_goes (Err status.ReadFault) made does fronted prints keeps course left c = absurd prints
+      (line_does (Ok made) course left c does) fronted (memory refl) prints
+  print_goes (Err status.Accepted) made does fronted prints keeps memory ample course left c = absurd prints
+  print_goes (Err status.Refused) made does fronted prints keeps memory ample course left c = absurd prints
+  print_goes (Err status.Usage) made does fronted prints keeps memory ample course left c = absurd prints
+  print_goes (Err status.SchemaFault) made does fronted prints keeps memory ample course left c = absurd prints
+  print_goes (Err status.ReadFault) made does fronted prints keeps memory ample course left c = absurd prints

@@ -53,6 +53,7 @@ module _ (pair_of : PairOf) (place : Place) (events : List Event) (before after 
     hashed = before.hashed;
     left = unhashed before.engine.arena;
     pieces = before.pieces;
+    ample = before.ample;
   }
 
   -- at the start all its lines are left
@@ -70,6 +71,7 @@ module _ (pair_of : PairOf) (place : Place) (events : List Event) (before after 
           versions = versions;
           files = files;
           printed = told_append-none before.pieces;
+          ample = refl;
           answer = refl;
           pays = (refl, refl);
         };
@@ -91,11 +93,11 @@ module _ (pair_of : PairOf) (place : Place) (events : List Event) (before after 
       after.hashed (unhashed after.engine.arena) pays in
       record {
         numbers = numbers;
-        ends = subst (λ (r : Bool). Ends (finished r)
+        ends = subst (λ (r : Bool). Ends before.ample (finished r)
             (job_from course.rules place events first numbers) before.pieces after.pieces
             after.told) (sym c.at.answer)
-            (ends_done course.rules place events first c.done c.state u before.pieces after.pieces
-            after.told c.at.printed c.at.files);
+            (ends_done course.rules place events first c.done c.state u before.ample before.pieces
+            after.pieces after.told c.at.printed c.at.files);
         paid = omega (arith, total);
         counts = λ fresh. record {
           total = after.hashed - before.hashed;

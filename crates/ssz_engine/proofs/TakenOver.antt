@@ -168,13 +168,13 @@ under_way_all_adopt rules events first done n (script ∷ scripts) state left u 
 -- the adoptions of a run were done
 pub comes_adopted : (pair_of : PairOf) (course : Course) (scripts : List (List Line))
     (left : List Event) (refused : Bool) (old new : Content) (hashed : ℕ) (told : Option Files)
-    (readable : Name → Type 0) (pieces : Told)
+    (readable : Name → Type 0) (pieces : Told) (ample : Bool)
     → length scripts ≤ base_writer → SameNodes old new
     → AdoptsAll (length scripts) old.entries new.entries
     → Comes pair_of Weave course (adoptions 0 scripts ++ left) refused
-    (scene old hashed told readable pieces)
-    → Comes pair_of Weave course left refused (scene new hashed told readable pieces)
-comes_adopted pair_of course scripts left refused old new hashed told readable pieces few nodes
+    (scene old hashed told readable pieces ample)
+    → Comes pair_of Weave course left refused (scene new hashed told readable pieces ample)
+comes_adopted pair_of course scripts left refused old new hashed told readable pieces ample few nodes
     adopts c = record {
       done = c.done;
       state = after_all 0 scripts c.state;
@@ -190,6 +190,7 @@ comes_adopted pair_of course scripts left refused old new hashed told readable p
         versions = stands_adopted scripts c.state old new few nodes adopts c.at.versions;
         files = c.at.files ∙ ap Some (sym (after_files 0 scripts c.state));
         printed = c.at.printed;
+        ample = c.at.ample;
         answer = c.at.answer;
         pays = subst (λ (arena : Nodes). Pays course.base c.done
             course.hashed course.left hashed (unhashed arena)) (sym nodes.arena) c.at.pays;

@@ -35,8 +35,8 @@ module _ (pair_of : PairOf) (base order : List ℕ) (scripts : List (List ℕ)) 
         same_weave rules events first run.numbers [] in
         let final = (same_run rules Weave first events run.numbers []).final in
         record {
-          ends = subst (λ (turns : List Turn). Ends ended (job_of rules Weave first.files turns)
-              before.pieces after.pieces after.told) same run.ends;
+          ends = subst (λ (turns : List Turn). Ends before.ample ended
+              (job_of rules Weave first.files turns) before.pieces after.pieces after.told) same run.ends;
           paid = let charged = ap charges same in omega (arith, run.paid, charged);
           reached = run.reached [];
           through = λ done.

@@ -1,5 +1,5 @@
 -- How the two lines of a work are printed, and how the work ends.
-use Rattle.std.proofs.Common.{ℕ, ◌≡◌, List, [], ◌∷◌, ◌++◌, take, Some, refl, sym, ap, ◌∙◌, inl, inr, arith}
+use Rattle.std.proofs.Common.{ℕ, ◌≡◌, Bool, List, [], ◌∷◌, ◌++◌, take, Some, refl, sym, ap, ◌∙◌, inl, inr, arith}
 use Rattle.std.specs.Prelude.{◌≢◌, Err, codes, decimal}
 use Rattle.ssz_outside.specs.Content.{Content as Files}
 use Rattle.ssz_outside.specs.Job.{CountsRun, Ends, IsThatOrStopped, Job}
@@ -23,18 +23,18 @@ use Rattle.ssz_engine.specs.declared.fault.EngineFault.{EngineFault}
 use Rattle.ssz_engine.specs.declared.fault.EngineFault.TheVariants.{Read, Write, Memory}
 use Rattle.ssz_engine.proofs.Scripts.{told_append-none}
 
-module _ (held : Files) (first second : List ℕ) where
+module _ (ample : Bool) (held : Files) (first second : List ℕ) where
   abbrev job : Job
   job = two_lines_job held first second
 
   -- nothing was printed
-  pub lines_none : (old : Told) → Ends status.Memory job old old (Some held)
+  pub lines_none : (old : Told) → Ends ample status.Memory job old old (Some held)
   lines_none old =
       (0, inl (omega arith, record { printed = told_append-none old; held = refl }))
 
   -- the first line was not, or in part
   pub lines_first : (ended : Status) (old new : Told)
-      → Prints {T = Unit {0}} (Err ended) first old new → Ends ended job old new (Some held)
+      → Prints {T = Unit {0}} (Err ended) first old new → Ends ample ended job old new (Some held)
   lines_first status.WriteFault old new prints = (
     0,
     omega arith,
@@ -63,7 +63,7 @@ module _ (held : Files) (first second : List ℕ) where
 
     -- both were
     pub lines_both : new ≡ told_append mid (second ∷ [])
-        → Ends status.Accepted job old new (Some held)
+        → Ends ample status.Accepted job old new (Some held)
     lines_both more = record {
       status = refl;
       last = record { printed = behind (second ∷ []) more; held = refl };
@@ -71,7 +71,7 @@ module _ (held : Files) (first second : List ℕ) where
 
     -- the second was not, or in part
     pub lines_second : (ended : Status) → Prints {T = Unit {0}} (Err ended) second mid new
-        → Ends ended job old new (Some held)
+        → Ends ample ended job old new (Some held)
     lines_second status.WriteFault prints = (
       1,
       omega arith,
@@ -140,7 +140,7 @@ module _ (pair_of : PairOf) (type_name : Name) (seed count : ℕ) (before after 
   pub work_done : (ended : Status) (made : ℕ) (reply : List ℕ)
       → AreDone whole.turns whole.state old new → made ≡ work.edits
       → Replies (done rules work.state (Root worked)) reply
-      → Ends ended (two_lines_job first.files
+      → Ends before.ample ended (two_lines_job first.files
       (line (codes "work" ∷ decimal count ∷ decimal made ∷ [])) reply) before.pieces after.pieces
       (Some first.files)
       → EndsWorkFrom rules type_name seed count first ended before after

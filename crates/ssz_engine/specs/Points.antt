@@ -34,7 +34,8 @@ Pays base (turn ∷ turns) was left now rest =
     × Pays base turns mid mid_left now rest
 
 -- What a run began with: its rules, its events, the first state, the engine's base, the pairs that
--- were hashed and that were left to be hashed, and the pieces of the sink.
+-- were hashed and that were left to be hashed, the pieces of the sink, and whether it always finds
+-- memory.
 pub record Course : Type 0 where
   pub rules : Rules
   pub events : List Event
@@ -43,6 +44,7 @@ pub record Course : Type 0 where
   pub hashed : ℕ
   pub left : ℕ
   pub pieces : Told
+  pub ample : Bool
 
 -- the steps of the whole run, where `hashes` prints these numbers
 abbrev pub turns_of : Place → Course → List ℕ → List Turn
@@ -58,6 +60,7 @@ pub record IsAt (pair_of : PairOf) (place : Place) (course : Course) (done : Lis
   pub versions : StandsFor scene.engine state.versions
   pub files : scene.told ≡ Some state.files
   pub printed : scene.pieces ≡ told_append course.pieces (shown_all place done)
+  pub ample : scene.ample ≡ course.ample
   pub answer : refused ≡ list_any is_refused done
   pub pays : Pays course.base done course.hashed course.left scene.hashed
       (unhashed scene.engine.arena)
@@ -75,7 +78,7 @@ pub record Comes (pair_of : PairOf) (place : Place) (course : Course) (events : 
 pub record IsCutShort (place : Place) (course : Course) (ended : Status) (before after : Scene)
     : Type 0 where
   pub numbers : List ℕ
-  pub ends : Ends ended (job_from course.rules place course.events course.first numbers)
+  pub ends : Ends course.ample ended (job_from course.rules place course.events course.first numbers)
       course.pieces after.pieces after.told
   pub now : ℕ
   pub rest : ℕ

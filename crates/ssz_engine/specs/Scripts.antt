@@ -1,5 +1,5 @@
 -- How the run of a script ends.
-use Rattle.std.specs.Prelude.{◌≡◌, ◌≢◌, ◌≤◌, ℕ, ◌+◌, ◌-◌, if◌then◌else◌, List, [], ◌∷◌, Option, Some, None}
+use Rattle.std.specs.Prelude.{◌≡◌, ◌≢◌, ◌≤◌, ℕ, ◌+◌, ◌-◌, if◌then◌else◌, Bool, List, [], ◌∷◌, Option, Some, None}
 use Rattle.std.specs.List.{AllByRecursion}
 use Rattle.ssz_arena.specs.Content.{unhashed}
 use Rattle.ssz_outside.specs.Content.{Content as Files}
@@ -52,21 +52,23 @@ files_reached rules (turn ∷ turns) =
     name_before (file_reached rules turn) (files_reached rules turns)
 
 -- What is there before or after a run: the engine, the hasher's count, what the files tell, which
--- of them can be read, and the pieces that the sink has.
+-- of them can be read, the pieces that the sink has, and whether it always finds memory.
 pub record Scene : Type 1 where
   pub engine : Content
   pub hashed : ℕ
   pub told : Option Files
   pub readable : Name → Type 0
   pub pieces : Told
+  pub ample : Bool
 
-abbrev pub scene : Content → ℕ → Option Files → (Name → Type 0) → Told → Scene
-scene engine hashed told readable pieces = record {
+abbrev pub scene : Content → ℕ → Option Files → (Name → Type 0) → Told → Bool → Scene
+scene engine hashed told readable pieces ample = record {
   engine = engine;
   hashed = hashed;
   told = told;
   readable = readable;
   pieces = pieces;
+  ample = ample;
 }
 
 -- as behind `start`: nothing is left to be hashed, and `hashes` prints 0
@@ -95,7 +97,7 @@ pub record IsThrough (turns : List Turn) (last : State) (before after : Scene) :
 pub record EndsRun (rules : Rules) (place : Place) (events : List Event) (first : State)
     (ended : Status) (before after : Scene) : Type 0 where
   pub numbers : List ℕ
-  pub ends : Ends ended (job_of rules place first.files (play rules place numbers first events))
+  pub ends : Ends before.ample ended (job_of rules place first.files (play rules place numbers first events))
       before.pieces after.pieces after.told
   -- what was hashed is at most what was left to be hashed before, and the charges
   pub paid : after.hashed ≤ before.hashed + unhashed before.engine.arena

@@ -32,8 +32,8 @@ AdoptsAll count old new = (writer : ℕ) (name : Name)
 -- A weave from a first state ended, as its job does. No line of it prints a number.
 pub record EndsWeaveFrom (rules : Rules) (base order : List ℕ) (scripts : List (List ℕ))
     (first : State) (ended : Status) (before after : Scene) : Type 0 where
-  pub ends : Ends ended (weave_job rules first base order scripts) before.pieces after.pieces
-      after.told
+  pub ends : Ends before.ample ended (weave_job rules first base order scripts) before.pieces
+      after.pieces after.told
   -- what was hashed is at most what was left to be hashed before, and the charges
   pub paid : after.hashed ≤ before.hashed + unhashed before.engine.arena
       + charges (turns_of_weave rules first base order scripts)

@@ -119,8 +119,8 @@ two_lines_job held first second = record {
 -- A work from a first state ended, as its job does.
 pub record EndsWorkFrom (rules : Rules) (type_name : Name) (seed count : ℕ) (first : State)
     (ended : Status) (before after : Scene) : Type 0 where
-  pub ends : Ends ended (work_job rules first type_name seed count) before.pieces after.pieces
-      after.told
+  pub ends : Ends before.ample ended (work_job rules first type_name seed count) before.pieces
+      after.pieces after.told
   -- what was hashed is at most what was left to be hashed before, and the charges
   pub paid : after.hashed ≤ before.hashed + unhashed before.engine.arena
       + charges (whole_work rules first type_name seed count).turns

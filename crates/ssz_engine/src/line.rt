@@ -1,5 +1,5 @@
 // One line of a script.
-ghost use Rattle.std.specs.Prelude.{◌≡◌, ◌≢◌, ◌≤◌, ◌<◌, ◌+◌, ◌^◌, ◌∷◌, ◌++◌, [], ℕ, List, true, false, length, Some, None, Err, IfOk, IfErr, IfSome, OnOk};
+ghost use Rattle.std.specs.Prelude.{◌≡◌, ◌≢◌, ◌≤◌, ◌<◌, ◌+◌, ◌^◌, ◌∷◌, ◌++◌, [], ℕ, List, Bool, true, false, length, Some, None, Err, IfOk, IfErr, IfSome, OnOk};
 ghost use Rattle.std.specs.List.{AllByRecursion};
 ghost use Rattle.ssz_arena.specs.Content.{KeepsNodes, unhashed};
 ghost use Rattle.ssz_outside.specs.Job.{IsFinished};
@@ -101,7 +101,7 @@ pub(crate) fn reply_to<F: Files, H: PairHash>(
         → KeepsNodes engine.old.arena engine.new.arena }
     ensures rises { H.pairs hasher.old ≤ H.pairs hasher.new }
     ensures hashed { H.pairs hasher.new ≤ H.pairs hasher.old + unhashed engine.old.arena }
-    ensures does { (was is : Told) → DoesLine H.pair_of place writer.0
+    ensures does { (was is : Told) (had has : Bool) → DoesLine H.pair_of place writer.0
         (line.now.line, line.now.statement) result
         (record {
           engine = engine.old;
@@ -109,6 +109,7 @@ pub(crate) fn reply_to<F: Files, H: PairHash>(
           told = F.content files.old;
           readable = F.readable files.old;
           pieces = was;
+          ample = had;
         })
         (record {
           engine = engine.new;
@@ -116,6 +117,7 @@ pub(crate) fn reply_to<F: Files, H: PairHash>(
           told = F.content files.new;
           readable = F.readable files.new;
           pieces = is;
+          ample = has;
         })
         out.old.items out.new.items }
     ensures others { LeavesOthers writer.0 engine.old.entries engine.new.entries }
@@ -152,6 +154,8 @@ pub(crate) fn status_of(fault: EngineFault) -> Status
 pub(crate) fn print<S: Sink>(line: &[u8], out: &mut S) -> Result<(), Status>
     ensures pieces { Prints result line.now (S.pieces out.old) (S.pieces out.new) }
     ensures counts { CountsPrint result (S.faults out.old) (S.faults out.new) }
+    ensures memory { result ≡ Err Status.Memory → S.ample out.old ≡ false }
+    ensures ample { S.ample out.new ≡ S.ample out.old }
     ensures stops { IfErr result (λ ended. ¬ IsFinished ended) }
 {
     match out.put(line) {
@@ -194,6 +198,7 @@ pub(crate) fn run_line<F: Files, S: Sink, H: PairHash>(
           told = F.content files.old;
           readable = F.readable files.old;
           pieces = S.pieces out.old;
+          ample = S.ample out.old;
         })
         (record {
           engine = engine.new;
@@ -201,6 +206,7 @@ pub(crate) fn run_line<F: Files, S: Sink, H: PairHash>(
           told = F.content files.new;
           readable = F.readable files.new;
           pieces = S.pieces out.new;
+          ample = S.ample out.new;
         }) }
     ensures others { LeavesOthers writer.0 engine.old.entries engine.new.entries }
     ensures counts { Counts result (F.get_faults files.old) (F.get_faults files.new)

@@ -40,6 +40,7 @@ pub(crate) fn run_lines<F: Files, S: Sink, H: PairHash>(
           told = F.content files.old;
           readable = F.readable files.old;
           pieces = S.pieces out.old;
+          ample = S.ample out.old;
         })
         (record {
           engine = engine.new;
@@ -47,6 +48,7 @@ pub(crate) fn run_lines<F: Files, S: Sink, H: PairHash>(
           told = F.content files.new;
           readable = F.readable files.new;
           pieces = S.pieces out.new;
+          ample = S.ample out.new;
         }) }
     ensures others { LeavesOthers writer.0 engine.old.entries engine.new.entries }
     ensures counts { Counts result (F.get_faults files.old) (F.get_faults files.new)
@@ -108,6 +110,7 @@ impl<H: PairHash> Engine<H> {
               told = F.content files.old;
               readable = F.readable files.old;
               pieces = S.pieces out.old;
+              ample = S.ample out.old;
             })
             (record {
               engine = self.new;
@@ -115,6 +118,7 @@ impl<H: PairHash> Engine<H> {
               told = F.content files.new;
               readable = F.readable files.new;
               pieces = S.pieces out.new;
+              ample = S.ample out.new;
             }) }
         // The fault that the status names was counted, and no other: none is passed over.
         ensures counts { CountsRun result (F.get_faults files.old) (F.get_faults files.new)

@@ -34,9 +34,9 @@ fn run_next<F: Files, S: Sink, H: PairHash>(
     ensures rises { H.pairs hasher.old ≤ H.pairs hasher.new }
     ensures goes { Goes H.pair_of Weave (next_of writer.0 lines.old) result refused.old refused.new
         (scene engine.old (H.pairs hasher.old) (F.content files.old) (F.readable files.old)
-        (S.pieces out.old))
+        (S.pieces out.old) (S.ample out.old))
         (scene engine.new (H.pairs hasher.new) (F.content files.new) (F.readable files.new)
-        (S.pieces out.new)) }
+        (S.pieces out.new) (S.ample out.new)) }
     ensures left { OnOk result (lines.new ≡ drop 1 lines.old) }
     ensures counts { Counts result (F.get_faults files.old) (F.get_faults files.new)
         (F.put_faults files.old) (F.put_faults files.new) (S.faults out.old) (S.faults out.new) }
@@ -85,9 +85,9 @@ fn run_turns<F: Files, S: Sink, H: PairHash>(
     ensures goes { GoesOn H.pair_of Weave (woven order.now scripts.old.items)
         (rest_from 0 scripts.new.items) result refused.old refused.new
         (scene engine.old (H.pairs hasher.old) (F.content files.old) (F.readable files.old)
-        (S.pieces out.old))
+        (S.pieces out.old) (S.ample out.old))
         (scene engine.new (H.pairs hasher.new) (F.content files.new) (F.readable files.new)
-        (S.pieces out.new)) }
+        (S.pieces out.new) (S.ample out.new)) }
     ensures count { vec_len scripts.new ≡ vec_len scripts.old }
     ensures named { AllByRecursion (AreNamedReadable (F.readable files.old)) scripts.old.items
         → OnOk result
@@ -124,9 +124,9 @@ fn run_rest<F: Files, S: Sink, H: PairHash>(
     ensures goes { Goes H.pair_of Weave (rest_from 0 scripts.old.items) result refused.old
         refused.new
         (scene engine.old (H.pairs hasher.old) (F.content files.old) (F.readable files.old)
-        (S.pieces out.old))
+        (S.pieces out.old) (S.ample out.old))
         (scene engine.new (H.pairs hasher.new) (F.content files.new) (F.readable files.new)
-        (S.pieces out.new)) }
+        (S.pieces out.new) (S.ample out.new)) }
     ensures counts { Counts result (F.get_faults files.old) (F.get_faults files.new)
         (F.put_faults files.old) (F.put_faults files.new) (S.faults out.old) (S.faults out.new) }
     ensures stops { IfErr result (λ ended. ¬ IsFinished ended) }
@@ -172,9 +172,9 @@ pub(crate) fn run_woven<F: Files, S: Sink, H: PairHash>(
     ensures goes { Goes H.pair_of Weave (woven order.now scripts.old.items) result refused.old
         refused.new
         (scene engine.old (H.pairs hasher.old) (F.content files.old) (F.readable files.old)
-        (S.pieces out.old))
+        (S.pieces out.old) (S.ample out.old))
         (scene engine.new (H.pairs hasher.new) (F.content files.new) (F.readable files.new)
-        (S.pieces out.new)) }
+        (S.pieces out.new) (S.ample out.new)) }
     ensures counts { Counts result (F.get_faults files.old) (F.get_faults files.new)
         (F.put_faults files.old) (F.put_faults files.new) (S.faults out.old) (S.faults out.new) }
     ensures stops { IfErr result (λ ended. ¬ IsFinished ended) }

@@ -59,9 +59,9 @@ fn run_base<F: Files, S: Sink, H: PairHash>(
         → Goes H.pair_of Weave (all_of base_writer (statements_in base.now) ++ adoptions 0 scripts)
         result refused.old refused.new
         (scene engine.old (H.pairs hasher.old) (F.content files.old) (F.readable files.old)
-        (S.pieces out.old))
+        (S.pieces out.old) (S.ample out.old))
         (scene engine.new (H.pairs hasher.new) (F.content files.new) (F.readable files.new)
-        (S.pieces out.new)) }
+        (S.pieces out.new) (S.ample out.new)) }
     ensures counts { Counts result (F.get_faults files.old) (F.get_faults files.new)
         (F.put_faults files.old) (F.put_faults files.new) (S.faults out.old) (S.faults out.new) }
     ensures stops { IfErr result (λ ended. ¬ IsFinished ended) }
@@ -101,9 +101,9 @@ fn run_weave<F: Files, S: Sink, H: PairHash>(
         (weaving (statements_in base.now) order.now (map statements_in scripts.now)) result
         refused.old refused.new
         (scene engine.old (H.pairs hasher.old) (F.content files.old) (F.readable files.old)
-        (S.pieces out.old))
+        (S.pieces out.old) (S.ample out.old))
         (scene engine.new (H.pairs hasher.new) (F.content files.new) (F.readable files.new)
-        (S.pieces out.new)) }
+        (S.pieces out.new) (S.ample out.new)) }
     ensures counts { Counts result (F.get_faults files.old) (F.get_faults files.new)
         (F.put_faults files.old) (F.put_faults files.new) (S.faults out.old) (S.faults out.new) }
     ensures stops { IfErr result (λ ended. ¬ IsFinished ended) }
@@ -153,17 +153,17 @@ impl<H: PairHash> Engine<H> {
         // the run ended as the weave's job does.
         ensures ends { EndsWeave H.pair_of base.now order.now scripts.now result
             (scene self.old (H.pairs hasher.old) (F.content files.old) (F.readable files.old)
-            (S.pieces out.old))
+            (S.pieces out.old) (S.ample out.old))
             (scene self.new (H.pairs hasher.new) (F.content files.new) (F.readable files.new)
-            (S.pieces out.new)) }
+            (S.pieces out.new) (S.ample out.new)) }
         // Of what the sink was given, the lines with the mark of a script's writer are those that
         // its script prints alone, from the base's versions and with no other writer there: a front
         // of them, and all where no fault or want of memory ended the run.
         ensures isolated { IsolatesWriters H.pair_of base.now scripts.now result
             (scene self.old (H.pairs hasher.old) (F.content files.old) (F.readable files.old)
-            (S.pieces out.old))
+            (S.pieces out.old) (S.ample out.old))
             (scene self.new (H.pairs hasher.new) (F.content files.new) (F.readable files.new)
-            (S.pieces out.new)) }
+            (S.pieces out.new) (S.ample out.new)) }
         // The fault that the status names was counted, and no other: none is passed over.
         ensures counts { CountsRun result (F.get_faults files.old) (F.get_faults files.new)
             (F.put_faults files.old) (F.put_faults files.new) (S.faults out.old)

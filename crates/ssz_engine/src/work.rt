@@ -26,7 +26,7 @@ fn work_line(alloc: Global, count: u32, edits: u32) -> Result<String, AllocError
 
 // Prints the two lines.
 fn print_work<S: Sink>(alloc: Global, count: u32, edits: u32, root: &[u8], out: &mut S) -> Status
-    ensures ends { (held : Held) → Ends result (two_lines_job held
+    ensures ends { (held : Held) → Ends (S.ample out.old) result (two_lines_job held
         (line (codes "work" ∷ decimal count ∷ decimal edits ∷ [])) root.now)
         (S.pieces out.old) (S.pieces out.new) (Some held) }
     ensures counts { (gets puts : ℕ) → CountsRun result gets gets puts puts
@@ -69,9 +69,9 @@ impl<H: PairHash> Engine<H> {
         // it ended as the job of the work does.
         ensures ends { EndsWork H.pair_of type_name.now seed edits result
             (scene self.old (H.pairs hasher.old) (F.content files.old) (F.readable files.old)
-            (S.pieces out.old))
+            (S.pieces out.old) (S.ample out.old))
             (scene self.new (H.pairs hasher.new) (F.content files.new) (F.readable files.new)
-            (S.pieces out.new)) }
+            (S.pieces out.new) (S.ample out.new)) }
         // The fault that the status names was counted, and no other: none is passed over.
         ensures counts { CountsRun result (F.get_faults files.old) (F.get_faults files.new)
             (F.put_faults files.old) (F.put_faults files.new) (S.faults out.old)

@@ -64,10 +64,10 @@ module _ (rules : Rules) (place : Place) (events : List Event) (first : State)
       (record { printed = printed; held = are })
 
   -- want of memory between two lines
-  pub ends_without_memory : (old new : Told) (held : Option Content)
+  pub ends_without_memory : (ample : Bool) (old new : Told) (held : Option Content)
       → new ≡ told_append old (shown_all place done) → held ≡ Some state.files
-      → Ends status.Memory this_job old new held
-  ends_without_memory old new held printed are =
+      → Ends ample status.Memory this_job old new held
+  ends_without_memory ample old new held printed are =
       (length done, inl (within, stands old new held printed are))
 
 -- what a run looks like in which one line more was done, or was begun
@@ -126,10 +126,10 @@ module _ (rules : Rules) (place : Place) (events : List Event) (first : State)
       omega arith
 
   -- the line's file was not read
-  pub ends_unread : (old new : Told) (held : Option Content) → reads_file rules turn ≡ true
+  pub ends_unread : (ample : Bool) (old new : Told) (held : Option Content) → reads_file rules turn ≡ true
       → new ≡ told_append old (shown_all place done) → held ≡ Some state.files
-      → Ends status.ReadFault whole old new held
-  ends_unread old new held reads printed are = (
+      → Ends ample status.ReadFault whole old new held
+  ends_unread ample old new held reads printed are = (
     length done,
     let few = below in omega arith,
     ap (is_reading rules) here ∙ reads,
@@ -140,11 +140,11 @@ module _ (rules : Rules) (place : Place) (events : List Event) (first : State)
   )
 
   -- the line's file was not written whole
-  pub ends_torn_file : (old new : Told) (held : Option Content) (save : Save)
+  pub ends_torn_file : (ample : Bool) (old new : Told) (held : Option Content) (save : Save)
       → save_of turn ≡ Some save → new ≡ told_append old (shown_all place done)
       → Tears save.name save.bytes (Some state.files) held
-      → Ends status.WriteFault whole old new held
-  ends_torn_file old new held save saves printed tears = (
+      → Ends ample status.WriteFault whole old new held
+  ends_torn_file ample old new held save saves printed tears = (
     length done,
     below,
     inl (record {
@@ -157,11 +157,11 @@ module _ (rules : Rules) (place : Place) (events : List Event) (first : State)
   )
 
   -- the line was done, and its reply was not printed whole
-  pub ends_torn_line : (old new : Told) (held : Option Content) (count : ℕ)
+  pub ends_torn_line : (ample : Bool) (old new : Told) (held : Option Content) (count : ℕ)
       → new ≡ told_append old (shown_all place done ++ take count (shown place turn) ∷ [])
       → held ≡ Some (state_of turn).files
-      → Ends status.WriteFault whole old new held
-  ends_torn_line old new held count printed are = (
+      → Ends ample status.WriteFault whole old new held
+  ends_torn_line ample old new held count printed are = (
     length done,
     below,
     inr (record {
@@ -176,14 +176,15 @@ module _ (rules : Rules) (place : Place) (events : List Event) (first : State)
   )
 
   -- the line was done, and there was no memory to print its reply
-  pub ends_ahead : (old new : Told) (held : Option Content)
+  pub ends_ahead : (ample : Bool) (old new : Told) (held : Option Content) → ample ≡ false
       → new ≡ told_append old (shown_all place done) → held ≡ Some (state_of turn).files
-      → Ends status.Memory whole old new held
-  ends_ahead old new held printed are = (
+      → Ends ample status.Memory whole old new held
+  ends_ahead ample old new held wanting printed are = (
     length done,
     inr (
       below,
       record {
+        wanting = wanting;
         printed = printed ∙ ap (told_append old) (sym lines_before);
         held = are ∙ ap Some (sym files_later);
       },
@@ -215,34 +216,34 @@ module _ (rules : Rules) (place : Place) (events : List Event) (first : State)
         };
       }
 
-  pub ends_done : (old new : Told) (held : Option Content)
+  pub ends_done : (ample : Bool) (old new : Told) (held : Option Content)
       → new ≡ told_append old (shown_all place done) → held ≡ Some state.files
-      → Ends (status_after done) (job_from rules place events first last) old new held
-  ends_done old new held printed are =
+      → Ends ample (status_after done) (job_from rules place events first last) old new held
+  ends_done ample old new held printed are =
       by (list_any is_refused done) (finished old new held printed are)
     where
       by : (b : Bool)
           → Finishes (job_from rules place events first last)
           (cond b status.Refused status.Accepted) old new held
-          → Ends (cond b status.Refused status.Accepted) (job_from rules place events first last)
+          → Ends ample (cond b status.Refused status.Accepted) (job_from rules place events first last)
           old new held
       by true is = is
       by false is = is
 
 -- A job before which files are read ends as the job does.
-pub ends_after_reading : (ended : Status) (job : Job) (old new : Told) (held : Option Content)
-    → Ends ended job old new held → Ends ended (after_reading job) old new held
-ends_after_reading status.Accepted job old new held ends =
+pub ends_after_reading : (ample : Bool) (ended : Status) (job : Job) (old new : Told) (held : Option Content)
+    → Ends ample ended job old new held → Ends ample ended (after_reading job) old new held
+ends_after_reading ample status.Accepted job old new held ends =
     record { status = ends.status; last = ends.last }
-ends_after_reading status.Refused job old new held ends =
+ends_after_reading ample status.Refused job old new held ends =
     record { status = ends.status; last = ends.last }
-ends_after_reading status.Usage job old new held ends =
+ends_after_reading ample status.Usage job old new held ends =
     record { status = ends.status; last = ends.last }
-ends_after_reading status.SchemaFault job old new held ends =
+ends_after_reading ample status.SchemaFault job old new held ends =
     record { status = ends.status; last = ends.last }
-ends_after_reading status.ReadFault job old new held (k, few, reads, stands) =
+ends_after_reading ample status.ReadFault job old new held (k, few, reads, stands) =
     (k, few, or_right (k == 0) (job.reads k) reads, stands)
-ends_after_reading status.WriteFault job old new held (k, below, inl torn) = (
+ends_after_reading ample status.WriteFault job old new held (k, below, inl torn) = (
   k,
   below,
   inl (record {
@@ -252,7 +253,7 @@ ends_after_reading status.WriteFault job old new held (k, below, inl torn) = (
     held = torn.held;
   }),
 )
-ends_after_reading status.WriteFault job old new held (k, below, inr torn) = (
+ends_after_reading ample status.WriteFault job old new held (k, below, inr torn) = (
   k,
   below,
   inr (record {
@@ -263,6 +264,11 @@ ends_after_reading status.WriteFault job old new held (k, below, inr torn) = (
     held = torn.held;
   }),
 )
-ends_after_reading status.Memory job old new held (k, inl stands) = (k, inl stands)
-ends_after_reading status.Memory job old new held (k, inr (below, ahead)) =
-    (k, inr (below, record { printed = ahead.printed; held = ahead.held }))
+ends_after_reading ample status.Memory job old new held (k, inl stands) = (k, inl stands)
+ends_after_reading ample status.Memory job old new held (k, inr (below, ahead)) = (
+  k,
+  inr (
+    below,
+    record { wanting = ahead.wanting; printed = ahead.printed; held = ahead.held },
+  ),
+)

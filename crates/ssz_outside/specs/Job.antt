@@ -27,8 +27,9 @@ pub record Job : Type 0 where
   pub steps : ℕ
   pub status : Status
 
--- The five words below speak of a run: the pieces taken before it (old) and after it (new), and
--- what it left in the files (left), each where it is told.
+-- The words below speak of a run: the pieces taken before it (old) and after it (new), and what it
+-- left in the files (left), each where it is told; and whether its sink is one that always finds
+-- memory for a piece (ample).
 
 -- the sink has the lines of a moment, and the files are its files
 pub record StandsAt (moment : Moment) (old new : Told) (left : Option Content) : Type 0 where
@@ -51,8 +52,10 @@ pub record TearsLine (job : Job) (k : ℕ) (old new : Told) (left : Option Conte
   pub printed : new ≡ told_append old ((job.at k).lines ++ take count line ∷ [])
   pub held : left ≡ Some (job.at (k + 1)).files
 
--- a step was done, and nothing of its line was printed
-pub record RunsAhead (job : Job) (k : ℕ) (old new : Told) (left : Option Content) : Type 0 where
+-- a step was done, and nothing of its line was printed, since the sink found no memory for it
+pub record RunsAhead (ample : Bool) (job : Job) (k : ℕ) (old new : Told) (left : Option Content)
+    : Type 0 where
+  pub wanting : ample ≡ false
   pub printed : new ≡ told_append old (job.at k).lines
   pub held : left ≡ Some (job.at (k + 1)).files
 
@@ -64,19 +67,19 @@ pub record Finishes (job : Job) (ended : Status) (old new : Told)
 
 -- What a job leaves that ended with this status. A failed read ends it at a moment at which it
 -- reads files; a failed put ends it within a step, at its save or its line; want of memory ends it
--- between two steps, or after a step and before its line.
-abbrev pub Ends : Status → Job → Told → Told → Option Content → Type 0
-Ends status.Accepted job old new left = Finishes job status.Accepted old new left
-Ends status.Refused job old new left = Finishes job status.Refused old new left
-Ends status.Usage job old new left = Finishes job status.Usage old new left
-Ends status.SchemaFault job old new left = Finishes job status.SchemaFault old new left
-Ends status.ReadFault job old new left =
+-- between two steps, or after a step and before its line: the latter only where the sink may lack it.
+abbrev pub Ends : Bool → Status → Job → Told → Told → Option Content → Type 0
+Ends ample status.Accepted job old new left = Finishes job status.Accepted old new left
+Ends ample status.Refused job old new left = Finishes job status.Refused old new left
+Ends ample status.Usage job old new left = Finishes job status.Usage old new left
+Ends ample status.SchemaFault job old new left = Finishes job status.SchemaFault old new left
+Ends ample status.ReadFault job old new left =
     (k : ℕ) × (k ≤ job.steps) × IsTrue (job.reads k) × StandsAt (job.at k) old new left
-Ends status.WriteFault job old new left =
+Ends ample status.WriteFault job old new left =
     (k : ℕ) × (k < job.steps) × (TearsFile job k old new left ⊎ TearsLine job k old new left)
-Ends status.Memory job old new left =
+Ends ample status.Memory job old new left =
     (k : ℕ) × (((k ≤ job.steps) × StandsAt (job.at k) old new left)
-    ⊎ ((k < job.steps) × RunsAhead job k old new left))
+    ⊎ ((k < job.steps) × RunsAhead ample job k old new left))
 
 -- neither a fault of the outside nor want of memory
 abbrev pub IsFinished : Status → Type 0

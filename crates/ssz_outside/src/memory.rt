@@ -228,12 +228,14 @@ impl MemSink {
 }
 
 impl Sink for MemSink {
-    ghost use Rattle.std.specs.Prelude.{Some};
+    ghost use Rattle.std.specs.Prelude.{Some, false};
     ghost use Rattle.ssz_outside.specs.Memory.{IsListedPut, TakesHalf};
 
     ghost pieces = { λ s. Some s.pieces };
 
     ghost faults = { λ s. s.faults };
+
+    ghost ample = { λ _. false };
 
     // A listed call takes the first half of the piece, and fails.
     fn put(&mut self, piece: &[u8]) -> Result<(), PutFault>

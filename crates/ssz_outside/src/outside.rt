@@ -1,5 +1,5 @@
 // Files and a sink as a program sees them: what each answer says, and what is counted.
-ghost use Rattle.std.specs.Prelude.{◌≡◌, ◌≢◌, ℕ, ◌≤◌, List, [], vec_len, Ok, Err, IfSome};
+ghost use Rattle.std.specs.Prelude.{◌≡◌, ◌≢◌, ℕ, ◌≤◌, List, [], Bool, false, vec_len, Ok, Err, IfSome};
 ghost use Rattle.std.specs.declared.option.Option.{Option};
 ghost use Rattle.ssz_outside.specs.Content.{Content, bytes_of};
 ghost use Rattle.ssz_outside.specs.Outcome.{Gets, CountsGet, Puts, CountsPut, Takes};
@@ -97,7 +97,7 @@ pub trait Files {
 }
 
 /// Where printed text goes, a piece at a time, with a count of the `put`s that failed. The count
-/// never falls and stands still at `u64::MAX`.
+/// never falls and stands still at `u64::MAX`. No call changes whether it always finds memory.
 pub trait Sink {
     // The pieces taken so far, where the sink tells them.
     ghost pieces: { Self → Option (List (List ℕ)) };
@@ -105,11 +105,16 @@ pub trait Sink {
     // How many `put`s have failed.
     ghost faults: { Self → ℕ };
 
+    // Whether every `put` finds memory for its piece.
+    ghost ample: { Self → Bool };
+
     /// Takes the whole piece. A `Failed` has taken a prefix of it, perhaps nothing, and `Memory`
     /// nothing. A sink that takes nothing of a piece that is not empty has failed.
     fn put(&mut self, piece: &[u8]) -> Result<(), PutFault>
         ensures pieces { Takes result piece.now (pieces self.old) (pieces self.new) }
-        ensures faults { CountsPut result (faults self.old) (faults self.new) };
+        ensures faults { CountsPut result (faults self.old) (faults self.new) }
+        ensures memory { result ≡ Err PutFault.Memory → ample self.old ≡ false }
+        ensures ample { ample self.new ≡ ample self.old };
 
     /// How many `put`s have failed.
     fn faults(&self) -> u64

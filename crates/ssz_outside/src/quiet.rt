@@ -133,11 +133,13 @@ impl QuietSink {
 }
 
 impl Sink for QuietSink {
-    ghost use Rattle.std.specs.Prelude.{Some};
+    ghost use Rattle.std.specs.Prelude.{Some, false};
 
     ghost pieces = { λ s. Some s };
 
     ghost faults = { λ _. 0 };
+
+    ghost ample = { λ _. false };
 
     fn put(&mut self, piece: &[u8]) -> Result<(), PutFault>
         ensures never { result ≢ Err PutFault.Failed }

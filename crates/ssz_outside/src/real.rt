@@ -1,5 +1,5 @@
 // The files of the system and a writer of std, each call counted where it fails.
-ghost use Rattle.std.specs.Prelude.{◌≡◌, ◌≤◌, [], vec_len, Ok, IsErrOf};
+ghost use Rattle.std.specs.Prelude.{◌≡◌, ◌≢◌, ◌≤◌, [], vec_len, Ok, Err, IsErrOf};
 ghost use Rattle.ssz_outside.specs.Outcome.{next_count, CountsGet, CountsPut};
 ghost use Rattle.ssz_outside.specs.Real.{Writes};
 
@@ -138,14 +138,17 @@ impl<W: Write + Drop> OutSink<W> {
 }
 
 impl<W: Write + Drop> Sink for OutSink<W> {
-    ghost use Rattle.std.specs.Prelude.{None};
+    ghost use Rattle.std.specs.Prelude.{None, true};
 
     ghost pieces = { λ _. None };
 
     ghost faults = { λ s. s.faults };
 
+    ghost ample = { λ _. true };
+
     fn put(&mut self, piece: &[u8]) -> Result<(), PutFault>
         ensures writes { Writes result piece.now self.old.written self.new.written }
+        ensures never { result ≢ Err PutFault.Memory }
         ensures faults { CountsPut result self.old.faults self.new.faults }
         ensures once { IsErrOf result PutFault.Failed
             → self.new.faults ≡ next_count self.old.faults }

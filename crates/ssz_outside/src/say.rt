@@ -13,7 +13,7 @@ pub fn say_line<S: Sink>(line: &str, ended: Status, out: &mut S) -> Status
     // Whatever the files hold and whether they were read before, this is the job of that line: it
     // leaves the files alone.
     ensures ends { (held : Content) (reads : Bool)
-        → Ends result (line_job held reads line.now ended)
+        → Ends (S.ample out.old) result (line_job held reads line.now ended)
         (S.pieces out.old) (S.pieces out.new) (Some held) }
     ensures counts { (gets puts : ℕ) → CountsRun result gets gets puts puts
         (S.faults out.old) (S.faults out.new) }

@@ -51,11 +51,12 @@ module _ (pair_of : PairOf) (t : SszType) (lines : List Line) where
     -- there is no memory for the next line
     pub stops_for_memory :
         RunsAll (play pair_of t before.known lines) (Err status.Memory) before now
-    stops_for_memory held =
-        subst (λ turns. Ends status.Memory (job_of held turns) before.pieces now.pieces (Some held))
+    stops_for_memory held ample =
+        subst (λ turns. Ends ample status.Memory (job_of held turns) before.pieces now.pieces
+        (Some held))
         (sym comes.turns)
-        (ends_without_memory held comes.done (play pair_of t now.known left) before.pieces
-        now.pieces comes.printed)
+        (ends_without_memory held comes.done (play pair_of t now.known left) ample
+        before.pieces now.pieces comes.printed)
 
     -- what was hashed is at most what all lines may hash
     pub pays_all : now.hashed ≤ before.hashed + charges (play pair_of t before.known lines)
@@ -107,20 +108,21 @@ module _ (pair_of : PairOf) (t : SszType) (lines : List Line) where
       -- or ends the run
       pub breaks_off : (ended : Status) → Breaks turn ended now.pieces after.pieces
           → RunsAll (play pair_of t before.known lines) (Err ended) before after
-      breaks_off ended breaks held =
-          subst (λ turns. Ends ended (job_of held turns) before.pieces after.pieces (Some held))
+      breaks_off ended breaks held ample =
+          subst (λ turns. Ends ample ended (job_of held turns) before.pieces after.pieces
+          (Some held))
           (sym split) (by ended breaks)
         where
           by : (ended : Status) → Breaks turn ended now.pieces after.pieces
-              → Ends ended (job_of held (comes.done ++ turn ∷ rest)) before.pieces after.pieces
-              (Some held)
+              → Ends ample ended (job_of held (comes.done ++ turn ∷ rest)) before.pieces
+              after.pieces (Some held)
           by status.WriteFault (count, printed) =
-              ends_torn held comes.done turn rest before.pieces after.pieces count
+              ends_torn held comes.done turn rest ample before.pieces after.pieces count
               (printed ∙ ap (λ told. told_append told (take count (shown turn) ∷ [])) comes.printed
               ∙ told_append-twice before.pieces (map shown comes.done)
               (take count (shown turn) ∷ []))
           by status.Memory same =
-              ends_without_memory held comes.done (turn ∷ rest) before.pieces after.pieces
+              ends_without_memory held comes.done (turn ∷ rest) ample before.pieces after.pieces
               (same ∙ comes.printed)
           by status.Accepted is = absurd is
           by status.Refused is = absurd is
@@ -135,14 +137,14 @@ module _ (pair_of : PairOf) (t : SszType) (lines : List Line) where
           omega (arith, paid, comes.paid, all, sum_by-cons charge_of turn rest)
 
 -- a whole script
-pub runs_to_end : (turns : List Turn) (before after : Scene) (held : Content)
+pub runs_to_end : (turns : List Turn) (before after : Scene) (held : Content) (ample : Bool)
     → before.refused ≡ false → RunsAll turns (Ok tt) before after
-    → Ends (finished after.refused) (job_of held turns) before.pieces after.pieces (Some held)
-runs_to_end turns before after held none does =
-    subst (λ (r : Bool). Ends (finished r) (job_of held turns) before.pieces after.pieces
+    → Ends ample (finished after.refused) (job_of held turns) before.pieces after.pieces (Some held)
+runs_to_end turns before after held ample none does =
+    subst (λ (r : Bool). Ends ample (finished r) (job_of held turns) before.pieces after.pieces
     (Some held)) (sym (does.answer ∙ ap (λ b. list_any is_refused turns || b) none
     ∙ or_none (list_any is_refused turns)))
-    (ends_done held turns before.pieces after.pieces does.printed)
+    (ends_done held turns ample before.pieces after.pieces does.printed)
   where
     or_none : (b : Bool) → (b || false) ≡ b
     or_none true = refl

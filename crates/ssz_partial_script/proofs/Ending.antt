@@ -26,9 +26,9 @@ module _ (held : Content) (done rest : List Turn) where
   }
 
   -- memory was wanting there
-  pub ends_without_memory : (old new : Told) → new ≡ told_append old (map shown done)
-      → Ends status.Memory whole old new (Some held)
-  ends_without_memory old new printed =
+  pub ends_without_memory : (ample : Bool) (old new : Told) → new ≡ told_append old (map shown done)
+      → Ends ample status.Memory whole old new (Some held)
+  ends_without_memory ample old new printed =
       let count = length-append done rest in
       (length done, inl (omega arith, stands old new printed))
 
@@ -58,10 +58,10 @@ module _ (held : Content) (done : List Turn) (turn : Turn) (rest : List Turn) wh
   below : length done < job.steps
   below = let count = length-append done (turn ∷ rest) in omega arith
 
-  pub ends_torn : (old new : Told) (count : ℕ)
+  pub ends_torn : (ample : Bool) (old new : Told) (count : ℕ)
       → new ≡ told_append old (map shown done ++ take count (shown turn) ∷ [])
-      → Ends status.WriteFault job old new (Some held)
-  ends_torn old new count printed = (
+      → Ends ample status.WriteFault job old new (Some held)
+  ends_torn ample old new count printed = (
     length done,
     below,
     inr (record {
@@ -77,9 +77,9 @@ module _ (held : Content) (done : List Turn) (turn : Turn) (rest : List Turn) wh
 
 -- all steps were made
 module _ (held : Content) (turns : List Turn) where
-  pub ends_done : (old new : Told) → new ≡ told_append old (map shown turns)
-      → Ends (finished (list_any is_refused turns)) (job_of held turns) old new (Some held)
-  ends_done old new printed = by (list_any is_refused turns) (record {
+  pub ends_done : (ample : Bool) (old new : Told) → new ≡ told_append old (map shown turns)
+      → Ends ample (finished (list_any is_refused turns)) (job_of held turns) old new (Some held)
+  ends_done ample old new printed = by (list_any is_refused turns) (record {
     status = refl;
     last = record {
       printed = printed ∙ ap (λ all. told_append old (map shown all)) (sym (take-length turns));
@@ -89,6 +89,6 @@ module _ (held : Content) (turns : List Turn) where
     where
       by : (b : Bool)
           → Finishes (job_of held turns) (cond b status.Refused status.Accepted) old new (Some held)
-          → Ends (cond b status.Refused status.Accepted) (job_of held turns) old new (Some held)
+          → Ends ample (cond b status.Refused status.Accepted) (job_of held turns) old new (Some held)
       by true is = is
       by false is = is

@@ -85,7 +85,8 @@ pub record Does (turns : List Turn) (before after : Scene) : Type 0 where
 abbrev pub RunsAll : List Turn → Result (Unit {0}) Status → Scene → Scene → Type 0
 RunsAll turns (Ok x) before after = Does turns before after
 RunsAll turns (Err ended) before after =
-    (held : Content) → Ends ended (job_of held turns) before.pieces after.pieces (Some held)
+    (held : Content) (ample : Bool) → Ends ample ended (job_of held turns) before.pieces after.pieces
+    (Some held)
 
 -- Of the lines at first some were done, in these steps, and the others are left.
 pub record Comes (pair_of : PairOf) (t : SszType) (lines left : List Line) (before after : Scene)

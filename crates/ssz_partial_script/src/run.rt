@@ -171,7 +171,7 @@ pub fn run_partial<S: Sink, H: PairHash>(
 ) -> Status
     requires { partial.old.id < length schema.now.trees }
     // Whatever the files hold, which it leaves alone, the run ended as the script's job does.
-    ensures ends { (held : Content) → Ends result
+    ensures ends { (held : Content) → Ends (S.ample out.old) result
         (script_job H.pair_of (type_of schema.now partial.old.id) partial.old.proof held script.now)
         (S.pieces out.old) (S.pieces out.new) (Some held) }
     // The fault that the status names was counted, and no other: none is passed over.

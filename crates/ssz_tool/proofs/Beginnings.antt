@@ -42,11 +42,11 @@ pub zero_table : (first : ℕ) → CountsUp 126 first (first + 126)
 zero_table first = record { rises = omega arith; at_most = omega arith; exact = λ few. refl }
 
 -- so a job of one line is done for no numbers
-pub line_does : (held : Content) (reads : Bool) (made : Printed) (ended : Status) (first last : ℕ)
-    (old new : Told) → Ends ended (job_of_print held reads made) old new (Some held)
+pub line_does : (ample : Bool) (held : Content) (reads : Bool) (made : Printed) (ended : Status) (first last : ℕ)
+    (old new : Told) → Ends ample ended (job_of_print held reads made) old new (Some held)
     → Does (λ numbers. job_of_print held reads made) (λ numbers. []) ended first last
-    (λ job. Ends ended job old new (Some held))
-line_does held reads made ended first last old new ends = record {
+    (λ job. Ends ample ended job old new (Some held))
+line_does ample held reads made ended first last old new ends = record {
   numbers = [];
   left = ends;
   base = first + 126;
@@ -55,14 +55,14 @@ line_does held reads made ended first last old new ends = record {
 }
 
 -- and so is one of a line that is the same
-pub line_does_as : (held : Content) (reads : Bool) (line wanted : Line) (ended : Status)
+pub line_does_as : (ample : Bool) (held : Content) (reads : Bool) (line wanted : Line) (ended : Status)
     (first last : ℕ) (old new : Told) → line ≡ wanted
-    → Ends ended (job_of_line held reads line) old new (Some held)
+    → Ends ample ended (job_of_line held reads line) old new (Some held)
     → Does (λ numbers. job_of_line held reads wanted) (λ numbers. []) ended first last
-    (λ job. Ends ended job old new (Some held))
-line_does_as held reads line wanted ended first last old new is ends =
-    line_does held reads (printed wanted) ended first last old new
-    (subst (λ (l : Line). Ends ended (job_of_line held reads l) old new (Some held)) is ends)
+    (λ job. Ends ample ended job old new (Some held))
+line_does_as ample held reads line wanted ended first last old new is ends =
+    line_does ample held reads (printed wanted) ended first last old new
+    (subst (λ (l : Line). Ends ample ended (job_of_line held reads l) old new (Some held)) is ends)
 
 -- before its first step a job has printed nothing, and the files are as they were
 pub stands_first : (pair_of : PairOf) (numbers : List ℕ) (held : Content) (reads : Bool)
@@ -138,8 +138,8 @@ first_counts pair_of held (works type_named type_name seed count) ended rise sto
 first_counts pair_of held (plays_tree t lists script) ended rise stopped = no_counts ended rise
 
 -- A job that a fault or want of memory ends before its first step.
-module _ (pair_of : PairOf) (held : Content) (reads : Bool) (task : Task) (first base last : ℕ)
-    (told : Told) where
+module _ (ample : Bool) (pair_of : PairOf) (held : Content) (reads : Bool) (task : Task)
+    (first base last : ℕ) (told : Told) where
   abbrev job : List ℕ → Job
   job numbers = job_of_task pair_of numbers held reads task
 
@@ -147,8 +147,8 @@ module _ (pair_of : PairOf) (held : Content) (reads : Bool) (task : Task) (first
   turns numbers = turns_of_task pair_of numbers held task
 
   begun : (ended : Status) → ¬ IsFinished ended → CountsUp 126 first base
-      → Ends ended (job []) told told (Some held)
-      → Does job turns ended first last (λ job. Ends ended job told told (Some held))
+      → Ends ample ended (job []) told told (Some held)
+      → Does job turns ended first last (λ job. Ends ample ended job told told (Some held))
   begun ended stopped zeros ends = record {
     numbers = [];
     left = ends;
@@ -159,18 +159,18 @@ module _ (pair_of : PairOf) (held : Content) (reads : Bool) (task : Task) (first
 
   pub wants_memory_first : CountsUp 126 first base
       → Does job turns status.Memory first last
-      (λ job. Ends status.Memory job told told (Some held))
+      (λ job. Ends ample status.Memory job told told (Some held))
   wants_memory_first zeros =
       begun status.Memory (λ finished. finished) zeros
       (0, inl (omega arith, stands_first pair_of [] held reads task told))
 
-pub fails_first : (pair_of : PairOf) (held : Content) (reads : Bool) (task : Task)
+pub fails_first : (ample : Bool) (pair_of : PairOf) (held : Content) (reads : Bool) (task : Task)
     (first last : ℕ) (told : Told) → reads ≡ true
     → Does (λ numbers. job_of_task pair_of numbers held reads task)
     (λ numbers. turns_of_task pair_of numbers held task) status.ReadFault first last
-    (λ job. Ends status.ReadFault job told told (Some held))
-fails_first pair_of held reads task first last told is =
-    begun pair_of held reads task first (first + 126) last told status.ReadFault
+    (λ job. Ends ample status.ReadFault job told told (Some held))
+fails_first ample pair_of held reads task first last told is =
+    begun ample pair_of held reads task first (first + 126) last told status.ReadFault
     (λ finished. finished) (zero_table first) (
       0,
       omega arith,
@@ -226,10 +226,10 @@ module _ (pair_of : PairOf) (schema : Types) (most : ℕ) (held : Content) (scri
       → Does (λ numbers. job_of_task pair_of numbers held reads
       (plays (known_in schema) most script))
       (λ numbers. turns_of_task pair_of numbers held (plays (known_in schema) most script)) ended
-      first after.hashed (λ job. Ends ended job before.pieces after.pieces after.told)
+      first after.hashed (λ job. Ends before.ample ended job before.pieces after.pieces after.told)
   script_does reads first zeros = record {
     numbers = run.numbers;
-    left = ends_after_reading ended (script_job rules run.numbers (fresh held) script)
+    left = ends_after_reading before.ample ended (script_job rules run.numbers (fresh held) script)
         before.pieces after.pieces after.told run.ends;
     base = before.hashed;
     zeros = zeros;

@@ -75,10 +75,10 @@ module _ (pair_of : PairOf) (schema : Types) (held : Content) (type_name : Name)
       (works (known_in schema) type_name seed count))
       (λ numbers. turns_of_task pair_of numbers held
       (works (known_in schema) type_name seed count)) ended first after.hashed
-      (λ job. Ends ended job before.pieces after.pieces after.told)
+      (λ job. Ends before.ample ended job before.pieces after.pieces after.told)
   work_does reads first zeros = record {
     numbers = [];
-    left = ends_after_reading ended (work_job rules (fresh held) type_name seed count)
+    left = ends_after_reading before.ample ended (work_job rules (fresh held) type_name seed count)
         before.pieces after.pieces after.told run.ends;
     base = before.hashed;
     zeros = zeros;

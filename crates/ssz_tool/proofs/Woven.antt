@@ -52,10 +52,10 @@ module _ (pair_of : PairOf) (schema : Types) (most : ℕ) (held : Content) (base
       (weaves (known_in schema) most base order scripts))
       (λ numbers. turns_of_task pair_of numbers held
       (weaves (known_in schema) most base order scripts)) ended first after.hashed
-      (λ job. Ends ended job before.pieces after.pieces after.told)
+      (λ job. Ends before.ample ended job before.pieces after.pieces after.told)
   weave_does reads first zeros = record {
     numbers = [];
-    left = ends_after_reading ended (weave_job rules (fresh held) base order scripts)
+    left = ends_after_reading before.ample ended (weave_job rules (fresh held) base order scripts)
         before.pieces after.pieces after.told run.ends;
     base = before.hashed;
     zeros = zeros;

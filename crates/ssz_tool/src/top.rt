@@ -58,8 +58,8 @@ fn line_of_value<H: PairHash>(schema: &Schema, id: TypeId, bytes: &[u8], hasher:
 }
 
 fn print_line<S: Sink>(alloc: Global, line: &Line, out: &mut S) -> Status
-    ensures ends { (held : Content) (reads : Bool) → Ends result (job_of_line held reads line.now)
-        (S.pieces out.old) (S.pieces out.new) (Some held) }
+    ensures ends { (held : Content) (reads : Bool) → Ends (S.ample out.old) result
+        (job_of_line held reads line.now) (S.pieces out.old) (S.pieces out.new) (Some held) }
     ensures counts { (gets puts : ℕ) → CountsRun result gets gets puts puts
         (S.faults out.old) (S.faults out.new) }
     ensures status { IsThatOrStopped (status_of line.now) result }
@@ -84,7 +84,8 @@ fn do_task<F: Files, S: Sink, H: PairHash>(
         Does (λ numbers. job_of_task H.pair_of numbers held reads (task_view task))
         (λ numbers. turns_of_task H.pair_of numbers held (task_view task)) result
         (H.pairs hasher.old) (H.pairs hasher.new)
-        (λ job. Ends result job (S.pieces out.old) (S.pieces out.new) (F.content files.new))) }
+        (λ job. Ends (S.ample out.old) result job (S.pieces out.old) (S.pieces out.new)
+        (F.content files.new))) }
     ensures counts { CountsRun result (F.get_faults files.old) (F.get_faults files.new)
         (F.put_faults files.old) (F.put_faults files.new) (S.faults out.old) (S.faults out.new) }
     ensures usage { result ≡ Status.Usage → IsTrue (is_usage_task (task_view task)) }
@@ -133,7 +134,8 @@ fn run_words<F: Files, S: Sink, H: PairHash>(
     ensures ends { ForSome (F.content files.old) (λ held.
         Does (job_of H.pair_of (texts words.now) held) (turns_of H.pair_of (texts words.now) held)
         result (H.pairs hasher.old) (H.pairs hasher.new)
-        (λ job. Ends result job (S.pieces out.old) (S.pieces out.new) (F.content files.new))) }
+        (λ job. Ends (S.ample out.old) result job (S.pieces out.old) (S.pieces out.new)
+        (F.content files.new))) }
     ensures counts { CountsRun result (F.get_faults files.old) (F.get_faults files.new)
         (F.put_faults files.old) (F.put_faults files.new) (S.faults out.old) (S.faults out.new) }
     ensures usage { result ≡ Status.Usage → IsNone (taken (texts words.now)) }
@@ -178,7 +180,8 @@ pub fn run<F: Files, S: Sink, H: PairHash>(
     ensures ends { ForSome (F.content files.old) (λ held.
         Does (job_of H.pair_of (texts words.now) held) (turns_of H.pair_of (texts words.now) held)
         result (H.pairs hasher.old) (H.pairs hasher.new)
-        (λ job. Ends result job (S.pieces out.old) (S.pieces out.new) (F.content files.new))) }
+        (λ job. Ends (S.ample out.old) result job (S.pieces out.old) (S.pieces out.new)
+        (F.content files.new))) }
 
     // The fault that the status names was counted, and no other: none is passed over.
     ensures counts { CountsRun result (F.get_faults files.old) (F.get_faults files.new)

@@ -176,7 +176,8 @@ pub fn run_weave<F: Files, S: Sink, H: PairHash>(
         Does (λ numbers. job_of_task H.pair_of numbers held reads (weaving_view weaving))
         (λ numbers. turns_of_task H.pair_of numbers held (weaving_view weaving)) result
         (H.pairs hasher.old) (H.pairs hasher.new)
-        (λ job. Ends result job (S.pieces out.old) (S.pieces out.new) (F.content files.new))) }
+        (λ job. Ends (S.ample out.old) result job (S.pieces out.old) (S.pieces out.new)
+        (F.content files.new))) }
     ensures counts { CountsRun result (F.get_faults files.old) (F.get_faults files.new)
         (F.put_faults files.old) (F.put_faults files.new) (S.faults out.old) (S.faults out.new) }
     ensures usage { result ≢ Status.Usage }

@@ -8,7 +8,7 @@ use Rattle.ssz_engine.proofs.EngineSteps.{same_counts, stays_uncompacted, step_d
 use Rattle.ssz_engine.proofs.line.reply_to.Goals as goal
 
 pub returns-clause-does : goal.returns-clause-does
-returns-clause-does g c = λ was is.
+returns-clause-does g c = λ was is had has.
     let pairs = g.H.PairHash.pairs in
     let before : Scene = record {
       engine = c.args.engine.now;
@@ -16,6 +16,7 @@ returns-clause-does g c = λ was is.
       told = g.F.Files.content c.args.files.now;
       readable = g.F.Files.readable c.args.files.now;
       pieces = was;
+      ample = had;
     } in
     let after : Scene = record {
       engine = c.step.new.self;
@@ -23,6 +24,7 @@ returns-clause-does g c = λ was is.
       told = g.F.Files.content c.step.new.files;
       readable = g.F.Files.readable c.step.new.files;
       pieces = is;
+      ample = has;
     } in
     let step = c.step.ensures in
     subst (λ (statement : Option Statement). DoesLine g.H.PairHash.pair_of c.args.place

@@ -29,6 +29,7 @@ returns-in-Ok-clause-goes g c =
       told = g.F.Files.content c.args.files.now;
       readable = g.F.Files.readable c.args.files.now;
       pieces = g.S.Sink.pieces c.args.out.now;
+      ample = g.S.Sink.ample c.args.out.now;
     } in
     let after : Scene = record {
       engine = c.reply_to.new.engine;
@@ -36,6 +37,7 @@ returns-in-Ok-clause-goes g c =
       told = g.F.Files.content c.reply_to.new.files;
       readable = g.F.Files.readable c.reply_to.new.files;
       pieces = g.S.Sink.pieces c.print.new.out;
+      ample = g.S.Sink.ample c.print.new.out;
     } in
     let line : Line = (c.args.line.now.line, c.args.line.now.statement) in
     let prints = subst (λ (piece : List ℕ). Prints c.print.result piece before.pieces after.pieces)
@@ -50,7 +52,8 @@ returns-in-Ok-clause-goes g c =
     c.args.refused.now (b || c.args.refused.now) before after) (sym c.is_refusal.ensures)
     (print_goes g.H.PairHash.pair_of c.args.place c.args.writer.0 line c.args.refused.now before
     after c.push_front.new.out.items c.reply_to.new.out.items c.print.result c.in-Ok.made
-    (c.in-Ok.ensures.does before.pieces after.pieces) fronted prints c.reply_to.ensures.keeps)
+    (c.in-Ok.ensures.does before.pieces after.pieces before.ample after.ample) fronted prints c.reply_to.ensures.keeps
+    c.print.ensures.memory c.print.ensures.ample)
 
 pub returns-clause-goes : goal.returns-clause-goes
 returns-clause-goes g c =
@@ -60,6 +63,7 @@ returns-clause-goes g c =
       told = g.F.Files.content c.args.files.now;
       readable = g.F.Files.readable c.args.files.now;
       pieces = g.S.Sink.pieces c.args.out.now;
+      ample = g.S.Sink.ample c.args.out.now;
     } in
     let after : Scene = record {
       engine = c.reply_to.new.engine;
@@ -67,6 +71,7 @@ returns-clause-goes g c =
       told = g.F.Files.content c.reply_to.new.files;
       readable = g.F.Files.readable c.reply_to.new.files;
       pieces = g.S.Sink.pieces c.args.out.now;
+      ample = g.S.Sink.ample c.args.out.now;
     } in
     let line : Line = (c.args.line.now.line, c.args.line.now.statement) in
     subst (λ (ended : Status). Goes g.H.PairHash.pair_of c.args.place
@@ -75,5 +80,5 @@ returns-clause-goes g c =
     (stop_goes g.H.PairHash.pair_of c.args.place c.args.writer.0 line c.args.refused.now before
     after
     c.push_front.new.out.items c.reply_to.new.out.items c.in-Err.fault
-    (c.in-Err.ensures.does before.pieces after.pieces) refl
+    (c.in-Err.ensures.does before.pieces after.pieces before.ample after.ample) refl
     (record { rises = c.reply_to.ensures.rises; most = c.reply_to.ensures.hashed }))

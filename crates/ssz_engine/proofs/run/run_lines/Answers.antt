@@ -29,6 +29,7 @@ loop-line-preserved g c =
       told = g.F.Files.content c.args.files.now;
       readable = g.F.Files.readable c.args.files.now;
       pieces = g.S.Sink.pieces c.args.out.now;
+      ample = g.S.Sink.ample c.args.out.now;
     } in
     let mid : Scene = record {
       engine = c.loop-line.engine;
@@ -36,6 +37,7 @@ loop-line-preserved g c =
       told = g.F.Files.content c.loop-line.files;
       readable = g.F.Files.readable c.loop-line.files;
       pieces = g.S.Sink.pieces c.loop-line.out;
+      ample = g.S.Sink.ample c.loop-line.out;
     } in
     let after : Scene = record {
       engine = c.run_line-ran.new.engine;
@@ -43,6 +45,7 @@ loop-line-preserved g c =
       told = g.F.Files.content c.run_line-ran.new.files;
       readable = g.F.Files.readable c.run_line-ran.new.files;
       pieces = g.S.Sink.pieces c.run_line-ran.new.out;
+      ample = g.S.Sink.ample c.run_line-ran.new.out;
     } in
     let line : Line = (c.in-Ok-Some.line.line, c.in-Ok-Some.line.statement) in
     let taken = subst (λ (next : Option ScriptStatement).
@@ -80,6 +83,7 @@ returns-in_err-ran-in-Ok-Some-clause-goes g c =
       told = g.F.Files.content c.args.files.now;
       readable = g.F.Files.readable c.args.files.now;
       pieces = g.S.Sink.pieces c.args.out.now;
+      ample = g.S.Sink.ample c.args.out.now;
     } in
     let mid : Scene = record {
       engine = c.loop-line.engine;
@@ -87,6 +91,7 @@ returns-in_err-ran-in-Ok-Some-clause-goes g c =
       told = g.F.Files.content c.loop-line.files;
       readable = g.F.Files.readable c.loop-line.files;
       pieces = g.S.Sink.pieces c.loop-line.out;
+      ample = g.S.Sink.ample c.loop-line.out;
     } in
     let after : Scene = record {
       engine = c.run_line-ran.new.engine;
@@ -94,6 +99,7 @@ returns-in_err-ran-in-Ok-Some-clause-goes g c =
       told = g.F.Files.content c.run_line-ran.new.files;
       readable = g.F.Files.readable c.run_line-ran.new.files;
       pieces = g.S.Sink.pieces c.run_line-ran.new.out;
+      ample = g.S.Sink.ample c.run_line-ran.new.out;
     } in
     let line : Line = (c.in-Ok-Some.line.line, c.in-Ok-Some.line.statement) in
     let taken = subst (λ (next : Option ScriptStatement).

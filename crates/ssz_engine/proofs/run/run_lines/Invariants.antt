@@ -24,6 +24,7 @@ invariant-loop-line g l = record {
         told = g.F.Files.content l.fn.files;
         readable = g.F.Files.readable l.fn.files;
         pieces = g.S.Sink.pieces l.fn.out;
+        ample = g.S.Sink.ample l.fn.out;
       })
       (record {
         engine = l.engine;
@@ -31,6 +32,7 @@ invariant-loop-line g l = record {
         told = g.F.Files.content l.files;
         readable = g.F.Files.readable l.files;
         pieces = g.S.Sink.pieces l.out;
+        ample = g.S.Sink.ample l.out;
       });
   others : LeavesOthers l.fn.writer.0 l.fn.engine.entries l.engine.entries;
   readable : (other : List ℕ) → g.F.Files.readable l.fn.files other

@@ -21,13 +21,13 @@ pub returns-in_err-run_lines-clause-goes : goal.returns-in_err-run_lines-clause-
 returns-in_err-run_lines-clause-goes g c =
     let before : Scene = scene c.args.engine.now (g.H.PairHash.pairs c.args.hasher.now)
     (g.F.Files.content c.args.files.now) (g.F.Files.readable c.args.files.now)
-    (g.S.Sink.pieces c.args.out.now) in
+    (g.S.Sink.pieces c.args.out.now) (g.S.Sink.ample c.args.out.now) in
     let mid : Scene = scene c.loop-writer.engine (g.H.PairHash.pairs c.loop-writer.hasher)
     (g.F.Files.content c.loop-writer.files) (g.F.Files.readable c.loop-writer.files)
-    (g.S.Sink.pieces c.loop-writer.out) in
+    (g.S.Sink.pieces c.loop-writer.out) (g.S.Sink.ample c.loop-writer.out) in
     let after : Scene = scene c.run_lines.new.engine (g.H.PairHash.pairs c.run_lines.new.hasher)
     (g.F.Files.content c.run_lines.new.files) (g.F.Files.readable c.run_lines.new.files)
-    (g.S.Sink.pieces c.run_lines.new.out) in
+    (g.S.Sink.pieces c.run_lines.new.out) (g.S.Sink.ample c.run_lines.new.out) in
     let loop = c.loop-writer in
     let w = loop.number in
     let scripts = loop.scripts.items in
@@ -56,13 +56,13 @@ pub loop-writer-preserved : goal.loop-writer-preserved
 loop-writer-preserved g c =
     let before : Scene = scene c.args.engine.now (g.H.PairHash.pairs c.args.hasher.now)
     (g.F.Files.content c.args.files.now) (g.F.Files.readable c.args.files.now)
-    (g.S.Sink.pieces c.args.out.now) in
+    (g.S.Sink.pieces c.args.out.now) (g.S.Sink.ample c.args.out.now) in
     let mid : Scene = scene c.loop-writer.engine (g.H.PairHash.pairs c.loop-writer.hasher)
     (g.F.Files.content c.loop-writer.files) (g.F.Files.readable c.loop-writer.files)
-    (g.S.Sink.pieces c.loop-writer.out) in
+    (g.S.Sink.pieces c.loop-writer.out) (g.S.Sink.ample c.loop-writer.out) in
     let after : Scene = scene c.run_lines.new.engine (g.H.PairHash.pairs c.run_lines.new.hasher)
     (g.F.Files.content c.run_lines.new.files) (g.F.Files.readable c.run_lines.new.files)
-    (g.S.Sink.pieces c.run_lines.new.out) in
+    (g.S.Sink.pieces c.run_lines.new.out) (g.S.Sink.ample c.run_lines.new.out) in
     let loop = c.loop-writer in
     let so_far = loop.invariant in
     let ran = c.in_ok-run_lines.ensures in

@@ -23,9 +23,9 @@ invariant-loop-writer g l = record {
   leads : LeadsTo g.H.PairHash.pair_of Weave (rest_from 0 l.fn.scripts.items)
       (rest_from l.number (drop l.number l.scripts.items)) l.fn.refused l.refused
       (scene l.fn.engine (g.H.PairHash.pairs l.fn.hasher) (g.F.Files.content l.fn.files)
-      (g.F.Files.readable l.fn.files) (g.S.Sink.pieces l.fn.out))
+      (g.F.Files.readable l.fn.files) (g.S.Sink.pieces l.fn.out) (g.S.Sink.ample l.fn.out))
       (scene l.engine (g.H.PairHash.pairs l.hasher) (g.F.Files.content l.files)
-      (g.F.Files.readable l.files) (g.S.Sink.pieces l.out));
+      (g.F.Files.readable l.files) (g.S.Sink.pieces l.out) (g.S.Sink.ample l.out));
   readable : (other : List ℕ) → g.F.Files.readable l.fn.files other
       → g.F.Files.readable l.files other;
   named : AllByRecursion (AreNamedReadable (g.F.Files.readable l.fn.files)) l.fn.scripts.items

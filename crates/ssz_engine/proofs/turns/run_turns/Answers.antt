@@ -20,13 +20,13 @@ pub returns-in_err-run_next-clause-goes : goal.returns-in_err-run_next-clause-go
 returns-in_err-run_next-clause-goes g c =
     let before : Scene = scene c.args.engine.now (g.H.PairHash.pairs c.args.hasher.now)
     (g.F.Files.content c.args.files.now) (g.F.Files.readable c.args.files.now)
-    (g.S.Sink.pieces c.args.out.now) in
+    (g.S.Sink.pieces c.args.out.now) (g.S.Sink.ample c.args.out.now) in
     let mid : Scene = scene c.loop-number.engine (g.H.PairHash.pairs c.loop-number.hasher)
     (g.F.Files.content c.loop-number.files) (g.F.Files.readable c.loop-number.files)
-    (g.S.Sink.pieces c.loop-number.out) in
+    (g.S.Sink.pieces c.loop-number.out) (g.S.Sink.ample c.loop-number.out) in
     let after : Scene = scene c.run_next.new.engine (g.H.PairHash.pairs c.run_next.new.hasher)
     (g.F.Files.content c.run_next.new.files) (g.F.Files.readable c.run_next.new.files)
-    (g.S.Sink.pieces c.run_next.new.out) in
+    (g.S.Sink.pieces c.run_next.new.out) (g.S.Sink.ample c.run_next.new.out) in
     let loop = c.loop-number in
     let w = c.from.result in
     let scripts = loop.scripts.items in
@@ -61,13 +61,13 @@ pub loop-number-preserved : goal.loop-number-preserved
 loop-number-preserved g c =
     let before : Scene = scene c.args.engine.now (g.H.PairHash.pairs c.args.hasher.now)
     (g.F.Files.content c.args.files.now) (g.F.Files.readable c.args.files.now)
-    (g.S.Sink.pieces c.args.out.now) in
+    (g.S.Sink.pieces c.args.out.now) (g.S.Sink.ample c.args.out.now) in
     let mid : Scene = scene c.loop-number.engine (g.H.PairHash.pairs c.loop-number.hasher)
     (g.F.Files.content c.loop-number.files) (g.F.Files.readable c.loop-number.files)
-    (g.S.Sink.pieces c.loop-number.out) in
+    (g.S.Sink.pieces c.loop-number.out) (g.S.Sink.ample c.loop-number.out) in
     let after : Scene = scene c.run_next.new.engine (g.H.PairHash.pairs c.run_next.new.hasher)
     (g.F.Files.content c.run_next.new.files) (g.F.Files.readable c.run_next.new.files)
-    (g.S.Sink.pieces c.run_next.new.out) in
+    (g.S.Sink.pieces c.run_next.new.out) (g.S.Sink.ample c.run_next.new.out) in
     let loop = c.loop-number in
     let so_far = loop.invariant in
     let ran = c.in_ok-run_next.ensures in

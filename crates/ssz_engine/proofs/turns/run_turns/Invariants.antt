@@ -21,9 +21,9 @@ invariant-loop-number g l = record {
   leads : LeadsTo g.H.PairHash.pair_of Weave (woven l.order l.fn.scripts.items)
       (woven (drop l.number-index l.order) l.scripts.items) l.fn.refused l.refused
       (scene l.fn.engine (g.H.PairHash.pairs l.fn.hasher) (g.F.Files.content l.fn.files)
-      (g.F.Files.readable l.fn.files) (g.S.Sink.pieces l.fn.out))
+      (g.F.Files.readable l.fn.files) (g.S.Sink.pieces l.fn.out) (g.S.Sink.ample l.fn.out))
       (scene l.engine (g.H.PairHash.pairs l.hasher) (g.F.Files.content l.files)
-      (g.F.Files.readable l.files) (g.S.Sink.pieces l.out));
+      (g.F.Files.readable l.files) (g.S.Sink.pieces l.out) (g.S.Sink.ample l.out));
   count : vec_len l.scripts ≡ vec_len l.fn.scripts;
   readable : (other : List ℕ) → g.F.Files.readable l.fn.files other
       → g.F.Files.readable l.files other;

@@ -14,10 +14,10 @@ pub returns-in_err-run_turns-clause-goes : goal.returns-in_err-run_turns-clause-
 returns-in_err-run_turns-clause-goes g c =
     let before : Scene = scene c.args.engine.now (g.H.PairHash.pairs c.args.hasher.now)
     (g.F.Files.content c.args.files.now) (g.F.Files.readable c.args.files.now)
-    (g.S.Sink.pieces c.args.out.now) in
+    (g.S.Sink.pieces c.args.out.now) (g.S.Sink.ample c.args.out.now) in
     let after : Scene = scene c.run_turns.new.engine (g.H.PairHash.pairs c.run_turns.new.hasher)
     (g.F.Files.content c.run_turns.new.files) (g.F.Files.readable c.run_turns.new.files)
-    (g.S.Sink.pieces c.run_turns.new.out) in
+    (g.S.Sink.pieces c.run_turns.new.out) (g.S.Sink.ample c.run_turns.new.out) in
     let exit = err_from_is_err_and c.from_residual.result c.from_residual.ensures.1 in
     let these = woven c.args.order.now c.args.scripts.now.items in
     let goes : Goes g.H.PairHash.pair_of Weave these (Err exit.0) c.args.refused.now
@@ -32,13 +32,13 @@ pub returns-clause-goes : goal.returns-clause-goes
 returns-clause-goes g c =
     let before : Scene = scene c.args.engine.now (g.H.PairHash.pairs c.args.hasher.now)
     (g.F.Files.content c.args.files.now) (g.F.Files.readable c.args.files.now)
-    (g.S.Sink.pieces c.args.out.now) in
+    (g.S.Sink.pieces c.args.out.now) (g.S.Sink.ample c.args.out.now) in
     let mid : Scene = scene c.run_turns.new.engine (g.H.PairHash.pairs c.run_turns.new.hasher)
     (g.F.Files.content c.run_turns.new.files) (g.F.Files.readable c.run_turns.new.files)
-    (g.S.Sink.pieces c.run_turns.new.out) in
+    (g.S.Sink.pieces c.run_turns.new.out) (g.S.Sink.ample c.run_turns.new.out) in
     let after : Scene = scene c.run_rest.new.engine (g.H.PairHash.pairs c.run_rest.new.hasher)
     (g.F.Files.content c.run_rest.new.files) (g.F.Files.readable c.run_rest.new.files)
-    (g.S.Sink.pieces c.run_rest.new.out) in
+    (g.S.Sink.pieces c.run_rest.new.out) (g.S.Sink.ample c.run_rest.new.out) in
     leads_goes g.H.PairHash.pair_of Weave (woven c.args.order.now c.args.scripts.now.items)
     (rest_from 0 c.run_turns.new.scripts.items) c.run_rest.result c.args.refused.now
     c.run_turns.new.refused c.run_rest.new.refused before mid after

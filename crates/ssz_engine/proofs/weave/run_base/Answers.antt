@@ -21,10 +21,10 @@ pub returns-in_err-run_lines-clause-goes : goal.returns-in_err-run_lines-clause-
 returns-in_err-run_lines-clause-goes g c = λ scripts count.
     let before : Scene = scene c.args.engine.now (g.H.PairHash.pairs c.args.hasher.now)
     (g.F.Files.content c.args.files.now) (g.F.Files.readable c.args.files.now)
-    (g.S.Sink.pieces c.args.out.now) in
+    (g.S.Sink.pieces c.args.out.now) (g.S.Sink.ample c.args.out.now) in
     let after : Scene = scene c.run_lines.new.engine (g.H.PairHash.pairs c.run_lines.new.hasher)
     (g.F.Files.content c.run_lines.new.files) (g.F.Files.readable c.run_lines.new.files)
-    (g.S.Sink.pieces c.run_lines.new.out) in
+    (g.S.Sink.pieces c.run_lines.new.out) (g.S.Sink.ample c.run_lines.new.out) in
     let exit = err_from_is_err_and c.from_residual.result c.from_residual.ensures.1 in
     let lines = all_of base_writer (statements_in c.args.base.now) in
     let goes : Goes g.H.PairHash.pair_of Weave lines (Err exit.0) c.args.refused.now
@@ -44,13 +44,13 @@ pub returns-in-Ok-clause-goes : goal.returns-in-Ok-clause-goes
 returns-in-Ok-clause-goes g c = λ scripts count.
     let before : Scene = scene c.args.engine.now (g.H.PairHash.pairs c.args.hasher.now)
     (g.F.Files.content c.args.files.now) (g.F.Files.readable c.args.files.now)
-    (g.S.Sink.pieces c.args.out.now) in
+    (g.S.Sink.pieces c.args.out.now) (g.S.Sink.ample c.args.out.now) in
     let mid : Scene = scene c.run_lines.new.engine (g.H.PairHash.pairs c.run_lines.new.hasher)
     (g.F.Files.content c.run_lines.new.files) (g.F.Files.readable c.run_lines.new.files)
-    (g.S.Sink.pieces c.run_lines.new.out) in
+    (g.S.Sink.pieces c.run_lines.new.out) (g.S.Sink.ample c.run_lines.new.out) in
     let after : Scene = scene c.adopt_all.new.engine (g.H.PairHash.pairs c.run_lines.new.hasher)
     (g.F.Files.content c.run_lines.new.files) (g.F.Files.readable c.run_lines.new.files)
-    (g.S.Sink.pieces c.run_lines.new.out) in
+    (g.S.Sink.pieces c.run_lines.new.out) (g.S.Sink.ample c.run_lines.new.out) in
     let lines = all_of base_writer (statements_in c.args.base.now) in
     let begins = subst (λ (left : List Line). Goes g.H.PairHash.pair_of Weave
     (all_of base_writer left) (Ok tt) c.args.refused.now c.run_lines.new.refused before mid)
@@ -61,7 +61,7 @@ returns-in-Ok-clause-goes g c = λ scripts count.
     c.run_lines.new.refused c.run_lines.new.refused before mid after (Ok tt) begins
     (λ course left comes. comes_adopted g.H.PairHash.pair_of course scripts left
     c.run_lines.new.refused c.run_lines.new.engine c.adopt_all.new.engine mid.hashed mid.told
-    mid.readable mid.pieces (omega (arith, c.requires.few, count)) c.in-Ok.ensures.nodes adopts
+    mid.readable mid.pieces mid.ample (omega (arith, c.requires.few, count)) c.in-Ok.ensures.nodes adopts
     comes)
     c.in_ok-run_lines.ensures.readable
 
@@ -69,13 +69,13 @@ pub returns-in-Err-clause-goes : goal.returns-in-Err-clause-goes
 returns-in-Err-clause-goes g c = λ scripts count.
     let before : Scene = scene c.args.engine.now (g.H.PairHash.pairs c.args.hasher.now)
     (g.F.Files.content c.args.files.now) (g.F.Files.readable c.args.files.now)
-    (g.S.Sink.pieces c.args.out.now) in
+    (g.S.Sink.pieces c.args.out.now) (g.S.Sink.ample c.args.out.now) in
     let mid : Scene = scene c.run_lines.new.engine (g.H.PairHash.pairs c.run_lines.new.hasher)
     (g.F.Files.content c.run_lines.new.files) (g.F.Files.readable c.run_lines.new.files)
-    (g.S.Sink.pieces c.run_lines.new.out) in
+    (g.S.Sink.pieces c.run_lines.new.out) (g.S.Sink.ample c.run_lines.new.out) in
     let after : Scene = scene c.adopt_all.new.engine (g.H.PairHash.pairs c.run_lines.new.hasher)
     (g.F.Files.content c.run_lines.new.files) (g.F.Files.readable c.run_lines.new.files)
-    (g.S.Sink.pieces c.run_lines.new.out) in
+    (g.S.Sink.pieces c.run_lines.new.out) (g.S.Sink.ample c.run_lines.new.out) in
     let lines = all_of base_writer (statements_in c.args.base.now) in
     let begins = subst (λ (left : List Line). Goes g.H.PairHash.pair_of Weave
     (all_of base_writer left) (Ok tt) c.args.refused.now c.run_lines.new.refused before mid)

@@ -24,10 +24,10 @@ pub returns-in_err-run_base-clause-goes : goal.returns-in_err-run_base-clause-go
 returns-in_err-run_base-clause-goes g c =
     let before : Scene = scene c.args.engine.now (g.H.PairHash.pairs c.args.hasher.now)
     (g.F.Files.content c.args.files.now) (g.F.Files.readable c.args.files.now)
-    (g.S.Sink.pieces c.args.out.now) in
+    (g.S.Sink.pieces c.args.out.now) (g.S.Sink.ample c.args.out.now) in
     let after : Scene = scene c.run_base.new.engine (g.H.PairHash.pairs c.run_base.new.hasher)
     (g.F.Files.content c.run_base.new.files) (g.F.Files.readable c.run_base.new.files)
-    (g.S.Sink.pieces c.run_base.new.out) in
+    (g.S.Sink.pieces c.run_base.new.out) (g.S.Sink.ample c.run_base.new.out) in
     let scripts = map statements_in c.args.scripts.now in
     let count : length scripts ≡ c.len.result =
     (let same = ap length c.in-Ok.ensures in
@@ -49,13 +49,13 @@ pub returns-clause-goes : goal.returns-clause-goes
 returns-clause-goes g c =
     let before : Scene = scene c.args.engine.now (g.H.PairHash.pairs c.args.hasher.now)
     (g.F.Files.content c.args.files.now) (g.F.Files.readable c.args.files.now)
-    (g.S.Sink.pieces c.args.out.now) in
+    (g.S.Sink.pieces c.args.out.now) (g.S.Sink.ample c.args.out.now) in
     let mid : Scene = scene c.run_base.new.engine (g.H.PairHash.pairs c.run_base.new.hasher)
     (g.F.Files.content c.run_base.new.files) (g.F.Files.readable c.run_base.new.files)
-    (g.S.Sink.pieces c.run_base.new.out) in
+    (g.S.Sink.pieces c.run_base.new.out) (g.S.Sink.ample c.run_base.new.out) in
     let after : Scene = scene c.run_woven.new.engine (g.H.PairHash.pairs c.run_woven.new.hasher)
     (g.F.Files.content c.run_woven.new.files) (g.F.Files.readable c.run_woven.new.files)
-    (g.S.Sink.pieces c.run_woven.new.out) in
+    (g.S.Sink.pieces c.run_woven.new.out) (g.S.Sink.ample c.run_woven.new.out) in
     let scripts = map statements_in c.args.scripts.now in
     let count : length scripts ≡ c.len.result =
     (let same = ap length c.in-Ok.ensures in

@@ -8,7 +8,7 @@ use Rattle.ssz_engine.proofs.work.print_work.Goals as goal
 pub returns-in-Err-clause-ends : goal.returns-in-Err-clause-ends
 returns-in-Err-clause-ends g c = λ held.
     let first : List ℕ = line (codes "work" ∷ decimal c.args.count ∷ decimal c.args.edits ∷ []) in
-    lines_first held first c.args.root.now c.in-Err.ended _ _
+    lines_first (g.S.Sink.ample c.args.out.now) held first c.args.root.now c.in-Err.ended _ _
     (subst (λ (text : List ℕ). Prints {T = Unit {0}} (Err c.in-Err.ended) text
     (g.S.Sink.pieces c.args.out.now) (g.S.Sink.pieces c.print.new.out))
     (c.as_bytes.ensures.value ∙ c.in-Ok.ensures) c.in-Err.ensures.pieces)
@@ -16,7 +16,7 @@ returns-in-Err-clause-ends g c = λ held.
 pub returns-clause-ends : goal.returns-clause-ends
 returns-clause-ends g c = λ held.
     let first : List ℕ = line (codes "work" ∷ decimal c.args.count ∷ decimal c.args.edits ∷ []) in
-    lines_second held first c.args.root.now (g.S.Sink.pieces c.args.out.now)
+    lines_second (g.S.Sink.ample c.args.out.now) held first c.args.root.now (g.S.Sink.pieces c.args.out.now)
     (g.S.Sink.pieces c.print.new.out) (g.S.Sink.pieces c.print-2.new.out)
     (subst (λ (text : List ℕ). Prints {T = Unit {0}} (Ok tt) text
     (g.S.Sink.pieces c.args.out.now) (g.S.Sink.pieces c.print.new.out))

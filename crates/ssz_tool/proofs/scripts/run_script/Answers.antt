@@ -13,6 +13,7 @@ returns-in-Ok-clause-ends g c = λ reads held told.
       told = g.F.Files.content c.args.files.now;
       readable = g.F.Files.readable c.args.files.now;
       pieces = g.S.Sink.pieces c.args.out.now;
+      ample = g.S.Sink.ample c.args.out.now;
     })
     (record {
       engine = c.run_script.new.self;
@@ -20,6 +21,7 @@ returns-in-Ok-clause-ends g c = λ reads held told.
       told = g.F.Files.content c.run_script.new.files;
       readable = g.F.Files.readable c.run_script.new.files;
       pieces = g.S.Sink.pieces c.run_script.new.out;
+      ample = g.S.Sink.ample c.run_script.new.out;
     })
     c.in-Ok.ensures.types c.in-Ok.ensures.most c.in-Ok.ensures.stands told
     (record { base = c.in-Ok.ensures.base; left = c.in-Ok.ensures.unhashed })
@@ -38,6 +40,7 @@ returns-in-Ok-clause-reached g c = λ held told all.
       told = g.F.Files.content c.args.files.now;
       readable = g.F.Files.readable c.args.files.now;
       pieces = g.S.Sink.pieces c.args.out.now;
+      ample = g.S.Sink.ample c.args.out.now;
     })
     (record {
       engine = c.run_script.new.self;
@@ -45,6 +48,7 @@ returns-in-Ok-clause-reached g c = λ held told all.
       told = g.F.Files.content c.run_script.new.files;
       readable = g.F.Files.readable c.run_script.new.files;
       pieces = g.S.Sink.pieces c.run_script.new.out;
+      ample = g.S.Sink.ample c.run_script.new.out;
     })
     c.in-Ok.ensures.types c.in-Ok.ensures.most c.in-Ok.ensures.stands told
     (record { base = c.in-Ok.ensures.base; left = c.in-Ok.ensures.unhashed })
@@ -60,6 +64,7 @@ returns-in-Ok-clause-pairs g c = λ held told.
       told = g.F.Files.content c.args.files.now;
       readable = g.F.Files.readable c.args.files.now;
       pieces = g.S.Sink.pieces c.args.out.now;
+      ample = g.S.Sink.ample c.args.out.now;
     })
     (record {
       engine = c.run_script.new.self;
@@ -67,6 +72,7 @@ returns-in-Ok-clause-pairs g c = λ held told.
       told = g.F.Files.content c.run_script.new.files;
       readable = g.F.Files.readable c.run_script.new.files;
       pieces = g.S.Sink.pieces c.run_script.new.out;
+      ample = g.S.Sink.ample c.run_script.new.out;
     })
     c.in-Ok.ensures.types c.in-Ok.ensures.most c.in-Ok.ensures.stands told
     (record { base = c.in-Ok.ensures.base; left = c.in-Ok.ensures.unhashed })
@@ -74,7 +80,7 @@ returns-in-Ok-clause-pairs g c = λ held told.
 
 pub returns-in-Err-clause-ends : goal.returns-in-Err-clause-ends
 returns-in-Err-clause-ends g c = λ reads held told.
-    rw told (wants_memory_first g.H.PairHash.pair_of held reads
+    rw told (wants_memory_first (g.S.Sink.ample c.args.out.now) g.H.PairHash.pair_of held reads
     (plays (known_in c.args.schema) c.args.max c.args.script.now)
     (g.H.PairHash.pairs c.args.hasher.now) _ (g.H.PairHash.pairs c.start.new.hasher)
     (g.S.Sink.pieces c.args.out.now) (zero_table (g.H.PairHash.pairs c.args.hasher.now)))

@@ -18,6 +18,7 @@ returns-in-Ok-clause-ends g c =
       told = g.F.Files.content c.args.files.now;
       readable = g.F.Files.readable c.args.files.now;
       pieces = g.S.Sink.pieces c.args.out.now;
+      ample = g.S.Sink.ample c.args.out.now;
     } in
     let after : Scene = record {
       engine = c.run_lines.new.engine;
@@ -25,6 +26,7 @@ returns-in-Ok-clause-ends g c =
       told = g.F.Files.content c.run_lines.new.files;
       readable = g.F.Files.readable c.run_lines.new.files;
       pieces = g.S.Sink.pieces c.run_lines.new.out;
+      ample = g.S.Sink.ample c.run_lines.new.out;
     } in
     subst (λ (ended : Status). EndsScript g.H.PairHash.pair_of c.args.script.now ended before after)
     (sym c.status_after.ensures)
@@ -40,6 +42,7 @@ returns-in-Err-clause-ends g c =
       told = g.F.Files.content c.args.files.now;
       readable = g.F.Files.readable c.args.files.now;
       pieces = g.S.Sink.pieces c.args.out.now;
+      ample = g.S.Sink.ample c.args.out.now;
     } in
     let after : Scene = record {
       engine = c.run_lines.new.engine;
@@ -47,6 +50,7 @@ returns-in-Err-clause-ends g c =
       told = g.F.Files.content c.run_lines.new.files;
       readable = g.F.Files.readable c.run_lines.new.files;
       pieces = g.S.Sink.pieces c.run_lines.new.out;
+      ample = g.S.Sink.ample c.run_lines.new.out;
     } in
     script_stopped g.H.PairHash.pair_of c.args.script.now before after c.run_lines.new.refused
     c.in-Err.ended

@@ -13,10 +13,10 @@ pub returns-in-Ok-clause-ends : goal.returns-in-Ok-clause-ends
 returns-in-Ok-clause-ends g c = λ first versions told.
     let before : Scene = scene c.args.self.now (g.H.PairHash.pairs c.args.hasher.now)
     (g.F.Files.content c.args.files.now) (g.F.Files.readable c.args.files.now)
-    (g.S.Sink.pieces c.args.out.now) in
+    (g.S.Sink.pieces c.args.out.now) (g.S.Sink.ample c.args.out.now) in
     let after : Scene = scene c.work_through.new.engine
     (g.H.PairHash.pairs c.work_through.new.hasher) (g.F.Files.content c.work_through.new.files)
-    (g.F.Files.readable c.work_through.new.files) (g.S.Sink.pieces c.print_work.new.out) in
+    (g.F.Files.readable c.work_through.new.files) (g.S.Sink.pieces c.print_work.new.out) (g.S.Sink.ample c.print_work.new.out) in
     let done = c.in-Ok.ensures.works first (record { versions = versions; files = told }) in
     work_done g.H.PairHash.pair_of c.args.type_name.now c.args.seed c.args.edits before after first
     told c.print_work.result c.in-Ok.made c.as_slice.result.now done.0 done.1.0
@@ -32,10 +32,10 @@ pub returns-clause-ends : goal.returns-clause-ends
 returns-clause-ends g c = λ first versions told.
     let before : Scene = scene c.args.self.now (g.H.PairHash.pairs c.args.hasher.now)
     (g.F.Files.content c.args.files.now) (g.F.Files.readable c.args.files.now)
-    (g.S.Sink.pieces c.args.out.now) in
+    (g.S.Sink.pieces c.args.out.now) (g.S.Sink.ample c.args.out.now) in
     let after : Scene = scene c.work_through.new.engine
     (g.H.PairHash.pairs c.work_through.new.hasher) (g.F.Files.content c.work_through.new.files)
-    (g.F.Files.readable c.work_through.new.files) (g.S.Sink.pieces c.args.out.now) in
+    (g.F.Files.readable c.work_through.new.files) (g.S.Sink.pieces c.args.out.now) (g.S.Sink.ample c.args.out.now) in
     subst (λ (ended : Status). EndsWorkFrom (rules_of g.H.PairHash.pair_of c.args.self.now)
     c.args.type_name.now c.args.seed c.args.edits first ended before after)
     (sym c.status_of.ensures.value)
