@@ -1,7 +1,7 @@
 -- How runs that are under way end, as the job of all their events: for the numbers that were
 -- printed, and whatever numbers are still to come.
 use Rattle.std.proofs.Common.{ℕ, ◌+◌, ◌<◌, ◌≤◌, ◌≡◌, ◌==◌, cond, inl, inr, Bool, true, false, List, [], ◌∷◌, ◌++◌, length, take, Option, Some, refl, sym, ap, ◌∙◌, subst, arith, length-append, append_assoc}
-use Rattle.std.specs.Prelude.{slice_get}
+use Rattle.std.specs.Prelude.{slice_get, ◌&&◌}
 use Rattle.std.specs.List.{list_any}
 use Rattle.std.proofs.lemmas.Bool.{or_right}
 use Rattle.std.proofs.lemmas.List.{map-append}
@@ -231,19 +231,20 @@ module _ (rules : Rules) (place : Place) (events : List Event) (first : State)
       by false is = is
 
 -- A job before which files are read ends as the job does.
-pub ends_after_reading : (ample : Bool) (ended : Status) (job : Job) (old new : Told) (held : Option Content)
-    → Ends ample ended job old new held → Ends ample ended (after_reading job) old new held
-ends_after_reading ample status.Accepted job old new held ends =
+pub ends_after_reading : (ample first : Bool) (ended : Status) (job : Job) (old new : Told)
+    (held : Option Content) → Ends ample ended job old new held
+    → Ends ample ended (after_reading first job) old new held
+ends_after_reading ample first status.Accepted job old new held ends =
     record { status = ends.status; last = ends.last }
-ends_after_reading ample status.Refused job old new held ends =
+ends_after_reading ample first status.Refused job old new held ends =
     record { status = ends.status; last = ends.last }
-ends_after_reading ample status.Usage job old new held ends =
+ends_after_reading ample first status.Usage job old new held ends =
     record { status = ends.status; last = ends.last }
-ends_after_reading ample status.SchemaFault job old new held ends =
+ends_after_reading ample first status.SchemaFault job old new held ends =
     record { status = ends.status; last = ends.last }
-ends_after_reading ample status.ReadFault job old new held (k, few, reads, stands) =
-    (k, few, or_right (k == 0) (job.reads k) reads, stands)
-ends_after_reading ample status.WriteFault job old new held (k, below, inl torn) = (
+ends_after_reading ample first status.ReadFault job old new held (k, few, reads, stands) =
+    (k, few, or_right (first && (k == 0)) (job.reads k) reads, stands)
+ends_after_reading ample first status.WriteFault job old new held (k, below, inl torn) = (
   k,
   below,
   inl (record {
@@ -253,7 +254,7 @@ ends_after_reading ample status.WriteFault job old new held (k, below, inl torn)
     held = torn.held;
   }),
 )
-ends_after_reading ample status.WriteFault job old new held (k, below, inr torn) = (
+ends_after_reading ample first status.WriteFault job old new held (k, below, inr torn) = (
   k,
   below,
   inr (record {
@@ -264,8 +265,8 @@ ends_after_reading ample status.WriteFault job old new held (k, below, inr torn)
     held = torn.held;
   }),
 )
-ends_after_reading ample status.Memory job old new held (k, inl stands) = (k, inl stands)
-ends_after_reading ample status.Memory job old new held (k, inr (below, ahead)) = (
+ends_after_reading ample first status.Memory job old new held (k, inl stands) = (k, inl stands)
+ends_after_reading ample first status.Memory job old new held (k, inr (below, ahead)) = (
   k,
   inr (
     below,

@@ -85,10 +85,10 @@ reads_first : (pair_of : PairOf) (numbers : List ℕ) (held : Content) (reads : 
     → reads ≡ true → IsTrue ((job_of_task pair_of numbers held reads task).reads 0)
 reads_first pair_of numbers held reads (says line) is = is
 reads_first pair_of numbers held reads (prints made most) is = is
-reads_first pair_of numbers held reads (plays type_named most script) is = refl
-reads_first pair_of numbers held reads (weaves type_named most base order scripts) is = refl
-reads_first pair_of numbers held reads (works type_named type_name seed count) is = refl
-reads_first pair_of numbers held reads (plays_tree t lists script) is = refl
+reads_first pair_of numbers held reads (plays type_named most script) is = rw is refl
+reads_first pair_of numbers held reads (weaves type_named most base order scripts) is = rw is refl
+reads_first pair_of numbers held reads (works type_named type_name seed count) is = rw is refl
+reads_first pair_of numbers held reads (plays_tree t lists script) is = rw is refl
 
 -- where no numbers are given, each that is printed is 0
 no_number : (place : Place) (statement : Option Statement) → numbers_after place statement [] ≡ []
@@ -229,7 +229,7 @@ module _ (pair_of : PairOf) (schema : Types) (most : ℕ) (held : Content) (scri
       first after.hashed (λ job. Ends before.ample ended job before.pieces after.pieces after.told)
   script_does reads first zeros = record {
     numbers = run.numbers;
-    left = ends_after_reading before.ample ended (script_job rules run.numbers (fresh held) script)
+    left = ends_after_reading before.ample reads ended (script_job rules run.numbers (fresh held) script)
         before.pieces after.pieces after.told run.ends;
     base = before.hashed;
     zeros = zeros;

@@ -64,7 +64,7 @@ script-given t lists proof script is = by (is_too_long script) refl
     by true long = rw long (DoesSame-equal _ _ refl)
     by false short = rw short (record {
       jobs = λ pair_of numbers held reads.
-          ap after_reading ((scripts_alike pair_of t lists proof script is).jobs held);
+          ap (after_reading reads) ((scripts_alike pair_of t lists proof script is).jobs held);
       turns = λ pair_of numbers held. refl;
       reached = λ pair_of held. refl;
       pairs = λ pair_of held. (scripts_alike pair_of t lists proof script is).charged;
@@ -78,7 +78,7 @@ pub tree_does : (ample : Bool) (pair_of : PairOf) (t : SszType) (proof : Multipr
     (λ numbers. []) ended first last (λ job. Ends ample ended job old new (Some held))
 tree_does ample pair_of t proof script held reads ended first last old new ends = record {
   numbers = [];
-  left = ends_after_reading ample ended (script_job pair_of t proof held script) old new (Some held)
+  left = ends_after_reading ample reads ended (script_job pair_of t proof held script) old new (Some held)
       ends;
   base = first + 126;
   zeros = zero_table first;

@@ -1,5 +1,5 @@
 -- The job of the program's words, and the pairs that it may hash.
-use Rattle.std.specs.Prelude.{ℕ, ◌+◌, ◌-◌, List, [], Bool, is_some, Option}
+use Rattle.std.specs.Prelude.{ℕ, ◌+◌, ◌-◌, List, [], Bool, false, is_some, Option}
 use Rattle.ssz_chunk.specs.Chunk.{CountsUp}
 use Rattle.ssz_outside.specs.Content.{Content}
 use Rattle.ssz_outside.specs.Job.{Job, line_job}
@@ -37,23 +37,28 @@ abbrev pub rules_of_work : PairOf → (List ℕ → Option SszType) → Rules
 rules_of_work pair_of type_named = rules_of pair_of type_named 0
 
 -- The job of a task, where `hashes` prints these numbers: files are read before the first
--- statement.
+-- statement, or not any more.
 abbrev pub job_of_task : PairOf → List ℕ → Content → Bool → Task → Job
 job_of_task pair_of numbers held reads (says line) = job_of_line held reads line
 job_of_task pair_of numbers held reads (prints made most) = job_of_print held reads (made pair_of)
 job_of_task pair_of numbers held reads (plays type_named most script) =
-    after_reading (script_job (rules_of pair_of type_named most) numbers (fresh held) script)
+    after_reading reads (script_job (rules_of pair_of type_named most) numbers (fresh held) script)
 job_of_task pair_of numbers held reads (weaves type_named most base order scripts) =
-    after_reading (weave_job (rules_of pair_of type_named most) (fresh held) base order scripts)
+    after_reading reads (weave_job (rules_of pair_of type_named most) (fresh held) base order scripts)
 job_of_task pair_of numbers held reads (works type_named type_name seed count) =
-    after_reading (work_job (rules_of_work pair_of type_named) (fresh held) type_name seed count)
+    after_reading reads (work_job (rules_of_work pair_of type_named) (fresh held) type_name seed count)
 job_of_task pair_of numbers held reads (plays_tree t lists script) =
-    after_reading (tree_job pair_of t lists held script)
+    after_reading reads (tree_job pair_of t lists held script)
 
 -- the job of these words over files with this content; files are read for words that are taken
 abbrev pub job_of : PairOf → List (List ℕ) → Content → List ℕ → Job
 job_of pair_of words held numbers =
     job_of_task pair_of numbers held (is_some (taken words)) (task_of held words)
+
+-- the same once the files that the words name are read
+abbrev pub job_once_read : PairOf → List (List ℕ) → Content → List ℕ → Job
+job_once_read pair_of words held numbers =
+    job_of_task pair_of numbers held false (task_of held words)
 
 -- the steps of a task's scripts, where they may ask for `hashes`
 abbrev pub turns_of_task : PairOf → List ℕ → Content → Task → List Turn

@@ -9,8 +9,8 @@ ghost use Rattle.ssz_outside.specs.Job.{Ends, Finishes, CountsRun, IsThatOrStopp
 ghost use Rattle.ssz_proof.specs.Calculation.{indices_of};
 ghost use Rattle.ssz_schema.specs.Unfolding.{type_of};
 ghost use Rattle.ssz_tool.specs.Lines.{is_usage, status_of};
-ghost use Rattle.ssz_tool.specs.Reached.{reached, reached_of_task};
-ghost use Rattle.ssz_tool.specs.Runs.{Does, job_of, job_of_line, job_of_task, pairs_allowed, pairs_of_task, turns_of, turns_of_task};
+ghost use Rattle.ssz_tool.specs.Reached.{reached, reached_first, reached_of_task};
+ghost use Rattle.ssz_tool.specs.Runs.{Does, job_of, job_of_line, job_of_task, job_once_read, pairs_allowed, pairs_of_task, turns_of, turns_of_task};
 ghost use Rattle.ssz_tool.specs.Tasks.{IsFaultless, IsReady, task_view};
 ghost use Rattle.ssz_tool.specs.ToDo.{is_script, is_usage_task, line_of_proof, line_of_value};
 ghost use Rattle.ssz_tool.specs.Words.{AreReadable, taken, texts};
@@ -136,6 +136,13 @@ fn run_words<F: Files, S: Sink, H: PairHash>(
         result (H.pairs hasher.old) (H.pairs hasher.new)
         (λ job. Ends (S.ample out.old) result job (S.pieces out.old) (S.pieces out.new)
         (F.content files.new))) }
+    ensures in_turn { ForSome (F.content files.old) (λ held.
+        AllByRecursion (F.readable files.old) (reached_first held (texts words.now))
+        → Does (job_once_read H.pair_of (texts words.now) held)
+        (turns_of H.pair_of (texts words.now) held) result
+        (H.pairs hasher.old) (H.pairs hasher.new)
+        (λ job. Ends (S.ample out.old) result job (S.pieces out.old) (S.pieces out.new)
+        (F.content files.new))) }
     ensures counts { CountsRun result (F.get_faults files.old) (F.get_faults files.new)
         (F.put_faults files.old) (F.put_faults files.new) (S.faults out.old) (S.faults out.new) }
     ensures usage { result ≡ Status.Usage → IsNone (taken (texts words.now)) }
@@ -180,6 +187,16 @@ pub fn run<F: Files, S: Sink, H: PairHash>(
     ensures ends { ForSome (F.content files.old) (λ held.
         Does (job_of H.pair_of (texts words.now) held) (turns_of H.pair_of (texts words.now) held)
         result (H.pairs hasher.old) (H.pairs hasher.new)
+        (λ job. Ends (S.ample out.old) result job (S.pieces out.old) (S.pieces out.new)
+        (F.content files.new))) }
+
+    // Where the files of the words can be read, a read fails only at a step that reads: the lines
+    // before it are printed, and the files are those after them.
+    ensures in_turn { ForSome (F.content files.old) (λ held.
+        AllByRecursion (F.readable files.old) (reached_first held (texts words.now))
+        → Does (job_once_read H.pair_of (texts words.now) held)
+        (turns_of H.pair_of (texts words.now) held) result
+        (H.pairs hasher.old) (H.pairs hasher.new)
         (λ job. Ends (S.ample out.old) result job (S.pieces out.old) (S.pieces out.new)
         (F.content files.new))) }
 

@@ -1,4 +1,4 @@
-use Rattle.std.proofs.Common.{Err, is_some, subst, ap, ◌∙◌}
+use Rattle.std.proofs.Common.{Err, false, is_some, subst, ap, ◌∙◌}
 use Rattle.std.specs.List.{AllByRecursion}
 use Rattle.ssz_tool.specs.Jobs.{task_of}
 use Rattle.ssz_tool.specs.Reached.{reached_first}
@@ -46,3 +46,23 @@ returns-in-Err-Read-clause-reached g c = λ held told all same.
     (all_front (g.F.Files.readable c.args.files.now)
     (reached_first held (texts c.args.words.now)) _ all)
     (c.in-Err-Read.is ∙ ap Err c.in-Err-Read.field-0-is)
+
+pub returns-in-Ok-clause-in_turn : goal.returns-in-Ok-clause-in_turn
+returns-in-Ok-clause-in_turn g c = λ held told readable.
+    does_same g.H.PairHash.pair_of held false
+    (task_of held (texts c.args.words.now)) _ c.do_task.result
+    (g.H.PairHash.pairs c.args.hasher.now) (g.H.PairHash.pairs c.do_task.new.hasher) _
+    (c.in-Ok.ensures.read held told)
+    (c.do_task.ensures.ends false held (c.in-Ok.ensures.content ∙ told))
+
+pub returns-in-Err-Read-clause-in_turn : goal.returns-in-Err-Read-clause-in_turn
+returns-in-Err-Read-clause-in_turn g c = λ held told readable.
+    absurd (c.task_of.ensures.reached held told readable
+    (c.in-Err-Read.is ∙ ap Err c.in-Err-Read.field-0-is))
+
+pub returns-in-Err-Memory-clause-in_turn : goal.returns-in-Err-Memory-clause-in_turn
+returns-in-Err-Memory-clause-in_turn g c = λ held told readable.
+    rw (c.task_of.ensures.content, told) (wants_memory_first (g.S.Sink.ample c.args.out.now)
+    g.H.PairHash.pair_of held false (task_of held (texts c.args.words.now))
+    (g.H.PairHash.pairs c.args.hasher.now) _ (g.H.PairHash.pairs c.args.hasher.now)
+    (g.S.Sink.pieces c.args.out.now) (zero_table (g.H.PairHash.pairs c.args.hasher.now)))
