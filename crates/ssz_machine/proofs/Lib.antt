@@ -23,3 +23,5 @@ pub mod Marks
 pub mod OwnLines
 pub mod IsolatedLines
 pub mod NoNumbers
+pub mod Soundness
+pub mod KeptValues

@@ -15,3 +15,4 @@ pub mod Numbers
 pub mod Proofs
 pub mod OneLine
 pub mod Runs
+pub mod Sound

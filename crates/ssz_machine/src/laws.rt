@@ -4,6 +4,7 @@ ghost use Rattle.ssz_machine.specs.Isolation.{LinesAreIsolated, WritersAreIsolat
 ghost use Rattle.ssz_machine.specs.Numbers.{NumbersChangeNothing};
 ghost use Rattle.ssz_machine.specs.OneLine.{AllScriptsPrintLines, PrintedLinesAreLines, ScriptsAreNamed};
 ghost use Rattle.ssz_machine.specs.Proofs.{PrintedProofsLead};
+ghost use Rattle.ssz_machine.specs.Sound.{ScriptsKeepValues};
 
 /// An accepted statement changes the one entry that the table of statements names, if any, and no
 /// file but that of a `save`.
@@ -42,6 +43,12 @@ pub fn lines_are_isolated()
 /// The numbers that `hashes` prints change no other reply, and not the state.
 pub fn numbers_change_nothing()
     ensures { NumbersChangeNothing }
+{}
+
+/// Where each type is legal, and what steps bring in are bytes, each version before each step of a
+/// run is a value of a legal type, if those at first are.
+pub fn scripts_keep_values()
+    ensures { ScriptsKeepValues }
 {}
 
 /// From the line of an accepted `prove`, read as a proof, the hash_tree_root of the version is

@@ -13,7 +13,7 @@ mod place;
 pub use laws::{
     all_scripts_print_lines, ledgers_count, lines_are_isolated, lines_leave_others,
     numbers_change_nothing, printed_lines_are_lines, printed_proofs_lead, refused_do_nothing,
-    scripts_are_named, statements_change_their_entry, writers_are_isolated,
+    scripts_are_named, scripts_keep_values, statements_change_their_entry, writers_are_isolated,
     writers_are_isolated_so_far,
 };
 pub use place::Place;
