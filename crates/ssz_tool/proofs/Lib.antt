@@ -10,3 +10,4 @@ pub mod Trees
 pub mod PrintedProofs
 pub mod Encodings
 pub mod Worked
+pub mod ScriptProofs

@@ -7,11 +7,16 @@ use Rattle.ssz_proof.specs.Calculation.{PairOf}
 use Rattle.ssz_schema.specs.declared.format.Format.{Format}
 use Rattle.ssz_script.specs.declared.reply.Reply.{Reply}
 use Rattle.ssz_script.specs.declared.reply.Reply.TheVariants.{Proof}
+use Rattle.ssz_script.specs.declared.statement.Statement.TheVariants.{Prove}
 use Rattle.ssz_value.specs.Trees.{hash_tree_root}
-use Rattle.ssz_machine.specs.State.{Name, Version, Versions, version_of}
+use Rattle.ssz_machine.specs.declared.place.Place.{Place}
+use Rattle.ssz_machine.specs.State.{Name, State, Version, Versions, version_of}
 use Rattle.ssz_machine.specs.Rules.{Rules}
+use Rattle.ssz_machine.specs.Machine.{Turn}
+use Rattle.ssz_machine.specs.Plays.{Event, play}
 use Rattle.ssz_machine.specs.Asking.{prove}
 use Rattle.ssz_machine.specs.Proofs.{MakesChunks, IsIndex, IsSound}
+use Rattle.ssz_machine.specs.Sound.{HasLegalTypes, IsSoundState, TurnBringsBytes}
 use Rattle.ssz_tool.specs.Jobs.{task_of_proof}
 use Rattle.ssz_tool.specs.Runs.{job_of_line, job_of_task}
 use Rattle.ssz_tool.specs.declared.line.Line.TheVariants as line
@@ -34,3 +39,22 @@ PrintedProofsAreValid =
     → version_of v versions ≡ Some version → IsSound format version
     → IfOk (prove rules versions v indices) (λ effect.
     IsValidFor rules.pair_of (hash_tree_root rules.pair_of version.type version.value) effect.reply)
+
+-- The reply of a step that is a `prove` makes it so, where it was accepted.
+abbrev pub ProvesValidly : PairOf → Turn → Type 0
+ProvesValidly pair_of turn =
+    (v : Name) (indices : List Index) (version : Version)
+    → turn.line.1 ≡ Some (Prove v indices) → indices ≢ [] → AllByRecursion IsIndex indices
+    → version_of v (turn.before.versions turn.writer) ≡ Some version
+    → IfOk turn.row (λ effect.
+    IsValidFor pair_of (hash_tree_root pair_of version.type version.value) effect.reply)
+
+-- So it is of each step of scripts, where each type is legal, and what the steps bring in are bytes:
+-- no version of theirs is any other.
+abbrev pub ScriptsPrintValidProofs : Type 0
+ScriptsPrintValidProofs =
+    (rules : Rules) (format : Format) (place : Place) (numbers : List ℕ) (state : State)
+    (events : List Event) → MakesChunks rules.pair_of → HasLegalTypes rules format
+    → IsSoundState format state
+    → AllByRecursion TurnBringsBytes (play rules place numbers state events)
+    → AllByRecursion (ProvesValidly rules.pair_of) (play rules place numbers state events)

@@ -19,6 +19,6 @@ mod weaving;
 mod words;
 mod working;
 
-pub use laws::printed_proofs_are_valid;
+pub use laws::{printed_proofs_are_valid, scripts_print_valid_proofs};
 pub use line::Line;
 pub use top::run;
