@@ -42,7 +42,7 @@ after (Ok x) rest = rest
 after (Err fault) rest = Err (coded (code_of fault))
 
 -- the tests of `pop` are those of the edit of the list
-abbrev popped : SszType → SszValue → Row → Row
+abbrev pub popped : SszType → SszValue → Row → Row
 popped u w rest =
     refuse NOT_THAT (is_none (element_of u)) >> (refuse EMPTY (count_of w == 0) >> rest)
 

@@ -14,6 +14,7 @@ pub mod AscendingOnce
 pub mod ProofsMade
 pub mod ProofRows
 pub mod EditRows
+pub mod Straying
 pub mod Tested
 pub mod Chosen
 pub mod Edited

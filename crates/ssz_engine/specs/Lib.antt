@@ -1,5 +1,6 @@
 pub mod Content
 pub mod Standing
+pub mod Ways
 pub mod Decisions
 pub mod Shown
 pub mod Counted

@@ -10,6 +10,7 @@ use super::decision::Decision;
 use super::engine::Engine;
 use super::fault::EngineFault;
 use super::refusals::code_of_path;
+use super::ways::way_from;
 use ssz_chunk::PairHash;
 use ssz_line::Steps;
 use ssz_schema::PathStep;
@@ -44,14 +45,12 @@ pub(crate) fn len<'a, H: PairHash>(
         (λ rules versions. len versions v.now path.now) nothing writer.0 engine.now) }
     ensures memory { IfErr result (λ fault. fault ≡ EngineFault.Memory) }
 {
-    let Some(held) = engine.versions.get(writer, v.as_name()) else {
-        return Ok(Decision::Refused(Reply::NO_VERSION));
+    let way = match way_from(engine, writer, v, path)? {
+        Ok(way) => way,
+        Err(code) => return Ok(Decision::Refused(code)),
     };
-    let Some(steps) = path.fitting(engine.alloc, &engine.schema, held.0)? else {
-        return Ok(Decision::Refused(Reply::BAD_PATH));
-    };
-    let steps = steps.as_slice();
-    let view = View::new(&engine.arena, &engine.schema, held.0, held.1);
+    let steps = way.steps.as_slice();
+    let view = View::new(&engine.arena, &engine.schema, way.id, way.node);
     match count_at(&view, steps) {
         Ok(count) => Ok(Decision::Said(Reply::Len(count))),
         Err(code) => Ok(Decision::Refused(code)),

@@ -15,12 +15,13 @@ use super::engine::Engine;
 use super::fault::EngineFault;
 use super::inner::inner_value;
 use super::refusals::code_of_edit;
+use super::ways::way_from;
 use ssz_arena::NodeId;
 use ssz_bytes::ByteRun;
 use ssz_chunk::PairHash;
 use ssz_codec::{DecodeFault, decode};
 use ssz_line::Steps;
-use ssz_script::{Identifier, Reply};
+use ssz_script::Identifier;
 use ssz_value::EditFault;
 use ssz_versions::Writer;
 
@@ -63,14 +64,12 @@ pub(crate) fn set<'a, H: PairHash>(
         engine.old engine.new) }
     ensures memory { IfErr result (λ fault. fault ≡ EngineFault.Memory) }
 {
-    let Some(held) = engine.versions.get(writer, v.as_name()) else {
-        return Ok(Decision::Refused(Reply::NO_VERSION));
+    let way = match way_from(engine, writer, v, path)? {
+        Ok(way) => way,
+        Err(code) => return Ok(Decision::Refused(code)),
     };
-    let Some(steps) = path.fitting(engine.alloc, &engine.schema, held.0)? else {
-        return Ok(Decision::Refused(Reply::BAD_PATH));
-    };
-    let steps = steps.as_slice();
-    let part = match settable(&engine.arena, &engine.schema, held.0, held.1, steps) {
+    let steps = way.steps.as_slice();
+    let part = match settable(&engine.arena, &engine.schema, way.id, way.node, steps) {
         Ok(part) => part,
         Err(code) => return Ok(Decision::Refused(code)),
     };
@@ -79,8 +78,8 @@ pub(crate) fn set<'a, H: PairHash>(
             let made = ssz_edit::set(
                 &mut engine.arena,
                 &engine.schema,
-                held.0,
-                held.1,
+                way.id,
+                way.node,
                 steps,
                 &value,
             );
@@ -106,14 +105,12 @@ pub(crate) fn append<'a, H: PairHash>(
         engine.old engine.new) }
     ensures memory { IfErr result (λ fault. fault ≡ EngineFault.Memory) }
 {
-    let Some(held) = engine.versions.get(writer, v.as_name()) else {
-        return Ok(Decision::Refused(Reply::NO_VERSION));
+    let way = match way_from(engine, writer, v, path)? {
+        Ok(way) => way,
+        Err(code) => return Ok(Decision::Refused(code)),
     };
-    let Some(steps) = path.fitting(engine.alloc, &engine.schema, held.0)? else {
-        return Ok(Decision::Refused(Reply::BAD_PATH));
-    };
-    let steps = steps.as_slice();
-    let element = match appendable(&engine.arena, &engine.schema, held.0, held.1, steps) {
+    let steps = way.steps.as_slice();
+    let element = match appendable(&engine.arena, &engine.schema, way.id, way.node, steps) {
         Ok(element) => element,
         Err(code) => return Ok(Decision::Refused(code)),
     };
@@ -122,8 +119,8 @@ pub(crate) fn append<'a, H: PairHash>(
             let made = ssz_edit::append(
                 &mut engine.arena,
                 &engine.schema,
-                held.0,
-                held.1,
+                way.id,
+                way.node,
                 steps,
                 &value,
             );
@@ -147,16 +144,14 @@ pub(crate) fn pop<'a, H: PairHash>(
         engine.old engine.new) }
     ensures memory { IfErr result (λ fault. fault ≡ EngineFault.Memory) }
 {
-    let Some(held) = engine.versions.get(writer, v.as_name()) else {
-        return Ok(Decision::Refused(Reply::NO_VERSION));
+    let way = match way_from(engine, writer, v, path)? {
+        Ok(way) => way,
+        Err(code) => return Ok(Decision::Refused(code)),
     };
-    let Some(steps) = path.fitting(engine.alloc, &engine.schema, held.0)? else {
-        return Ok(Decision::Refused(Reply::BAD_PATH));
-    };
-    let steps = steps.as_slice();
+    let steps = way.steps.as_slice();
     // Every type of a schema is legal, so that the parts of its values are of their types.
-    let _legal = engine.schema.ty(held.0);
-    let made = ssz_edit::pop(&mut engine.arena, &engine.schema, held.0, held.1, steps);
+    let _legal = engine.schema.ty(way.id);
+    let made = ssz_edit::pop(&mut engine.arena, &engine.schema, way.id, way.node, steps);
     finish(v, made)
 }
 
@@ -176,18 +171,16 @@ pub(crate) fn choose<'a, H: PairHash>(
         writer.0 engine.old engine.new) }
     ensures memory { IfErr result (λ fault. fault ≡ EngineFault.Memory) }
 {
-    let Some(held) = engine.versions.get(writer, v.as_name()) else {
-        return Ok(Decision::Refused(Reply::NO_VERSION));
+    let way = match way_from(engine, writer, v, path)? {
+        Ok(way) => way,
+        Err(code) => return Ok(Decision::Refused(code)),
     };
-    let Some(steps) = path.fitting(engine.alloc, &engine.schema, held.0)? else {
-        return Ok(Decision::Refused(Reply::BAD_PATH));
-    };
-    let steps = steps.as_slice();
+    let steps = way.steps.as_slice();
     let option = match choosable(
         &engine.arena,
         &engine.schema,
-        held.0,
-        held.1,
+        way.id,
+        way.node,
         steps,
         selector,
     ) {
@@ -199,8 +192,8 @@ pub(crate) fn choose<'a, H: PairHash>(
             let made = ssz_edit::choose(
                 &mut engine.arena,
                 &engine.schema,
-                held.0,
-                held.1,
+                way.id,
+                way.node,
                 steps,
                 selector,
                 inner.as_ref(),

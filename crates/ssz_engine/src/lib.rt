@@ -37,6 +37,7 @@ mod run;
 mod shown;
 mod turns;
 mod upgrading;
+mod ways;
 mod weave;
 mod work;
 mod working;

@@ -11,12 +11,13 @@ ghost use Rattle.ssz_engine.specs.Shown.{LeadsToPart, Shows, TextOf};
 
 use super::engine::Engine;
 use super::refusals::code_of_path;
+use super::ways::way_from;
 use ssz_arena::Arena;
 use ssz_chunk::PairHash;
 use ssz_line::Steps;
 use ssz_reading::{Basic, bit_of, chunk_of, read_value};
 use ssz_schema::Schema;
-use ssz_script::{Identifier, Reply};
+use ssz_script::Identifier;
 use ssz_value::Value;
 use ssz_versions::Writer;
 use ssz_walk::{Place, Spot, find};
@@ -35,16 +36,14 @@ pub(crate) fn place_of<H: PairHash>(
     ensures err { IfOk result (λ found. IfErr found (λ code. (text : TextOf)
         → Shows text engine.now writer.0 v.now path.now (Err (coded code)))) }
 {
-    let Some(held) = engine.versions.get(writer, v.as_name()) else {
-        return Ok(Err(Reply::NO_VERSION));
+    let way = match way_from(engine, writer, v, path)? {
+        Ok(way) => way,
+        Err(code) => return Ok(Err(code)),
     };
-    let Some(steps) = path.fitting(engine.alloc, &engine.schema, held.0)? else {
-        return Ok(Err(Reply::BAD_PATH));
-    };
-    let steps = steps.as_slice();
+    let steps = way.steps.as_slice();
     // By the type it is known where the tree of a value has its parts.
-    let _legal = engine.schema.ty(held.0);
-    match find(&engine.arena, &engine.schema, held.0, held.1, steps) {
+    let _legal = engine.schema.ty(way.id);
+    match find(&engine.arena, &engine.schema, way.id, way.node, steps) {
         Ok(place) => Ok(Ok(place)),
         Err(fault) => Ok(Err(code_of_path(fault))),
     }

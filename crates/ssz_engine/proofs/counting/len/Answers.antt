@@ -1,4 +1,4 @@
-use Rattle.std.proofs.Common.{◌≡◌, ◌∙◌, Some, sym, ap, subst}
+use Rattle.std.proofs.Common.{◌≡◌, ◌∙◌, Some, sym, subst}
 use Rattle.ssz_schema.specs.Paths.{Path}
 use Rattle.ssz_script.specs.declared.reply.Reply.TheVariants.{Len}
 use Rattle.ssz_versions.specs.Content.{Held, held_at}
@@ -11,50 +11,56 @@ use Rattle.ssz_engine.specs.Decisions.{AnswersWith}
 use Rattle.ssz_engine.specs.declared.decision.Decision.TheVariants.{Said, Refused}
 use Rattle.ssz_engine.proofs.Brought.{over}
 use Rattle.ssz_engine.proofs.Numbers.{len-said, len-refused}
+use Rattle.ssz_engine.proofs.Straying.{len-astray}
 use Rattle.ssz_engine.proofs.counting.len.Goals as goal
 
-pub returns-in-Ok-clause-answers : goal.returns-in-Ok-clause-answers
-returns-in-Ok-clause-answers g c =
+pub returns-in-Err-clause-answers : goal.returns-in-Err-clause-answers
+returns-in-Err-clause-answers g c =
+    len-astray g.H.PairHash.pair_of c.args.engine.now c.args.writer.0 c.args.v.now c.args.path.now
+    c.in-Err.code (rw c.in-Err.is at c.in_ok-way.ensures.err)
+
+pub returns-in-Ok-count_at-clause-answers : goal.returns-in-Ok-count_at-clause-answers
+returns-in-Ok-count_at-clause-answers g c =
     let pair_of = g.H.PairHash.pair_of in
     let w = c.args.writer.0 in
     let v = c.args.v.now in
+    let way = rw c.in-Ok.is at c.in_ok-way.ensures.ok in
     let path : Path = c.as_slice-steps.result.now in
-    let is : path ≡ c.args.path.now
-    = c.as_slice-steps.ensures.value ∙ (rw c.in-Some-2.is at c.in_ok-steps.ensures).0 in
-    let held : Held = c.in-Some.held in
+    let is : path ≡ c.args.path.now = c.as_slice-steps.ensures.value ∙ way.all in
+    let held : Held = (c.in-Ok.way.id, c.in-Ok.way.node) in
     let seen : Content = over c.engine.inside.schema c.engine.inside.max
     c.engine.inside.versions.entries c.engine.inside.base c.engine.inside.arena in
     let there : held_at seen.entries w v ≡ Some held
-    = ap (λ n. held_at seen.entries w n) (sym c.as_name.ensures.text) ∙ sym c.get.ensures
-    ∙ c.in-Some.is in
+    = subst (λ (s : Content). held_at s.entries w v ≡ Some held) (sym c.engine.view_is) way.there in
     subst (λ (p : Path). AnswersWith pair_of (λ rules versions. len versions v p) nothing w
-    c.args.engine.now c.args.engine.now (Said (Len c.in-Ok.count))) is
+    c.args.engine.now c.args.engine.now (Said (Len c.in-Ok-count_at.count))) is
     (subst (λ (s : Content). AnswersWith pair_of (λ rules versions. len versions v path) nothing w s
     s
-    (Said (Len c.in-Ok.count))) c.engine.view_is
-    (len-said pair_of seen w v path held there c.in-Ok.count
-    (subst (λ (view : Looking). ForPart view (HasCount (type_seen view) path c.in-Ok.count))
-    c.new-view.ensures c.in-Ok.ensures.ok)))
+    (Said (Len c.in-Ok-count_at.count))) c.engine.view_is
+    (len-said pair_of seen w v path held there c.in-Ok-count_at.count
+    (subst (λ (view : Looking). ForPart view (HasCount (type_seen view) path
+    c.in-Ok-count_at.count))
+    c.new-view.ensures c.in-Ok-count_at.ensures.ok)))
 
 pub returns-clause-answers : goal.returns-clause-answers
 returns-clause-answers g c =
     let pair_of = g.H.PairHash.pair_of in
     let w = c.args.writer.0 in
     let v = c.args.v.now in
+    let way = rw c.in-Ok.is at c.in_ok-way.ensures.ok in
     let path : Path = c.as_slice-steps.result.now in
-    let is : path ≡ c.args.path.now
-    = c.as_slice-steps.ensures.value ∙ (rw c.in-Some-2.is at c.in_ok-steps.ensures).0 in
-    let held : Held = c.in-Some.held in
+    let is : path ≡ c.args.path.now = c.as_slice-steps.ensures.value ∙ way.all in
+    let held : Held = (c.in-Ok.way.id, c.in-Ok.way.node) in
     let seen : Content = over c.engine.inside.schema c.engine.inside.max
     c.engine.inside.versions.entries c.engine.inside.base c.engine.inside.arena in
     let there : held_at seen.entries w v ≡ Some held
-    = ap (λ n. held_at seen.entries w n) (sym c.as_name.ensures.text) ∙ sym c.get.ensures
-    ∙ c.in-Some.is in
+    = subst (λ (s : Content). held_at s.entries w v ≡ Some held) (sym c.engine.view_is) way.there in
     subst (λ (p : Path). AnswersWith pair_of (λ rules versions. len versions v p) nothing w
-    c.args.engine.now c.args.engine.now (Refused c.in-Err.code)) is
+    c.args.engine.now c.args.engine.now (Refused c.in-Err-count_at.code)) is
     (subst (λ (s : Content). AnswersWith pair_of (λ rules versions. len versions v path) nothing w s
     s
-    (Refused c.in-Err.code)) c.engine.view_is
-    (len-refused pair_of seen w v path held there c.in-Err.code
-    (subst (λ (view : Looking). ForPart view (HasNoCount (type_seen view) path c.in-Err.code))
-    c.new-view.ensures c.in-Err.ensures.err)))
+    (Refused c.in-Err-count_at.code)) c.engine.view_is
+    (len-refused pair_of seen w v path held there c.in-Err-count_at.code
+    (subst (λ (view : Looking). ForPart view (HasNoCount (type_seen view) path
+    c.in-Err-count_at.code))
+    c.new-view.ensures c.in-Err-count_at.ensures.err)))

@@ -21,10 +21,16 @@ use Rattle.ssz_value.specs.Suiting.{inner_of}
 use Rattle.ssz_engine.proofs.Brought.{over}
 use Rattle.ssz_engine.proofs.EditRows.{choose_read, choose_refused}
 use Rattle.ssz_engine.proofs.Edited.{unread-answers, code-answers, finished-answers}
+use Rattle.ssz_engine.proofs.Straying.{choose-astray}
 use Rattle.ssz_engine.proofs.editing.choose.Goals as goal
 
 pub returns-in-Err-clause-answers : goal.returns-in-Err-clause-answers
 returns-in-Err-clause-answers g c =
+    choose-astray g.H.PairHash.pair_of c.args.engine.now c.args.writer.0 c.args.v.now
+    c.args.path.now c.in-Err.code (rw c.in-Err.is at c.in_ok-way.ensures.err) c.args.selector c.args.literal.now
+
+pub returns-in-Err-choosable-clause-answers : goal.returns-in-Err-choosable-clause-answers
+returns-in-Err-choosable-clause-answers g c =
     let pair_of = g.H.PairHash.pair_of in
     let schema = c.engine.inside.schema in
     let most = c.engine.inside.max in
@@ -32,26 +38,25 @@ returns-in-Err-clause-answers g c =
     let base = c.engine.inside.base in
     let v = c.args.v.now in
     let w = c.args.writer.0 in
+    let way = rw c.in-Ok.is at c.in_ok-way.ensures.ok in
     let path : Path = c.as_slice-steps.result.now in
-    let is : path ≡ c.args.path.now
-    = c.as_slice-steps.ensures.value ∙ (rw c.in-Some-2.is at c.in_ok-steps.ensures).0 in
+    let is : path ≡ c.args.path.now = c.as_slice-steps.ensures.value ∙ way.all in
     let literal = c.args.literal.now in
-    let held : Held = c.in-Some.held in
+    let held : Held = (c.in-Ok.way.id, c.in-Ok.way.node) in
     let t = type_of schema held.0 in
     let old = c.engine.inside.arena in
     let there : held_at entries w v ≡ Some held
-    = ap (λ n. held_at entries w n) (sym c.as_name.ensures.text) ∙ sym c.get.ensures
-    ∙ c.in-Some.is in
+    = subst (λ (s : Content). held_at s.entries w v ≡ Some held) (sym c.engine.view_is) way.there in
     let k = c.args.selector in
     subst (λ (p : Path). AnswersWith pair_of (λ rules versions. choose versions v p k literal)
-    (puts v) w c.args.engine.now c.args.engine.now (Refused c.in-Err.code)) is
+    (puts v) w c.args.engine.now c.args.engine.now (Refused c.in-Err-choosable.code)) is
     (subst (λ (seen : Content). AnswersWith pair_of
     (λ rules versions. choose versions v path k literal) (puts v) w seen seen
-    (Refused c.in-Err.code)) c.engine.view_is
+    (Refused c.in-Err-choosable.code)) c.engine.view_is
     (code-answers pair_of schema most entries base old old w c.args.v held
-    (λ rules versions. choose versions v path k literal) there c.in-Err.code
+    (λ rules versions. choose versions v path k literal) there c.in-Err-choosable.code
     (λ versions value found of. choose_refused versions v (record { type = t; value = value }) path
-    found k literal (coded c.in-Err.code) (c.in-Err.ensures.err value of))))
+    found k literal (coded c.in-Err-choosable.code) (c.in-Err-choosable.ensures.err value of))))
 
 pub returns-in-Ok-inner_value-clause-answers : goal.returns-in-Ok-inner_value-clause-answers
 returns-in-Ok-inner_value-clause-answers g c =
@@ -62,20 +67,19 @@ returns-in-Ok-inner_value-clause-answers g c =
     let base = c.engine.inside.base in
     let v = c.args.v.now in
     let w = c.args.writer.0 in
+    let way = rw c.in-Ok.is at c.in_ok-way.ensures.ok in
     let path : Path = c.as_slice-steps.result.now in
-    let is : path ≡ c.args.path.now
-    = c.as_slice-steps.ensures.value ∙ (rw c.in-Some-2.is at c.in_ok-steps.ensures).0 in
+    let is : path ≡ c.args.path.now = c.as_slice-steps.ensures.value ∙ way.all in
     let literal = c.args.literal.now in
-    let held : Held = c.in-Some.held in
+    let held : Held = (c.in-Ok.way.id, c.in-Ok.way.node) in
     let t = type_of schema held.0 in
     let old = c.engine.inside.arena in
     let there : held_at entries w v ≡ Some held
-    = ap (λ n. held_at entries w n) (sym c.as_name.ensures.text) ∙ sym c.get.ensures
-    ∙ c.in-Some.is in
+    = subst (λ (s : Content). held_at s.entries w v ≡ Some held) (sym c.engine.view_is) way.there in
     let k = c.args.selector in
     let new = c.choose-made.new.arena in
     let x = option_map value_of (inner_of c.as_ref.result) in
-    let can = c.in-Ok.ensures.ok in
+    let can = c.in-Ok-choosable.ensures.ok in
     subst (λ (p : Path). IfOk c.finish.result (AnswersWith pair_of
     (λ rules versions. choose versions v p k literal) (puts v) w c.args.engine.now
     (over schema most entries base new))) is
@@ -101,18 +105,17 @@ returns-clause-answers g c =
     let base = c.engine.inside.base in
     let v = c.args.v.now in
     let w = c.args.writer.0 in
+    let way = rw c.in-Ok.is at c.in_ok-way.ensures.ok in
     let path : Path = c.as_slice-steps.result.now in
-    let is : path ≡ c.args.path.now
-    = c.as_slice-steps.ensures.value ∙ (rw c.in-Some-2.is at c.in_ok-steps.ensures).0 in
+    let is : path ≡ c.args.path.now = c.as_slice-steps.ensures.value ∙ way.all in
     let literal = c.args.literal.now in
-    let held : Held = c.in-Some.held in
+    let held : Held = (c.in-Ok.way.id, c.in-Ok.way.node) in
     let t = type_of schema held.0 in
     let old = c.engine.inside.arena in
     let there : held_at entries w v ≡ Some held
-    = ap (λ n. held_at entries w n) (sym c.as_name.ensures.text) ∙ sym c.get.ensures
-    ∙ c.in-Some.is in
+    = subst (λ (s : Content). held_at s.entries w v ≡ Some held) (sym c.engine.view_is) way.there in
     let k = c.args.selector in
-    let can = c.in-Ok.ensures.ok in
+    let can = c.in-Ok-choosable.ensures.ok in
     let fault = c.in-Err-inner_value.fault in
     let os = options_over schema.trees can.options in
     subst (λ (p : Path). IfOk c.unread.result (AnswersWith pair_of

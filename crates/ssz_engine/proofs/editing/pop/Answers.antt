@@ -1,4 +1,4 @@
-use Rattle.std.proofs.Common.{◌≡◌, ◌∙◌, Some, IfOk, sym, ap, subst}
+use Rattle.std.proofs.Common.{◌≡◌, ◌∙◌, Some, IfOk, sym, subst}
 use Rattle.ssz_schema.specs.Paths.{Path}
 use Rattle.ssz_schema.specs.Unfolding.{type_of}
 use Rattle.ssz_value.specs.Edits.{pop_at}
@@ -11,7 +11,13 @@ use Rattle.ssz_engine.specs.Decisions.{AnswersWith}
 use Rattle.ssz_engine.proofs.Brought.{over}
 use Rattle.ssz_engine.proofs.EditRows.{pop_row}
 use Rattle.ssz_engine.proofs.Edited.{finished-answers}
+use Rattle.ssz_engine.proofs.Straying.{pop-astray}
 use Rattle.ssz_engine.proofs.editing.pop.Goals as goal
+
+pub returns-in-Err-clause-answers : goal.returns-in-Err-clause-answers
+returns-in-Err-clause-answers g c =
+    pop-astray g.H.PairHash.pair_of c.args.engine.now c.args.writer.0 c.args.v.now c.args.path.now
+    c.in-Err.code (rw c.in-Err.is at c.in_ok-way.ensures.err)
 
 pub returns-clause-answers : goal.returns-clause-answers
 returns-clause-answers g c =
@@ -22,16 +28,15 @@ returns-clause-answers g c =
     let base = c.engine.inside.base in
     let v = c.args.v.now in
     let w = c.args.writer.0 in
+    let way = rw c.in-Ok.is at c.in_ok-way.ensures.ok in
     let path : Path = c.as_slice-steps.result.now in
-    let is : path ≡ c.args.path.now
-    = c.as_slice-steps.ensures.value ∙ (rw c.in-Some-2.is at c.in_ok-steps.ensures).0 in
-    let held : Held = c.in-Some.held in
+    let is : path ≡ c.args.path.now = c.as_slice-steps.ensures.value ∙ way.all in
+    let held : Held = (c.in-Ok.way.id, c.in-Ok.way.node) in
     let t = type_of schema held.0 in
     let old = c.engine.inside.arena in
     let new = c.pop-made.new.arena in
     let there : held_at entries w v ≡ Some held
-    = ap (λ n. held_at entries w n) (sym c.as_name.ensures.text) ∙ sym c.get.ensures
-    ∙ c.in-Some.is in
+    = subst (λ (s : Content). held_at s.entries w v ≡ Some held) (sym c.engine.view_is) way.there in
     subst (λ (p : Path). IfOk c.finish.result (AnswersWith pair_of
     (λ rules versions. pop versions v p) (puts v) w c.args.engine.now
     (over schema most entries base new))) is

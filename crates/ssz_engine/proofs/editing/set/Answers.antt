@@ -20,10 +20,16 @@ use Rattle.ssz_value.specs.Faults.{why}
 use Rattle.ssz_engine.proofs.Brought.{are-kept, over}
 use Rattle.ssz_engine.proofs.EditRows.{set_read, set_refused}
 use Rattle.ssz_engine.proofs.Edited.{unread-answers, code-answers, finished-answers}
+use Rattle.ssz_engine.proofs.Straying.{set-astray}
 use Rattle.ssz_engine.proofs.editing.set.Goals as goal
 
 pub returns-in-Err-clause-answers : goal.returns-in-Err-clause-answers
 returns-in-Err-clause-answers g c =
+    set-astray g.H.PairHash.pair_of c.args.engine.now c.args.writer.0 c.args.v.now c.args.path.now
+    c.in-Err.code (rw c.in-Err.is at c.in_ok-way.ensures.err) c.args.literal.now
+
+pub returns-in-Err-settable-clause-answers : goal.returns-in-Err-settable-clause-answers
+returns-in-Err-settable-clause-answers g c =
     let pair_of = g.H.PairHash.pair_of in
     let schema = c.engine.inside.schema in
     let most = c.engine.inside.max in
@@ -31,24 +37,23 @@ returns-in-Err-clause-answers g c =
     let base = c.engine.inside.base in
     let v = c.args.v.now in
     let w = c.args.writer.0 in
+    let way = rw c.in-Ok.is at c.in_ok-way.ensures.ok in
     let path : Path = c.as_slice-steps.result.now in
-    let is : path ≡ c.args.path.now
-    = c.as_slice-steps.ensures.value ∙ (rw c.in-Some-2.is at c.in_ok-steps.ensures).0 in
+    let is : path ≡ c.args.path.now = c.as_slice-steps.ensures.value ∙ way.all in
     let literal = c.args.literal.now in
-    let held : Held = c.in-Some.held in
+    let held : Held = (c.in-Ok.way.id, c.in-Ok.way.node) in
     let t = type_of schema held.0 in
     let old = c.engine.inside.arena in
     let there : held_at entries w v ≡ Some held
-    = ap (λ n. held_at entries w n) (sym c.as_name.ensures.text) ∙ sym c.get.ensures
-    ∙ c.in-Some.is in
+    = subst (λ (s : Content). held_at s.entries w v ≡ Some held) (sym c.engine.view_is) way.there in
     subst (λ (p : Path). AnswersWith pair_of (λ rules versions. set versions v p literal)
-    (puts v) w c.args.engine.now c.args.engine.now (Refused c.in-Err.code)) is
+    (puts v) w c.args.engine.now c.args.engine.now (Refused c.in-Err-settable.code)) is
     (subst (λ (seen : Content). AnswersWith pair_of (λ rules versions. set versions v path literal)
-    (puts v) w seen seen (Refused c.in-Err.code)) c.engine.view_is
+    (puts v) w seen seen (Refused c.in-Err-settable.code)) c.engine.view_is
     (code-answers pair_of schema most entries base old old w c.args.v held
-    (λ rules versions. set versions v path literal) there c.in-Err.code
+    (λ rules versions. set versions v path literal) there c.in-Err-settable.code
     (λ versions value found of. set_refused versions v (record { type = t; value = value }) path
-    found literal (coded c.in-Err.code) (c.in-Err.ensures.err value of))))
+    found literal (coded c.in-Err-settable.code) (c.in-Err-settable.ensures.err value of))))
 
 pub returns-in-Ok-decode-clause-answers : goal.returns-in-Ok-decode-clause-answers
 returns-in-Ok-decode-clause-answers g c =
@@ -59,16 +64,15 @@ returns-in-Ok-decode-clause-answers g c =
     let base = c.engine.inside.base in
     let v = c.args.v.now in
     let w = c.args.writer.0 in
+    let way = rw c.in-Ok.is at c.in_ok-way.ensures.ok in
     let path : Path = c.as_slice-steps.result.now in
-    let is : path ≡ c.args.path.now
-    = c.as_slice-steps.ensures.value ∙ (rw c.in-Some-2.is at c.in_ok-steps.ensures).0 in
+    let is : path ≡ c.args.path.now = c.as_slice-steps.ensures.value ∙ way.all in
     let literal = c.args.literal.now in
-    let held : Held = c.in-Some.held in
+    let held : Held = (c.in-Ok.way.id, c.in-Ok.way.node) in
     let t = type_of schema held.0 in
     let old = c.engine.inside.arena in
     let there : held_at entries w v ≡ Some held
-    = ap (λ n. held_at entries w n) (sym c.as_name.ensures.text) ∙ sym c.get.ensures
-    ∙ c.in-Some.is in
+    = subst (λ (s : Content). held_at s.entries w v ≡ Some held) (sym c.engine.view_is) way.there in
     let new = c.set-made.new.arena in
     let x = value_of c.in-Ok-decode.value in
     subst (λ (p : Path). IfOk c.finish.result (AnswersWith pair_of
@@ -81,7 +85,8 @@ returns-in-Ok-decode-clause-answers g c =
     (λ name rules versions. set versions name path literal)
     (λ value. set_at t value path x) (λ value. set_charge t path x)
     (λ versions value found of. set_read versions v (record { type = t; value = value }) path
-    found literal (type_of schema c.in-Ok.part) None (c.in-Ok.ensures.ok.tests value of)
+    found literal (type_of schema c.in-Ok-settable.part) None
+    (c.in-Ok-settable.ensures.ok.tests value of)
     c.in-Ok-decode.ensures.answer.0
     ∙ ap (λ y. edits versions v t (set_at t value path y) (set_charge t path y))
     (sym c.in-Ok-decode.ensures.answer.1.value))
@@ -97,18 +102,17 @@ returns-clause-answers g c =
     let base = c.engine.inside.base in
     let v = c.args.v.now in
     let w = c.args.writer.0 in
+    let way = rw c.in-Ok.is at c.in_ok-way.ensures.ok in
     let path : Path = c.as_slice-steps.result.now in
-    let is : path ≡ c.args.path.now
-    = c.as_slice-steps.ensures.value ∙ (rw c.in-Some-2.is at c.in_ok-steps.ensures).0 in
+    let is : path ≡ c.args.path.now = c.as_slice-steps.ensures.value ∙ way.all in
     let literal = c.args.literal.now in
-    let held : Held = c.in-Some.held in
+    let held : Held = (c.in-Ok.way.id, c.in-Ok.way.node) in
     let t = type_of schema held.0 in
     let old = c.engine.inside.arena in
     let there : held_at entries w v ≡ Some held
-    = ap (λ n. held_at entries w n) (sym c.as_name.ensures.text) ∙ sym c.get.ensures
-    ∙ c.in-Some.is in
+    = subst (λ (s : Content). held_at s.entries w v ≡ Some held) (sym c.engine.view_is) way.there in
     let fault = c.in-Err-decode.fault in
-    let u = type_of schema c.in-Ok.part in
+    let u = type_of schema c.in-Ok-settable.part in
     subst (λ (p : Path). IfOk c.unread.result (AnswersWith pair_of
     (λ rules versions. set versions v p literal) (puts v) w c.args.engine.now c.args.engine.now)) is
     (subst (λ (r : Result Decision EngineFault). IfOk r (AnswersWith pair_of
@@ -119,7 +123,7 @@ returns-clause-answers g c =
     (unread-answers pair_of schema most entries base old old w c.args.v held
     (λ rules versions. set versions v path literal) there fault
     (λ bad is versions value found of. set_read versions v (record { type = t; value = value })
-    path found literal u (Some bad) (c.in-Ok.ensures.ok.tests value of)
+    path found literal u (Some bad) (c.in-Ok-settable.ensures.ok.tests value of)
     (subst (λ (f : DecodeFault). Faulty (why u 0 literal) f) is c.in-Err-decode.ensures.answer)))))
 
 pub invariant_of-engine : goal.invariant_of-engine
