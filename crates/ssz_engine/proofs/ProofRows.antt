@@ -1,5 +1,5 @@
 -- What `prove` says of a version, from the tree of its node.
-use Rattle.std.proofs.Common.{◌≡◌, ◌∙◌, ◌&&◌, ℕ, Bool, true, false, not, List, [], ◌∷◌, Option, Some, None, Ok, Err, is_some, refl, sym, ap, subst, arith}
+use Rattle.std.proofs.Common.{inl, inr, ◌≡◌, ◌∙◌, ◌&&◌, ℕ, Bool, true, false, not, List, [], ◌∷◌, Option, Some, None, Result, Ok, Err, IfOk, is_some, refl, sym, ap, arith}
 use Rattle.std.specs.Prelude.{is_none, nat_eq, Contains}
 use Rattle.std.specs.List.{list_any, AllByRecursion}
 use Rattle.std.proofs.lemmas.Bool.{and_parts, eqb-false, false≢true, false_from_ne_true, not-true, not_from_false}
@@ -7,11 +7,11 @@ use Rattle.std.proofs.lemmas.List.Elements.{All-from_recursion}
 use Rattle.std.proofs.lemmas.List.Folds.{list_any_at, list_any_none}
 use Rattle.ssz_chunk.specs.Tree.{Tree}
 use Rattle.ssz_chunk.specs.Index.{at}
-use Rattle.ssz_gindex.specs.Helpers.{is_within, AreFlat, AreNamed, AreNested}
+use Rattle.ssz_gindex.specs.Helpers.{is_within, AreFlat, AreNested}
 use Rattle.ssz_gindex.specs.Laws.{IsIn}
 use Rattle.ssz_schema.specs.Types.{SszType}
-use Rattle.ssz_schema.specs.Unfolding.{Types, type_of}
-use Rattle.ssz_arena.specs.Content.{Content as Nodes, tree_of}
+use Rattle.ssz_schema.specs.Unfolding.{type_of}
+use Rattle.ssz_arena.specs.Content.{tree_of}
 use Rattle.ssz_line.specs.declared.index.Index.{Index}
 use Rattle.ssz_proof.specs.Calculation.{Known, PairOf, indices_of}
 use Rattle.ssz_proof.specs.Judgement.{are_flat, is_below_one}
@@ -23,29 +23,26 @@ use Rattle.ssz_prove.specs.Faults.{AreIn}
 use Rattle.ssz_prove.specs.Proved.{IsProofIn}
 use Rattle.ssz_prove.specs.Taken.{TakesRoots}
 use Rattle.ssz_script.specs.declared.reply.Reply.TheVariants.{Proof}
-use Rattle.ssz_script.specs.declared.reply.TheConstants.Reply.{NO_VERSION, NO_NODE, NESTED}
+use Rattle.ssz_script.specs.declared.reply.TheConstants.Reply.{NO_VERSION, BAD_PATH, NO_NODE, NESTED}
 use Rattle.ssz_value.specs.Trees.{tree}
-use Rattle.ssz_versions.specs.Content.{Entries, Held, held_at}
+use Rattle.ssz_versions.specs.Content.{Held, held_at}
 use Rattle.ssz_machine.specs.State.{Name, Version, Versions}
-use Rattle.ssz_machine.specs.Rules.{Row, Outcome, ◌>>=◌, ◌>>◌, coded, need, refuse, says}
+use Rattle.ssz_machine.specs.Rules.{Rules, Row, Outcome, ◌>>=◌, ◌>>◌, coded, need, refuse, says}
 use Rattle.ssz_machine.specs.Asking.{proof_of, ascending, asked_indices, prove}
 use Rattle.ssz_machine.proofs.Ascents.{all-at}
 use Rattle.ssz_engine.specs.Content.{Content, rules_of}
 use Rattle.ssz_machine.specs.Changes.{nothing}
 use Rattle.ssz_engine.specs.Standing.{StandsForWriter}
-use Rattle.ssz_engine.specs.Decisions.{Answers}
+use Rattle.ssz_engine.specs.Decisions.{Answers, AnswersWith}
+use Rattle.ssz_engine.specs.Proving.{IsNowhere, Proves, proved}
+use Rattle.ssz_engine.specs.declared.decision.Decision.{Decision}
+use Rattle.ssz_engine.specs.declared.decision.Decision.TheVariants as decision
 use Rattle.ssz_engine.specs.declared.decision.Decision.TheVariants.{Said, Refused}
+use Rattle.ssz_engine.specs.declared.fault.EngineFault.{EngineFault}
 use Rattle.ssz_engine.proofs.AscendingOnce.{all-there}
-use Rattle.ssz_engine.proofs.Brought.{over, refused-answers}
+use Rattle.ssz_engine.proofs.Brought.{refused-answers}
 use Rattle.ssz_engine.proofs.ProofsMade.{all-parts, proof-made}
 use Rattle.ssz_engine.proofs.Showing.{held-there}
-
--- what is said of these indices of a tree
-abbrev pub proved : PairOf → Tree → Versions → List ℕ → Row
-proved pair_of t versions asked =
-    refuse NO_NODE (list_any (λ g. is_none (at t g)) asked)
-    >> (refuse NESTED (not (are_flat asked))
-    >> says versions (Proof (text_of (proof_of pair_of t (ascending asked)))))
 
 -- where the tree has a node at each, and none is above another
 flat-all : (asked : List ℕ) → AreFlat asked → are_flat asked ≡ true
@@ -160,46 +157,67 @@ module _ (pair_of : PairOf) (engine : Content) (writer : ℕ) (v : Name) (indice
       (sym asked)
       ∙ is versions
 
--- What is answered, by the entry and the numbers of the indices.
-module _ (pair_of : PairOf) (types : Types) (most : ℕ) (entries : Entries) (base : ℕ) (old : Nodes)
-    (writer : ℕ) (v : Name) (indices : List Index) (held : Held)
-    (there : held_at entries writer v ≡ Some held) (asked : List ℕ)
-    (found : Ok asked ≡ asked_indices (type_of types held.0) indices) where
-  abbrev before : Content
-  before = over types most entries base old
+-- a decision that says a proof, as ssz_prove made it
+pub says-proof : (pair_of : PairOf) (t : Tree) (asked : List ℕ) (proof : Multiproof)
+    (text : List ℕ) → IsProofIn pair_of t asked proof → text ≡ text_of proof
+    → Proves pair_of t asked (Said (Proof text))
+says-proof pair_of t asked proof text is printed = λ versions.
+    proved-says t pair_of versions asked proof is
+    ∙ ap (λ (line : List ℕ). says versions (Proof line)) (sym printed)
 
+-- What is answered, by the entry.
+module _ (pair_of : PairOf) (engine : Content) (writer : ℕ) (v : Name) (indices : List Index)
+    (held : Held) (there : held_at engine.entries writer v ≡ Some held) where
   abbrev t : Tree
-  t = tree_of old held.1
+  t = tree_of engine.arena held.1
 
-  -- a proof, for which roots were taken
-  pub said-answers : (new : Nodes) (count after : ℕ) (proof : Multiproof) (text : List ℕ)
-      → IsProofIn pair_of t asked proof → text ≡ text_of proof → TakesRoots old new count after
-      → Answers pair_of (λ rules versions. prove rules versions v indices) nothing writer before
-      (over types most entries base new) count after (Said (Proof text))
-  said-answers new count after proof text is printed takes = record {
+  abbrev row : Rules → Versions → Row
+  row rules versions = prove rules versions v indices
+
+  -- no node, by the type
+  pub nowhere-answers : (code : ℕ) → IsNowhere (type_of engine.types held.0) indices code
+      → AnswersWith pair_of row nothing writer engine engine (Refused code)
+  nowhere-answers code (inl (is, bad)) = refused-answers pair_of row nothing writer engine code
+      (prove-row pair_of engine writer v indices held there (Err (coded BAD_PATH))
+      (λ versions. Err (coded code)) (sym bad) (λ versions. ap (λ c. Err (coded c)) (sym is)))
+  nowhere-answers code (inr (is, none)) = refused-answers pair_of row nothing writer engine code
+      (prove-row pair_of engine writer v indices held there (Ok none.numbers)
+      (λ versions. Err (coded code)) none.asked
+      (λ versions. proved-missing t pair_of versions none.numbers 0 none.zero refl
+      ∙ ap (λ c. Err (coded c)) (sym is)))
+
+  -- what is said of the numbers, with the roots that were taken
+  pub proves-answers : (new : Content) (asked : List ℕ) (count after : ℕ) (made : Decision)
+      → Ok asked ≡ asked_indices (type_of engine.types held.0) indices
+      → Proves pair_of t asked made → TakesRoots engine.arena new.arena count after
+      → Answers pair_of row nothing writer engine new count after made
+  proves-answers new asked count after (decision.Refused code) found proves takes = record {
     can = tt;
-    of = refl;
-    comes = λ versions stand.
-        prove-row pair_of before writer v indices held there (Ok asked)
-        (λ versions. says versions (Proof (text_of proof))) found
-        (λ versions. proved-says t pair_of versions asked proof is) versions stand
-        ∙ ap (λ (line : List ℕ). says versions (Proof line)) (sym printed);
+    of = tt;
+    comes = prove-row pair_of engine writer v indices held there (Ok asked)
+        (λ versions. Err (coded code)) found proves;
     spends = λ versions stand. omega (arith, takes.counts.at_most, takes.falls);
   }
+  proves-answers new asked count after (decision.Said reply) found proves takes = record {
+    can = tt;
+    of = refl;
+    comes = prove-row pair_of engine writer v indices held there (Ok asked)
+        (λ versions. says versions reply) found proves;
+    spends = λ versions stand. omega (arith, takes.counts.at_most, takes.falls);
+  }
+  proves-answers new asked count after (decision.BadBytes f) found proves takes = absurd proves
+  proves-answers new asked count after (decision.BadJson f) found proves takes = absurd proves
+  proves-answers new asked count after (decision.Made n id node) found proves takes = absurd proves
+  proves-answers new asked count after (decision.Edited n node) found proves takes = absurd proves
+  proves-answers new asked count after (decision.Dropped n) found proves takes = absurd proves
+  proves-answers new asked count after (decision.Saved n bytes) found proves takes = absurd proves
 
-  -- a refusal, after which all is as before
-  pub nested-answers : (new : Nodes) (count after a b : ℕ) → new ≡ old → after ≡ count
-      → AreIn t asked → AreNamed asked a b
-      → Answers pair_of (λ rules versions. prove rules versions v indices) nothing writer before
-      (over types most entries base new) count after (Refused NESTED)
-  nested-answers new count after a b same still inside named =
-      subst (λ (n : Nodes). Answers pair_of (λ rules versions. prove rules versions v indices)
-      nothing writer before (over types most entries base n) count after (Refused NESTED))
-      (sym same)
-      (subst (λ (k : ℕ). Answers pair_of (λ rules versions. prove rules versions v indices) nothing
-      writer before before count k (Refused NESTED)) (sym still)
-      (refused-answers pair_of (λ rules versions. prove rules versions v indices) nothing writer
-      before NESTED
-      (prove-row pair_of before writer v indices held there (Ok asked)
-      (λ versions. Err (coded NESTED)) found
-      (λ versions. proved-nested t pair_of versions asked a b inside named.nested)) count))
+  -- the same of what failed or was done
+  pub proves-ok : (new : Content) (asked : List ℕ) (count after : ℕ)
+      (r : Result Decision EngineFault)
+      → Ok asked ≡ asked_indices (type_of engine.types held.0) indices
+      → IfOk r (Proves pair_of t asked) → TakesRoots engine.arena new.arena count after
+      → IfOk r (Answers pair_of row nothing writer engine new count after)
+  proves-ok new asked count after (Ok made) found proves takes =
+      proves-answers new asked count after made found proves takes
+  proves-ok new asked count after (Err fault) found proves takes = tt

@@ -3,6 +3,7 @@ pub mod Standing
 pub mod Ways
 pub mod Decisions
 pub mod Shown
+pub mod Proving
 pub mod Counted
 pub mod EditTests
 pub mod Finished

@@ -1,19 +1,22 @@
 //! `prove`.
-ghost use Rattle.std.specs.Prelude.{◌≡◌, ◌+◌, ◌<◌, ◌≤◌, Contains, IfOk, IfErr, IfSome, MatchOption, length, option_map};
+ghost use Rattle.std.specs.Prelude.{◌≡◌, ◌≢◌, ◌+◌, ◌<◌, ◌≤◌, [], Ok, Contains, IfOk, IfErr, IfSome, MatchOption, length, option_map};
 ghost use Rattle.ssz_schema.specs.Unfolding.{type_of};
 ghost use Rattle.ssz_schema.specs.Indices.{generalized_index};
-ghost use Rattle.ssz_arena.specs.Content.{unhashed};
+ghost use Rattle.ssz_arena.specs.Content.{IsNodeOf, tree_of, unhashed};
+ghost use Rattle.ssz_prove.specs.Taken.{TakesRoots};
 ghost use Rattle.ssz_machine.specs.Rules.{need};
 ghost use Rattle.ssz_machine.specs.Asking.{asked_index, asked_indices, prove};
 ghost use Rattle.ssz_machine.specs.Changes.{nothing};
 ghost use Rattle.ssz_engine.specs.Content.{Grows};
 ghost use Rattle.ssz_engine.specs.Decisions.{Answers};
+ghost use Rattle.ssz_engine.specs.Proving.{IsNowhere, Proves};
 ghost use Rattle.ssz_engine.specs.Steps.{outcome_of};
 ghost use Rattle.ssz_engine.specs.declared.outcome.Outcome.TheVariants.{Refused};
 
 use super::decision::Decision;
 use super::engine::Engine;
 use super::fault::EngineFault;
+use ssz_arena::{Arena, NodeId};
 use ssz_bytes::ByteRun;
 use ssz_chunk::PairHash;
 use ssz_gindex::Gindex;
@@ -100,7 +103,58 @@ fn places(alloc: Global, numbers: &[u128]) -> Result<Option<Vec<Gindex>>, AllocE
     Ok(Some(list))
 }
 
-/// `prove V I ..`. A path that does not fit comes before an index of 0, whatever their order.
+// The places of the indices; else the code of the refusal. A path that does not fit comes before an
+// index of 0, whatever their order.
+fn places_asked(
+    alloc: Global,
+    schema: &Schema,
+    id: TypeId,
+    indices: &[Index],
+) -> Result<Result<Vec<Gindex>, u8>, AllocError>
+    requires { id < length schema.now.trees }
+    ensures ok { IfOk result (λ found. IfOk found (λ list.
+        Ok list.items ≡ asked_indices (type_of schema.now id) indices.now)) }
+    ensures all { IfOk result (λ found. IfOk found (λ list.
+        length list.items ≡ length indices.now)) }
+    ensures err { IfOk result (λ found. IfErr found
+        (IsNowhere (type_of schema.now id) indices.now)) }
+{
+    let Some(numbers) = numbers_asked(alloc, schema, id, indices)? else {
+        return Ok(Err(Reply::BAD_PATH));
+    };
+    match places(alloc, numbers.as_slice())? {
+        Some(list) => Ok(Ok(list)),
+        None => Ok(Err(Reply::NO_NODE)),
+    }
+}
+
+// What is said of these places of a node's tree.
+fn prove_places<'a, H: PairHash>(
+    arena: &mut Arena<H>,
+    node: NodeId,
+    asked: &[Gindex],
+    hasher: &mut H,
+) -> Result<Decision<'a>, EngineFault>
+    requires some { asked.now ≢ [] }
+    requires node { IsNodeOf arena.old node }
+    ensures proves { IfOk result (Proves H.pair_of (tree_of arena.old node) asked.now) }
+    ensures takes { TakesRoots arena.old arena.new (H.pairs hasher.old) (H.pairs hasher.new) }
+    ensures memory { IfErr result (λ fault. fault ≡ EngineFault.Memory) }
+    ensures refused { IfOk result (λ made. outcome_of made ≡ Refused
+        → hasher.new ≡ hasher.old) }
+{
+    match ssz_prove::prove(arena, node, asked, hasher) {
+        Ok(proof) => {
+            let text = proof_text(arena.allocator(), &proof)?;
+            Ok(Decision::Said(Reply::Proof(ByteRun::from_bytes(text))))
+        }
+        Err(ProveFault::NoNode(_)) => Ok(Decision::Refused(Reply::NO_NODE)),
+        Err(ProveFault::Nested(_, _)) => Ok(Decision::Refused(Reply::NESTED)),
+        Err(ProveFault::Memory) => Err(EngineFault::Memory),
+    }
+}
+
+/// `prove V I ..`.
 pub(crate) fn prove<'a, H: PairHash>(
     engine: &mut Engine<H>,
     writer: Writer,
@@ -121,20 +175,8 @@ pub(crate) fn prove<'a, H: PairHash>(
     let Some(held) = engine.versions.get(writer, v.as_name()) else {
         return Ok(Decision::Refused(Reply::NO_VERSION));
     };
-    let found = numbers_asked(engine.alloc, &engine.schema, held.0, indices.as_slice())?;
-    let Some(numbers) = found else {
-        return Ok(Decision::Refused(Reply::BAD_PATH));
-    };
-    let Some(asked) = places(engine.alloc, numbers.as_slice())? else {
-        return Ok(Decision::Refused(Reply::NO_NODE));
-    };
-    match ssz_prove::prove(&mut engine.arena, held.1, asked.as_slice(), hasher) {
-        Ok(proof) => {
-            let text = proof_text(engine.alloc, &proof)?;
-            Ok(Decision::Said(Reply::Proof(ByteRun::from_bytes(text))))
-        }
-        Err(ProveFault::NoNode(_)) => Ok(Decision::Refused(Reply::NO_NODE)),
-        Err(ProveFault::Nested(_, _)) => Ok(Decision::Refused(Reply::NESTED)),
-        Err(ProveFault::Memory) => Err(EngineFault::Memory),
+    match places_asked(engine.alloc, &engine.schema, held.0, indices.as_slice())? {
+        Ok(asked) => prove_places(&mut engine.arena, held.1, asked.as_slice(), hasher),
+        Err(code) => Ok(Decision::Refused(code)),
     }
 }
