@@ -5,7 +5,7 @@ use ssz_script::{FileName, Identifier, Reply};
 use ssz_value_json::JsonFault;
 
 /// What a statement comes to.
-#[derive(Debug, Drop)]
+#[derive(Drop)]
 pub(crate) enum Decision<'a> {
     /// It is refused with this code.
     Refused(u8),

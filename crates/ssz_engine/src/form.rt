@@ -1,5 +1,5 @@
 /// In which form a file has a value.
-#[derive(Clone, Copy, Debug, PartialEq, Eq)]
+#[derive(Clone, Copy)]
 pub(crate) enum Form {
     /// Its encoding.
     Encoding,
