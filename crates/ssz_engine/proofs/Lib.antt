@@ -38,6 +38,7 @@ pub mod TakenOver
 pub mod Weaving
 pub mod Isolating
 pub mod Rooting
+pub mod Owing
 pub mod WorkSteps
 pub mod WorkDraws
 pub mod WorkPoints

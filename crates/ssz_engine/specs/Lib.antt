@@ -8,6 +8,7 @@ pub mod Counted
 pub mod EditTests
 pub mod Finished
 pub mod Steps
+pub mod Dues
 pub mod Compacting
 pub mod Outside
 pub mod Scripts

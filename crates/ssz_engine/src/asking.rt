@@ -5,6 +5,7 @@ ghost use Rattle.ssz_machine.specs.Changes.{nothing};
 ghost use Rattle.ssz_script.specs.declared.statement.Statement.TheVariants.{Root};
 ghost use Rattle.ssz_engine.specs.Content.{Grows};
 ghost use Rattle.ssz_engine.specs.Decisions.{Answers, AnswersOf};
+ghost use Rattle.ssz_engine.specs.Dues.{HashesFor};
 ghost use Rattle.ssz_engine.specs.Steps.{LeavesHashed, outcome_of};
 ghost use Rattle.ssz_engine.specs.declared.outcome.Outcome.TheVariants.{Refused};
 
@@ -30,6 +31,7 @@ pub(crate) fn root<'a, H: PairHash>(
         writer.0 engine.old engine.new (H.pairs hasher.old) (H.pairs hasher.new) result }
     ensures rises { H.pairs hasher.old ≤ H.pairs hasher.new }
     ensures hashed { H.pairs hasher.new ≤ H.pairs hasher.old + unhashed engine.old.arena }
+    ensures due { HashesFor v.now writer.0 engine.old (H.pairs hasher.old) (H.pairs hasher.new) }
     ensures refused { outcome_of result ≡ Refused → hasher.new ≡ hasher.old }
     ensures roots { LeavesHashed (Root v.now) writer.0 engine.new }
 {

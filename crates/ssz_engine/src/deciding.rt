@@ -4,6 +4,7 @@ ghost use Rattle.ssz_machine.specs.Counts.{asks_root};
 ghost use Rattle.ssz_engine.specs.Compacting.{is_compact};
 ghost use Rattle.ssz_engine.specs.Content.{Grows};
 ghost use Rattle.ssz_engine.specs.Outside.{CountsReads};
+ghost use Rattle.ssz_engine.specs.Dues.{HashesDue};
 ghost use Rattle.ssz_engine.specs.Steps.{CanAsk, Decides, DecidesAlone, IsShort, LeavesHashed, MakesFork, MakesUpgrade, file_read, outcome_of};
 ghost use Rattle.ssz_engine.specs.declared.outcome.Outcome.TheVariants.{Refused};
 
@@ -46,6 +47,8 @@ pub(crate) fn decide<'a, F: Files, H: PairHash>(
     ensures no_write { result ≢ Err EngineFault.Write }
     ensures rises { H.pairs hasher.old ≤ H.pairs hasher.new }
     ensures hashed { H.pairs hasher.new ≤ H.pairs hasher.old + unhashed engine.old.arena }
+    ensures due { HashesDue statement.now writer.0 engine.old (H.pairs hasher.old)
+        (H.pairs hasher.new) }
     ensures refused { IfOk result (λ made. outcome_of made ≡ Refused → hasher.new ≡ hasher.old) }
     ensures still { asks_root (Some statement.now) ≡ false → hasher.new ≡ hasher.old }
     ensures forks { IfOk result (MakesFork statement.now writer.0 engine.old.entries) }
@@ -84,6 +87,8 @@ fn decide_alone<'a, H: PairHash>(
     ensures memory { IfErr result (λ fault. fault ≡ EngineFault.Memory) }
     ensures rises { H.pairs hasher.old ≤ H.pairs hasher.new }
     ensures hashed { H.pairs hasher.new ≤ H.pairs hasher.old + unhashed engine.old.arena }
+    ensures due { HashesDue statement.now writer.0 engine.old (H.pairs hasher.old)
+        (H.pairs hasher.new) }
     ensures refused { IfOk result (λ made. outcome_of made ≡ Refused → hasher.new ≡ hasher.old) }
     ensures still { asks_root (Some statement.now) ≡ false → hasher.new ≡ hasher.old }
     ensures forks { IfOk result (MakesFork statement.now writer.0 engine.old.entries) }

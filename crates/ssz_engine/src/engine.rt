@@ -9,6 +9,7 @@ ghost use Rattle.ssz_machine.specs.Counts.{asks_root};
 ghost use Rattle.ssz_engine.specs.Compacting.{compacted, is_compact};
 ghost use Rattle.ssz_engine.specs.Outside.{CountsReads, CountsWrites};
 ghost use Rattle.ssz_engine.specs.Standing.{StandsFor};
+ghost use Rattle.ssz_engine.specs.Dues.{HashesDue};
 ghost use Rattle.ssz_engine.specs.Steps.{DoesStep, ForksWhere, IsShort, Keeps, LeavesHashed, Stops, TouchesWhere, UpgradesWhere, file_read};
 ghost use Rattle.ssz_engine.specs.Weaves.{HoldsNone};
 
@@ -141,6 +142,9 @@ impl<H: PairHash> Engine<H> {
         ensures told { is_some (F.content files.new) ≡ is_some (F.content files.old) }
         ensures rises { H.pairs hasher.old ≤ H.pairs hasher.new }
         ensures hashed { H.pairs hasher.new ≤ H.pairs hasher.old + unhashed self.old.arena }
+        // A root, or a proof, hashes only what was to be hashed for the version that it is of.
+        ensures due { HashesDue statement.now writer.0 self.old (H.pairs hasher.old)
+            (H.pairs hasher.new) }
         ensures refused { IfOk result (λ outcome. outcome ≡ Outcome.Refused
             → hasher.new ≡ hasher.old) }
         ensures still { asks_root (Some statement.now) ≡ false → hasher.new ≡ hasher.old }

@@ -2,7 +2,7 @@
 ghost use Rattle.std.specs.Prelude.{◌≡◌, ◌≢◌, ◌+◌, ◌<◌, ◌≤◌, [], Ok, Contains, IfOk, IfErr, IfSome, MatchOption, length, option_map};
 ghost use Rattle.ssz_schema.specs.Unfolding.{type_of};
 ghost use Rattle.ssz_schema.specs.Indices.{generalized_index};
-ghost use Rattle.ssz_arena.specs.Content.{IsNodeOf, tree_of, unhashed};
+ghost use Rattle.ssz_arena.specs.Content.{IsNodeOf, todo, tree_of, unhashed};
 ghost use Rattle.ssz_prove.specs.Taken.{TakesRoots};
 ghost use Rattle.ssz_machine.specs.Rules.{need};
 ghost use Rattle.ssz_machine.specs.Asking.{asked_index, asked_indices, prove};
@@ -10,6 +10,7 @@ ghost use Rattle.ssz_machine.specs.Changes.{nothing};
 ghost use Rattle.ssz_engine.specs.Content.{Grows};
 ghost use Rattle.ssz_engine.specs.Decisions.{Answers};
 ghost use Rattle.ssz_engine.specs.Proving.{IsNowhere, Proves};
+ghost use Rattle.ssz_engine.specs.Dues.{HashesFor};
 ghost use Rattle.ssz_engine.specs.Steps.{outcome_of};
 ghost use Rattle.ssz_engine.specs.declared.outcome.Outcome.TheVariants.{Refused};
 
@@ -139,6 +140,7 @@ fn prove_places<'a, H: PairHash>(
     requires node { IsNodeOf arena.old node }
     ensures proves { IfOk result (Proves H.pair_of (tree_of arena.old node) asked.now) }
     ensures takes { TakesRoots arena.old arena.new (H.pairs hasher.old) (H.pairs hasher.new) }
+    ensures due { H.pairs hasher.new ≤ H.pairs hasher.old + todo arena.old node }
     ensures memory { IfErr result (λ fault. fault ≡ EngineFault.Memory) }
     ensures refused { IfOk result (λ made. outcome_of made ≡ Refused
         → hasher.new ≡ hasher.old) }
@@ -169,6 +171,7 @@ pub(crate) fn prove<'a, H: PairHash>(
     ensures memory { IfErr result (λ fault. fault ≡ EngineFault.Memory) }
     ensures rises { H.pairs hasher.old ≤ H.pairs hasher.new }
     ensures hashed { H.pairs hasher.new ≤ H.pairs hasher.old + unhashed engine.old.arena }
+    ensures due { HashesFor v.now writer.0 engine.old (H.pairs hasher.old) (H.pairs hasher.new) }
     ensures refused { IfOk result (λ made. outcome_of made ≡ Refused
         → hasher.new ≡ hasher.old) }
 {

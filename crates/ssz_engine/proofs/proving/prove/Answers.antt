@@ -10,7 +10,9 @@ use Rattle.ssz_engine.specs.Decisions.{Answers}
 use Rattle.ssz_engine.specs.Proving.{IsNowhere, Proves}
 use Rattle.ssz_engine.specs.declared.decision.Decision.TheVariants.{Refused}
 use Rattle.ssz_engine.proofs.Brought.{over}
+use Rattle.ssz_engine.specs.Dues.{HashesFor}
 use Rattle.ssz_engine.proofs.ProofRows.{nowhere-answers, proves-ok}
+use Rattle.ssz_engine.proofs.Owing.{hashed-for}
 use Rattle.ssz_engine.proofs.proving.prove.Goals as goal
 
 pub returns-in-Ok-clause-answers : goal.returns-in-Ok-clause-answers
@@ -65,3 +67,19 @@ returns-in-Err-clause-answers g c =
     (Refused c.in-Err.code)) c.engine.view_is
     (nowhere-answers pair_of seen w v indices held there c.in-Err.code is
     (g.H.PairHash.pairs c.args.hasher.now))
+
+pub returns-in-Ok-clause-due : goal.returns-in-Ok-clause-due
+returns-in-Ok-clause-due g c =
+    let w = c.args.writer.0 in
+    let v = c.args.v.now in
+    let held : Held = c.in-Some.held in
+    let inside = c.engine.inside in
+    let seen : Content = over inside.schema inside.max inside.versions.entries inside.base
+    inside.arena in
+    let before = g.H.PairHash.pairs c.args.hasher.now in
+    let after = g.H.PairHash.pairs c.prove_places.new.hasher in
+    let there : held_at seen.entries w v ≡ Some held
+    = ap (λ n. held_at seen.entries w n) (sym c.as_name.ensures.text)
+    ∙ sym c.get.ensures ∙ c.in-Some.is in
+    subst (λ (s : Content). HashesFor v w s before after) c.engine.view_is
+    (hashed-for seen w v held before after there c.prove_places.ensures.due)

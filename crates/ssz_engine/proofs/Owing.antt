@@ -1,0 +1,16 @@
+-- What is hashed for a version was to be hashed for it.
+use Rattle.std.proofs.Common.{◌≡◌, ◌≤◌, ◌+◌, ◌∙◌, ℕ, Some, sym, subst}
+use Rattle.ssz_arena.specs.Content.{todo}
+use Rattle.ssz_versions.specs.Content.{Held, held_at}
+use Rattle.ssz_machine.specs.State.{Name}
+use Rattle.ssz_engine.specs.Content.{Content}
+use Rattle.ssz_engine.specs.Dues.{HashesFor}
+use Rattle.ssz_engine.proofs.Entries.{some_held}
+
+-- the node of an entry is what its name stands for
+pub hashed-for : (engine : Content) (writer : ℕ) (v : Name) (held : Held) (before after : ℕ)
+    → held_at engine.entries writer v ≡ Some held → after ≤ before + todo engine.arena held.1
+    → HashesFor v writer engine before after
+hashed-for engine writer v held before after there paid = λ is found.
+    subst (λ (h : Held). after ≤ before + todo engine.arena h.1)
+    (some_held held is (sym there ∙ found)) paid
