@@ -5,6 +5,7 @@ pub mod Leaving
 pub mod Beginning
 pub mod Forking
 pub mod Names
+pub mod Held
 pub mod Brought
 pub mod Found
 pub mod Showing

@@ -57,7 +57,7 @@ second true b p = p
 second false b p = absurd p
 
 -- a test that is true of equal numbers alone
-by_writer : (P : Bool → Type 0) (a writer : ℕ) → (a ≡ writer → P true) → (a ≢ writer → P false)
+pub by_writer : (P : Bool → Type 0) (a writer : ℕ) → (a ≡ writer → P true) → (a ≢ writer → P false)
     → P (a == writer)
 by_writer P a writer same other = by (a == writer) refl
   where

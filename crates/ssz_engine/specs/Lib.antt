@@ -16,3 +16,4 @@ pub mod Points
 pub mod Lines
 pub mod Weaves
 pub mod Works
+pub mod Laws

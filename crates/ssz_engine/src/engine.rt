@@ -7,6 +7,7 @@ ghost use Rattle.ssz_versions.specs.Compacted.{IsCompacted};
 ghost use Rattle.ssz_machine.specs.Changes.{touch};
 ghost use Rattle.ssz_machine.specs.Counts.{asks_root};
 ghost use Rattle.ssz_engine.specs.Compacting.{compacted, is_compact};
+ghost use Rattle.ssz_engine.specs.Laws.{StandsForSome};
 ghost use Rattle.ssz_engine.specs.Outside.{CountsReads, CountsWrites};
 ghost use Rattle.ssz_engine.specs.Standing.{StandsFor};
 ghost use Rattle.ssz_engine.specs.Dues.{HashesDue};
@@ -90,6 +91,14 @@ impl<H: PairHash> Engine<H> {
             versions,
             base: hasher.count(),
         })
+    }
+
+    /// The engine stands for some versions of the machine: what the clauses of the other calls say
+    /// of all for which it stands, they say of some.
+    pub fn stands(&self)
+        ensures { StandsForSome self.now }
+    {
+        let _ = &self.versions;
     }
 
     /// Does a statement of this line of a script, and appends the line of the reply. All memory is
