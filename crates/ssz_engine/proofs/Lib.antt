@@ -40,6 +40,7 @@ pub mod Weaving
 pub mod Isolating
 pub mod Rooting
 pub mod Owing
+pub mod SetsAndRoots
 pub mod WorkSteps
 pub mod WorkDraws
 pub mod WorkPoints

@@ -26,6 +26,7 @@ mod engine;
 mod fault;
 mod form;
 mod inner;
+mod laws;
 mod line;
 mod loading;
 mod making;
@@ -44,4 +45,5 @@ mod working;
 
 pub use engine::Engine;
 pub use fault::EngineFault;
+pub use laws::sets_hash_their_way;
 pub use outcome::Outcome;
