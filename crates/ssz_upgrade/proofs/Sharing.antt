@@ -70,7 +70,7 @@ vector_few elem n some few None is =
 module _ (format : Format) where
   mutual
     -- a default has at most twice as many shared nodes as pairs
-    shared_few : (t : SszType) → IsLegal format t → shared t ≤ 2 * pairs t (default_of t)
+    pub shared_few : (t : SszType) → IsLegal format t → shared t ≤ 2 * pairs t (default_of t)
     shared_few (uint w) legal = omega arith
     shared_few boolean legal = omega arith
     shared_few (container fs) legal =
