@@ -1,5 +1,5 @@
 -- Versions that are made.
-use Rattle.std.proofs.Common.{Bor, Bool, true, false, inl, inr, is_some, IsSome, option_map, ◌≡◌, ◌≤◌, ◌<◌, ◌+◌, ℕ, List, Option, Some, None, length, Ok, Err, refl, sym, ap, subst, ◌∙◌, arith}
+use Rattle.std.proofs.Common.{Bor, Bool, true, false, inl, inr, is_some, IsSome, option_map, ◌≡◌, ◌≤◌, ◌<◌, ◌+◌, ◌*◌, ℕ, List, Option, Some, None, length, Ok, Err, refl, sym, ap, subst, ◌∙◌, arith}
 use Rattle.std.proofs.lemmas.Bool.{false≢true, lt-ltb, ltb-true}
 use Rattle.std.proofs.lemmas.List.{length-replicate}
 use Rattle.std.specs.Prelude.{nat_lt, replicate, unwrap_or, IfSome, IsSomeAnd, []}
@@ -14,7 +14,7 @@ use Rattle.ssz_value.specs.Pairs.{pairs}
 use Rattle.ssz_value_json.specs.declared.fault.JsonFault.{JsonFault}
 use Rattle.ssz_value_json.specs.Faults.{why_json, value_spelled}
 use Rattle.ssz_arena.specs.declared.node.NodeId.{NodeId}
-use Rattle.ssz_arena.specs.Content.{Content as Nodes, unhashed, KeepsNodes}
+use Rattle.ssz_arena.specs.Content.{Content as Nodes, node_count, todo, unhashed, KeepsNodes}
 use Rattle.ssz_tree.specs.Added.{Adds, IsPart}
 use Rattle.ssz_tree.specs.Built.{part_of}
 use Rattle.ssz_proof.specs.Calculation.{PairOf}
@@ -27,7 +27,7 @@ use Rattle.ssz_machine.specs.Rules.{Rules, Row, ◌>>=◌, ◌>>◌, coded, bad_
 use Rattle.ssz_machine.specs.Machine.{charge_in}
 use Rattle.ssz_machine.specs.Changes.{Touch, puts}
 use Rattle.ssz_engine.specs.Content.{Content, rules_of}
-use Rattle.ssz_engine.specs.Decisions.{AnswersWith, Comes, IsFree, IsTaken, LoadsWith, ReadsAs, brought, brought_as, load_row}
+use Rattle.ssz_engine.specs.Decisions.{AnswersAnew, AnswersWith, Comes, IsPaid, MakesFew, IsFree, IsTaken, LoadsWith, ReadsAs, brought, brought_as, load_row}
 use Rattle.ssz_engine.specs.declared.decision.Decision.{Decision}
 use Rattle.ssz_engine.specs.declared.decision.Decision.TheVariants.{BadJson, Made, Refused}
 use Rattle.ssz_engine.specs.declared.form.Form.{Form}
@@ -82,16 +82,27 @@ pub made-answers : (pair_of : PairOf) (types : Types) (most : ℕ) (entries : En
     (old new : Nodes) (row : Rules → Versions → Row) (writer : ℕ) (name : Bor (List ℕ)) (id : ℕ)
     (node : NodeId) (v : SszValue) (n m : ℕ) → id < length types.trees → Fits (type_of types id) v
     → IsPart new (part_of (type_of types id) v) node → Adds n m old new
-    → m ≤ pairs (type_of types id) v
+    → m ≤ pairs (type_of types id) v → n ≤ 2 * pairs (type_of types id) v + 1
     → held_at entries writer name.now ≡ None
     → ((versions : Versions)
     → StandsForWriter (over types most entries base old) writer versions
     → row (rules_of pair_of (over types most entries base old)) versions
     ≡ makes versions name.now (type_of types id) v (pairs (type_of types id) v))
-    → AnswersWith pair_of row (puts name.now) writer (over types most entries base old)
+    → AnswersAnew pair_of row (puts name.now) writer (over types most entries base old)
     (over types most entries base new) (Made name id node)
 made-answers pair_of types most entries base old new row writer name id node v n m known fits part
-    adds few free is = λ count. record {
+    adds most_pairs most_nodes free is = (answers, λ versions stand.
+    subst (λ r. todo new node ≤ charge_in r) (sym (is versions stand)) part.todo)
+  where
+    version : Version
+    version = record { type = type_of types id; value = v }
+
+    stands : IsVersion types new (id, node) version
+    stands = part-stands types new id node v known fits part
+
+    answers : AnswersWith pair_of row (puts name.now) writer (over types most entries base old)
+        (over types most entries base new) (Made name id node)
+    answers = λ count. record {
       can = (free, (version, stands));
       of = refl;
       comes = λ versions stand.
@@ -106,14 +117,11 @@ made-answers pair_of types most entries base old new row writer name id node v n
       spends = λ versions stand.
           subst (λ r. count + unhashed new ≤ count + unhashed old + charge_in r)
           (sym (is versions stand))
-          (let h = adds.unhashed in let k = few in omega arith);
+          (let h = adds.unhashed in let k = most_pairs in omega arith);
+      few = λ versions stand.
+          subst (λ r. node_count new ≤ node_count old + 2 * charge_in r + 1)
+          (sym (is versions stand)) (let h = adds.count in let k = most_nodes in omega arith);
     }
-  where
-    version : Version
-    version = record { type = type_of types id; value = v }
-
-    stands : IsVersion types new (id, node) version
-    stands = part-stands types new id node v known fits part
 
 -- the row of bytes that have no fault
 pub brought-row : (versions : Versions) (v : Name) (t : SszType) (bytes : List ℕ)
@@ -197,7 +205,22 @@ answers-same pair_of row other touch writer old new made same answers = λ count
   spends = λ versions stand.
       subst (λ r. count + unhashed new.arena ≤ count + unhashed old.arena + charge_in r)
       (sym (same versions stand)) ((answers count).spends versions stand);
+  few = λ versions stand.
+      subst (λ r. MakesFew made (charge_in r) old.arena new.arena)
+      (sym (same versions stand)) ((answers count).few versions stand);
 }
+
+pub anew-same : (pair_of : PairOf) (row other : Rules → Versions → Row) (touch : Touch)
+    (writer : ℕ) (old new : Content) (made : Decision)
+    → ((versions : Versions) → StandsForWriter old writer versions
+    → other (rules_of pair_of old) versions ≡ row (rules_of pair_of old) versions)
+    → AnswersAnew pair_of row touch writer old new made
+    → AnswersAnew pair_of other touch writer old new made
+anew-same pair_of row other touch writer old new made same answers = (
+  answers-same pair_of row other touch writer old new made same answers.0,
+  λ versions stand. subst (λ r. IsPaid new.arena (charge_in r) made)
+      (sym (same versions stand)) (answers.1 versions stand),
+)
 
 -- a refusal
 pub refused-answers : (pair_of : PairOf) (row : Rules → Versions → Row) (touch : Touch)
@@ -210,19 +233,29 @@ refused-answers pair_of row touch writer engine code is = λ count. record {
   of = tt;
   comes = is;
   spends = λ versions stand. omega arith;
+  few = λ versions stand. refl;
 }
+
+pub refused-anew : (pair_of : PairOf) (row : Rules → Versions → Row) (touch : Touch)
+    (writer : ℕ) (engine : Content) (code : ℕ)
+    → ((versions : Versions) → StandsForWriter engine writer versions
+    → row (rules_of pair_of engine) versions ≡ Err (coded code))
+    → AnswersAnew pair_of row touch writer engine engine (Refused code)
+refused-anew pair_of row touch writer engine code is =
+    (refused-answers pair_of row touch writer engine code is, λ versions stand. tt)
 
 -- a text that has a fault
 pub bad-json-answers : (pair_of : PairOf) (row : Rules → Versions → Row) (touch : Touch)
     (writer : ℕ) (engine : Content) (fault : JsonFault)
     → ((versions : Versions) → row (rules_of pair_of engine) versions ≡ Err (bad_json fault))
-    → AnswersWith pair_of row touch writer engine engine (BadJson fault)
-bad-json-answers pair_of row touch writer engine fault is = λ count. record {
+    → AnswersAnew pair_of row touch writer engine engine (BadJson fault)
+bad-json-answers pair_of row touch writer engine fault is = (λ count. record {
   can = tt;
   of = tt;
   comes = λ versions stand. is versions;
   spends = λ versions stand. omega arith;
-}
+  few = λ versions stand. refl;
+}, λ versions stand. tt)
 
 -- the row of a load: the tests of the names, and then the value
 pub load-is : (form : Form) (rules : Rules) (versions : Versions) (v t : Name) (bytes : List ℕ)
@@ -289,7 +322,7 @@ too-long (Some c) file most h = by (bytes_of c file) refl h
 pub loads-any : (pair_of : PairOf) (told : Option Files) (file : List ℕ)
     (row : List ℕ → Rules → Versions → Row) (does : Touch) (writer : ℕ) (old new : Content)
     (made : Decision)
-    → ((bytes : List ℕ) → AnswersWith pair_of (row bytes) does writer old new made)
+    → ((bytes : List ℕ) → AnswersAnew pair_of (row bytes) does writer old new made)
     → LoadsWith pair_of told file row does writer old new made
 loads-any pair_of None file row does writer old new made h = record {
   bytes = [];

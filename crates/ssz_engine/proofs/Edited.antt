@@ -1,6 +1,6 @@
 -- What an edit of a version answers, by what the edit of its node answered.
 use Rattle.std.specs.Prelude.{OnErr}
-use Rattle.std.proofs.Common.{Bor, ◌≡◌, ◌≤◌, ◌+◌, ℕ, List, Some, Result, Ok, Err, IfOk, refl, sym, ap, subst, ◌∙◌, arith}
+use Rattle.std.proofs.Common.{Bor, ◌≡◌, ◌≤◌, ◌+◌, ◌*◌, length, ℕ, List, Some, Result, Ok, Err, IfOk, refl, sym, ap, subst, ◌∙◌, arith}
 use Rattle.ssz_bytes.specs.declared.fault.Fault.{Fault}
 use Rattle.ssz_schema.specs.Types.{SszType}
 use Rattle.ssz_schema.specs.Unfolding.{Types, type_of}
@@ -10,7 +10,7 @@ use Rattle.ssz_value.specs.Values.{SszValue}
 use Rattle.ssz_value.specs.Edits.{Edited as EditedValue}
 use Rattle.ssz_arena.specs.declared.node.Node.{Node}
 use Rattle.ssz_arena.specs.declared.node.NodeId.{NodeId}
-use Rattle.ssz_arena.specs.Content.{Content as Nodes, tree_of, unhashed}
+use Rattle.ssz_arena.specs.Content.{Content as Nodes, node_count, tree_of, unhashed}
 use Rattle.ssz_places.specs.PlaceLaws.{IsTreeOf}
 use Rattle.ssz_codec.specs.declared.fault.DecodeFault.{DecodeFault}
 use Rattle.ssz_codec.specs.declared.fault.DecodeFault.TheVariants.{Bad, Memory}
@@ -91,6 +91,7 @@ module _ (pair_of : PairOf) (types : Types) (most : ℕ) (entries : Entries) (ba
         (stand.each name.now) in
         is versions v.value v.found v.of;
     spends = λ versions stand. omega arith;
+    few = λ versions stand. refl;
   }
 
   bad-answers : held_at entries writer name.now ≡ Some held → (fault : Fault)
@@ -104,6 +105,7 @@ module _ (pair_of : PairOf) (types : Types) (most : ℕ) (entries : Entries) (ba
         (stand.each name.now) in
         is versions v.value v.found v.of;
     spends = λ versions stand. omega arith;
+    few = λ versions stand. refl;
   }
 
   pub unread-answers : held_at entries writer name.now ≡ Some held → (fault : DecodeFault)
@@ -170,6 +172,13 @@ module _ (pair_of : PairOf) (types : Types) (most : ℕ) (entries : Entries) (ba
           (sym (is_row versions v.value v.found v.of
           ∙ ap (λ e. edits versions name.now t e (charge v.value)) made.1))
           (let more = made.2.more in omega arith);
+      few = λ versions stand.
+          let v = value-there types old entries writer name.now held versions there
+          (stand.each name.now) in
+          let made = done v.value v.of in
+          subst (λ r. node_count new ≤ node_count old + 2 * charge_in r + 1)
+          (sym (is_row versions v.value v.found v.of
+          ∙ ap (λ e. edits versions name.now t e (charge v.value)) made.1)) made.2.few;
     }
 
     -- the edit has a fault
@@ -189,6 +198,7 @@ module _ (pair_of : PairOf) (types : Types) (most : ℕ) (entries : Entries) (ba
           let e : unhashed new ≡ unhashed old
           = ap (λ (nodes : List Node). unhashed (record { nodes = nodes; spare = 0 })) same in
           omega arith;
+      few = λ versions stand. ap (λ (nodes : List Node). length nodes) same;
     }
 
     finish-answers : (result : Result NodeId EditFault)

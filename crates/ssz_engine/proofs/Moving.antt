@@ -1,4 +1,5 @@
 -- What a compaction leaves: all stand for what they stood for.
+use Rattle.std.proofs.lemmas.Bool.{false≢true}
 use Rattle.std.proofs.Common.{◌≡◌, ◌++◌, ℕ, List, Option, Some, None, refl, sym, ap, subst, ◌∙◌, arith}
 use Rattle.ssz_outside.specs.Content.{Content as Files}
 use Rattle.ssz_schema.specs.Unfolding.{Types, type_of}
@@ -140,4 +141,6 @@ module _ (first new : Content) (keeps : Keeps first new)
     };
     spends = λ versions stands. let less = is.unhashed in omega arith;
     edits = λ versions stands name was now puts ok there after. nothing-puts _ name puts;
+    anew = λ versions stands name is some does ok now. nothing-puts _ name does;
+    few = λ versions stands other. absurd (false≢true (sym other));
   }

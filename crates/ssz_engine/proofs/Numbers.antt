@@ -69,6 +69,7 @@ module _ (pair_of : PairOf) (engine : Content) (writer : ℕ) (v : Name) (path :
     comes = λ versions stand. len-row engine writer v path held
         (λ versions. says versions (Len n)) there is versions stand;
     spends = λ versions stand. omega arith;
+    few = λ versions stand. refl;
   }
 
   pub len-refused : (code : ℕ)

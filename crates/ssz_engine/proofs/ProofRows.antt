@@ -197,6 +197,7 @@ module _ (pair_of : PairOf) (engine : Content) (writer : ℕ) (v : Name) (indice
     comes = prove-row pair_of engine writer v indices held there (Ok asked)
         (λ versions. Err (coded code)) found proves;
     spends = λ versions stand. omega (arith, takes.counts.at_most, takes.falls);
+    few = λ versions stand. takes.same;
   }
   proves-answers new asked count after (decision.Said reply) found proves takes = record {
     can = tt;
@@ -204,6 +205,7 @@ module _ (pair_of : PairOf) (engine : Content) (writer : ℕ) (v : Name) (indice
     comes = prove-row pair_of engine writer v indices held there (Ok asked)
         (λ versions. says versions reply) found proves;
     spends = λ versions stand. omega (arith, takes.counts.at_most, takes.falls);
+    few = λ versions stand. takes.same;
   }
   proves-answers new asked count after (decision.BadBytes f) found proves takes = absurd proves
   proves-answers new asked count after (decision.BadJson f) found proves takes = absurd proves

@@ -1,5 +1,6 @@
 -- A decision that is carried out is a step.
-use Rattle.std.proofs.Common.{◌≡◌, ◌≤◌, ◌+◌, ◌-◌, ℕ, List, Option, Some, None, Result, Ok, Err, IfOk, IfErr, sym, ap, ◌∙◌, arith}
+use Rattle.std.proofs.lemmas.Bool.{false≢true}
+use Rattle.std.proofs.Common.{◌≡◌, ◌≤◌, ◌+◌, ◌-◌, ℕ, Bool, true, false, List, Option, Some, None, Result, Ok, Err, IfOk, IfErr, sym, ap, subst, ◌∙◌, arith}
 use Rattle.ssz_outside.specs.Content.{Content as Files}
 use Rattle.ssz_arena.specs.Content.{Content as Nodes, todo, unhashed}
 use Rattle.ssz_proof.specs.Calculation.{PairOf}
@@ -7,12 +8,12 @@ use Rattle.ssz_script.specs.declared.statement.Statement.{Statement}
 use Rattle.ssz_versions.specs.Content.{Entries, Held, held_at, with_held}
 use Rattle.ssz_machine.specs.declared.place.Place.{Place}
 use Rattle.ssz_machine.specs.State.{Name, Versions}
-use Rattle.ssz_machine.specs.Rules.{Row}
-use Rattle.ssz_machine.specs.Machine.{charge_in}
+use Rattle.ssz_machine.specs.Rules.{Rules, Row}
+use Rattle.ssz_machine.specs.Machine.{charge_in, effect}
 use Rattle.ssz_machine.specs.Changes.{Touch, nothing, puts, takes, touch}
 use Rattle.ssz_engine.specs.Content.{Content, Grows, SameNodes}
-use Rattle.ssz_engine.specs.Decisions.{CanDo, Comes, IsOf}
-use Rattle.ssz_engine.specs.Steps.{Decides, DoesStep, Fails, IsCarriedOut, Stops}
+use Rattle.ssz_engine.specs.Decisions.{CanDo, Comes, IsOf, IsPaid, MakesFew, Pays}
+use Rattle.ssz_engine.specs.Steps.{AddsFew, Decides, DoesStep, Fails, IsCarriedOut, PaysAnew, Stops, makes_anew, outcome_of}
 use Rattle.ssz_engine.specs.declared.decision.Decision.{Decision}
 use Rattle.ssz_engine.specs.declared.decision.Decision.TheVariants as decision
 use Rattle.ssz_engine.specs.declared.outcome.Outcome.{Outcome}
@@ -31,6 +32,15 @@ put-there entries new writer name held is put there =
 
 same-name : (a b : Name) → puts a ≡ puts b → a ≡ b
 same-name a b e = cc
+
+refused-accepted : Refused ≡ Accepted → ⊥
+refused-accepted e = cc
+
+nothing-put : (name : Name) → nothing ≡ puts name → ⊥
+nothing-put name e = cc
+
+takes-put : (a b : Name) → takes a ≡ puts b → ⊥
+takes-put a b e = cc
 
 module _ (first mid new : Content) (grows : Grows first mid) (same : SameNodes mid new)
     (before after : ℕ) (writer line : ℕ) (done : Outcome) (told_old told_new : Option Files)
@@ -104,7 +114,76 @@ module _ (first mid new : Content) (grows : Grows first mid) (same : SameNodes m
       not-both : nothing ≡ puts name → ⊥
       not-both e = cc
 
+  node-paid : (n name : Name) (held is : Held) (charge : ℕ) → todo mid.arena held.1 ≤ charge
+      → n ≡ name → new.entries ≡ with_held mid.entries writer n held
+      → held_at new.entries writer name ≡ Some is → todo new.arena is.1 ≤ charge
+  node-paid n name held is charge paid named put now =
+      let there : held_at new.entries writer n ≡ Some is
+      = ap (λ (m : Name). held_at new.entries writer m) named ∙ now in
+      let left : todo new.arena is.1 ≡ todo mid.arena held.1
+      = ap (λ (a : Nodes). todo a is.1) same.arena
+      ∙ ap (λ (h : Held). todo mid.arena h.1)
+      (put-there mid.entries new.entries writer n held is put there) in
+      omega arith
+
+  -- a node that is put under a name is paid for
+  anew-paid : (made : Decision) (does : Touch) (charge : ℕ) (name : Name) (is : Held)
+      → IsOf does made → IsPaid mid.arena charge made
+      → IsCarriedOut made writer line mid.entries new.entries done told_old told_new out_old
+      out_new
+      → does ≡ puts name → done ≡ Accepted → held_at new.entries writer name ≡ Some is
+      → todo new.arena is.1 ≤ charge
+  anew-paid (decision.Refused code) does charge name is of paid out does-put ok now =
+      absurd (refused-accepted (sym out.outcome ∙ ok))
+  anew-paid (decision.BadBytes f) does charge name is of paid out does-put ok now =
+      absurd (refused-accepted (sym out.outcome ∙ ok))
+  anew-paid (decision.BadJson f) does charge name is of paid out does-put ok now =
+      absurd (refused-accepted (sym out.outcome ∙ ok))
+  anew-paid (decision.Said r) does charge name is of paid out does-put ok now =
+      absurd (nothing-put name (sym of ∙ does-put))
+  anew-paid (decision.Made n id node) does charge name is of paid out does-put ok now =
+      node-paid n.now name (id, node) is charge paid (same-name n.now name (sym of ∙ does-put))
+      out.entries now
+  anew-paid (decision.Edited n node) does charge name is of paid out does-put ok now =
+      node-paid n.now name (out.entries.0.0, node) is charge paid
+      (same-name n.now name (sym of ∙ does-put)) out.entries.2 now
+  anew-paid (decision.Dropped n) does charge name is of paid out does-put ok now =
+      absurd (takes-put n.now name (sym of ∙ does-put))
+  anew-paid (decision.Saved n bytes) does charge name is of paid out does-put ok now =
+      absurd (nothing-put name (sym of ∙ does-put))
+
+  -- few nodes are new
+  few-new : (made : Decision) (does : Touch) (charge : ℕ) → IsOf does made
+      → MakesFew made charge first.arena mid.arena → done ≡ outcome_of made
+      → AddsFew done does charge first.arena new.arena
+  few-new made does charge of few is =
+      subst (λ (arena : Nodes). AddsFew done does charge first.arena arena) (sym same.arena)
+      (subst (λ (o : Outcome). AddsFew o does charge first.arena mid.arena) (sym is)
+      (by made of few))
+    where
+      by : (made : Decision) → IsOf does made → MakesFew made charge first.arena mid.arena
+          → AddsFew (outcome_of made) does charge first.arena mid.arena
+      by (decision.Refused code) of few = few
+      by (decision.BadBytes f) of few = few
+      by (decision.BadJson f) of few = few
+      by (decision.Said r) of few =
+          subst (λ (t : Touch). AddsFew Accepted t charge first.arena mid.arena) (sym of) few
+      by (decision.Made n id node) of few =
+          subst (λ (t : Touch). AddsFew Accepted t charge first.arena mid.arena) (sym of) few
+      by (decision.Edited n node) of few =
+          subst (λ (t : Touch). AddsFew Accepted t charge first.arena mid.arena) (sym of) few
+      by (decision.Dropped n) of few =
+          subst (λ (t : Touch). AddsFew Accepted t charge first.arena mid.arena) (sym of) few
+      by (decision.Saved n bytes) of few =
+          subst (λ (t : Touch). AddsFew Accepted t charge first.arena mid.arena) (sym of) few
+
   module _ (pair_of : PairOf) (place : Place) (statement : Statement) where
+    -- by the flag of the statement
+    paid-anew : (row : Rules → Versions → Row) (flag : Bool) (made : Decision) → flag ≡ true
+        → PaysAnew flag pair_of row writer first mid made → Pays pair_of row writer first mid made
+    paid-anew row true made some pays = pays
+    paid-anew row false made some pays = absurd (false≢true some)
+
     pub does-step : (made : Decision)
         → Decides pair_of place statement writer (before - first.base) told_old first mid before
         after made
@@ -128,6 +207,15 @@ module _ (first mid new : Content) (grows : Grows first mid) (same : SameNodes m
           edit-paid made (versions writer) _ (touch statement) name was is found.answers.can
           found.answers.of (found.answers.comes (versions writer) (stands.each writer)) out
           does ok there now;
+      anew = λ versions stands name is some does ok now.
+          anew-paid made (touch statement) _ name is found.answers.of
+          (paid-anew (λ rules versions. effect rules place (before - first.base)
+          (record { versions = versions; files = found.files }) statement)
+          (makes_anew statement) made some found.anew (versions writer)
+          (stands.each writer)) out does ok now;
+      few = λ versions stands other.
+          few-new made (touch statement) _ found.answers.of
+          (found.answers.few (versions writer) (stands.each writer)) out.outcome;
     }
 
     -- what is left where it was not carried out

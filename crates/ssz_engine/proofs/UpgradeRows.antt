@@ -1,12 +1,12 @@
 -- What an upgrade of a version answers, by what the upgrade of its node answered.
-use Rattle.std.proofs.Common.{Bor, Bool, ◌≡◌, ◌≤◌, ◌<◌, ◌+◌, ℕ, List, length, Option, Some, None, Ok, Err, false, is_some, option_map, refl, sym, ap, subst, ◌∙◌, arith}
+use Rattle.std.proofs.Common.{Bor, Bool, ◌≡◌, ◌≤◌, ◌<◌, ◌+◌, ◌*◌, ℕ, List, length, Option, Some, None, Ok, Err, false, is_some, option_map, refl, sym, ap, subst, ◌∙◌, arith}
 use Rattle.std.proofs.lemmas.Bool.{false≢true}
 use Rattle.ssz_schema.specs.Types.{SszType}
 use Rattle.ssz_schema.specs.Unfolding.{Types, type_of, number_of}
 use Rattle.ssz_value.specs.Values.{SszValue}
 use Rattle.ssz_arena.specs.declared.node.Node.{Node}
 use Rattle.ssz_arena.specs.declared.node.NodeId.{NodeId}
-use Rattle.ssz_arena.specs.Content.{Content as Nodes, todo, tree_of, unhashed}
+use Rattle.ssz_arena.specs.Content.{Content as Nodes, node_count, todo, tree_of, unhashed}
 use Rattle.ssz_places.specs.PlaceLaws.{IsTreeOf}
 use Rattle.ssz_forms.specs.declared.upgrade_fault.UpgradeFault.TheVariants.{NotContainer}
 use Rattle.ssz_forms.specs.Upgrades.{upgraded, upgrade_charge}
@@ -169,6 +169,14 @@ upgrade-answers pair_of types most entries base old new writer v w t id held nod
           ∙ ap (λ given. contained given >>= (λ value. makes versions w.now (type_of types id)
           value (upgrade_charge (type_of types held.0) (type_of types id)))) made.1))
           (let more = made.2.more in omega arith);
+      few = λ versions stand.
+          let from = value-there types old entries writer v held versions there (stand.each v) in
+          let made = answers from.value from.of in
+          subst (λ r. node_count new ≤ node_count old + 2 * charge_in r + 1)
+          (sym (free-row pair_of types most entries base old writer v w.now t id known held there
+          versions stand free
+          ∙ ap (λ given. contained given >>= (λ value. makes versions w.now (type_of types id)
+          value (upgrade_charge (type_of types held.0) (type_of types id)))) made.1)) made.2.few;
     }
 
 -- the same arena but for its room
@@ -188,6 +196,7 @@ refused-room pair_of types most entries base old new row writer name code same i
           let e : unhashed new ≡ unhashed old
           = ap (λ (nodes : List Node). unhashed (record { nodes = nodes; spare = 0 })) same in
           omega arith;
+      few = λ versions stand. ap (λ (nodes : List Node). length nodes) same;
     }
 
 pub none-there : (held : Option Held) → is_some held ≡ false → held ≡ None

@@ -1,11 +1,11 @@
 -- What a statement is found to come to, before anything but nodes is changed.
-use Rattle.std.specs.Prelude.{◌≡◌, ◌≤◌, ◌<◌, ◌+◌, ◌⊎◌, IsTrue, length, ℕ, List, Option, Some, None, IsSome, Ok, Err}
+use Rattle.std.specs.Prelude.{◌≡◌, ◌≤◌, ◌<◌, ◌+◌, ◌*◌, ◌⊎◌, IsTrue, length, ℕ, List, Option, Some, None, IsSome, Ok, Err}
 use Rattle.ssz_outside.specs.Content.{Content as Files, contents}
 use Rattle.ssz_schema.specs.Types.{SszType}
 use Rattle.ssz_schema.specs.Unfolding.{number_of}
 use Rattle.ssz_value.specs.Pairs.{pairs}
 use Rattle.ssz_value.specs.Values.{SszValue}
-use Rattle.ssz_arena.specs.Content.{todo, unhashed}
+use Rattle.ssz_arena.specs.Content.{Content as Nodes, node_count, todo, unhashed}
 use Rattle.ssz_arena.specs.declared.node.NodeId.{NodeId}
 use Rattle.ssz_proof.specs.Calculation.{PairOf}
 use Rattle.ssz_script.specs.declared.reply.Reply.TheVariants.{Done}
@@ -98,6 +98,15 @@ IsOf touch (decision.Edited name node) = touch ≡ puts name.now
 IsOf touch (decision.Dropped name) = touch ≡ takes name.now
 IsOf touch (decision.Saved name bytes) = touch ≡ nothing
 
+-- How many nodes it made, by its charge: at most two for each pair, and one; and none where no
+-- version gets a node.
+abbrev pub MakesFew : Decision → ℕ → Nodes → Nodes → Type 0
+MakesFew (decision.Made name id node) charge old new =
+    node_count new ≤ node_count old + 2 * charge + 1
+MakesFew (decision.Edited name node) charge old new =
+    node_count new ≤ node_count old + 2 * charge + 1
+MakesFew made charge old new = node_count new ≡ node_count old
+
 -- What every statement's function answers. Whatever versions the writer's entries stand for, the
 -- decision says what the row of the machine does; and what is hashed and what is then to be hashed
 -- is at most what was to be hashed and the charge.
@@ -110,6 +119,8 @@ pub record Answers (pair_of : PairOf) (row : Rules → Versions → Row) (touch 
   pub spends : (versions : Versions) → StandsForWriter old writer versions
       → after + unhashed new.arena
       ≤ before + unhashed old.arena + charge_in (row (rules_of pair_of old) versions)
+  pub few : (versions : Versions) → StandsForWriter old writer versions
+      → MakesFew made (charge_in (row (rules_of pair_of old) versions)) old.arena new.arena
 
 -- the same of a function that hashes nothing
 abbrev pub AnswersWith : PairOf → (Rules → Versions → Row) → Touch → ℕ → Content → Content →
@@ -117,6 +128,25 @@ abbrev pub AnswersWith : PairOf → (Rules → Versions → Row) → Touch → �
     → Type 0
 AnswersWith pair_of row touch writer old new made =
     (count : ℕ) → Answers pair_of row touch writer old new count count made
+
+-- no more is to be hashed for the node of a decision than its charge
+abbrev pub IsPaid : Nodes → ℕ → Decision → Type 0
+IsPaid arena charge (decision.Made name id node) = todo arena node ≤ charge
+IsPaid arena charge (decision.Edited name node) = todo arena node ≤ charge
+IsPaid arena charge made = Unit {0}
+
+-- so of a row, whatever versions the writer's entries stand for
+abbrev pub Pays : PairOf → (Rules → Versions → Row) → ℕ → Content → Content → Decision → Type 0
+Pays pair_of row writer old new made =
+    (versions : Versions) → StandsForWriter old writer versions
+    → IsPaid new.arena (charge_in (row (rules_of pair_of old) versions)) made
+
+-- and makes a version of no other: no more is to be hashed for it than the charge
+abbrev pub AnswersAnew : PairOf → (Rules → Versions → Row) → Touch → ℕ → Content → Content →
+    Decision
+    → Type 0
+AnswersAnew pair_of row touch writer old new made =
+    AnswersWith pair_of row touch writer old new made × Pays pair_of row writer old new made
 
 -- and makes no node
 abbrev pub AnswersOf : PairOf → (Rules → Versions → Row) → Touch → ℕ → Content → Decision → Type 0
@@ -155,7 +185,7 @@ pub record LoadsWith (pair_of : PairOf) (told : Option Files) (file : List ℕ)
     (made : Decision) : Type 0 where
   pub bytes : List ℕ
   pub read : ReadsAs told file bytes
-  pub answers : AnswersWith pair_of (row bytes) touch writer old new made
+  pub answers : AnswersAnew pair_of (row bytes) touch writer old new made
 
 -- the type of a name, where it is known and the other name is free
 pub record IsFree (engine : Content) (writer : ℕ) (v t : Name) (id : ℕ) : Type 0 where

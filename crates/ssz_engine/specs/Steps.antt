@@ -1,15 +1,15 @@
 -- What a step of an engine leaves, by a step of the plain machine.
-use Rattle.std.specs.Prelude.{◌≡◌, ◌≤◌, ◌<◌, ◌^◌, ◌+◌, ◌-◌, ℕ, IsTrue, length, Bool, true, false, List, ◌++◌, Option, Some, None}
+use Rattle.std.specs.Prelude.{◌≡◌, ◌≤◌, ◌<◌, ◌^◌, ◌+◌, ◌-◌, ◌*◌, ℕ, IsTrue, length, Bool, true, false, List, ◌++◌, Option, Some, None}
 use Rattle.ssz_outside.specs.Content.{Content as Files, told_with_bytes}
 use Rattle.ssz_outside.specs.Job.{Save}
 use Rattle.ssz_outside.specs.Outcome.{Tears}
-use Rattle.ssz_arena.specs.Content.{todo, unhashed}
+use Rattle.ssz_arena.specs.Content.{Content as Nodes, node_count, todo, unhashed}
 use Rattle.ssz_arena.specs.declared.node.NodeId.{NodeId}
 use Rattle.ssz_schema.specs.Unfolding.{type_of}
 use Rattle.ssz_forms.specs.Upgrades.{upgrade_charge}
 use Rattle.ssz_proof.specs.Calculation.{PairOf}
 use Rattle.ssz_script.specs.declared.statement.Statement.{Statement}
-use Rattle.ssz_script.specs.declared.statement.Statement.TheVariants.{Lit, Load, LoadJson, Fork, Upgrade, Set, Append, Choose, Root}
+use Rattle.ssz_script.specs.declared.statement.Statement.TheVariants.{New, Lit, Load, LoadJson, Fork, Upgrade, Set, Append, Choose, Root}
 use Rattle.ssz_script.specs.declared.reply.Reply.{Reply}
 use Rattle.ssz_script.specs.declared.reply.Reply.TheVariants as reply
 use Rattle.ssz_script.specs.declared.reply.TheConstants.Reply.{BAD_LITERAL}
@@ -17,11 +17,13 @@ use Rattle.ssz_script.specs.Texts.{reply_line}
 use Rattle.ssz_versions.specs.Content.{Entries, Held, held_at, with_held, without_held}
 use Rattle.ssz_machine.specs.declared.place.Place.{Place}
 use Rattle.ssz_machine.specs.State.{Name, Versions}
+use Rattle.ssz_machine.specs.Rules.{Rules, Row}
 use Rattle.ssz_machine.specs.Machine.{Turn, step, effect, reads, reply_of, state_of, save_of, charge_of, is_refused}
 use Rattle.ssz_machine.specs.Changes.{Touch, nothing, puts, takes, touch}
+use Rattle.ssz_engine.specs.Compacting.{is_compact}
 use Rattle.ssz_engine.specs.Content.{Content, rules_of}
 use Rattle.ssz_engine.specs.Standing.{StandsFor, StandsForWriter}
-use Rattle.ssz_engine.specs.Decisions.{Answers}
+use Rattle.ssz_engine.specs.Decisions.{Answers, Pays}
 use Rattle.ssz_engine.specs.Outside.{Holds}
 use Rattle.ssz_engine.specs.declared.decision.Decision.{Decision}
 use Rattle.ssz_engine.specs.declared.decision.Decision.TheVariants as decision
@@ -169,6 +171,20 @@ turn_at pair_of engine place number writer line statement versions files =
     step (rules_of pair_of engine) place number
     (record { versions = versions; files = files }) writer (line, Some statement)
 
+-- whether a version is made of a type, of a literal or of a file, and of no other version
+abbrev pub makes_anew : Statement → Bool
+makes_anew (New v t) = true
+makes_anew (Lit v t literal) = true
+makes_anew (Load v t file) = true
+makes_anew (LoadJson v t file) = true
+makes_anew _ = false
+
+-- then no more is to be hashed for it than the charge
+abbrev pub PaysAnew : Bool → PairOf → (Rules → Versions → Row) → ℕ → Content → Content → Decision
+    → Type 0
+PaysAnew true pair_of row writer old new made = Pays pair_of row writer old new made
+PaysAnew false pair_of row writer old new made = Unit {0}
+
 -- A statement is found to come to a decision: for some content of the files, the told one where
 -- they tell it, it answers the machine's row.
 pub record Decides (pair_of : PairOf) (place : Place) (statement : Statement) (writer number : ℕ)
@@ -179,6 +195,9 @@ pub record Decides (pair_of : PairOf) (place : Place) (statement : Statement) (w
       (λ rules versions. effect rules place number
       (record { versions = versions; files = files }) statement)
       (touch statement) writer old new before after made
+  pub anew : PaysAnew (makes_anew statement) pair_of
+      (λ rules versions. effect rules place number
+      (record { versions = versions; files = files }) statement) writer old new made
 
 -- the same of a statement that reads no file
 abbrev pub DecidesAlone : PairOf → Place → Statement → ℕ → ℕ → Content → Content → ℕ → ℕ → Decision
@@ -188,12 +207,23 @@ DecidesAlone pair_of place statement writer number old new before after made =
     (λ rules versions. effect rules place number
     (record { versions = versions; files = files }) statement)
     (touch statement) writer old new before after made
+    × PaysAnew (makes_anew statement) pair_of
+    (λ rules versions. effect rules place number
+    (record { versions = versions; files = files }) statement) writer old new made
 
 -- a file is read by a statement that reads one
 abbrev pub CanAsk : PairOf → Content → ℕ → Statement → Type 0
 CanAsk pair_of engine writer statement =
     (versions : Versions) → StandsForWriter engine writer versions
     → IsTrue (reads (rules_of pair_of engine) versions (Some statement))
+
+-- How many nodes a statement adds: where it is accepted and puts a version under a name, at most
+-- two for each pair of its charge, and one; else none.
+abbrev pub AddsFew : Outcome → Touch → ℕ → Nodes → Nodes → Type 0
+AddsFew Accepted (puts name) charge old new = node_count new ≤ node_count old + 2 * charge + 1
+AddsFew Accepted nothing charge old new = node_count new ≡ node_count old
+AddsFew Accepted (takes name) charge old new = node_count new ≡ node_count old
+AddsFew Refused touch charge old new = node_count new ≡ node_count old
 
 -- A statement was done: for some content of the files, the told one where they tell it, and
 -- whatever versions the engine stood for, the turn of the machine.
@@ -217,6 +247,16 @@ pub record DoesStep (pair_of : PairOf) (place : Place) (writer line : ℕ) (stat
       → after + todo new.arena is.1 ≤ before + todo old.arena was.1
       + charge_of (turn_at pair_of old place (before - old.base) writer line statement
       versions files)
+  -- for a version that was made anew no more is to be hashed than the charge
+  pub anew : (versions : ℕ → Versions) → StandsFor old versions
+      → (name : Name) (is : Held) → makes_anew statement ≡ true → touch statement ≡ puts name
+      → made ≡ Accepted → held_at new.entries writer name ≡ Some is
+      → todo new.arena is.1 ≤ charge_of (turn_at pair_of old place (before - old.base) writer line
+      statement versions files)
+  -- few nodes are new (what `compact` leaves is told beside this)
+  pub few : (versions : ℕ → Versions) → StandsFor old versions → is_compact statement ≡ false
+      → AddsFew made (touch statement) (charge_of (turn_at pair_of old place (before - old.base)
+      writer line statement versions files)) old.arena new.arena
 
 -- what the turn was to write into a file was written in part, or not at all
 abbrev pub SavesPart : Turn → Option Files → Option Files → Type 0

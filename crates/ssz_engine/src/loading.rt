@@ -4,7 +4,7 @@ ghost use Rattle.ssz_schema.specs.Unfolding.{type_of};
 ghost use Rattle.ssz_versions.specs.Content.{held_at};
 ghost use Rattle.ssz_machine.specs.Changes.{puts};
 ghost use Rattle.ssz_engine.specs.Content.{Grows};
-ghost use Rattle.ssz_engine.specs.Decisions.{AnswersWith, CanLoad, LoadsWith, brought_as, load_row};
+ghost use Rattle.ssz_engine.specs.Decisions.{AnswersAnew, CanLoad, LoadsWith, brought_as, load_row};
 ghost use Rattle.ssz_engine.specs.Outside.{CountsReads};
 
 use super::decision::Decision;
@@ -30,7 +30,7 @@ fn bring_json<'a, H: PairHash>(
     requires { id < length engine.old.types.trees }
     ensures grows { Grows engine.old engine.new }
     ensures answers { (writer : ℕ) → held_at engine.old.entries writer v.now ≡ None
-        → IfOk result (AnswersWith H.pair_of
+        → IfOk result (AnswersAnew H.pair_of
         (λ rules versions. brought_as Form.Json versions v.now (type_of engine.old.types id)
         text.now)
         (puts v.now) writer engine.old engine.new) }
@@ -60,7 +60,7 @@ fn bring_as<'a, H: PairHash>(
     requires short { length bytes.now < 2 ^ 32 }
     requires free { held_at engine.old.entries writer.0 v.now ≡ None }
     ensures grows { Grows engine.old engine.new }
-    ensures answers { IfOk result (AnswersWith H.pair_of
+    ensures answers { IfOk result (AnswersAnew H.pair_of
         (λ rules versions. brought_as form versions v.now (type_of engine.old.types id) bytes.now)
         (puts v.now) writer.0 engine.old engine.new) }
     ensures memory { IfErr result (λ fault. fault ≡ EngineFault.Memory) }

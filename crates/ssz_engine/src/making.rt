@@ -4,7 +4,7 @@ ghost use Rattle.ssz_versions.specs.Content.{held_at};
 ghost use Rattle.ssz_machine.specs.Making.{new, lit, fork, drop, list};
 ghost use Rattle.ssz_machine.specs.Changes.{nothing, puts, takes};
 ghost use Rattle.ssz_engine.specs.Content.{Grows};
-ghost use Rattle.ssz_engine.specs.Decisions.{AnswersOf, AnswersWith, brought, IsFree, IsTaken};
+ghost use Rattle.ssz_engine.specs.Decisions.{AnswersOf, AnswersAnew, brought, IsFree, IsTaken};
 ghost use Rattle.ssz_engine.specs.Steps.{MakesFork};
 ghost use Rattle.ssz_script.specs.declared.statement.Statement.TheVariants.{Fork};
 
@@ -46,7 +46,7 @@ pub(crate) fn new<'a, H: PairHash>(
     t: &Identifier,
 ) -> Result<Decision<'a>, EngineFault>
     ensures grows { Grows engine.old engine.new }
-    ensures answers { IfOk result (AnswersWith H.pair_of
+    ensures answers { IfOk result (AnswersAnew H.pair_of
         (λ rules versions. new rules versions v.now t.now) (puts v.now) writer.0
         engine.old engine.new) }
     ensures memory { IfErr result (λ fault. fault ≡ EngineFault.Memory) }
@@ -71,7 +71,7 @@ pub(crate) fn lit<'a, H: PairHash>(
 ) -> Result<Decision<'a>, EngineFault>
     requires { length literal.now < 2 ^ 32 }
     ensures grows { Grows engine.old engine.new }
-    ensures answers { IfOk result (AnswersWith H.pair_of
+    ensures answers { IfOk result (AnswersAnew H.pair_of
         (λ rules versions. lit rules versions v.now t.now literal.now) (puts v.now) writer.0
         engine.old engine.new) }
     ensures memory { IfErr result (λ fault. fault ≡ EngineFault.Memory) }
@@ -95,7 +95,7 @@ pub(crate) fn bring<'a, H: PairHash>(
     requires short { length bytes.now < 2 ^ 32 }
     requires free { held_at engine.old.entries writer.0 v.now ≡ None }
     ensures grows { Grows engine.old engine.new }
-    ensures answers { IfOk result (AnswersWith H.pair_of
+    ensures answers { IfOk result (AnswersAnew H.pair_of
         (λ rules versions. brought versions v.now (type_of engine.old.types id) bytes.now)
         (puts v.now) writer.0 engine.old engine.new) }
     ensures memory { IfErr result (λ fault. fault ≡ EngineFault.Memory) }

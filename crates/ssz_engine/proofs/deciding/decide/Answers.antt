@@ -47,7 +47,7 @@ returns-in-Load-clause-decides g c =
     c.args.engine.now c.load.new.engine (g.H.PairHash.pairs c.args.hasher.now)
     (g.F.Files.content c.args.files.now) c.in-Load.file
     (λ bytes rules versions. load rules versions c.in-Load.v c.in-Load.t bytes)
-    (puts c.in-Load.v) c.args.statement.now _ c.load.result c.in-Load.is (λ files. refl) refl
+    (puts c.in-Load.v) c.args.statement.now _ c.load.result c.in-Load.is (λ files. refl) refl refl
     c.load.ensures.answers
 
 pub returns-in-Load-clause-asked : goal.returns-in-Load-clause-asked
@@ -64,7 +64,7 @@ returns-in-LoadJson-clause-decides g c =
     (λ bytes rules versions. loadjson rules versions c.in-LoadJson.v c.in-LoadJson.t bytes)
     (puts c.in-LoadJson.v) c.args.statement.now _ c.load-in-LoadJson.result c.in-LoadJson.is
     (λ files. refl)
-    refl c.load-in-LoadJson.ensures.answers
+    refl refl c.load-in-LoadJson.ensures.answers
 
 pub returns-in-LoadJson-clause-asked : goal.returns-in-LoadJson-clause-asked
 returns-in-LoadJson-clause-asked g c = λ e.

@@ -1,36 +1,36 @@
-use Rattle.std.proofs.Common.{◌-◌, IfOk, List, ℕ, Result, Ok, Err, subst}
+use Rattle.std.proofs.Common.{◌-◌, IfOk, List, ℕ, Result, Ok, Err, refl, subst}
 use Rattle.ssz_outside.specs.Content.{Content as Files}
 use Rattle.ssz_machine.specs.Making.{new, lit, list, upgrade}
 use Rattle.ssz_machine.specs.Editing.{append, choose, pop, set}
 use Rattle.ssz_machine.specs.Asking.{bytes, gindex, json_row, len, prove, save}
 use Rattle.ssz_machine.specs.Changes.{nothing, puts}
-use Rattle.ssz_engine.specs.Decisions.{Answers, AnswersWith}
+use Rattle.ssz_engine.specs.Decisions.{Answers, AnswersAnew, AnswersWith}
 use Rattle.ssz_engine.specs.declared.decision.Decision.{Decision}
 use Rattle.ssz_engine.specs.declared.fault.EngineFault.{EngineFault}
-use Rattle.ssz_engine.proofs.Found.{alone, alone-ok, with-ok}
+use Rattle.ssz_engine.proofs.Found.{alone, alone-ok, anew-ok, anew-with, with-ok}
 use Rattle.ssz_engine.proofs.deciding.decide_alone.Goals as goal
 
 pub returns-in-New-clause-decides : goal.returns-in-New-clause-decides
 returns-in-New-clause-decides g c =
-    alone-ok g.H.PairHash.pair_of c.args.place
+    anew-ok g.H.PairHash.pair_of c.args.place
     (g.H.PairHash.pairs c.args.hasher.now - c.args.engine.now.base) c.args.writer.0
     c.args.engine.now c.new.new.engine (g.H.PairHash.pairs c.args.hasher.now)
-    (g.H.PairHash.pairs c.args.hasher.now) c.args.statement.now _ c.new.result c.in-New.is
-    (with-ok g.H.PairHash.pair_of (λ rules versions. new rules versions c.in-New.v c.in-New.t)
+    (g.H.PairHash.pairs c.args.hasher.now) c.args.statement.now _ c.new.result c.in-New.is refl
+    (anew-with g.H.PairHash.pair_of (λ rules versions. new rules versions c.in-New.v c.in-New.t)
     (puts c.in-New.v) c.args.writer.0 c.args.engine.now c.new.new.engine
     (g.H.PairHash.pairs c.args.hasher.now) c.new.result c.new.ensures.answers)
 
 pub returns-in-Lit-clause-decides : goal.returns-in-Lit-clause-decides
 returns-in-Lit-clause-decides g c =
-    alone-ok g.H.PairHash.pair_of c.args.place
+    anew-ok g.H.PairHash.pair_of c.args.place
     (g.H.PairHash.pairs c.args.hasher.now - c.args.engine.now.base) c.args.writer.0
     c.args.engine.now c.lit.new.engine (g.H.PairHash.pairs c.args.hasher.now)
-    (g.H.PairHash.pairs c.args.hasher.now) c.args.statement.now _ c.lit.result c.in-Lit.is
-    (with-ok g.H.PairHash.pair_of (λ rules versions. lit rules versions c.in-Lit.v c.in-Lit.t
+    (g.H.PairHash.pairs c.args.hasher.now) c.args.statement.now _ c.lit.result c.in-Lit.is refl
+    (anew-with g.H.PairHash.pair_of (λ rules versions. lit rules versions c.in-Lit.v c.in-Lit.t
     c.in-Lit.literal)
     (puts c.in-Lit.v) c.args.writer.0 c.args.engine.now c.lit.new.engine
     (g.H.PairHash.pairs c.args.hasher.now) c.lit.result
-    (subst (λ (bytes : List ℕ). IfOk c.lit.result (AnswersWith g.H.PairHash.pair_of
+    (subst (λ (bytes : List ℕ). IfOk c.lit.result (AnswersAnew g.H.PairHash.pair_of
     (λ rules versions. lit rules versions c.in-Lit.v c.in-Lit.t bytes)
     (puts c.in-Lit.v) c.args.writer.0 c.args.engine.now c.lit.new.engine))
     c.as_slice.ensures.value c.lit.ensures.answers))
@@ -40,7 +40,7 @@ returns-in-List-clause-decides g c =
     alone-ok g.H.PairHash.pair_of c.args.place
     (g.H.PairHash.pairs c.args.hasher.now - c.args.engine.now.base) c.args.writer.0
     c.args.engine.now c.args.engine.now (g.H.PairHash.pairs c.args.hasher.now)
-    (g.H.PairHash.pairs c.args.hasher.now) c.args.statement.now _ c.list.result c.in-List.is
+    (g.H.PairHash.pairs c.args.hasher.now) c.args.statement.now _ c.list.result c.in-List.is refl
     (with-ok g.H.PairHash.pair_of (λ rules versions. list versions) nothing c.args.writer.0
     c.args.engine.now c.args.engine.now (g.H.PairHash.pairs c.args.hasher.now) c.list.result
     c.list.ensures.answers)
@@ -51,6 +51,7 @@ returns-in-Upgrade-clause-decides g c =
     (g.H.PairHash.pairs c.args.hasher.now - c.args.engine.now.base) c.args.writer.0
     c.args.engine.now c.upgrade.new.engine (g.H.PairHash.pairs c.args.hasher.now)
     (g.H.PairHash.pairs c.args.hasher.now) c.args.statement.now _ c.upgrade.result c.in-Upgrade.is
+    refl
     (with-ok g.H.PairHash.pair_of (λ rules versions. upgrade rules versions c.in-Upgrade.v
     c.in-Upgrade.w c.in-Upgrade.t)
     (puts c.in-Upgrade.w) c.args.writer.0 c.args.engine.now c.upgrade.new.engine
@@ -61,7 +62,7 @@ returns-in-Fork-clause-decides g c =
     alone g.H.PairHash.pair_of c.args.place
     (g.H.PairHash.pairs c.args.hasher.now - c.args.engine.now.base) c.args.writer.0
     c.args.engine.now c.args.engine.now (g.H.PairHash.pairs c.args.hasher.now)
-    (g.H.PairHash.pairs c.args.hasher.now) c.args.statement.now _ _ c.in-Fork.is
+    (g.H.PairHash.pairs c.args.hasher.now) c.args.statement.now _ _ c.in-Fork.is refl
     (λ files. c.fork.ensures.answers (g.H.PairHash.pairs c.args.hasher.now))
 
 pub returns-in-Drop-clause-decides : goal.returns-in-Drop-clause-decides
@@ -69,7 +70,7 @@ returns-in-Drop-clause-decides g c =
     alone g.H.PairHash.pair_of c.args.place
     (g.H.PairHash.pairs c.args.hasher.now - c.args.engine.now.base) c.args.writer.0
     c.args.engine.now c.args.engine.now (g.H.PairHash.pairs c.args.hasher.now)
-    (g.H.PairHash.pairs c.args.hasher.now) c.args.statement.now _ _ c.in-Drop.is
+    (g.H.PairHash.pairs c.args.hasher.now) c.args.statement.now _ _ c.in-Drop.is refl
     (λ files. c.drop.ensures (g.H.PairHash.pairs c.args.hasher.now))
 
 pub returns-in-Hashes-clause-decides : goal.returns-in-Hashes-clause-decides
@@ -77,7 +78,7 @@ returns-in-Hashes-clause-decides g c =
     alone g.H.PairHash.pair_of c.args.place
     (g.H.PairHash.pairs c.args.hasher.now - c.args.engine.now.base) c.args.writer.0
     c.args.engine.now c.args.engine.now (g.H.PairHash.pairs c.args.hasher.now)
-    (g.H.PairHash.pairs c.args.hasher.now) c.args.statement.now _ _ c.in-Hashes.is
+    (g.H.PairHash.pairs c.args.hasher.now) c.args.statement.now _ _ c.in-Hashes.is refl
     (λ files. c.hashes.ensures (g.H.PairHash.pairs c.args.hasher.now))
 
 pub returns-in-Root-clause-decides : goal.returns-in-Root-clause-decides
@@ -85,7 +86,7 @@ returns-in-Root-clause-decides g c =
     alone g.H.PairHash.pair_of c.args.place
     (g.H.PairHash.pairs c.args.hasher.now - c.args.engine.now.base) c.args.writer.0
     c.args.engine.now c.root.new.engine (g.H.PairHash.pairs c.args.hasher.now)
-    (g.H.PairHash.pairs c.root.new.hasher) c.args.statement.now _ _ c.in-Root.is
+    (g.H.PairHash.pairs c.root.new.hasher) c.args.statement.now _ _ c.in-Root.is refl
     (λ files. c.root.ensures.answers)
 
 pub returns-in-Gindex-clause-decides : goal.returns-in-Gindex-clause-decides
@@ -94,6 +95,7 @@ returns-in-Gindex-clause-decides g c =
     (g.H.PairHash.pairs c.args.hasher.now - c.args.engine.now.base) c.args.writer.0
     c.args.engine.now c.args.engine.now (g.H.PairHash.pairs c.args.hasher.now)
     (g.H.PairHash.pairs c.args.hasher.now) c.args.statement.now _ c.gindex.result c.in-Gindex.is
+    refl
     (with-ok g.H.PairHash.pair_of
     (λ rules versions. gindex rules versions c.in-Gindex.t c.in-Gindex.path) nothing
     c.args.writer.0 c.args.engine.now c.args.engine.now (g.H.PairHash.pairs c.args.hasher.now)
@@ -104,7 +106,7 @@ returns-in-Save-clause-decides g c =
     alone-ok g.H.PairHash.pair_of c.args.place
     (g.H.PairHash.pairs c.args.hasher.now - c.args.engine.now.base) c.args.writer.0
     c.args.engine.now c.args.engine.now (g.H.PairHash.pairs c.args.hasher.now)
-    (g.H.PairHash.pairs c.args.hasher.now) c.args.statement.now _ c.save.result c.in-Save.is
+    (g.H.PairHash.pairs c.args.hasher.now) c.args.statement.now _ c.save.result c.in-Save.is refl
     (with-ok g.H.PairHash.pair_of
     (λ rules versions. save rules c.args.place versions c.in-Save.v c.in-Save.file) nothing
     c.args.writer.0 c.args.engine.now c.args.engine.now (g.H.PairHash.pairs c.args.hasher.now)
@@ -115,7 +117,7 @@ returns-in-Bytes-clause-decides g c =
     alone-ok g.H.PairHash.pair_of c.args.place
     (g.H.PairHash.pairs c.args.hasher.now - c.args.engine.now.base) c.args.writer.0
     c.args.engine.now c.args.engine.now (g.H.PairHash.pairs c.args.hasher.now)
-    (g.H.PairHash.pairs c.args.hasher.now) c.args.statement.now _ c.bytes.result c.in-Bytes.is
+    (g.H.PairHash.pairs c.args.hasher.now) c.args.statement.now _ c.bytes.result c.in-Bytes.is refl
     (with-ok g.H.PairHash.pair_of
     (λ rules versions. bytes rules versions c.in-Bytes.v c.in-Bytes.path) nothing
     c.args.writer.0 c.args.engine.now c.args.engine.now (g.H.PairHash.pairs c.args.hasher.now)
@@ -126,7 +128,7 @@ returns-in-Json-clause-decides g c =
     alone-ok g.H.PairHash.pair_of c.args.place
     (g.H.PairHash.pairs c.args.hasher.now - c.args.engine.now.base) c.args.writer.0
     c.args.engine.now c.args.engine.now (g.H.PairHash.pairs c.args.hasher.now)
-    (g.H.PairHash.pairs c.args.hasher.now) c.args.statement.now _ c.json.result c.in-Json.is
+    (g.H.PairHash.pairs c.args.hasher.now) c.args.statement.now _ c.json.result c.in-Json.is refl
     (with-ok g.H.PairHash.pair_of
     (λ rules versions. json_row rules versions c.in-Json.v c.in-Json.path) nothing
     c.args.writer.0 c.args.engine.now c.args.engine.now (g.H.PairHash.pairs c.args.hasher.now)
@@ -137,7 +139,7 @@ returns-in-Len-clause-decides g c =
     alone-ok g.H.PairHash.pair_of c.args.place
     (g.H.PairHash.pairs c.args.hasher.now - c.args.engine.now.base) c.args.writer.0
     c.args.engine.now c.args.engine.now (g.H.PairHash.pairs c.args.hasher.now)
-    (g.H.PairHash.pairs c.args.hasher.now) c.args.statement.now _ c.len.result c.in-Len.is
+    (g.H.PairHash.pairs c.args.hasher.now) c.args.statement.now _ c.len.result c.in-Len.is refl
     (with-ok g.H.PairHash.pair_of
     (λ rules versions. len versions c.in-Len.v c.in-Len.path) nothing
     c.args.writer.0 c.args.engine.now c.args.engine.now (g.H.PairHash.pairs c.args.hasher.now)
@@ -154,7 +156,7 @@ returns-in-Prove-clause-decides g c =
     alone-ok g.H.PairHash.pair_of c.args.place
     (g.H.PairHash.pairs c.args.hasher.now - c.args.engine.now.base) c.args.writer.0
     c.args.engine.now c.prove.new.engine (g.H.PairHash.pairs c.args.hasher.now)
-    (g.H.PairHash.pairs c.prove.new.hasher) c.args.statement.now _ c.prove.result c.in-Prove.is
+    (g.H.PairHash.pairs c.prove.new.hasher) c.args.statement.now _ c.prove.result c.in-Prove.is refl
     (whatever-files (Answers g.H.PairHash.pair_of
     (λ rules versions. prove rules versions c.in-Prove.v c.in-Prove.indices) nothing
     c.args.writer.0 c.args.engine.now c.prove.new.engine
@@ -169,7 +171,7 @@ returns-in-Set-clause-decides g c =
     let count = g.H.PairHash.pairs c.args.hasher.now in
     let w = c.args.writer.0 in
     alone-ok pair_of c.args.place (count - old.base) w old new count count c.args.statement.now _
-    c.set.result c.in-Set.is
+    c.set.result c.in-Set.is refl
     (with-ok pair_of (λ rules versions. set versions c.in-Set.v c.in-Set.path c.in-Set.literal)
     (puts c.in-Set.v) w old new count c.set.result
     (subst (λ (bytes : List ℕ). IfOk c.set.result (AnswersWith pair_of
@@ -185,7 +187,7 @@ returns-in-Append-clause-decides g c =
     let count = g.H.PairHash.pairs c.args.hasher.now in
     let w = c.args.writer.0 in
     alone-ok pair_of c.args.place (count - old.base) w old new count count c.args.statement.now _
-    c.append.result c.in-Append.is
+    c.append.result c.in-Append.is refl
     (with-ok pair_of
     (λ rules versions. append versions c.in-Append.v c.in-Append.path c.in-Append.literal)
     (puts c.in-Append.v) w old new count c.append.result
@@ -202,7 +204,7 @@ returns-in-Pop-clause-decides g c =
     let count = g.H.PairHash.pairs c.args.hasher.now in
     let w = c.args.writer.0 in
     alone-ok pair_of c.args.place (count - old.base) w old new count count c.args.statement.now _
-    c.pop.result c.in-Pop.is
+    c.pop.result c.in-Pop.is refl
     (with-ok pair_of (λ rules versions. pop versions c.in-Pop.v c.in-Pop.path)
     (puts c.in-Pop.v) w old new count c.pop.result c.pop.ensures.answers)
 
@@ -214,7 +216,7 @@ returns-in-Choose-clause-decides g c =
     let count = g.H.PairHash.pairs c.args.hasher.now in
     let w = c.args.writer.0 in
     alone-ok pair_of c.args.place (count - old.base) w old new count count c.args.statement.now _
-    c.choose.result c.in-Choose.is
+    c.choose.result c.in-Choose.is refl
     (with-ok pair_of
     (λ rules versions.
     choose versions c.in-Choose.v c.in-Choose.path c.in-Choose.selector c.in-Choose.literal)

@@ -27,7 +27,8 @@ use Rattle.ssz_engine.proofs.editing.choose.Goals as goal
 pub returns-in-Err-clause-answers : goal.returns-in-Err-clause-answers
 returns-in-Err-clause-answers g c =
     choose-astray g.H.PairHash.pair_of c.args.engine.now c.args.writer.0 c.args.v.now
-    c.args.path.now c.in-Err.code (rw c.in-Err.is at c.in_ok-way.ensures.err) c.args.selector c.args.literal.now
+    c.args.path.now c.in-Err.code (rw c.in-Err.is at c.in_ok-way.ensures.err) c.args.selector
+    c.args.literal.now
 
 pub returns-in-Err-choosable-clause-answers : goal.returns-in-Err-choosable-clause-answers
 returns-in-Err-choosable-clause-answers g c =

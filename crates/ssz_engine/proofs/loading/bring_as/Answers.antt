@@ -1,13 +1,13 @@
 use Rattle.std.proofs.Common.{IfOk, sym, subst}
 use Rattle.ssz_schema.specs.Unfolding.{type_of}
 use Rattle.ssz_machine.specs.Changes.{puts}
-use Rattle.ssz_engine.specs.Decisions.{AnswersWith, brought_as}
+use Rattle.ssz_engine.specs.Decisions.{AnswersAnew, brought_as}
 use Rattle.ssz_engine.specs.declared.form.Form.{Form}
 use Rattle.ssz_engine.proofs.loading.bring_as.Goals as goal
 
 pub returns-in-Encoding-clause-answers : goal.returns-in-Encoding-clause-answers
 returns-in-Encoding-clause-answers g c =
-    subst (λ (form : Form). IfOk c.bring.result (AnswersWith g.H.PairHash.pair_of
+    subst (λ (form : Form). IfOk c.bring.result (AnswersAnew g.H.PairHash.pair_of
     (λ rules versions. brought_as form versions c.args.v.now
     (type_of c.args.engine.now.types c.args.id) c.args.bytes.now)
     (puts c.args.v.now) c.args.writer.0 c.args.engine.now c.bring.new.engine))
@@ -15,7 +15,7 @@ returns-in-Encoding-clause-answers g c =
 
 pub returns-in-Json-clause-answers : goal.returns-in-Json-clause-answers
 returns-in-Json-clause-answers g c =
-    subst (λ (form : Form). IfOk c.bring_json.result (AnswersWith g.H.PairHash.pair_of
+    subst (λ (form : Form). IfOk c.bring_json.result (AnswersAnew g.H.PairHash.pair_of
     (λ rules versions. brought_as form versions c.args.v.now
     (type_of c.args.engine.now.types c.args.id) c.args.bytes.now)
     (puts c.args.v.now) c.args.writer.0 c.args.engine.now c.bring_json.new.engine))

@@ -3,12 +3,13 @@ use Rattle.ssz_schema.specs.Unfolding.{type_of}
 use Rattle.ssz_value.specs.Pairs.{pairs}
 use Rattle.ssz_value.specs.Standing.{value_of}
 use Rattle.ssz_value_json.specs.Faults.{value_spelled}
+use Rattle.ssz_tree.proofs.FewNodes.{few_nodes}
 use Rattle.ssz_value_json.proofs.Exact.{spelled_is}
 use Rattle.ssz_versions.specs.Content.{held_at}
 use Rattle.ssz_machine.specs.Changes.{puts}
 use Rattle.ssz_machine.specs.Rules.{makes}
 use Rattle.ssz_engine.specs.Content.{Content}
-use Rattle.ssz_engine.specs.Decisions.{AnswersWith, brought_as}
+use Rattle.ssz_engine.specs.Decisions.{AnswersAnew, brought_as}
 use Rattle.ssz_engine.specs.declared.decision.Decision.TheVariants.{Made}
 use Rattle.ssz_engine.specs.declared.form.Form.TheVariants.{Json}
 use Rattle.ssz_engine.proofs.Brought.{made-answers, json-row, over}
@@ -34,7 +35,7 @@ returns-clause-answers g c = λ writer none.
     c.requires in
     let free : held_at entries writer v.now ≡ None
     = subst (λ (s : Content). held_at s.entries writer v.now ≡ None) (sym c.engine.view_is) none in
-    subst (λ (seen : Content). AnswersWith g.H.PairHash.pair_of
+    subst (λ (seen : Content). AnswersAnew g.H.PairHash.pair_of
     (λ rules versions. brought_as Json versions v.now (type_of seen.types c.args.id) text)
     (puts v.now) writer seen
     (over schema c.engine.inside.max entries c.engine.inside.base arena)
@@ -42,6 +43,6 @@ returns-clause-answers g c = λ writer none.
     (made-answers g.H.PairHash.pair_of schema c.engine.inside.max entries c.engine.inside.base
     c.engine.inside.arena arena (λ rules versions. brought_as Json versions v.now t text) writer v
     c.args.id node value _ _ known fits c.in_ok-node.ensures.part
-    c.in_ok-node.ensures.adds (omega arith) free
+    c.in_ok-node.ensures.adds (omega arith) (few_nodes t value fits) free
     (λ versions free. json-row versions v.now t text answer.0
     ∙ ap (λ x. makes versions v.now t x (pairs t x)) is))

@@ -6,9 +6,9 @@ use Rattle.ssz_script.specs.declared.reply.TheConstants.Reply.{TOO_LONG}
 use Rattle.ssz_machine.specs.Rules.{◌>>◌, refuse}
 use Rattle.ssz_machine.specs.Changes.{puts}
 use Rattle.ssz_engine.specs.Content.{Content, rules_of}
-use Rattle.ssz_engine.specs.Decisions.{AnswersWith, LoadsWith, brought_as, load_row}
+use Rattle.ssz_engine.specs.Decisions.{AnswersAnew, LoadsWith, brought_as, load_row}
 use Rattle.std.specs.Prelude.{nat_lt}
-use Rattle.ssz_engine.proofs.Brought.{IsLong, answers-same, free-row, load-is, loads-any, not-below, refused-answers, taken-row, too-long, whole}
+use Rattle.ssz_engine.proofs.Brought.{IsLong, anew-same, free-row, load-is, loads-any, not-below, refused-anew, taken-row, too-long, whole}
 use Rattle.ssz_engine.proofs.Stepping.{ok-of}
 use Rattle.ssz_engine.proofs.loading.load.Goals as goal
 
@@ -17,7 +17,7 @@ returns-in-Err-clause-answers g c =
     loads-any g.H.PairHash.pair_of (g.F.Files.content c.args.files.now) c.args.file.now
     (λ bytes rules versions. load_row c.args.form rules versions c.args.v.now c.args.t.now bytes)
     (puts c.args.v.now) c.args.writer.0 c.args.engine.now c.args.engine.now _
-    (λ bytes. refused-answers g.H.PairHash.pair_of
+    (λ bytes. refused-anew g.H.PairHash.pair_of
     (λ rules versions. load_row c.args.form rules versions c.args.v.now c.args.t.now bytes)
     (puts c.args.v.now) c.args.writer.0 c.args.engine.now c.in-Err.code
     (λ versions stand. load-is c.args.form (rules_of g.H.PairHash.pair_of c.args.engine.now)
@@ -46,7 +46,7 @@ returns-in-Ok-TooLong-clause-answers g c =
     record {
       bytes = long.bytes;
       read = long.read;
-      answers = refused-answers pair_of
+      answers = refused-anew pair_of
           (λ rules versions.
           load_row c.args.form rules versions c.args.v.now c.args.t.now long.bytes)
           (puts c.args.v.now) c.args.writer.0 engine TOO_LONG
@@ -85,7 +85,7 @@ returns-in-Ok-Whole-clause-answers g c =
     c.in-Ok-Whole.field-0-is) in
     let len = c.as_slice.ensures.len in omega arith in
     ok-of
-    (AnswersWith pair_of (λ rules versions. brought_as form versions v type bytes) (puts v) w engine
+    (AnswersAnew pair_of (λ rules versions. brought_as form versions v type bytes) (puts v) w engine
     new)
     (LoadsWith pair_of told c.args.file.now
     (λ bytes rules versions. load_row form rules versions v t bytes) (puts v) w engine new)
@@ -93,7 +93,7 @@ returns-in-Ok-Whole-clause-answers g c =
     (λ made answers. record {
       bytes = bytes;
       read = whole told c.args.file.now bytes read;
-      answers = answers-same pair_of (λ rules versions. brought_as form versions v type bytes)
+      answers = anew-same pair_of (λ rules versions. brought_as form versions v type bytes)
           (λ rules versions. load_row form rules versions v t bytes) (puts v) w engine new made
           (λ versions stand. load-is form (rules_of pair_of engine) versions v t bytes
           ∙ free-row pair_of engine w v t versions stand c.in-Ok.id

@@ -3,10 +3,11 @@ use Rattle.ssz_schema.specs.Unfolding.{type_of}
 use Rattle.ssz_value.specs.Faults.{why}
 use Rattle.ssz_value.specs.Reading.{value_in}
 use Rattle.ssz_value.proofs.ExactLaw.{faultless_is_read}
+use Rattle.ssz_tree.proofs.FewNodes.{few_nodes}
 use Rattle.ssz_versions.specs.Content.{held_at}
 use Rattle.ssz_machine.specs.Changes.{puts}
 use Rattle.ssz_engine.specs.Content.{Content}
-use Rattle.ssz_engine.specs.Decisions.{AnswersWith, brought}
+use Rattle.ssz_engine.specs.Decisions.{AnswersAnew, brought}
 use Rattle.ssz_engine.specs.declared.decision.Decision.TheVariants.{Made}
 use Rattle.ssz_engine.proofs.Brought.{made-answers, brought-row, over}
 use Rattle.ssz_engine.proofs.making.bring.Goals as goal
@@ -30,7 +31,7 @@ returns-in_ok-node-in-None-clause-answers g c =
     let free : held_at entries w v.now ≡ None
     = subst (λ (s : Content). held_at s.entries w v.now ≡ None) (sym c.engine.view_is)
     c.requires.free in
-    subst (λ (seen : Content). AnswersWith g.H.PairHash.pair_of
+    subst (λ (seen : Content). AnswersAnew g.H.PairHash.pair_of
     (λ rules versions. brought versions v.now (type_of seen.types c.args.id) bytes)
     (puts v.now) w seen
     (over schema c.engine.inside.max entries c.engine.inside.base arena)
@@ -38,5 +39,5 @@ returns-in_ok-node-in-None-clause-answers g c =
     (made-answers g.H.PairHash.pair_of schema c.engine.inside.max entries c.engine.inside.base
     c.engine.inside.arena arena (λ rules versions. brought versions v.now t bytes) w v
     c.args.id node (value_in t bytes) _ _ known fits c.in_ok-node-in-None.ensures.part
-    c.in_ok-node-in-None.ensures.adds (omega arith) free
+    c.in_ok-node-in-None.ensures.adds (omega arith) (few_nodes t (value_in t bytes) fits) free
     (λ versions free. brought-row versions v.now t bytes none))

@@ -15,4 +15,5 @@ returns-clause-answers g c = λ count. record {
       ∙ ap (λ (v : Content). names_of v.entries c.args.writer.0) (sym c.engine.view_is)
       ∙ sym c.in_ok-names.ensures);
   spends = λ versions stands. omega arith;
+  few = λ versions stands. refl;
 }

@@ -1,8 +1,8 @@
 use Rattle.ssz_schema.specs.Unfolding.{type_of}
 use Rattle.ssz_machine.specs.Making.{lit}
 use Rattle.ssz_machine.specs.Changes.{puts}
-use Rattle.ssz_engine.specs.Decisions.{AnswersWith, brought}
-use Rattle.ssz_engine.proofs.Brought.{answers-same, refused-answers, free-row, taken-row}
+use Rattle.ssz_engine.specs.Decisions.{AnswersAnew, brought}
+use Rattle.ssz_engine.proofs.Brought.{anew-same, refused-anew, free-row, taken-row}
 use Rattle.ssz_engine.proofs.Stepping.{ok-of}
 use Rattle.ssz_engine.proofs.making.lit.Goals as goal
 
@@ -16,10 +16,10 @@ returns-clause-answers g c =
     let w = c.args.writer.0 in
     let bytes = c.args.literal.now in
     let type = type_of old.types c.in-Ok.id in
-    ok-of (AnswersWith pair_of (λ rules versions. brought versions v type bytes) (puts v) w old new)
-    (AnswersWith pair_of (λ rules versions. lit rules versions v t bytes) (puts v) w old new)
+    ok-of (AnswersAnew pair_of (λ rules versions. brought versions v type bytes) (puts v) w old new)
+    (AnswersAnew pair_of (λ rules versions. lit rules versions v t bytes) (puts v) w old new)
     c.bring.result
-    (λ made answers. answers-same pair_of (λ rules versions. brought versions v type bytes)
+    (λ made answers. anew-same pair_of (λ rules versions. brought versions v type bytes)
     (λ rules versions. lit rules versions v t bytes) (puts v) w old new made
     (λ versions stand. free-row pair_of old w v t versions stand c.in-Ok.id
     (λ type. brought versions v type bytes) c.in-Ok.ensures.ok) answers)
@@ -27,7 +27,7 @@ returns-clause-answers g c =
 
 pub returns-in-Err-clause-answers : goal.returns-in-Err-clause-answers
 returns-in-Err-clause-answers g c =
-    refused-answers g.H.PairHash.pair_of (λ rules versions. lit rules versions c.args.v.now
+    refused-anew g.H.PairHash.pair_of (λ rules versions. lit rules versions c.args.v.now
     c.args.t.now c.args.literal.now)
     (puts c.args.v.now) c.args.writer.0 c.args.engine.now c.in-Err.code
     (λ versions stand. taken-row g.H.PairHash.pair_of c.args.engine.now c.args.writer.0

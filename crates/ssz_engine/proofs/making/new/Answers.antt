@@ -3,13 +3,14 @@ use Rattle.ssz_schema.specs.Unfolding.{type_of}
 use Rattle.ssz_value.specs.Defaults.{default_of}
 use Rattle.ssz_value.specs.Pairs.{pairs}
 use Rattle.ssz_value.proofs.SizeLaw.{default_fits}
+use Rattle.ssz_upgrade.proofs.Sharing.{shared_few}
 use Rattle.ssz_machine.specs.Making.{new}
 use Rattle.ssz_machine.specs.Rules.{makes}
 use Rattle.ssz_machine.specs.Changes.{puts}
 use Rattle.ssz_engine.specs.Content.{Content}
-use Rattle.ssz_engine.specs.Decisions.{AnswersWith, IsFree}
+use Rattle.ssz_engine.specs.Decisions.{AnswersAnew, IsFree}
 use Rattle.ssz_engine.specs.declared.decision.Decision.TheVariants.{Made}
-use Rattle.ssz_engine.proofs.Brought.{made-answers, refused-answers, free-row, taken-row, over}
+use Rattle.ssz_engine.proofs.Brought.{made-answers, refused-anew, free-row, taken-row, over}
 use Rattle.ssz_engine.proofs.making.new.Goals as goal
 
 pub returns-clause-answers : goal.returns-clause-answers
@@ -28,7 +29,7 @@ returns-clause-answers g c =
     let free : IsFree seen w v.now c.args.t.now id
     = subst (λ (s : Content). IsFree s w v.now c.args.t.now id) (sym c.engine.view_is)
     c.in-Ok.ensures.ok in
-    subst (λ (s : Content). AnswersWith pair_of
+    subst (λ (s : Content). AnswersAnew pair_of
     (λ rules versions. new rules versions v.now c.args.t.now) (puts v.now) w s
     (over schema c.engine.inside.max entries c.engine.inside.base arena) (Made v id node))
     c.engine.view_is
@@ -36,13 +37,14 @@ returns-clause-answers g c =
     c.engine.inside.arena arena (λ rules versions. new rules versions v.now c.args.t.now) w v
     id node (default_of type) _ _ free.known
     (default_fits schema.format type c.ty-legal.ensures.legal)
-    c.in_ok-node.ensures.part c.in_ok-node.ensures.adds (omega arith) free.free
+    c.in_ok-node.ensures.part c.in_ok-node.ensures.adds (omega arith)
+    (let few = shared_few schema.format type c.ty-legal.ensures.legal in omega arith) free.free
     (λ versions stand. free-row pair_of seen w v.now c.args.t.now versions stand id
     (λ t. makes versions v.now t (default_of t) (pairs t (default_of t))) free))
 
 pub returns-in-Err-clause-answers : goal.returns-in-Err-clause-answers
 returns-in-Err-clause-answers g c =
-    refused-answers g.H.PairHash.pair_of (λ rules versions. new rules versions c.args.v.now
+    refused-anew g.H.PairHash.pair_of (λ rules versions. new rules versions c.args.v.now
     c.args.t.now)
     (puts c.args.v.now) c.args.writer.0 c.args.engine.now c.in-Err.code
     (λ versions stand. taken-row g.H.PairHash.pair_of c.args.engine.now c.args.writer.0
