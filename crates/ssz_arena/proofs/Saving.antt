@@ -65,8 +65,12 @@ module _ (p : List ℕ → List ℕ → List ℕ) (old new : List Node) (was : I
       → node_at old id way ≡ Some found
       → due new id.0 + due old found.0 ≤ due old id.0
   saves found none [] id is_there =
-      omega (arith, ap (λ (n : NodeId). due old n.0) (same_Some id found is_there),
-      ap (λ (n : NodeId). due new n.0) (same_Some id found is_there), none)
+      omega (
+        arith,
+        ap (λ (n : NodeId). due old n.0) (same_Some id found is_there),
+        ap (λ (n : NodeId). due new n.0) (same_Some id found is_there),
+        none,
+      )
   saves found none (step ∷ steps) id is_there =
       at_node (slice_get old id.0) refl step
       (λ next e. saves found none steps next e) is_there

@@ -91,8 +91,11 @@ pub made-answers : (pair_of : PairOf) (types : Types) (most : ℕ) (entries : En
     → AnswersAnew pair_of row (puts name.now) writer (over types most entries base old)
     (over types most entries base new) (Made name id node)
 made-answers pair_of types most entries base old new row writer name id node v n m known fits part
-    adds most_pairs most_nodes free is = (answers, λ versions stand.
-    subst (λ r. todo new node ≤ charge_in r) (sym (is versions stand)) part.todo)
+    adds most_pairs most_nodes free is = (
+      answers,
+      λ versions stand.
+          subst (λ r. todo new node ≤ charge_in r) (sym (is versions stand)) part.todo,
+    )
   where
     version : Version
     version = record { type = type_of types id; value = v }
@@ -249,13 +252,16 @@ pub bad-json-answers : (pair_of : PairOf) (row : Rules → Versions → Row) (to
     (writer : ℕ) (engine : Content) (fault : JsonFault)
     → ((versions : Versions) → row (rules_of pair_of engine) versions ≡ Err (bad_json fault))
     → AnswersAnew pair_of row touch writer engine engine (BadJson fault)
-bad-json-answers pair_of row touch writer engine fault is = (λ count. record {
-  can = tt;
-  of = tt;
-  comes = λ versions stand. is versions;
-  spends = λ versions stand. omega arith;
-  few = λ versions stand. refl;
-}, λ versions stand. tt)
+bad-json-answers pair_of row touch writer engine fault is = (
+  λ count. record {
+    can = tt;
+    of = tt;
+    comes = λ versions stand. is versions;
+    spends = λ versions stand. omega arith;
+    few = λ versions stand. refl;
+  },
+  λ versions stand. tt,
+)
 
 -- the row of a load: the tests of the names, and then the value
 pub load-is : (form : Form) (rules : Rules) (versions : Versions) (v t : Name) (bytes : List ℕ)

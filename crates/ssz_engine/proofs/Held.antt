@@ -50,9 +50,11 @@ module _ (types : Types) (arena : Nodes) (entries : Entries)
   sorted (e ∷ es) =
       let rest = sorted es in
       elim (e.0.0 == writer) as (λ b. T (is_sorted (slice_cmp nat_cmp)
-      (cond b (with_version e.0.1 (pick e.0.1) (build es)) (build es))))
-      [ true ↦ is_sorted-put (slice_cmp nat_cmp) nat_list_cmp_total e.0.1 (pick e.0.1) (build es)
-          rest | false ↦ rest ]
+      (cond b (with_version e.0.1 (pick e.0.1) (build es)) (build es)))) [
+        | true ↦ is_sorted-put (slice_cmp nat_cmp) nat_list_cmp_total e.0.1 (pick e.0.1) (build es)
+            rest
+        | false ↦ rest
+      ]
 
   -- the version of a name, by the test of an entry's own
   at-name : (n name : Name) (held : Held) (es : List (Key × Held)) (test : Bool)

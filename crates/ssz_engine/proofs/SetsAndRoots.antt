@@ -43,45 +43,45 @@ edit_charge versions name t (Err fault) charge n few = omega arith
 -- the row of a set is charged the levels of a basic part
 module _ (versions : Versions) (name : Name) (version : Version) (path : Path) (literal : List ℕ)
     (u : SszType) (typed : path_type version.type path ≡ Some u) (basic : IsSome (basic_size u))
-    where
-  value_charge : (x : SszValue) → set_charge version.type path x ≤ index_levels version.type path
-  value_charge x =
-      let one : option_map_or (λ (t : SszType). pairs t x) (path_type version.type path) 0 ≡ 0
-      = ap (λ (o : Option SszType). option_map_or (λ (t : SszType). pairs t x) o 0) typed
-      ∙ basic_pairs u x basic in
-      let is : set_charge version.type path x ≡ index_levels version.type path
-      + option_map_or (λ (t : SszType). pairs t x) (path_type version.type path) 0 = refl in
-      omega arith
+  where
+    value_charge : (x : SszValue) → set_charge version.type path x ≤ index_levels version.type path
+    value_charge x =
+        let one : option_map_or (λ (t : SszType). pairs t x) (path_type version.type path) 0 ≡ 0
+        = ap (λ (o : Option SszType). option_map_or (λ (t : SszType). pairs t x) o 0) typed
+        ∙ basic_pairs u x basic in
+        let is : set_charge version.type path x ≡ index_levels version.type path
+        + option_map_or (λ (t : SszType). pairs t x) (path_type version.type path) 0 = refl in
+        omega arith
 
-  read_charge : (read : Outcome SszValue)
-      → charge_in (read >>= (λ value. edits versions name version.type
-      (set_at version.type version.value path value) (set_charge version.type path value)))
-      ≤ index_levels version.type path
-  read_charge (Ok x) = edit_charge versions name version.type
-      (set_at version.type version.value path x) (set_charge version.type path x)
-      (index_levels version.type path) (value_charge x)
-  read_charge (Err refusal) = omega arith
+    read_charge : (read : Outcome SszValue)
+        → charge_in (read >>= (λ value. edits versions name version.type
+        (set_at version.type version.value path value) (set_charge version.type path value)))
+        ≤ index_levels version.type path
+    read_charge (Ok x) = edit_charge versions name version.type
+        (set_at version.type version.value path x) (set_charge version.type path x)
+        (index_levels version.type path) (value_charge x)
+    read_charge (Err refusal) = omega arith
 
-  tested_charge : (absent beside : Bool)
-      → charge_in (refuse ABSENT absent >> (refuse NOT_THAT beside
-      >> set_end versions name version path literal u)) ≤ index_levels version.type path
-  tested_charge true beside = omega arith
-  tested_charge false true = omega arith
-  tested_charge false false = read_charge (decoded u literal)
+    tested_charge : (absent beside : Bool)
+        → charge_in (refuse ABSENT absent >> (refuse NOT_THAT beside
+        >> set_end versions name version path literal u)) ≤ index_levels version.type path
+    tested_charge true beside = omega arith
+    tested_charge false true = omega arith
+    tested_charge false false = read_charge (decoded u literal)
 
-  pub set_levels : version_of name versions ≡ Some version
-      → charge_in (set versions name path literal) ≤ index_levels version.type path
-  set_levels there =
-      subst (λ (o : Option Version). charge_in (need NO_VERSION o
-      >>= (λ (found : Version). need BAD_PATH (path_type found.type path)
-      >>= (λ u. refuse ABSENT (is_none (part_of found.type found.value path))
-      >> (refuse NOT_THAT (ends_beside path) >> set_end versions name found path literal u))))
-      ≤ index_levels version.type path) (sym there)
-      (subst (λ (o : Option SszType). charge_in (need BAD_PATH o
-      >>= (λ u. refuse ABSENT (is_none (part_of version.type version.value path))
-      >> (refuse NOT_THAT (ends_beside path) >> set_end versions name version path literal u)))
-      ≤ index_levels version.type path) (sym typed)
-      (tested_charge (is_none (part_of version.type version.value path)) (ends_beside path)))
+    pub set_levels : version_of name versions ≡ Some version
+        → charge_in (set versions name path literal) ≤ index_levels version.type path
+    set_levels there =
+        subst (λ (o : Option Version). charge_in (need NO_VERSION o
+        >>= (λ (found : Version). need BAD_PATH (path_type found.type path)
+        >>= (λ u. refuse ABSENT (is_none (part_of found.type found.value path))
+        >> (refuse NOT_THAT (ends_beside path) >> set_end versions name found path literal u))))
+        ≤ index_levels version.type path) (sym there)
+        (subst (λ (o : Option SszType). charge_in (need BAD_PATH o
+        >>= (λ u. refuse ABSENT (is_none (part_of version.type version.value path))
+        >> (refuse NOT_THAT (ends_beside path) >> set_end versions name version path literal u)))
+        ≤ index_levels version.type path) (sym typed)
+        (tested_charge (is_none (part_of version.type version.value path)) (ends_beside path)))
 
 pub law_of_sets : LawOfSets
 law_of_sets pair_of place writer line v path literal old mid first between last told_old told_mid
