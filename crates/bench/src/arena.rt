@@ -16,6 +16,15 @@ const USAGE: &str =
 // From an edit's leaf to the next one's: an odd number that leads all over the leaves.
 const FAR: u32 = 2_654_435_761;
 
+// The index of a leaf of a tree of this depth.
+fn index_of(depth: u32, number: u32) -> Result<Gindex>
+    requires { depth ≤ 32 }
+{
+    let places = 1 << depth;
+    let place = u128::from(number) % places;
+    Gindex::new(places | place).context("not 0")
+}
+
 // The tree with another leaf at an index.
 fn replaced<H: PairHash>(arena: &mut Arena<H>, top: NodeId, index: Gindex) -> Result<NodeId>
     requires { IsNodeOf arena.old top }
@@ -29,6 +38,16 @@ fn replaced<H: PairHash>(arena: &mut Arena<H>, top: NodeId, index: Gindex) -> Re
     Ok(made)
 }
 
+// The tree of this depth with another leaf.
+fn edited<H: PairHash>(arena: &mut Arena<H>, top: NodeId, depth: u32, number: u32) -> Result<NodeId>
+    requires node { IsNodeOf arena.old top }
+    requires low { depth ≤ 32 }
+    ensures { IfOk result (IsNodeOf arena.new) }
+{
+    let index = index_of(depth, number)?;
+    replaced(arena, top, index)
+}
+
 // Edits a zero tree, one leaf and then the one so many places on, with the root after each, and
 // says how many nodes there are then.
 fn edit<H: PairHash>(
@@ -40,13 +59,10 @@ fn edit<H: PairHash>(
 ) -> Result<usize>
     requires { depth ≤ 32 }
 {
-    let places = 1 << depth;
     let mut arena = Arena::start(alloc, hasher)?;
     let mut top = arena.zero(depth);
     for i in 0..count {
-        let place = u128::from(i.wrapping_mul(stride)) % places;
-        let index = Gindex::new(places | place).context("not 0")?;
-        top = replaced(&mut arena, top, index)?;
+        top = edited(&mut arena, top, depth, i.wrapping_mul(stride))?;
         arena.root(top, hasher);
     }
     Ok(arena.len())
@@ -56,13 +72,10 @@ fn edit<H: PairHash>(
 fn bulk<H: PairHash>(alloc: Global, depth: u32, count: u32, hasher: &mut H) -> Result<usize>
     requires { depth ≤ 32 }
 {
-    let places = 1 << depth;
     let mut arena = Arena::start(alloc, hasher)?;
     let mut top = arena.zero(depth);
     for i in 0..count {
-        let place = u128::from(i.wrapping_mul(FAR)) % places;
-        let index = Gindex::new(places | place).context("not 0")?;
-        top = replaced(&mut arena, top, index)?;
+        top = edited(&mut arena, top, depth, i.wrapping_mul(FAR))?;
     }
     arena.root(top, hasher);
     Ok(arena.len())

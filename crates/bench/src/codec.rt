@@ -1,11 +1,14 @@
 // Copies, checks, decodes or encodes the value of a file so many times:
 // copy|check|decode|encode SCHEMA TYPE FILE TIMES.
-ghost use Rattle.std.specs.Prelude.{◌<◌, ◌^◌, length};
+ghost use Rattle.std.specs.Prelude.{◌<◌, length, IfOk};
+ghost use Rattle.ssz_schema.specs.Unfolding.{type_of};
+ghost use Rattle.ssz_value.specs.Standing.{IsValue};
 
-use super::inputs::{Typed, number, read_bytes, read_type};
+use super::inputs::Sample;
 use anyhow::{Result, bail};
 use ssz_codec::{check, decode, encode};
 use ssz_schema::{Schema, TypeId};
+use ssz_value::Value;
 use std::alloc::Global;
 
 const USAGE: &str = "usage: bench codec copy|check|decode|encode SCHEMA TYPE FILE TIMES";
@@ -19,70 +22,61 @@ fn copies(alloc: Global, bytes: &[u8], times: u32) -> Result<()> {
     Ok(())
 }
 
-fn checks(schema: &Schema, id: TypeId, bytes: &[u8], times: u32) -> Result<()>
-    requires known { id < length schema.now.trees }
-    requires short { length bytes.now < 2 ^ 32 }
-{
+fn checks(sample: &Sample, times: u32) -> Result<()> {
     for _ in 0..times {
-        if let Some(fault) = check(schema, id, bytes) {
+        if let Some(fault) = check(&sample.schema, sample.id, sample.bytes.as_slice()) {
             bail!("{fault:?}");
         }
     }
     Ok(())
 }
 
-/// Decodes the value so many times.
-pub fn decodes(alloc: Global, schema: &Schema, id: TypeId, bytes: &[u8], times: u32) -> Result<()>
-    requires known { id < length schema.now.trees }
-    requires short { length bytes.now < 2 ^ 32 }
+fn decoded(alloc: Global, sample: &Sample) -> Result<Value>
+    ensures { IfOk result (IsValue (type_of sample.now.schema sample.now.id)) }
 {
+    match decode(alloc, &sample.schema, sample.id, sample.bytes.as_slice()) {
+        Ok(value) => Ok(value),
+        Err(_) => bail!("not decoded"),
+    }
+}
+
+/// Decodes the value so many times.
+pub fn decodes(alloc: Global, sample: &Sample, times: u32) -> Result<()> {
     for _ in 0..times {
-        if decode(alloc, schema, id, bytes).is_err() {
-            bail!("not decoded");
-        }
+        drop(decoded(alloc, sample)?);
     }
     Ok(())
 }
 
-/// Decodes the value, and encodes it so many times.
-pub fn encodes(alloc: Global, schema: &Schema, id: TypeId, bytes: &[u8], times: u32) -> Result<()>
+fn writes(alloc: Global, schema: &Schema, id: TypeId, value: &Value, times: u32) -> Result<()>
     requires known { id < length schema.now.trees }
-    requires short { length bytes.now < 2 ^ 32 }
+    requires value { IsValue (type_of schema.now id) value.now }
 {
-    let Ok(value) = decode(alloc, schema, id, bytes) else {
-        bail!("not decoded");
-    };
     let mut out = Vec::new(alloc);
     for _ in 0..times {
         out.clear();
-        if encode(schema, id, &value, u32::MAX, &mut out).is_err() {
+        if encode(schema, id, value, u32::MAX, &mut out).is_err() {
             bail!("not encoded");
         }
     }
     Ok(())
 }
 
-fn work(alloc: Global, what: &str, typed: &Typed, bytes: &[u8], times: u32) -> Result<()>
-    requires { length bytes.now < 2 ^ 32 }
-{
-    match what {
-        "copy" => copies(alloc, bytes, times),
-        "check" => checks(&typed.schema, typed.id, bytes, times),
-        "decode" => decodes(alloc, &typed.schema, typed.id, bytes, times),
-        "encode" => encodes(alloc, &typed.schema, typed.id, bytes, times),
-        _ => bail!(USAGE),
-    }
+/// Decodes the value, and encodes it so many times.
+pub fn encodes(alloc: Global, sample: &Sample, times: u32) -> Result<()> {
+    let value = decoded(alloc, sample)?;
+    let written = writes(alloc, &sample.schema, sample.id, &value, times);
+    drop(value);
+    written
 }
 
-/// Does the work of the words, and says it.
-pub fn run(rt: &HostRuntime, words: &[String]) -> Result<()> {
-    let [what, schema, name, file, times] = words else {
-        bail!(USAGE);
-    };
-    let times = number(times)?;
-    let typed = read_type(rt, schema, name)?;
-    let bytes = read_bytes(rt, file)?;
-    work(rt.alloc(), what, &typed, bytes.as_slice(), times)?;
-    println!(rt; "{what} {times}")?;
-    Ok(())
+/// Does one of these.
+pub fn work(alloc: Global, what: &str, sample: &Sample, times: u32) -> Result<()> {
+    match what {
+        "copy" => copies(alloc, sample.bytes.as_slice(), times),
+        "check" => checks(sample, times),
+        "decode" => decodes(alloc, sample, times),
+        "encode" => encodes(alloc, sample, times),
+        _ => bail!(USAGE),
+    }
 }

@@ -3,17 +3,17 @@
 ghost use Rattle.std.specs.Prelude.{◌≡◌, ◌<◌, length, Ok, IfOk};
 ghost use Rattle.ssz_arena.specs.Content.{IsNodeOf};
 
-use super::inputs::{Typed, large_number, number, read_bytes, read_type};
+use super::inputs::{Sample, large_number, number, read_sample};
+use super::nodes::node_of;
 use super::numbers::{element_at, value_at};
+use super::paths::{aim, push_element, push_field};
 use anyhow::{Result, bail};
 use ssz_arena::{Arena, NodeId};
 use ssz_chunk::{Chunk, PairHash, ShaPair};
-use ssz_codec::check;
 use ssz_edit::{append, pop, set};
-use ssz_schema::{Name, PathStep};
-use ssz_tree::build_bytes;
+use ssz_schema::PathStep;
 use ssz_value::EditFault;
-use std::alloc::Global;
+use std::alloc::{AllocError, Global};
 
 const USAGE: &str = "usage: bench edit SCHEMA TYPE FILE LIST|- FIELD|- LENGTH EDITS set|append|pop";
 
@@ -52,18 +52,26 @@ struct Outcome {
     hashed: u64,
 }
 
-// The path to the list, or to the field of the element of this number, and where the number stands.
-fn path_of(alloc: Global, list: &str, field: &str, edit: Edit) -> Result<Vec<PathStep>> {
+// Lets the path go on to the field that the word names; `-` names none.
+fn push_word(path: &mut Vec<PathStep>, word: &str) -> Result<(), AllocError> {
+    if word == "-" {
+        return Ok(());
+    }
+    push_field(path, word)
+}
+
+// The path to the list, or to its first element or a field of that.
+fn path_of(
+    alloc: Global,
+    list: &str,
+    field: &str,
+    edit: Edit,
+) -> Result<Vec<PathStep>, AllocError> {
     let mut path = Vec::new(alloc);
-    if list != "-" {
-        path.push(PathStep::Field(Name::copy_of(alloc, list.as_bytes())?))?;
-    }
-    if edit != Edit::Set {
-        return Ok(path);
-    }
-    path.push(PathStep::Index(0))?;
-    if field != "-" {
-        path.push(PathStep::Field(Name::copy_of(alloc, field.as_bytes())?))?;
+    push_word(&mut path, list)?;
+    if edit == Edit::Set {
+        push_element(&mut path)?;
+        push_word(&mut path, field)?;
     }
     Ok(path)
 }
@@ -82,7 +90,7 @@ fn made(answer: std::result::Result<NodeId, EditFault>) -> Result<NodeId>
 fn with_number<H: PairHash>(
     alloc: Global,
     arena: &mut Arena<H>,
-    typed: &Typed,
+    sample: &Sample,
     node: NodeId,
     path: &[PathStep],
     number: u64,
@@ -90,8 +98,8 @@ fn with_number<H: PairHash>(
     requires { IsNodeOf arena.old node }
     ensures { IfOk result (IsNodeOf arena.new) }
 {
-    let value = value_at(alloc, &typed.schema, typed.id, path, number)?;
-    let answer = set(arena, &typed.schema, typed.id, node, path, &value);
+    let value = value_at(alloc, &sample.schema, sample.id, path, number)?;
+    let answer = set(arena, &sample.schema, sample.id, node, path, &value);
     drop(value);
     made(answer)
 }
@@ -100,7 +108,7 @@ fn with_number<H: PairHash>(
 fn with_element<H: PairHash>(
     alloc: Global,
     arena: &mut Arena<H>,
-    typed: &Typed,
+    sample: &Sample,
     node: NodeId,
     path: &[PathStep],
     number: u64,
@@ -108,8 +116,8 @@ fn with_element<H: PairHash>(
     requires { IsNodeOf arena.old node }
     ensures { IfOk result (IsNodeOf arena.new) }
 {
-    let value = element_at(alloc, &typed.schema, typed.id, path, number)?;
-    let answer = append(arena, &typed.schema, typed.id, node, path, &value);
+    let value = element_at(alloc, &sample.schema, sample.id, path, number)?;
+    let answer = append(arena, &sample.schema, sample.id, node, path, &value);
     drop(value);
     made(answer)
 }
@@ -118,7 +126,7 @@ fn with_element<H: PairHash>(
 fn edited<H: PairHash>(
     alloc: Global,
     arena: &mut Arena<H>,
-    typed: &Typed,
+    sample: &Sample,
     node: NodeId,
     job: &Job,
     number: u64,
@@ -128,28 +136,24 @@ fn edited<H: PairHash>(
 {
     let path = job.path.as_slice();
     match job.edit {
-        Edit::Set => with_number(alloc, arena, typed, node, path, number),
-        Edit::Append => with_element(alloc, arena, typed, node, path, number),
-        Edit::Pop => made(pop(arena, &typed.schema, typed.id, node, path)),
+        Edit::Set => with_number(alloc, arena, sample, node, path, number),
+        Edit::Append => with_element(alloc, arena, sample, node, path, number),
+        Edit::Pop => made(pop(arena, &sample.schema, sample.id, node, path)),
     }
 }
 
-// Lets the step at this place of a path lead to this element.
-fn aim(path: &mut Vec<PathStep>, place: Option<usize>, element: u64) {
-    let Some(place) = place else {
-        return;
-    };
-    if let Some(step) = path.get_mut(place) {
-        *step = PathStep::Index(element);
+// Lets the path lead to the element of this edit: another one each time, all over the list.
+fn aim_at(job: &mut Job, number: u64) {
+    if let Some(place) = job.place {
+        aim(&mut job.path, place, number.wrapping_mul(FAR) % job.count);
     }
 }
 
-// The node of the value after the edits, with the root of each value between them asked for. Of a
-// set the element is another one each time, all over the list.
+// The node of the value after the edits, with the root of each value between them asked for.
 fn edits<H: PairHash>(
     alloc: Global,
     arena: &mut Arena<H>,
-    typed: &Typed,
+    sample: &Sample,
     first: NodeId,
     job: &mut Job,
     hasher: &mut H,
@@ -160,31 +164,10 @@ fn edits<H: PairHash>(
     let mut node = first;
     for i in 0..job.times {
         let number = u64::from(i);
-        aim(
-            &mut job.path,
-            job.place,
-            number.wrapping_mul(FAR) % job.count,
-        );
-        node = edited(alloc, arena, typed, node, job, number)?;
+        aim_at(job, number);
+        node = edited(alloc, arena, sample, node, job, number)?;
         arena.root(node, hasher);
     }
-    Ok(node)
-}
-
-// The node of the value of the type that a file holds.
-fn read_node<H: PairHash>(
-    rt: &HostRuntime,
-    arena: &mut Arena<H>,
-    typed: &Typed,
-    file: &str,
-) -> Result<NodeId>
-    ensures { IfOk result (IsNodeOf arena.new) }
-{
-    let bytes = read_bytes(rt, file)?;
-    if let Some(fault) = check(&typed.schema, typed.id, bytes.as_slice()) {
-        bail!("{fault:?}");
-    }
-    let node = build_bytes(arena, &typed.schema, typed.id, bytes.as_slice())?;
     Ok(node)
 }
 
@@ -217,14 +200,14 @@ fn job_of(alloc: Global, words: &[String]) -> Result<Job> {
     })
 }
 
-// Makes the nodes of the value of a file, and edits them.
-fn work(rt: &HostRuntime, typed: &Typed, file: &str, job: &mut Job) -> Result<Outcome> {
+// Makes the nodes of the value, and edits them.
+fn work(alloc: Global, sample: &Sample, job: &mut Job) -> Result<Outcome> {
     let mut hasher = ShaPair::new();
-    let mut arena = Arena::start(rt.alloc(), &mut hasher)?;
-    let first = read_node(rt, &mut arena, typed, file)?;
+    let mut arena = Arena::start(alloc, &mut hasher)?;
+    let first = node_of(&mut arena, sample)?;
     arena.root(first, &mut hasher);
     let (nodes, pairs) = (arena.len(), hasher.count());
-    let last = edits(rt.alloc(), &mut arena, typed, first, job, &mut hasher)?;
+    let last = edits(alloc, &mut arena, sample, first, job, &mut hasher)?;
     let root = arena.root(last, &mut hasher);
     Ok(Outcome {
         root,
@@ -235,17 +218,29 @@ fn work(rt: &HostRuntime, typed: &Typed, file: &str, job: &mut Job) -> Result<Ou
     })
 }
 
-/// Does the work of the words, and says what came of it.
-pub fn run(rt: &HostRuntime, words: &[String]) -> Result<()> {
-    let [schema, name, file, edits @ ..] = words else {
-        bail!(USAGE);
-    };
-    let mut job = job_of(rt.alloc(), edits)?;
-    let typed = read_type(rt, schema, name)?;
-    let outcome = work(rt, &typed, file, &mut job)?;
+// The same with the edits that the words say.
+fn work_on(alloc: Global, sample: &Sample, words: &[String]) -> Result<Outcome> {
+    let mut job = job_of(alloc, words)?;
+    let outcome = work(alloc, sample, &mut job);
+    drop(job);
+    outcome
+}
+
+fn say(rt: &HostRuntime, outcome: &Outcome) -> Result<()> {
     let digits = hex::encode(rt.alloc(), &outcome.root.0)?;
     let (nodes, made) = (outcome.nodes, outcome.made);
     let (pairs, hashed) = (outcome.pairs, outcome.hashed);
     println!(rt; "{digits} {nodes} {made} {pairs} {hashed}")?;
     Ok(())
+}
+
+/// Does the work of the words, and says what came of it.
+pub fn run(rt: &HostRuntime, words: &[String]) -> Result<()> {
+    let [schema, name, file, edits @ ..] = words else {
+        bail!(USAGE);
+    };
+    let sample = read_sample(rt, schema, name, file)?;
+    let outcome = work_on(rt.alloc(), &sample, edits);
+    drop(sample);
+    say(rt, &outcome?)
 }

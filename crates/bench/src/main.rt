@@ -1,7 +1,8 @@
 //! Does a piece of work so many times, to be timed from outside.
 //!
 //! `bench WORK WORDS..` does one, as its module says. `bench all FILE` does those of the lines of a
-//! file, one after another: words.txt has each of them with small counts.
+//! file, one after another, with a space between two words: words.txt has each of them with small
+//! counts.
 #![tactic(auto)]
 
 mod arena;
@@ -9,11 +10,14 @@ mod codec;
 mod edit;
 mod inputs;
 mod json;
+mod nodes;
 mod numbers;
 mod pairs;
 mod partial;
+mod paths;
 mod prove;
 mod reading;
+mod repeats;
 mod root;
 mod schema;
 mod script;
@@ -34,13 +38,11 @@ fn work(rt: &HostRuntime, words: &[String]) -> Result<()> {
     };
     match name.as_str() {
         "arena" => arena::run(rt, words),
-        "codec" => codec::run(rt, words),
         "edit" => edit::run(rt, words),
-        "json" => json::run(rt, words),
         "pairs" => pairs::run(rt, words),
         "partial" => partial::run(rt, words),
         "prove" => prove::run(rt, words),
-        "reading" => reading::run(rt, words),
+        "codec" | "json" | "reading" => repeats::run(rt, name, words),
         "root" => root::run(rt, words),
         "schema" => schema::run(rt, words),
         "script" => script::run(rt, words),
@@ -51,10 +53,16 @@ fn work(rt: &HostRuntime, words: &[String]) -> Result<()> {
     }
 }
 
+fn push_word(words: &mut Vec<String>, word: &str) -> Result<(), AllocError> {
+    let word = String::from_str(*words.allocator(), word)?;
+    words.push(word)?;
+    Ok(())
+}
+
 fn words_of(alloc: Global, line: &str) -> Result<Vec<String>, AllocError> {
     let mut words = Vec::new(alloc);
-    for word in line.split_whitespace() {
-        words.push(String::from_str(alloc, word)?)?;
+    for word in line.split(' ') {
+        push_word(&mut words, word)?;
     }
     Ok(words)
 }
@@ -63,7 +71,9 @@ fn words_of(alloc: Global, line: &str) -> Result<Vec<String>, AllocError> {
 fn all(rt: &HostRuntime, text: &str) -> Result<()> {
     for line in text.lines() {
         let words = words_of(rt.alloc(), line)?;
-        work(rt, words.as_slice())?;
+        let done = work(rt, words.as_slice());
+        drop(words);
+        done?;
     }
     Ok(())
 }

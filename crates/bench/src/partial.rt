@@ -6,6 +6,7 @@ ghost use Rattle.ssz_value.specs.Standing.{value_of};
 ghost use Rattle.ssz_partial.specs.Partial.{FitsAt};
 
 use super::inputs::{Typed, large_number, number, read_type};
+use super::paths::nth_element;
 use anyhow::{Context, Result, bail};
 use ssz_codec::decode;
 use ssz_partial::Partial;
@@ -13,7 +14,7 @@ use ssz_proof::{Proof, read_proof};
 use ssz_schema::{PathStep, Schema, TypeId};
 use ssz_value::Value;
 use std::alloc::Global;
-use std::fs;
+use std::{fs, slice};
 
 const USAGE: &str = "usage: bench partial SCHEMA TYPE PROOF LENGTH get|set TIMES";
 
@@ -40,37 +41,70 @@ fn value_at(
     Ok(value)
 }
 
-// Reads the part at the path, or sets it to this number. The first byte of what was read.
-fn call(
-    alloc: Global,
-    typed: &Typed,
-    partial: &mut Partial,
-    path: &[PathStep],
-    sets: Option<u64>,
-) -> Result<u8>
-    requires { partial.old.id ≡ typed.now.id }
-    ensures { partial.new.id ≡ typed.now.id }
+// The first byte of the part at the path.
+fn first_byte(typed: &Typed, partial: &Partial, path: &[PathStep]) -> Result<u8>
+    requires { partial.now.id ≡ typed.now.id }
 {
-    if let Some(number) = sets {
-        let value = value_at(alloc, &typed.schema, typed.id, path, number)?;
-        if let Err(fault) = partial.set(&typed.schema, path, &value) {
-            bail!("{fault:?}");
-        }
-        return Ok(0);
-    }
     match partial.get(&typed.schema, path) {
         Ok(piece) => Ok(piece.bytes.0[0]),
         Err(fault) => bail!("{fault:?}"),
     }
 }
 
-// So many calls, of one element after another with others between them; the sum of what was read.
+// Sets the part at the path to this number.
+fn set_number(
+    alloc: Global,
+    typed: &Typed,
+    partial: &mut Partial,
+    path: &[PathStep],
+    number: u64,
+) -> Result<()>
+    requires { partial.old.id ≡ typed.now.id }
+    ensures { partial.new.id ≡ typed.now.id }
+{
+    let value = value_at(alloc, &typed.schema, typed.id, path, number)?;
+    let answer = partial.set(&typed.schema, path, &value);
+    drop(value);
+    match answer {
+        Ok(()) => Ok(()),
+        Err(fault) => bail!("{fault:?}"),
+    }
+}
+
+// The sum of the first bytes of so many elements.
+fn gets(typed: &Typed, partial: &Partial, len: u64, times: u32) -> Result<u64>
+    requires same { partial.now.id ≡ typed.now.id }
+    requires some { 0 < len }
+{
+    let mut sum = 0u64;
+    for i in 0..times {
+        let step = PathStep::Index(nth_element(i, len));
+        let read = first_byte(typed, partial, slice::from_ref(&step))?;
+        sum = sum.wrapping_add(u64::from(read));
+    }
+    Ok(sum)
+}
+
+// Sets so many elements.
+fn sets(alloc: Global, typed: &Typed, partial: &mut Partial, len: u64, times: u32) -> Result<()>
+    requires same { partial.old.id ≡ typed.now.id }
+    requires some { 0 < len }
+{
+    for i in 0..times {
+        let step = PathStep::Index(nth_element(i, len));
+        let number = u64::from(i);
+        set_number(alloc, typed, partial, slice::from_ref(&step), number)?;
+    }
+    Ok(())
+}
+
+// So many calls; the sum of what was read.
 fn calls(
     alloc: Global,
     typed: &Typed,
     partial: &mut Partial,
     len: u64,
-    sets: bool,
+    what: &str,
     times: u32,
 ) -> Result<u64>
     requires { partial.old.id ≡ typed.now.id }
@@ -78,16 +112,11 @@ fn calls(
     if len == 0 {
         bail!("no elements");
     }
-    let mut path = Vec::new(alloc);
-    path.push(PathStep::Index(0))?;
-    let mut sum = 0u64;
-    for i in 0..times {
-        let i = u64::from(i);
-        path[0] = PathStep::Index(i * 7919 % len);
-        let read = call(alloc, typed, partial, path.as_slice(), sets.then_some(i))?;
-        sum = sum.wrapping_add(u64::from(read));
+    if what == "set" {
+        sets(alloc, typed, partial, len, times)?;
+        return Ok(0);
     }
-    Ok(sum)
+    gets(typed, partial, len, times)
 }
 
 fn proof_in(rt: &HostRuntime, path: &str) -> Result<Proof> {
@@ -106,16 +135,30 @@ fn partial_in(rt: &HostRuntime, id: TypeId, path: &str) -> Result<Partial>
     Ok(Partial::from_proof(rt.alloc(), id, &proof)?)
 }
 
+// The same with the tree of the proof of a file.
+fn work(
+    rt: &HostRuntime,
+    typed: &Typed,
+    proof: &str,
+    len: u64,
+    what: &str,
+    times: u32,
+) -> Result<u64> {
+    let mut partial = partial_in(rt, typed.id, proof)?;
+    let sum = calls(rt.alloc(), typed, &mut partial, len, what, times);
+    drop(partial);
+    sum
+}
+
 /// Does the work of the words, and says the sum of what was read.
 pub fn run(rt: &HostRuntime, words: &[String]) -> Result<()> {
     let [schema, name, proof, len, what, times] = words else {
         bail!(USAGE);
     };
     let (len, times) = (large_number(len)?, number(times)?);
-    let sets = what.as_str() == "set";
     let typed = read_type(rt, schema, name)?;
-    let mut partial = partial_in(rt, typed.id, proof)?;
-    let sum = calls(rt.alloc(), &typed, &mut partial, len, sets, times)?;
-    println!(rt; "{sum}")?;
+    let sum = work(rt, &typed, proof, len, what, times);
+    drop(typed);
+    println!(rt; "{}", sum?)?;
     Ok(())
 }

@@ -26,19 +26,37 @@ struct Job {
     ghost low: { depth ≤ 24 },
 }
 
+// A leaf of its own.
+fn leaf<H: PairHash>(arena: &mut Arena<H>) -> Result<NodeId>
+    ensures node { IfOk result (IsNodeOf arena.new) }
+    ensures more { node_count arena.old ≤ node_count arena.new }
+{
+    arena.reserve(1)?;
+    Ok(arena.leaf(Chunk([7; 32])))
+}
+
+// A pair of its own.
+fn pair<H: PairHash>(arena: &mut Arena<H>, left: NodeId, right: NodeId) -> Result<NodeId>
+    requires left { IsNodeOf arena.old left }
+    requires right { IsNodeOf arena.old right }
+    ensures node { IfOk result (IsNodeOf arena.new) }
+    ensures more { node_count arena.old ≤ node_count arena.new }
+{
+    arena.reserve(1)?;
+    Ok(arena.pair(left, right))
+}
+
 // A full tree of this depth, with a node of its own for each leaf and each pair.
 fn full<H: PairHash>(arena: &mut Arena<H>, depth: u32) -> Result<NodeId>
     ensures node { IfOk result (IsNodeOf arena.new) }
     ensures more { node_count arena.old ≤ node_count arena.new }
 {
     if depth == 0 {
-        arena.reserve(1)?;
-        return Ok(arena.leaf(Chunk([7; 32])));
+        return leaf(arena);
     }
     let left = full(arena, depth - 1)?;
     let right = full(arena, depth - 1)?;
-    arena.reserve(1)?;
-    Ok(arena.pair(left, right))
+    pair(arena, left, right)
 }
 
 // So many places of a tree of this depth, all over it.

@@ -12,7 +12,10 @@ pub fn run(rt: &HostRuntime, words: &[String]) -> Result<()> {
     };
     let bytes = fs::read(rt, path)?;
     match read_schema(rt.alloc(), bytes.as_slice()) {
-        Ok(_) => println!(rt; "accepted")?,
+        Ok(schema) => {
+            drop(schema);
+            println!(rt; "accepted")?;
+        }
         Err(fault) => println!(rt; "{fault:?}")?,
     }
     Ok(())

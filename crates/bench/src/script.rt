@@ -14,6 +14,7 @@ fn count(alloc: Global, script: &[u8]) -> Result<(u64, u64), AllocError> {
     while let Some(next) = statements.next(alloc)? {
         total = total.wrapping_add(1);
         last = next.line;
+        drop(next);
     }
     Ok((total, last))
 }

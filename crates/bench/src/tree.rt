@@ -3,19 +3,18 @@
 // nodes COUNT build|check.
 ghost use Rattle.std.specs.Prelude.{◌*◌, ◌<◌, ◌^◌, ◌≤◌, length};
 
-use super::inputs::{Typed, number, read_type};
+use super::inputs::{Sample, faultless, number, read_type, sample_of};
+use super::nodes::node_of;
 use anyhow::{Result, bail};
 use ssz_arena::Arena;
 use ssz_chunk::{Chunk, PairHash, ShaPair};
-use ssz_codec::check;
-use ssz_tree::build_bytes;
-use std::alloc::Global;
+use std::alloc::{AllocError, Global};
 
 const USAGE: &str = "usage: bench tree numbers|containers|lists COUNT build|check SCHEMA,
 or bench tree nodes COUNT build|check";
 
 // The encoding of a list of so many lists, each of 8 bytes 1: the offsets, and then the lists.
-fn lists(alloc: Global, count: u32) -> Result<Vec<u8>> {
+fn lists(alloc: Global, count: u32) -> Result<Vec<u8>, AllocError> {
     let mut bytes = Vec::new(alloc);
     let mut offset = count.saturating_mul(4);
     for _i in 0..count {
@@ -28,35 +27,40 @@ fn lists(alloc: Global, count: u32) -> Result<Vec<u8>> {
     Ok(bytes)
 }
 
-// The name of the type of a list, and the bytes of one of so many elements.
-fn list_of(alloc: Global, what: &str, count: u32) -> Result<(&'static str, Vec<u8>)> {
+// The name of the type of a list.
+fn type_name(what: &str) -> Result<&'static str> {
     match what {
-        "numbers" => Ok(("Numbers", Vec::from_elem(alloc, 1u8, count as usize * 8)?)),
-        "containers" => Ok((
-            "Validators",
-            Vec::from_elem(alloc, 1u8, count as usize * 121)?,
-        )),
-        "lists" => Ok(("Lists", lists(alloc, count)?)),
+        "numbers" => Ok("Numbers"),
+        "containers" => Ok("Validators"),
+        "lists" => Ok("Lists"),
         _ => bail!(USAGE),
     }
 }
 
-// The bytes of a value: checked, and then made into nodes or not.
-fn build<H: PairHash>(
-    arena: &mut Arena<H>,
-    typed: &Typed,
-    bytes: &[u8],
-    makes: bool,
-) -> Result<()> {
-    if bytes.len() > u32::MAX as usize {
-        bail!("too long");
+// The encoding of a list of so many elements.
+fn list_of(alloc: Global, what: &str, count: u32) -> Result<Vec<u8>, AllocError> {
+    let size = match what {
+        "numbers" => 8,
+        "containers" => 121,
+        _ => return lists(alloc, count),
+    };
+    Vec::from_elem(alloc, 1u8, count as usize * size)
+}
+
+// The same with its type, of a schema file.
+fn list_in(rt: &HostRuntime, what: &str, count: u32, schema: &str) -> Result<Sample> {
+    let name = type_name(what)?;
+    let bytes = list_of(rt.alloc(), what, count)?;
+    let typed = read_type(rt, schema, name)?;
+    sample_of(typed, bytes)
+}
+
+// Checks the bytes of a value, and makes them into nodes or not.
+fn build<H: PairHash>(arena: &mut Arena<H>, sample: &Sample, makes: bool) -> Result<()> {
+    if !makes {
+        return faultless(sample);
     }
-    if let Some(fault) = check(&typed.schema, typed.id, bytes) {
-        bail!("{fault:?}");
-    }
-    if makes {
-        build_bytes(arena, &typed.schema, typed.id, bytes)?;
-    }
+    node_of(arena, sample)?;
     Ok(())
 }
 
@@ -85,9 +89,10 @@ fn work<H: PairHash>(
     let [schema] = schema else {
         bail!(USAGE);
     };
-    let (name, bytes) = list_of(rt.alloc(), what, count)?;
-    let typed = read_type(rt, schema, name)?;
-    build(arena, &typed, bytes.as_slice(), makes)
+    let sample = list_in(rt, what, count, schema)?;
+    let built = build(arena, &sample, makes);
+    drop(sample);
+    built
 }
 
 /// Does the work of the words, and says how many nodes there are and for how many more there is
@@ -99,8 +104,10 @@ pub fn run(rt: &HostRuntime, words: &[String]) -> Result<()> {
     let count = number(count)?;
     let mut hasher = ShaPair::new();
     let mut arena = Arena::start(rt.alloc(), &mut hasher)?;
-    work(rt, &mut arena, what, count, how.as_str() == "build", schema)?;
+    let done = work(rt, &mut arena, what, count, how.as_str() == "build", schema);
     let (nodes, spare) = (arena.len(), arena.spare());
+    drop(arena);
+    done?;
     println!(rt; "{nodes} nodes, room for {spare} more")?;
     Ok(())
 }

@@ -5,11 +5,11 @@ ghost use Rattle.ssz_schema.specs.Names.{IsName};
 
 use super::inputs::number;
 use anyhow::{Context, Result, bail};
-use ssz_arena::Arena;
+use ssz_arena::{Arena, NodeId};
 use ssz_chunk::XorPair;
-use ssz_schema::{Name, Schema, is_name};
+use ssz_schema::{Name, Schema, TypeId, is_name};
 use ssz_versions::{Versions, Writer};
-use std::alloc::Global;
+use std::alloc::{AllocError, Global};
 
 const USAGE: &str = "usage: bench versions none|make|get|fork|drop up|down|far|long COUNT";
 
@@ -64,18 +64,30 @@ fn names(alloc: Global, order: Order, count: u32) -> Result<()> {
     Ok(())
 }
 
-fn make(alloc: Global, order: Order, count: u32) -> Result<Versions> {
+// The type of all versions.
+fn number_type(alloc: Global) -> Result<TypeId> {
     let schema = Schema::empty(alloc)?;
-    let id = schema.find("uint8").context("uint8")?;
-    let node = Arena::start(alloc, &mut XorPair::new())?.zero(0);
-    let mut versions = Versions::empty(alloc)?;
+    let id = schema.find("uint8");
+    drop(schema);
+    id.context("uint8")
+}
+
+// The node of all versions.
+fn zero_node(alloc: Global) -> Result<NodeId, AllocError> {
+    let arena = Arena::start(alloc, &mut XorPair::new())?;
+    Ok(arena.zero(0))
+}
+
+fn make(alloc: Global, versions: &mut Versions, order: Order, count: u32) -> Result<()> {
+    let id = number_type(alloc)?;
+    let node = zero_node(alloc)?;
     for i in 0..count {
         let version = name(alloc, b'v', order, i)?;
         if versions.make(WRITER, &version, id, node).is_err() {
             bail!("not made");
         }
     }
-    Ok(versions)
+    Ok(())
 }
 
 fn get(alloc: Global, versions: &Versions, order: Order, count: u32) -> Result<()> {
@@ -108,15 +120,29 @@ fn drop_all(alloc: Global, versions: &mut Versions, order: Order, count: u32) ->
 }
 
 // Makes the versions, and does this with them.
-fn work(alloc: Global, what: &str, order: Order, count: u32) -> Result<()> {
-    let mut versions = make(alloc, order, count)?;
+fn change(
+    alloc: Global,
+    what: &str,
+    versions: &mut Versions,
+    order: Order,
+    count: u32,
+) -> Result<()> {
+    make(alloc, versions, order, count)?;
     match what {
         "make" => Ok(()),
-        "get" => get(alloc, &versions, order, count),
-        "fork" => fork(alloc, &mut versions, order, count),
-        "drop" => drop_all(alloc, &mut versions, order, count),
+        "get" => get(alloc, versions, order, count),
+        "fork" => fork(alloc, versions, order, count),
+        "drop" => drop_all(alloc, versions, order, count),
         _ => bail!(USAGE),
     }
+}
+
+// The same, from no versions.
+fn work(alloc: Global, what: &str, order: Order, count: u32) -> Result<()> {
+    let mut versions = Versions::empty(alloc)?;
+    let done = change(alloc, what, &mut versions, order, count);
+    drop(versions);
+    done
 }
 
 /// Does the work of the words.
