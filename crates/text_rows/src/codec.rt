@@ -7,14 +7,13 @@ ghost use Rattle.std.specs.Prelude.{◌<◌, ◌^◌, length};
 ghost use Rattle.ssz_schema.specs.Unfolding.{type_of};
 ghost use Rattle.ssz_value.specs.Standing.{IsValue};
 
-use super::rows::{schema_in, typed_bytes};
+use super::rows::{TypedBytes, read_table, typed_bytes};
 use super::values::encoded_digits;
 use anyhow::{Result, bail};
 use ssz_bytes::Fault;
 use ssz_codec::{DecodeFault, check, decode, encoded_len};
 use ssz_schema::{Schema, TypeId};
 use ssz_value::Value;
-use std::fs;
 
 fn print_checked(rt: &HostRuntime, row: &str, fault: Option<Fault>) -> Result<()> {
     match fault {
@@ -39,7 +38,11 @@ fn print_decoded(rt: &HostRuntime, schema: &Schema, id: TypeId, bytes: &[u8]) ->
     requires short { length bytes.now < 2 ^ 32 }
 {
     match decode(rt.alloc(), schema, id, bytes) {
-        Ok(value) => print_value(rt, schema, id, &value),
+        Ok(value) => {
+            let printed = print_value(rt, schema, id, &value);
+            drop(value);
+            printed
+        }
         Err(DecodeFault::Bad(fault)) => {
             println!(rt; ", decode F{} {}", fault.code, fault.position)?;
             Ok(())
@@ -48,19 +51,33 @@ fn print_decoded(rt: &HostRuntime, schema: &Schema, id: TypeId, bytes: &[u8]) ->
     }
 }
 
-fn print_row(rt: &HostRuntime, schema: &Schema, row: &str) -> Result<()> {
-    let typed = typed_bytes(rt.alloc(), schema, row)?;
+fn print_answers(rt: &HostRuntime, schema: &Schema, row: &str, typed: &TypedBytes) -> Result<()>
+    requires known { typed.now.id < length schema.now.trees }
+    requires short { length typed.now.bytes.items < 2 ^ 32 }
+{
     let bytes = typed.bytes.as_slice();
     print_checked(rt, row, check(schema, typed.id, bytes))?;
     print_decoded(rt, schema, typed.id, bytes)
 }
 
-/// Prints what comes of each row of codec.txt.
-pub fn print_rows(rt: &HostRuntime) -> Result<()> {
-    let schema = schema_in(rt, "codec.json")?;
-    let rows = fs::read_to_string(rt, "codec.txt")?;
+fn print_row(rt: &HostRuntime, schema: &Schema, row: &str) -> Result<()> {
+    let typed = typed_bytes(rt.alloc(), schema, row)?;
+    let printed = print_answers(rt, schema, row, &typed);
+    drop(typed);
+    printed
+}
+
+fn print_all(rt: &HostRuntime, schema: &Schema, rows: &str) -> Result<()> {
     for row in rows.lines() {
-        print_row(rt, &schema, row)?;
+        print_row(rt, schema, row)?;
     }
     Ok(())
+}
+
+/// Prints what comes of each row of codec.txt.
+pub fn print_rows(rt: &HostRuntime) -> Result<()> {
+    let table = read_table(rt, "codec.json", "codec.txt")?;
+    let printed = print_all(rt, &table.schema, table.rows.as_str());
+    drop(table);
+    printed
 }

@@ -7,14 +7,13 @@ ghost use Rattle.std.specs.Prelude.{◌≡◌, ◌<◌, ◌^◌, None, length};
 ghost use Rattle.ssz_schema.specs.Unfolding.{type_of};
 ghost use Rattle.ssz_value.specs.Faults.{why};
 
-use super::rows::{TypedBytes, schema_in, typed_bytes};
+use super::rows::{TypedBytes, read_table, typed_bytes};
 use super::values::value_in;
 use anyhow::{Result, bail};
 use ssz_chunk::{Chunk, PairHash, ShaPair, ZeroTable};
 use ssz_codec::check;
 use ssz_roots::{root_of_bytes, root_of_value};
 use ssz_schema::{Schema, TypeId};
-use std::fs;
 
 // The root of the value that the bytes encode.
 fn value_root(
@@ -37,6 +36,31 @@ fn print_root(rt: &HostRuntime, name: &str, root: &Chunk, pairs: u64) -> Result<
     Ok(())
 }
 
+fn print_answer(
+    rt: &HostRuntime,
+    schema: &Schema,
+    row: &str,
+    typed: &TypedBytes,
+    zeros: &ZeroTable<ShaPair>,
+    hasher: &mut ShaPair,
+) -> Result<()>
+    requires known { typed.now.id < length schema.now.trees }
+    requires short { length typed.now.bytes.items < 2 ^ 32 }
+{
+    let bytes = typed.bytes.as_slice();
+    if check(schema, typed.id, bytes).is_some() {
+        bail!("a fault");
+    }
+    let before = hasher.count();
+    let root = root_of_bytes(schema, typed.id, bytes, zeros, hasher);
+    let pairs = hasher.count().saturating_sub(before);
+    if value_root(rt, schema, typed, zeros, hasher)? != root {
+        bail!("the value has another root than its bytes");
+    }
+    let name = row.split(' ').next().unwrap_or(row);
+    print_root(rt, name, &root, pairs)
+}
+
 fn print_row(
     rt: &HostRuntime,
     schema: &Schema,
@@ -45,28 +69,24 @@ fn print_row(
     hasher: &mut ShaPair,
 ) -> Result<()> {
     let typed = typed_bytes(rt.alloc(), schema, row)?;
-    let bytes = typed.bytes.as_slice();
-    if check(schema, typed.id, bytes).is_some() {
-        bail!("a fault");
+    let printed = print_answer(rt, schema, row, &typed, zeros, hasher);
+    drop(typed);
+    printed
+}
+
+fn print_all(rt: &HostRuntime, schema: &Schema, rows: &str) -> Result<()> {
+    let mut hasher = ShaPair::new();
+    let zeros = ZeroTable::new(&mut hasher);
+    for row in rows.lines() {
+        print_row(rt, schema, row, &zeros, &mut hasher)?;
     }
-    let before = hasher.count();
-    let root = root_of_bytes(schema, typed.id, bytes, zeros, hasher);
-    let pairs = hasher.count().saturating_sub(before);
-    if value_root(rt, schema, &typed, zeros, hasher)? != root {
-        bail!("the value has another root than its bytes");
-    }
-    let name = row.split(' ').next().unwrap_or(row);
-    print_root(rt, name, &root, pairs)
+    Ok(())
 }
 
 /// Prints what comes of each row of roots.txt.
 pub fn print_rows(rt: &HostRuntime) -> Result<()> {
-    let schema = schema_in(rt, "roots.json")?;
-    let rows = fs::read_to_string(rt, "roots.txt")?;
-    let mut hasher = ShaPair::new();
-    let zeros = ZeroTable::new(&mut hasher);
-    for row in rows.lines() {
-        print_row(rt, &schema, row, &zeros, &mut hasher)?;
-    }
-    Ok(())
+    let table = read_table(rt, "roots.json", "roots.txt")?;
+    let printed = print_all(rt, &table.schema, table.rows.as_str());
+    drop(table);
+    printed
 }

@@ -8,13 +8,26 @@ use ssz_schema_json::read_schema;
 use std::alloc::{AllocError, Global};
 use std::fs;
 
-/// The schema of a file.
-pub fn schema_in(rt: &HostRuntime, file: &str) -> Result<Schema> {
+fn schema_in(rt: &HostRuntime, file: &str) -> Result<Schema> {
     let text = fs::read(rt, file)?;
     match read_schema(rt.alloc(), text.as_slice()) {
         Ok(schema) => Ok(schema),
         Err(_) => bail!("no schema"),
     }
+}
+
+/// A table of rows about the types of a schema.
+#[derive(Drop)]
+pub struct Table {
+    pub schema: Schema,
+    pub rows: String,
+}
+
+/// The table of a subject: its rows stand in a text file, and the schema in a JSON file.
+pub fn read_table(rt: &HostRuntime, schema: &str, rows: &str) -> Result<Table> {
+    let rows = fs::read_to_string(rt, rows)?;
+    let schema = schema_in(rt, schema)?;
+    Ok(Table { schema, rows })
 }
 
 /// The type of this name.
@@ -49,7 +62,11 @@ pub fn digits_of(alloc: Global, bytes: &[u8]) -> Result<String, AllocError> {
 /// The steps of a path.
 pub fn path_of(alloc: Global, word: &str) -> Result<Vec<PathStep>> {
     match read_path(alloc, word.as_bytes()) {
-        Ok(path) => Ok(path.to_vec(alloc)?),
+        Ok(path) => {
+            let steps = path.to_vec(alloc);
+            drop(path);
+            Ok(steps?)
+        }
         Err(_) => bail!("no path"),
     }
 }

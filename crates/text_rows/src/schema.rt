@@ -11,7 +11,7 @@ use facts::{print_facts, print_part};
 use indices::{print_helpers, print_index};
 use ssz_schema::Schema;
 use ssz_schema_json::{SchemaRead, read_schema};
-use std::fs;
+use std::{fs, mem};
 
 // Prints what is wrong with a document, by its code.
 fn print_fault(rt: &HostRuntime, fault: SchemaRead) -> Result<()> {
@@ -27,17 +27,15 @@ fn print_fault(rt: &HostRuntime, fault: SchemaRead) -> Result<()> {
     Ok(())
 }
 
-// The schema of the document, or the one before where something is wrong with it.
-fn next_schema(rt: &HostRuntime, before: Schema, document: &str) -> Result<Schema> {
+// Takes the schema of the document in the place of the one before, or prints what is wrong with it.
+fn take_schema(rt: &HostRuntime, schema: &mut Schema, document: &str) -> Result<()> {
     match read_schema(rt.alloc(), document.as_bytes()) {
-        Ok(schema) => {
+        Ok(next) => {
+            drop(mem::replace(schema, next));
             println!(rt; "accepted")?;
-            Ok(schema)
+            Ok(())
         }
-        Err(fault) => {
-            print_fault(rt, fault)?;
-            Ok(before)
-        }
+        Err(fault) => print_fault(rt, fault),
     }
 }
 
@@ -57,17 +55,26 @@ fn print_answer(rt: &HostRuntime, schema: &Schema, kind: &str, names: &str) -> R
     }
 }
 
+fn print_row(rt: &HostRuntime, schema: &mut Schema, row: &str) -> Result<()> {
+    let (kind, rest) = row.split_once(' ').context("a word and what it is of")?;
+    if kind == "schema" {
+        return take_schema(rt, schema, rest);
+    }
+    print_answer(rt, schema, kind, rest)
+}
+
+fn print_all(rt: &HostRuntime, schema: &mut Schema, rows: &str) -> Result<()> {
+    for row in rows.lines() {
+        print_row(rt, schema, row)?;
+    }
+    Ok(())
+}
+
 /// Prints what comes of each row of schema.txt.
 pub fn print_rows(rt: &HostRuntime) -> Result<()> {
     let rows = fs::read_to_string(rt, "schema.txt")?;
     let mut schema = Schema::empty(rt.alloc())?;
-    for row in rows.lines() {
-        let (kind, rest) = row.split_once(' ').context("a word and what it is of")?;
-        if kind == "schema" {
-            schema = next_schema(rt, schema, rest)?;
-        } else {
-            print_answer(rt, &schema, kind, rest)?;
-        }
-    }
-    Ok(())
+    let printed = print_all(rt, &mut schema, rows.as_str());
+    drop(schema);
+    printed
 }

@@ -28,6 +28,14 @@ enum Grammar {
     PartialTree,
 }
 
+// How a file is read.
+#[derive(Clone, Copy)]
+enum Form {
+    // Each line by itself.
+    Lines(Grammar),
+    Script,
+}
+
 fn push_fault(out: &mut Vec<u8>, fault: LineFault) -> Result<(), AllocError> {
     match fault {
         LineFault::Syntax => out.extend_from_slice(b"Syntax"),
@@ -39,7 +47,11 @@ fn push_fault(out: &mut Vec<u8>, fault: LineFault) -> Result<(), AllocError> {
 fn push_read(out: &mut Vec<u8>, line: &[u8]) -> Result<(), AllocError> {
     match read_line(*out.allocator(), line) {
         Ok(None) => out.extend_from_slice(b"nothing"),
-        Ok(Some(statement)) => push_statement(out, &statement),
+        Ok(Some(statement)) => {
+            let pushed = push_statement(out, &statement);
+            drop(statement);
+            pushed
+        }
         Err(fault) => push_fault(out, fault),
     }
 }
@@ -48,7 +60,11 @@ fn push_read(out: &mut Vec<u8>, line: &[u8]) -> Result<(), AllocError> {
 fn push_read_partial(out: &mut Vec<u8>, line: &[u8]) -> Result<(), AllocError> {
     match read_partial(*out.allocator(), line) {
         Ok(None) => out.extend_from_slice(b"nothing"),
-        Ok(Some(statement)) => push_partial(out, &statement),
+        Ok(Some(statement)) => {
+            let pushed = push_partial(out, &statement);
+            drop(statement);
+            pushed
+        }
         Err(fault) => push_fault(out, fault),
     }
 }
@@ -90,36 +106,27 @@ fn push_script(out: &mut Vec<u8>, script: &[u8]) -> Result<(), AllocError> {
     Ok(())
 }
 
-// What is printed of the files.
-fn text_of(
-    alloc: Global,
-    rows: &[u8],
-    script: &[u8],
-    partial: &[u8],
-) -> std::result::Result<Vec<u8>, AllocError> {
+// What is printed of a file.
+fn text_of(alloc: Global, text: &[u8], form: Form) -> std::result::Result<Vec<u8>, AllocError> {
     let mut out = Vec::new(alloc);
-    push_lines(&mut out, rows, Grammar::Script)?;
-    push_script(&mut out, script)?;
-    push_lines(&mut out, partial, Grammar::PartialTree)?;
+    match form {
+        Form::Lines(grammar) => push_lines(&mut out, text, grammar)?,
+        Form::Script => push_script(&mut out, text)?,
+    }
     Ok(out)
 }
 
-fn print_readings(rt: &HostRuntime) -> Result<()> {
-    let rows = fs::read(rt, "script.txt")?;
-    let script = fs::read(rt, "script_whole.txt")?;
-    let partial = fs::read(rt, "script_partial.txt")?;
-    let out = text_of(
-        rt.alloc(),
-        rows.as_slice(),
-        script.as_slice(),
-        partial.as_slice(),
-    )?;
+fn print_file(rt: &HostRuntime, file: &str, form: Form) -> Result<()> {
+    let text = fs::read(rt, file)?;
+    let out = text_of(rt.alloc(), text.as_slice(), form)?;
     io::writer(rt).write_all(out.as_slice())?;
     Ok(())
 }
 
 /// Prints what comes of each line of the files script*.txt.
 pub fn print_rows(rt: &HostRuntime) -> Result<()> {
-    print_readings(rt)?;
+    print_file(rt, "script.txt", Form::Lines(Grammar::Script))?;
+    print_file(rt, "script_whole.txt", Form::Script)?;
+    print_file(rt, "script_partial.txt", Form::Lines(Grammar::PartialTree))?;
     print_replies(rt)
 }

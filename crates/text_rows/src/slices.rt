@@ -3,12 +3,14 @@
 //! Blocks are parted by an empty line. The first row of one is `NAME 0xDIGITS`; the others are
 //! `at PATH`, by one call, or `steps PATH`, by a call a step. rows/text_rows.py makes the rows, and
 //! what must be printed, from the rules of simple-serialize.md alone.
-use super::rows::{digits_of, path_of, schema_in, typed_bytes};
+ghost use Rattle.std.specs.Prelude.{◌<◌, ◌^◌, length};
+
+use super::rows::{TypedBytes, digits_of, path_of, read_table, typed_bytes};
 use anyhow::{Context, Result, bail};
 use ssz_schema::{PathStep, Schema};
 use ssz_slices::Slice;
 use ssz_value::PathFault;
-use std::{fs, slice};
+use std::slice;
 
 // The part that a step leads to, by the call for such a step.
 fn next<'s, 'b>(
@@ -61,44 +63,95 @@ fn print_answers(rt: &HostRuntime, row: &str, part: &Slice<'_, '_>) -> Result<()
     Ok(())
 }
 
+fn print_fault(rt: &HostRuntime, row: &str, fault: PathFault) -> Result<()> {
+    println!(rt; "{row}: {fault:?}")?;
+    Ok(())
+}
+
+// Prints what a row's call answers.
+fn print_found(
+    rt: &HostRuntime,
+    row: &str,
+    found: std::result::Result<Slice<'_, '_>, PathFault>,
+) -> Result<()> {
+    match found {
+        Ok(part) => print_answers(rt, row, &part),
+        Err(fault) => print_fault(rt, row, fault),
+    }
+}
+
+fn print_path(
+    rt: &HostRuntime,
+    whole: &Slice<'_, '_>,
+    row: &str,
+    call: &str,
+    path: &[PathStep],
+) -> Result<()> {
+    match call {
+        "at" => print_found(rt, row, whole.at(path)),
+        "steps" => print_found(rt, row, stepped(whole, path)),
+        _ => bail!("no call"),
+    }
+}
+
 fn print_row(rt: &HostRuntime, whole: &Slice<'_, '_>, row: &str) -> Result<()> {
     let (call, word) = row.split_once(' ').context("no path")?;
     let path = path_of(rt.alloc(), word)?;
-    let found = match call {
-        "at" => whole.at(path.as_slice()),
-        "steps" => stepped(whole, path.as_slice()),
-        _ => bail!("no call"),
-    };
-    match found {
-        Ok(part) => print_answers(rt, row, &part)?,
-        Err(fault) => println!(rt; "{row}: {fault:?}")?,
+    let printed = print_path(rt, whole, row, call, path.as_slice());
+    drop(path);
+    printed
+}
+
+fn print_paths(rt: &HostRuntime, whole: &Slice<'_, '_>, rows: &str) -> Result<()> {
+    for row in rows.lines() {
+        print_row(rt, whole, row)?;
     }
     Ok(())
 }
 
-// A type and bytes, and paths into the value that they encode, or their first fault.
-fn print_block(rt: &HostRuntime, schema: &Schema, block: &str) -> Result<()> {
-    let mut rows = block.lines();
-    let first = rows.next().context("no bytes")?;
-    let typed = typed_bytes(rt.alloc(), schema, first)?;
+// Prints what comes of paths into the value that the bytes encode, or the bytes' first fault.
+fn print_typed(
+    rt: &HostRuntime,
+    schema: &Schema,
+    typed: &TypedBytes,
+    first: &str,
+    rows: &str,
+) -> Result<()>
+    requires known { typed.now.id < length schema.now.trees }
+    requires short { length typed.now.bytes.items < 2 ^ 32 }
+{
     match Slice::new(schema, typed.id, typed.bytes.as_slice()) {
         Ok(whole) => {
             println!(rt; "{first}")?;
-            for row in rows {
-                print_row(rt, &whole, row)?;
-            }
+            print_paths(rt, &whole, rows)
         }
-        Err(fault) => println!(rt; "{first}: fault {} at {}", fault.code, fault.position)?,
+        Err(fault) => {
+            println!(rt; "{first}: fault {} at {}", fault.code, fault.position)?;
+            Ok(())
+        }
+    }
+}
+
+// A type and bytes, and paths into the value that they encode.
+fn print_block(rt: &HostRuntime, schema: &Schema, block: &str) -> Result<()> {
+    let (first, rows) = block.split_once('\n').unwrap_or((block, ""));
+    let typed = typed_bytes(rt.alloc(), schema, first)?;
+    let printed = print_typed(rt, schema, &typed, first, rows);
+    drop(typed);
+    printed
+}
+
+fn print_all(rt: &HostRuntime, schema: &Schema, rows: &str) -> Result<()> {
+    for block in rows.split("\n\n") {
+        print_block(rt, schema, block)?;
     }
     Ok(())
 }
 
 /// Prints what comes of each block of slices.txt.
 pub fn print_rows(rt: &HostRuntime) -> Result<()> {
-    let schema = schema_in(rt, "slices.json")?;
-    let rows = fs::read_to_string(rt, "slices.txt")?;
-    for block in rows.split("\n\n") {
-        print_block(rt, &schema, block)?;
-    }
-    Ok(())
+    let table = read_table(rt, "slices.json", "slices.txt")?;
+    let printed = print_all(rt, &table.schema, table.rows.as_str());
+    drop(table);
+    printed
 }

@@ -94,6 +94,12 @@ fn print_command(rt: &HostRuntime, command: &Command) -> Result<()> {
     }
 }
 
+fn push_word(words: &mut Vec<String>, word: &str) -> Result<(), AllocError> {
+    let word = String::from_str(*words.allocator(), word)?;
+    words.push(word)?;
+    Ok(())
+}
+
 // The words of a command line.
 fn words_of(alloc: Global, row: &str) -> Result<Vec<String>, AllocError> {
     let mut words = Vec::new(alloc);
@@ -101,19 +107,31 @@ fn words_of(alloc: Global, row: &str) -> Result<Vec<String>, AllocError> {
         return Ok(words);
     }
     for word in row.split(' ') {
-        words.push(String::from_str(alloc, word)?)?;
+        push_word(&mut words, word)?;
     }
     Ok(words)
 }
 
-fn print_row(rt: &HostRuntime, row: &str) -> Result<()> {
-    let words = words_of(rt.alloc(), row)?;
-    match read_words(rt.alloc(), words.as_slice()) {
-        Ok(command) => print_command(rt, &command)?,
-        Err(WordsFault::NotTaken) => println!(rt; "not taken")?,
-        Err(WordsFault::Memory) => bail!("want of memory"),
+fn print_fault(rt: &HostRuntime, fault: WordsFault) -> Result<()> {
+    match fault {
+        WordsFault::NotTaken => println!(rt; "not taken")?,
+        WordsFault::Memory => bail!("want of memory"),
     }
     Ok(())
+}
+
+fn print_row(rt: &HostRuntime, row: &str) -> Result<()> {
+    let words = words_of(rt.alloc(), row)?;
+    let read = read_words(rt.alloc(), words.as_slice());
+    drop(words);
+    match read {
+        Ok(command) => {
+            let printed = print_command(rt, &command);
+            drop(command);
+            printed
+        }
+        Err(fault) => print_fault(rt, fault),
+    }
 }
 
 /// Prints what comes of each row of words.txt.

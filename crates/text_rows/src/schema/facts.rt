@@ -40,7 +40,9 @@ fn basic_name(schema: &Schema, id: TypeId) -> &'static str {
 pub fn print_part(rt: &HostRuntime, schema: &Schema, name: &str, path: &str) -> Result<()> {
     let id = type_named(schema, name)?;
     let steps = path_of(rt.alloc(), path)?;
-    match schema.path_type(id, steps.as_slice()) {
+    let part = schema.path_type(id, steps.as_slice());
+    drop(steps);
+    match part {
         Some(part) => println!(rt; "{}", basic_name(schema, part))?,
         None => println!(rt; "does not fit")?,
     }

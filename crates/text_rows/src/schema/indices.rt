@@ -10,7 +10,9 @@ use std::alloc::Global;
 pub fn print_index(rt: &HostRuntime, schema: &Schema, name: &str, path: &str) -> Result<()> {
     let id = type_named(schema, name)?;
     let steps = path_of(rt.alloc(), path)?;
-    match Gindex::of_path(schema, id, steps.as_slice()) {
+    let index = Gindex::of_path(schema, id, steps.as_slice());
+    drop(steps);
+    match index {
         Some(index) => println!(rt; "{}", index.get())?,
         None => println!(rt; "does not fit")?,
     }

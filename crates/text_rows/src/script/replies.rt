@@ -10,12 +10,18 @@ use std::alloc::{AllocError, Global};
 use std::fs;
 use std::io::{self, Write};
 
+fn push_name(names: &mut Vec<Name>, word: &str) -> Result<(), AllocError> {
+    let name = Name::copy_of(*names.allocator(), word.as_bytes())?;
+    names.push(name)?;
+    Ok(())
+}
+
 // The names, parted by spaces.
 fn names_of(alloc: Global, words: &str) -> Result<Names, AllocError> {
     let mut names = Vec::new(alloc);
     if !words.is_empty() {
         for word in words.split(' ') {
-            names.push(Name::copy_of(alloc, word.as_bytes())?)?;
+            push_name(&mut names, word)?;
         }
     }
     Ok(Names::from_vec(names))

@@ -48,12 +48,20 @@ fn push_step(out: &mut Vec<u8>, step: &PathStep) -> Result<(), AllocError> {
     }
 }
 
+fn push_steps(out: &mut Vec<u8>, steps: &[PathStep]) -> Result<(), AllocError> {
+    for step in steps {
+        push_step(out, step)?;
+    }
+    Ok(())
+}
+
 /// Appends ` path` and the steps in brackets.
 pub fn push_path(out: &mut Vec<u8>, path: &Steps) -> Result<(), AllocError> {
     out.extend_from_slice(b" path (")?;
-    for step in path.to_vec(*out.allocator())?.as_slice() {
-        push_step(out, step)?;
-    }
+    let steps = path.to_vec(*out.allocator())?;
+    let pushed = push_steps(out, steps.as_slice());
+    drop(steps);
+    pushed?;
     out.extend_from_slice(b" )")
 }
 

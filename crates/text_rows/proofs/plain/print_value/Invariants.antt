@@ -1,6 +1,6 @@
 use Rattle.ssz_schema.specs.Unfolding.{type_of}
 use Rattle.ssz_value.specs.Standing.{IsValue}
-use Rattle.text_rows.proofs.plain.print_block.Given as goal
+use Rattle.text_rows.proofs.plain.print_value.Given as goal
 
 abbrev pub invariant-loop-row : goal.invariant-loop-row
 invariant-loop-row l =
