@@ -11,7 +11,7 @@ use ssz_value::{EditFault, Value};
 use std::alloc::Global;
 
 /// What a row asks for: the name of an edit, and what it puts in.
-#[derive(Clone, Copy, Debug)]
+#[derive(Clone, Copy)]
 pub struct Asked<'a> {
     pub word: &'a str,
     pub selector: u8,

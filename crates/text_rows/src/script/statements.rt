@@ -51,6 +51,31 @@ fn push_from(
     push_file(out, file)
 }
 
+fn push_lit(
+    out: &mut Vec<u8>,
+    name: &Identifier,
+    type_name: &Identifier,
+    bytes: &ByteRun,
+) -> Result<(), AllocError> {
+    push_two(out, b"Lit", name, type_name)?;
+    push_bytes(out, bytes)
+}
+
+fn push_save(out: &mut Vec<u8>, name: &Identifier, file: &FileName) -> Result<(), AllocError> {
+    push_one(out, b"Save", name)?;
+    push_file(out, file)
+}
+
+fn push_upgrade(
+    out: &mut Vec<u8>,
+    name: &Identifier,
+    other: &Identifier,
+    type_name: &Identifier,
+) -> Result<(), AllocError> {
+    push_two(out, b"Upgrade", name, other)?;
+    push_name(out, type_name)
+}
+
 fn push_choose(
     out: &mut Vec<u8>,
     name: &Identifier,
@@ -79,10 +104,7 @@ fn push_prove(out: &mut Vec<u8>, name: &Identifier, indices: &[Index]) -> Result
 pub fn push_statement(out: &mut Vec<u8>, statement: &Statement) -> Result<(), AllocError> {
     match statement {
         Statement::New(v, t) => push_two(out, b"New", v, t),
-        Statement::Lit(v, t, bytes) => {
-            push_two(out, b"Lit", v, t)?;
-            push_bytes(out, bytes)
-        }
+        Statement::Lit(v, t, bytes) => push_lit(out, v, t, bytes),
         Statement::Load(v, t, file) => push_from(out, b"Load", v, t, file),
         Statement::Fork(v, w) => push_two(out, b"Fork", v, w),
         Statement::Drop(v) => push_one(out, b"Drop", v),
@@ -100,17 +122,11 @@ pub fn push_statement(out: &mut Vec<u8>, statement: &Statement) -> Result<(), Al
         Statement::Root(v) => push_one(out, b"Root", v),
         Statement::Bytes(v, path) => push_place(out, b"Bytes", v, path),
         Statement::Len(v, path) => push_place(out, b"Len", v, path),
-        Statement::Save(v, file) => {
-            push_one(out, b"Save", v)?;
-            push_file(out, file)
-        }
+        Statement::Save(v, file) => push_save(out, v, file),
         Statement::Gindex(t, path) => push_place(out, b"Gindex", t, path),
         Statement::Prove(v, indices) => push_prove(out, v, indices.as_slice()),
         Statement::Hashes => out.extend_from_slice(b"Hashes"),
-        Statement::Upgrade(v, w, t) => {
-            push_two(out, b"Upgrade", v, w)?;
-            push_name(out, t)
-        }
+        Statement::Upgrade(v, w, t) => push_upgrade(out, v, w, t),
         Statement::Json(v, path) => push_place(out, b"Json", v, path),
         Statement::LoadJson(v, t, file) => push_from(out, b"LoadJson", v, t, file),
         Statement::Compact => out.extend_from_slice(b"Compact"),
