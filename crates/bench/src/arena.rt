@@ -92,6 +92,33 @@ fn pair<H: PairHash>(depth: u32, count: u32, hasher: &mut H) -> Chunk {
     chunk
 }
 
+// From an edit's leaf to the next one's.
+fn stride_of(what: &str) -> Result<u32> {
+    match what {
+        "same" => Ok(0),
+        "near" => Ok(1),
+        "far" => Ok(FAR),
+        _ => bail!(USAGE),
+    }
+}
+
+// How many nodes there are after the edits.
+fn nodes<H: PairHash>(
+    alloc: Global,
+    what: &str,
+    depth: u32,
+    count: u32,
+    hasher: &mut H,
+) -> Result<usize>
+    requires { depth ≤ 32 }
+{
+    if what == "bulk" {
+        return bulk(alloc, depth, count, hasher);
+    }
+    let stride = stride_of(what)?;
+    edit(alloc, depth, count, stride, hasher)
+}
+
 // The number that is printed, and of what.
 fn work<H: PairHash>(
     alloc: Global,
@@ -102,15 +129,12 @@ fn work<H: PairHash>(
 ) -> Result<(usize, &'static str)>
     requires { depth ≤ 32 }
 {
-    let nodes = match what {
-        "same" => edit(alloc, depth, count, 0, hasher)?,
-        "near" => edit(alloc, depth, count, 1, hasher)?,
-        "far" => edit(alloc, depth, count, FAR, hasher)?,
-        "bulk" => bulk(alloc, depth, count, hasher)?,
-        "pairs" => return Ok((usize::from(pair(depth, count, hasher).0[0]), "first")),
-        _ => bail!(USAGE),
-    };
-    Ok((nodes, "nodes"))
+    if what == "pairs" {
+        let chunk = pair(depth, count, hasher);
+        return Ok((usize::from(chunk.0[0]), "first"));
+    }
+    let made = nodes(alloc, what, depth, count, hasher)?;
+    Ok((made, "nodes"))
 }
 
 /// Does the work of the words, and says how many nodes and pairs were made.

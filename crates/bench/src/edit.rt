@@ -21,7 +21,7 @@ const USAGE: &str = "usage: bench edit SCHEMA TYPE FILE LIST|- FIELD|- LENGTH ED
 const FAR: u64 = 2_654_435_761;
 
 // What is done to the list again and again.
-#[derive(Clone, Copy, Debug, PartialEq, Eq)]
+#[derive(Clone, Copy, PartialEq, Eq)]
 enum Edit {
     Set,
     Append,
