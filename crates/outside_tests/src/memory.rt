@@ -43,36 +43,52 @@ fn says_lines_that_none_prints(rt: HostRuntime) -> Result<(), Fail> {
 }
 
 // The codes that the program ends with.
+const CODES: [(Status, u8); 7] = [
+    (Status::Accepted, 0),
+    (Status::Refused, 1),
+    (Status::Usage, 2),
+    (Status::SchemaFault, 3),
+    (Status::ReadFault, 4),
+    (Status::WriteFault, 5),
+    (Status::Memory, 6),
+];
+
 #[test]
 fn numbers_the_statuses(rt: HostRuntime) {
-    let table = [
-        (Status::Accepted, 0),
-        (Status::Refused, 1),
-        (Status::Usage, 2),
-        (Status::SchemaFault, 3),
-        (Status::ReadFault, 4),
-        (Status::WriteFault, 5),
-        (Status::Memory, 6),
-    ];
-    for (status, code) in table {
-        assert_eq!(rt; status as u8, code);
+    for (status, code) in &CODES {
+        assert!(rt; *status as u8 == *code);
     }
+}
+
+// Files that hold a, and of which the third call fails.
+fn third_fails(alloc: Global) -> Result<MemFiles, AllocError> {
+    let mut files = MemFiles::new(alloc, &[3])?;
+    files.give("a", b"given")?;
+    Ok(files)
+}
+
+// Whether a put fails that is the third call, after two gets, and leaves half of its bytes.
+fn put_fails(alloc: Global, files: &mut MemFiles) -> bool {
+    reads(alloc, files, "a", 5, b"given")
+        && got(alloc, files, "absent", 5) == Err(GetFault::Failed)
+        && files.put("a", b"other") == Err(PutFault::Failed)
+        && files.held("a") == Some(b"ot".as_slice())
+}
+
+// Whether the calls after it are done.
+fn goes_on(alloc: Global, files: &mut MemFiles) -> bool {
+    files.put("b", b"more") == Ok(())
+        && got(alloc, files, "b", 3) == Ok(Got::TooLong)
+        && files.held("absent").is_none()
 }
 
 // Gets and puts are counted together: the third call is a put, and fails.
 #[test]
 fn fails_at_listed_calls(rt: HostRuntime) -> Result<(), Fail> {
-    let alloc = rt.alloc();
-    let mut files = MemFiles::new(alloc, &[3])?;
-    files.give("a", b"given")?;
-    assert!(rt; reads(alloc, &mut files, "a", 5, b"given"));
-    assert!(rt; got(alloc, &mut files, "absent", 5) == Err(GetFault::Failed));
-    assert!(rt; files.put("a", b"other") == Err(PutFault::Failed));
-    assert!(rt; files.held("a") == Some(b"ot".as_slice()));
-    assert!(rt; files.put("b", b"more") == Ok(()));
-    assert!(rt; got(alloc, &mut files, "b", 3) == Ok(Got::TooLong));
-    assert!(rt; files.held("absent").is_none());
-    assert!(rt; (files.get_faults(), files.put_faults()) == (1, 1));
+    let mut files = third_fails(rt.alloc())?;
+    assert!(rt; put_fails(rt.alloc(), &mut files));
+    assert!(rt; goes_on(rt.alloc(), &mut files));
+    assert!(rt; files.get_faults() == 1 && files.put_faults() == 1);
     Ok(())
 }
 
@@ -81,12 +97,20 @@ fn holds(alloc: Global, files: &mut QuietFiles, name: &str, bytes: &[u8]) -> boo
     reads(alloc, files, name, 5, bytes) && files.held(name) == Some(bytes)
 }
 
+// Files that were given the bytes of a name, and to which those of another were put.
+fn given(alloc: Global) -> Result<QuietFiles, Fail> {
+    let mut files = QuietFiles::new(alloc)?;
+    files.give("a", b"given")?;
+    match files.put("b", b"put") {
+        Ok(()) => Ok(files),
+        Err(_) => Err("not put".into()),
+    }
+}
+
 // A name that was never given holds no bytes.
 #[test]
 fn holds_no_absent_name(rt: HostRuntime) -> Result<(), Fail> {
-    let mut files = QuietFiles::new(rt.alloc())?;
-    files.give("a", b"given")?;
-    assert!(rt; files.put("b", b"put") == Ok(()));
+    let mut files = given(rt.alloc())?;
     assert!(rt; holds(rt.alloc(), &mut files, "a", b"given"));
     assert!(rt; holds(rt.alloc(), &mut files, "b", b"put"));
     assert!(rt; holds(rt.alloc(), &mut files, "absent", b""));

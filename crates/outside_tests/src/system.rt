@@ -18,60 +18,71 @@ fn keeps<F: Files>(
         && got(alloc, files, name, less) == Ok(Got::TooLong)
 }
 
+// Whether each name keeps what is put to it, a second put of fewer bytes, too.
+fn keeps_each<F: Files>(alloc: Global, files: &mut F, long: &[u8]) -> bool {
+    keeps(alloc, files, "first", (150000, 149999), long)
+        && keeps(alloc, files, "second", (2, 1), b"12")
+        && keeps(alloc, files, "first", (3, 2), b"345")
+}
+
 // Files of the folder in which the tests run.
 #[test]
 fn keeps_files_of_the_system(rt: HostRuntime) -> Result<(), Fail> {
-    let alloc = rt.alloc();
-    let long = vec![in alloc; 7; 150000]?;
+    let long = vec![in rt.alloc(); 7; 150000]?;
     let mut files = DirFiles::new(&rt);
-    assert!(rt; keeps(alloc, &mut files, "first", (150000, 149999), &long));
-    assert!(rt; keeps(alloc, &mut files, "second", (2, 1), b"12"));
-    assert!(rt; keeps(alloc, &mut files, "first", (3, 2), b"345"));
-    assert!(rt; (files.get_faults(), files.put_faults()) == (0, 0));
+    assert!(rt; keeps_each(rt.alloc(), &mut files, &long));
+    assert!(rt; files.get_faults() == 0 && files.put_faults() == 0);
     fs::remove_file(&rt, "first")?;
     fs::remove_file(&rt, "second")?;
     Ok(())
+}
+
+// Whether a name is no file to read.
+fn fails<F: Files>(alloc: Global, files: &mut F, name: &str) -> bool {
+    got(alloc, files, name, 70000) == Err(GetFault::Failed)
 }
 
 // An endless file is too long; an absent name and a folder are no files to read; and a file needs
 // a folder to stand in.
 #[test]
 fn counts_faults_of_the_system(rt: HostRuntime) {
-    let alloc = rt.alloc();
     let mut files = DirFiles::new(&rt);
-    assert!(rt; got(alloc, &mut files, "/dev/zero", 70000) == Ok(Got::TooLong));
-    assert!(rt; got(alloc, &mut files, "absent", 70000) == Err(GetFault::Failed));
-    assert!(rt; got(alloc, &mut files, ".", 70000) == Err(GetFault::Failed));
+    assert!(rt; got(rt.alloc(), &mut files, "/dev/zero", 70000) == Ok(Got::TooLong));
+    assert!(rt; fails(rt.alloc(), &mut files, "absent"));
+    assert!(rt; fails(rt.alloc(), &mut files, "."));
     assert!(rt; files.put("absent/file", b"bytes") == Err(PutFault::Failed));
-    assert!(rt; (files.get_faults(), files.put_faults()) == (2, 1));
+    assert!(rt; files.get_faults() == 2 && files.put_faults() == 1);
 }
 
-// What files that take or give so many bytes, and then fail, answer to a `get`, and their faults.
-fn halting_get(alloc: Global, left: u8, max: u64) -> (Result<Got, GetFault>, u64) {
+// What `get` answers, or `put`, and how many faults were counted.
+type Answer<T, E> = (Result<T, E>, u64);
+
+// Whether files that give so many bytes, and then fail, answer so to a `get`.
+fn gives(alloc: Global, left: u8, max: u64, (answer, faults): Answer<Got, GetFault>) -> bool {
     let mut files = DirFiles::new(HaltingFiles { left });
-    (got(alloc, &mut files, "any", max), files.get_faults())
+    got(alloc, &mut files, "any", max) == answer && files.get_faults() == faults
 }
 
-// What they answer to a `put` of three bytes.
-fn halting_put(left: u8) -> (Result<(), PutFault>, u64) {
+// Whether files that take so many answer so to a `put` of three bytes.
+fn takes(left: u8, (answer, faults): Answer<(), PutFault>) -> bool {
     let mut files = DirFiles::new(HaltingFiles { left });
-    (files.put("any", b"123"), files.put_faults())
+    files.put("any", b"123") == answer && files.put_faults() == faults
 }
 
-// What a sink over such a stream answers to a `put` of three bytes.
-fn halting_print(left: u8) -> (Result<(), PutFault>, u64) {
+// Whether a sink over such a stream answers so to a `put` of three bytes.
+fn prints(left: u8, (answer, faults): Answer<(), PutFault>) -> bool {
     let mut out = OutSink::new(Halting::new(left));
-    (out.put(b"123"), out.faults())
+    out.put(b"123") == answer && out.faults() == faults
 }
 
 // Streams that a signal interrupts, through files of the system and a writer of std: an interrupted
 // call is made again, and any other failure in mid-stream is a failure.
 #[test]
 fn goes_on_after_a_signal(rt: HostRuntime) {
-    assert!(rt; halting_get(rt.alloc(), 4, 3) == (Ok(Got::TooLong), 0));
-    assert!(rt; halting_get(rt.alloc(), 3, 3) == (Err(GetFault::Failed), 1));
-    assert!(rt; halting_put(3) == (Ok(()), 0));
-    assert!(rt; halting_put(2) == (Err(PutFault::Failed), 1));
-    assert!(rt; halting_print(3) == (Ok(()), 0));
-    assert!(rt; halting_print(2) == (Err(PutFault::Failed), 1));
+    assert!(rt; gives(rt.alloc(), 4, 3, (Ok(Got::TooLong), 0)));
+    assert!(rt; gives(rt.alloc(), 3, 3, (Err(GetFault::Failed), 1)));
+    assert!(rt; takes(3, (Ok(()), 0)));
+    assert!(rt; takes(2, (Err(PutFault::Failed), 1)));
+    assert!(rt; prints(3, (Ok(()), 0)));
+    assert!(rt; prints(2, (Err(PutFault::Failed), 1)));
 }
