@@ -9,14 +9,13 @@ ghost use Rattle.ssz_arena.specs.Content.{IsNodeOf, node_count};
 ghost use Rattle.node_rows.specs.Versions.{AreVersions};
 
 use super::edit_calls::edited;
-use super::rows::{schema_of, type_named, value_of_type};
-use anyhow::{Context, Result, bail};
+use super::rows::{cut, rows_of, schema_of, type_named, value_of_type};
+use anyhow::{Result, bail};
 use ssz_arena::{Arena, NodeId};
 use ssz_chunk::{PairHash, ShaPair};
 use ssz_schema::{Schema, TypeId};
 use ssz_tree::build;
 use std::alloc::Global;
-use std::fs;
 
 /// The type of a value, its node, and the one that was kept.
 #[derive(Clone, Copy, Debug)]
@@ -24,11 +23,6 @@ pub struct Versions {
     pub id: TypeId,
     pub now: NodeId,
     pub kept: NodeId,
-}
-
-// The words of a row, and the digits of the bytes that it has.
-fn cut(row: &str) -> (&str, &str) {
-    row.split_once(" 0x").unwrap_or((row, ""))
 }
 
 // A new value, which is kept too, by the row `new TYPE BYTES`.
@@ -41,13 +35,23 @@ fn started<H: PairHash>(
     ensures { IfOk result (AreVersions schema.now arena.new) }
 {
     let (words, digits) = cut(row);
-    let id = type_named(schema, words.strip_prefix("new ").context("no name")?)?;
+    let id = new_type(schema, words)?;
     let node = built(alloc, arena, schema, id, digits)?;
     Ok(Versions {
         id,
         now: node,
         kept: node,
     })
+}
+
+// The type of the words `new TYPE`.
+fn new_type(schema: &Schema, words: &str) -> Result<TypeId>
+    ensures { IfOk result (λ id. id < length schema.now.trees) }
+{
+    match words.strip_prefix("new ") {
+        Some(name) => type_named(schema, name),
+        None => bail!("no name"),
+    }
 }
 
 // The node of the value that the digits encode.
@@ -167,6 +171,6 @@ fn print_rows(rt: &HostRuntime, schema: &Schema, rows: &str) -> Result<()> {
 pub fn print_subject(rt: &HostRuntime) -> Result<()> {
     println!(rt; "edit")?;
     let schema = schema_of(rt, "edit_schema.json")?;
-    let rows = fs::read_to_string(rt, "edit.txt")?;
+    let rows = rows_of(rt, "edit.txt")?;
     print_rows(rt, &schema, rows.as_str())
 }

@@ -5,8 +5,8 @@ ghost use Rattle.node_rows.specs.Versions.{AreVersions};
 
 use super::edit::Versions;
 use super::edit_values::{element_value, option_type, part_value};
-use super::rows::{steps_of, value_of_type};
-use anyhow::{Context, Result, bail};
+use super::rows::{cut, parted, steps_of, value_of_type};
+use anyhow::{Result, bail};
 use ssz_arena::{Arena, NodeId};
 use ssz_chunk::PairHash;
 use ssz_edit::{append, choose, pop, set};
@@ -14,12 +14,33 @@ use ssz_schema::{PathStep, Schema};
 use ssz_value::EditFault;
 use std::alloc::Global;
 
+// The words of a row: the call, the path, the selector of `choose`, and the digits of what the
+// edit brings in.
+#[derive(Clone, Copy)]
+struct EditWords<'a> {
+    call: &'a str,
+    path: &'a str,
+    selector: u8,
+    digits: &'a str,
+}
+
+fn words_of(row: &str) -> Result<EditWords<'_>> {
+    let (call, rest) = parted(row, ' ')?;
+    let (words, digits) = cut(rest);
+    let (path, selector) = words.split_once(' ').unwrap_or((words, "0"));
+    Ok(EditWords {
+        call,
+        path,
+        selector: selector.parse()?,
+        digits,
+    })
+}
+
 // Where an edit is to be done, and what it brings in.
 #[derive(Clone, Copy)]
 struct Edit<'a> {
     steps: &'a [PathStep],
-    selector: u8,
-    digits: &'a str,
+    words: EditWords<'a>,
 }
 
 /// The node that an edit makes of the one at hand, or why there is none.
@@ -34,21 +55,28 @@ pub fn edited<H: PairHash>(
     ensures more { node_count arena.old ≤ node_count arena.new }
     ensures made { IfOk result (λ made. IfOk made (IsNodeOf arena.new)) }
 {
-    let (word, rest) = row.split_once(' ').context("an edit and a path")?;
-    let (words, digits) = rest.split_once(" 0x").unwrap_or((rest, ""));
-    let (path, selector) = words.split_once(' ').unwrap_or((words, "0"));
-    let selector = selector.parse()?;
-    let steps = steps_of(alloc, path)?;
-    let edit = Edit {
-        steps: steps.as_slice(),
-        selector,
-        digits,
-    };
-    match word {
-        "set" => set_part(alloc, arena, schema, old, &edit),
-        "append" => append_element(alloc, arena, schema, old, &edit),
+    let words = words_of(row)?;
+    let steps = steps_of(alloc, words.path)?;
+    let steps = steps.as_slice();
+    called(alloc, arena, schema, old, &Edit { steps, words })
+}
+
+fn called<H: PairHash>(
+    alloc: Global,
+    arena: &mut Arena<H>,
+    schema: &Schema,
+    old: &Versions,
+    edit: &Edit<'_>,
+) -> Result<std::result::Result<NodeId, EditFault>>
+    requires { AreVersions schema.now arena.old old.now }
+    ensures more { node_count arena.old ≤ node_count arena.new }
+    ensures made { IfOk result (λ made. IfOk made (IsNodeOf arena.new)) }
+{
+    match edit.words.call {
+        "set" => set_part(alloc, arena, schema, old, edit),
+        "append" => append_element(alloc, arena, schema, old, edit),
         "pop" => Ok(pop(arena, schema, old.id, old.now, edit.steps)),
-        "choose" => choose_option(alloc, arena, schema, old, &edit),
+        "choose" => choose_option(alloc, arena, schema, old, edit),
         _ => bail!("no edit"),
     }
 }
@@ -65,7 +93,7 @@ fn set_part<H: PairHash>(
     ensures made { IfOk result (λ made. IfOk made (IsNodeOf arena.new)) }
 {
     let part = schema.path_type(old.id, edit.steps);
-    let value = part_value(alloc, schema, part, edit.digits)?;
+    let value = part_value(alloc, schema, part, edit.words.digits)?;
     Ok(set(arena, schema, old.id, old.now, edit.steps, &value))
 }
 
@@ -81,7 +109,7 @@ fn append_element<H: PairHash>(
     ensures made { IfOk result (λ made. IfOk made (IsNodeOf arena.new)) }
 {
     let part = schema.path_type(old.id, edit.steps);
-    let value = element_value(alloc, schema, part, edit.digits)?;
+    let value = element_value(alloc, schema, part, edit.words.digits)?;
     Ok(append(arena, schema, old.id, old.now, edit.steps, &value))
 }
 
@@ -96,11 +124,11 @@ fn choose_option<H: PairHash>(
     ensures more { node_count arena.old ≤ node_count arena.new }
     ensures made { IfOk result (λ made. IfOk made (IsNodeOf arena.new)) }
 {
-    let (steps, selector) = (edit.steps, edit.selector);
+    let (steps, selector) = (edit.steps, edit.words.selector);
     let part = schema.path_type(old.id, steps);
     match option_type(schema, part, selector) {
         Some(option) => {
-            let inner = value_of_type(alloc, schema, option, edit.digits)?;
+            let inner = value_of_type(alloc, schema, option, edit.words.digits)?;
             let inner = Some(&inner);
             Ok(choose(arena, schema, old.id, old.now, steps, selector, inner))
         }

@@ -10,13 +10,13 @@
 //! The files that scripts read are those of engine_files.txt, each behind a line `--- NAME`, or as
 //! one line `--- NAME DIGITS`.
 use super::engine_weave::push_replies;
-use super::rows::{print_hex, schema_of};
-use anyhow::{Context, Result, bail};
+use super::engine_world::{Failing, World, files_of};
+use super::rows::{parted, print_hex, rows_of, schema_of};
+use anyhow::{Result, bail};
 use ssz_chunk::{PairHash, ShaPair, XorPair};
 use ssz_engine::Engine;
-use ssz_outside::{MemFiles, MemSink, Status};
-use std::alloc::Global;
-use std::{fs, str};
+use ssz_outside::{MemFiles, Status};
+use std::str;
 
 // The most bytes of an encoding or of a JSON text that is read or shown.
 const MAX_BYTES: u32 = 64;
@@ -25,38 +25,6 @@ const MAX_BYTES: u32 = 64;
 fn engine_of<H: PairHash>(rt: &HostRuntime, hasher: &mut H) -> Result<Engine<H>> {
     let schema = schema_of(rt, "engine_schema.json")?;
     Ok(Engine::start(rt.alloc(), schema, MAX_BYTES, hasher)?)
-}
-
-// Gives the file that a part of the text holds.
-fn give(alloc: Global, files: &mut MemFiles, part: &str) -> Result<()> {
-    let (head, text) = part.split_once('\n').context("a file has a name")?;
-    match head.split_once(' ') {
-        Some((name, digits)) => give_bytes(alloc, files, name, digits),
-        None => {
-            let text = text
-                .strip_suffix('\n')
-                .context("a file ends with its line")?;
-            files.give(head, text.as_bytes())?;
-            Ok(())
-        }
-    }
-}
-
-fn give_bytes(alloc: Global, files: &mut MemFiles, name: &str, digits: &str) -> Result<()> {
-    let bytes = hex::decode(alloc, digits)?;
-    files.give(name, bytes.as_slice())?;
-    Ok(())
-}
-
-// The files that the text holds, of which this call fails.
-fn files_of(alloc: Global, fails: u64, text: &str) -> Result<MemFiles> {
-    let mut files = MemFiles::new(alloc, &[fails])?;
-    for part in text.split("--- ") {
-        if !part.is_empty() {
-            give(alloc, &mut files, part)?;
-        }
-    }
-    Ok(files)
 }
 
 fn print_text(rt: &HostRuntime, bytes: &[u8]) -> Result<()> {
@@ -75,6 +43,17 @@ fn print_bytes(rt: &HostRuntime, name: &str, bytes: &[u8]) -> Result<()> {
     Ok(())
 }
 
+// Does a script, over an engine of its own.
+fn done<H: PairHash>(
+    rt: &HostRuntime,
+    script: &str,
+    world: &mut World,
+    hasher: &mut H,
+) -> Result<Status> {
+    let mut engine = engine_of(rt, hasher)?;
+    Ok(engine.run_script(script.as_bytes(), &mut world.files, &mut world.out, hasher))
+}
+
 // Prints the replies to a script, how it ended, and what it saved.
 fn print_run<H: PairHash>(
     rt: &HostRuntime,
@@ -82,22 +61,66 @@ fn print_run<H: PairHash>(
     files: &str,
     hasher: &mut H,
 ) -> Result<()> {
-    let mut files = files_of(rt.alloc(), 0, files)?;
-    let mut out = MemSink::new(rt.alloc(), &[])?;
-    let mut engine = engine_of(rt, hasher)?;
-    let status = engine.run_script(script.as_bytes(), &mut files, &mut out, hasher);
-    print_replies(rt, status, &files, out.taken())
+    let mut world = World::new(rt.alloc(), &Failing::NONE, files)?;
+    let status = done(rt, script, &mut world, hasher)?;
+    print_replies(rt, status, &world)
 }
 
-fn print_replies(rt: &HostRuntime, status: Status, files: &MemFiles, taken: &[u8]) -> Result<()> {
-    print_text(rt, taken)?;
+fn print_replies(rt: &HostRuntime, status: Status, world: &World) -> Result<()> {
+    print_text(rt, world.out.taken())?;
     println!(rt; "status {}", status as u8)?;
     for name in ["f", "g"] {
-        if let Some(bytes) = files.held(name) {
+        if let Some(bytes) = world.files.held(name) {
             print_bytes(rt, name, bytes)?;
         }
     }
     Ok(())
+}
+
+// Prints how a script ended of which a call failed, and what the sink took.
+fn print_failing(rt: &HostRuntime, words: &str, script: &str, files: &str) -> Result<()> {
+    let failing = Failing::of_words(words)?;
+    let mut world = World::new(rt.alloc(), &failing, files)?;
+    let status = done(rt, script, &mut world, &mut XorPair::new())?;
+    print_ending(rt, status, &world, failing.saved)
+}
+
+fn print_ending(
+    rt: &HostRuntime,
+    status: Status,
+    world: &World,
+    saved: Option<&str>,
+) -> Result<()> {
+    println!(rt; "status {}", status as u8)?;
+    print_text(rt, world.out.taken())?;
+    println!(rt; "|")?;
+    match saved {
+        Some(name) => print_saved(rt, &world.files, name),
+        None => Ok(()),
+    }
+}
+
+fn print_saved(rt: &HostRuntime, files: &MemFiles, name: &str) -> Result<()> {
+    match files.held(name) {
+        Some(bytes) => print_bytes(rt, name, bytes),
+        None => {
+            println!(rt; "no {name}")?;
+            Ok(())
+        }
+    }
+}
+
+// Appends the replies to a script of two writers.
+fn weave<H: PairHash>(
+    rt: &HostRuntime,
+    script: &str,
+    files: &mut MemFiles,
+    hasher: &mut H,
+    out: &mut Vec<u8>,
+) -> Result<()> {
+    let mut engine = engine_of(rt, hasher)?;
+    let script = script.as_bytes();
+    push_replies(rt.alloc(), &mut engine, script, files, hasher, out)
 }
 
 // Prints the replies to a script of two writers.
@@ -108,70 +131,9 @@ fn print_weave<H: PairHash>(
     hasher: &mut H,
 ) -> Result<()> {
     let mut files = files_of(rt.alloc(), 0, files)?;
-    let mut engine = engine_of(rt, hasher)?;
     let mut out = Vec::new(rt.alloc());
-    push_replies(
-        rt.alloc(),
-        &mut engine,
-        script.as_bytes(),
-        &mut files,
-        hasher,
-        &mut out,
-    )?;
+    weave(rt, script, &mut files, hasher, &mut out)?;
     print_text(rt, out.as_slice())
-}
-
-// The calls that fail, and the file that is looked at afterwards.
-#[derive(Clone, Copy)]
-struct Failing<'a> {
-    files: u64,
-    sink: u64,
-    saved: Option<&'a str>,
-}
-
-fn failing_of(words: &str) -> Result<Failing<'_>> {
-    let (files, rest) = words.split_once(' ').context("a call of the files")?;
-    let (sink, saved) = match rest.split_once(' ') {
-        Some((sink, name)) => (sink, Some(name)),
-        None => (rest, None),
-    };
-    Ok(Failing {
-        files: files.parse()?,
-        sink: sink.parse()?,
-        saved,
-    })
-}
-
-// Prints how a script ended of which a call failed, and what the sink took.
-fn print_failing(rt: &HostRuntime, failing: &Failing<'_>, script: &str, files: &str) -> Result<()> {
-    let mut hasher = XorPair::new();
-    let mut files = files_of(rt.alloc(), failing.files, files)?;
-    let mut out = MemSink::new(rt.alloc(), &[failing.sink])?;
-    let mut engine = engine_of(rt, &mut hasher)?;
-    let status = engine.run_script(script.as_bytes(), &mut files, &mut out, &mut hasher);
-    print_ending(rt, status, &files, out.taken(), failing.saved)
-}
-
-fn print_ending(
-    rt: &HostRuntime,
-    status: Status,
-    files: &MemFiles,
-    taken: &[u8],
-    saved: Option<&str>,
-) -> Result<()> {
-    println!(rt; "status {}", status as u8)?;
-    print_text(rt, taken)?;
-    println!(rt; "|")?;
-    let Some(name) = saved else {
-        return Ok(());
-    };
-    match files.held(name) {
-        Some(bytes) => print_bytes(rt, name, bytes),
-        None => {
-            println!(rt; "no {name}")?;
-            Ok(())
-        }
-    }
 }
 
 // A script over either hasher.
@@ -191,12 +153,12 @@ fn print_weaves(rt: &HostRuntime, name: &str, script: &str, files: &str) -> Resu
 }
 
 fn print_part(rt: &HostRuntime, part: &str, files: &str) -> Result<()> {
-    let (head, script) = part.split_once('\n').context("a run has a head")?;
-    let (word, words) = head.split_once(' ').context("a head has words")?;
+    let (head, script) = parted(part, '\n')?;
+    let (word, words) = parted(head, ' ')?;
     match word {
         "run" => print_runs(rt, words, script, files),
         "weave" => print_weaves(rt, words, script, files),
-        "fail" => print_failing(rt, &failing_of(words)?, script, files),
+        "fail" => print_failing(rt, words, script, files),
         _ => bail!("no such run"),
     }
 }
@@ -211,10 +173,14 @@ fn print_parts(rt: &HostRuntime, runs: &str, files: &str) -> Result<()> {
     Ok(())
 }
 
+fn print_over(rt: &HostRuntime, runs: &str) -> Result<()> {
+    let files = rows_of(rt, "engine_files.txt")?;
+    print_parts(rt, runs, files.as_str())
+}
+
 /// Prints the replies to the runs of engine.txt.
 pub fn print_subject(rt: &HostRuntime) -> Result<()> {
     println!(rt; "engine")?;
-    let runs = fs::read_to_string(rt, "engine.txt")?;
-    let files = fs::read_to_string(rt, "engine_files.txt")?;
-    print_parts(rt, runs.as_str(), files.as_str())
+    let runs = rows_of(rt, "engine.txt")?;
+    print_over(rt, runs.as_str())
 }

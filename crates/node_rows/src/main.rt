@@ -12,6 +12,7 @@ mod edit_calls;
 mod edit_values;
 mod engine;
 mod engine_weave;
+mod engine_world;
 mod node_text;
 mod partial;
 mod reading;

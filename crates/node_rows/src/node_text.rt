@@ -18,10 +18,7 @@ pub fn read_tree<'a, H: PairHash>(
     ensures node { IfOk result (λ read. IsNodeOf arena.new read.0) }
     ensures more { IfOk result (λ _. node_count arena.old ≤ node_count arena.new) }
 {
-    let (word, rest) = match text.split_once(' ') {
-        Some(parts) => parts,
-        None => (text, ""),
-    };
+    let (word, rest) = text.split_once(' ').unwrap_or((text, ""));
     if word != "+" {
         return Ok((read_end(alloc, arena, word)?, rest));
     }
@@ -30,8 +27,17 @@ pub fn read_tree<'a, H: PairHash>(
     }
     let (left, rest) = read_tree(alloc, arena, rest, depth - 1)?;
     let (right, rest) = read_tree(alloc, arena, rest, depth - 1)?;
+    Ok((paired(arena, left, right)?, rest))
+}
+
+fn paired<H: PairHash>(arena: &mut Arena<H>, left: NodeId, right: NodeId) -> Result<NodeId>
+    requires left { IsNodeOf arena.old left }
+    requires right { IsNodeOf arena.old right }
+    ensures node { IfOk result (IsNodeOf arena.new) }
+    ensures more { IfOk result (λ _. node_count arena.old ≤ node_count arena.new) }
+{
     arena.reserve(1)?;
-    Ok((arena.pair(left, right), rest))
+    Ok(arena.pair(left, right))
 }
 
 // A zero tree or a leaf.

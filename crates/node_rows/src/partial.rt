@@ -4,15 +4,16 @@ ghost use Rattle.ssz_schema.specs.Unfolding.{type_of};
 ghost use Rattle.ssz_value.specs.Standing.{value_of};
 ghost use Rattle.ssz_partial.specs.Partial.{FitsAt};
 
-use super::rows::{print_hex, schema_of, steps_of, type_named, value_of_type};
-use anyhow::{Context, Result, bail};
+use super::rows::{
+    cut, parted, print_hex, rows_of, schema_of, steps_of, type_named, value_of_type,
+};
+use anyhow::{Result, bail};
 use ssz_chunk::ShaPair;
 use ssz_partial::Partial;
 use ssz_proof::{Proof, read_proof};
 use ssz_schema::{PathStep, Schema, TypeId};
 use ssz_value::Value;
 use std::alloc::Global;
-use std::fs;
 
 fn print_root(rt: &HostRuntime, partial: &Partial) -> Result<()> {
     let root = partial.root(&mut ShaPair::new());
@@ -92,8 +93,8 @@ fn print_call(
     if row == "root" {
         return print_root(rt, partial);
     }
-    let (call, rest) = row.split_once(' ').context("no call")?;
-    let (word, digits) = rest.split_once(" 0x").unwrap_or((rest, ""));
+    let (call, rest) = parted(row, ' ')?;
+    let (word, digits) = cut(rest);
     let path = steps_of(rt.alloc(), word)?;
     print!(rt; "{row}: ")?;
     match call {
@@ -120,8 +121,8 @@ fn tree_of_proof(alloc: Global, id: TypeId, row: &str) -> Result<Partial>
 
 // A type, the proof of a value of it, and calls on the tree of which the proof is known.
 fn print_block(rt: &HostRuntime, schema: &Schema, block: &str) -> Result<()> {
-    let (name, rest) = block.split_once('\n').context("no proof")?;
-    let (proof, rows) = rest.split_once('\n').context("no calls")?;
+    let (name, rest) = parted(block, '\n')?;
+    let (proof, rows) = parted(rest, '\n')?;
     let id = type_named(schema, name)?;
     let mut partial = tree_of_proof(rt.alloc(), id, proof)?;
     println!(rt; "{name}")?;
@@ -135,7 +136,7 @@ fn print_block(rt: &HostRuntime, schema: &Schema, block: &str) -> Result<()> {
 pub fn print_subject(rt: &HostRuntime) -> Result<()> {
     println!(rt; "partial")?;
     let schema = schema_of(rt, "partial_schema.json")?;
-    let rows = fs::read_to_string(rt, "partial.txt")?;
+    let rows = rows_of(rt, "partial.txt")?;
     for block in rows.split("\n\n") {
         print_block(rt, &schema, block)?;
     }

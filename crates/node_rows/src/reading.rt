@@ -5,15 +5,14 @@ ghost use Rattle.ssz_arena.specs.Content.{IsNodeOf};
 
 use super::node_text::read_tree;
 use super::reading_parts::print_part;
-use super::rows::{print_hex, schema_of, type_named};
-use anyhow::{Context, Result, bail};
+use super::rows::{parted, print_hex, rows_of, schema_of, type_named};
+use anyhow::{Result, bail};
 use ssz_arena::{Arena, NodeId};
 use ssz_chunk::{PairHash, XorPair};
 use ssz_reading::{part_len, read_value, write_encoding};
 use ssz_schema::{Schema, TypeId};
 use ssz_views::View;
 use std::alloc::Global;
-use std::fs;
 
 fn print_value<H: PairHash>(
     rt: &HostRuntime,
@@ -71,7 +70,7 @@ fn print_row<H: PairHash>(
     if row == "value" {
         return print_value(rt, schema, arena, id, node);
     }
-    let (call, word) = row.split_once(' ').context("no row")?;
+    let (call, word) = parted(row, ' ')?;
     if call == "encoding" {
         return print_encoding(rt, schema, arena, id, node, word.parse()?);
     }
@@ -91,8 +90,8 @@ fn whole_tree<H: PairHash>(alloc: Global, arena: &mut Arena<H>, text: &str) -> R
 
 // A type and the tree of a value of it, and calls on its node.
 fn print_block(rt: &HostRuntime, schema: &Schema, block: &str) -> Result<()> {
-    let (first, rows) = block.split_once('\n').context("no rows")?;
-    let (name, tree) = first.split_once(' ').context("no tree")?;
+    let (first, rows) = parted(block, '\n')?;
+    let (name, tree) = parted(first, ' ')?;
     let id = type_named(schema, name)?;
     let mut arena = Arena::start(rt.alloc(), &mut XorPair::new())?;
     let node = whole_tree(rt.alloc(), &mut arena, tree)?;
@@ -107,7 +106,7 @@ fn print_block(rt: &HostRuntime, schema: &Schema, block: &str) -> Result<()> {
 pub fn print_subject(rt: &HostRuntime) -> Result<()> {
     println!(rt; "reading")?;
     let schema = schema_of(rt, "reading_schema.json")?;
-    let rows = fs::read_to_string(rt, "reading.txt")?;
+    let rows = rows_of(rt, "reading.txt")?;
     for block in rows.split("\n\n") {
         print_block(rt, &schema, block)?;
     }

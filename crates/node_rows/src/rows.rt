@@ -3,7 +3,7 @@ ghost use Rattle.std.specs.Prelude.{◌<◌, ◌^◌, length, IfOk};
 ghost use Rattle.ssz_schema.specs.Unfolding.{type_of};
 ghost use Rattle.ssz_value.specs.Standing.{IsValue};
 
-use anyhow::{Context, Result, bail};
+use anyhow::{Result, bail};
 use ssz_codec::decode;
 use ssz_line::read_path;
 use ssz_schema::{PathStep, Schema, TypeId};
@@ -21,11 +21,32 @@ pub fn schema_of(rt: &HostRuntime, file: &str) -> Result<Schema> {
     }
 }
 
+/// The rows of a file.
+pub fn rows_of(rt: &HostRuntime, file: &str) -> Result<String> {
+    Ok(fs::read_to_string(rt, file)?)
+}
+
+/// The text before the mark, and that behind it.
+pub fn parted(text: &str, mark: char) -> Result<(&str, &str)> {
+    match text.split_once(mark) {
+        Some(parts) => Ok(parts),
+        None => bail!("too few words"),
+    }
+}
+
+/// The words of a row, and the digits of the bytes that it has.
+pub fn cut(row: &str) -> (&str, &str) {
+    row.split_once(" 0x").unwrap_or((row, ""))
+}
+
 /// The type of this name.
 pub fn type_named(schema: &Schema, name: &str) -> Result<TypeId>
     ensures { IfOk result (λ id. id < length schema.now.trees) }
 {
-    schema.find(name).context("no such type")
+    match schema.find(name) {
+        Some(id) => Ok(id),
+        None => bail!("no such type"),
+    }
 }
 
 /// The steps of the path that the word spells.

@@ -8,7 +8,7 @@ ghost use Rattle.ssz_schema.specs.Unfolding.{type_of};
 ghost use Rattle.ssz_value.specs.Standing.{IsValue};
 ghost use Rattle.ssz_arena.specs.Content.{IsNodeOf};
 
-use super::rows::{bytes_of, schema_of, type_named, value_of_type};
+use super::rows::{bytes_of, cut, parted, rows_of, schema_of, type_named, value_of_type};
 use anyhow::{Context, Result, bail};
 use ssz_arena::{Arena, NodeId};
 use ssz_chunk::{Chunk, PairHash, ShaPair};
@@ -17,7 +17,6 @@ use ssz_schema::{Schema, TypeId};
 use ssz_tree::{build, build_bytes, build_default, nodes_needed, reserve_nodes, value_node};
 use ssz_value::Value;
 use std::alloc::Global;
-use std::fs;
 
 // What a line says of a node.
 #[derive(Clone, Copy, PartialEq)]
@@ -139,7 +138,7 @@ fn of_row<H: PairHash>(
     row: &str,
     hasher: &mut H,
 ) -> Result<Made> {
-    let (first, second) = row.split_once(' ').context("no row")?;
+    let (first, second) = parted(row, ' ')?;
     if first == "default" {
         return of_default(arena, schema, type_named(schema, second)?, hasher);
     }
@@ -150,14 +149,6 @@ fn of_row<H: PairHash>(
         bail!("the value has another node than its bytes");
     }
     Ok(made)
-}
-
-// The words of a row before the bytes that it has.
-fn words_of(row: &str) -> &str {
-    match row.split_once(" 0x") {
-        Some((words, _)) => words,
-        None => row,
-    }
 }
 
 fn print_made(rt: &HostRuntime, words: &str, made: &Made) -> Result<()> {
@@ -173,7 +164,7 @@ fn print_rows(rt: &HostRuntime, schema: &Schema, rows: &str) -> Result<()> {
     let mut arena = Arena::start(rt.alloc(), &mut hasher)?;
     for row in rows.lines() {
         let made = of_row(rt.alloc(), &mut arena, schema, row, &mut hasher)?;
-        print_made(rt, words_of(row), &made)?;
+        print_made(rt, cut(row).0, &made)?;
     }
     Ok(())
 }
@@ -182,6 +173,6 @@ fn print_rows(rt: &HostRuntime, schema: &Schema, rows: &str) -> Result<()> {
 pub fn print_subject(rt: &HostRuntime) -> Result<()> {
     println!(rt; "tree")?;
     let schema = schema_of(rt, "tree_schema.json")?;
-    let rows = fs::read_to_string(rt, "tree.txt")?;
+    let rows = rows_of(rt, "tree.txt")?;
     print_rows(rt, &schema, rows.as_str())
 }
