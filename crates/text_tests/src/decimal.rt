@@ -15,15 +15,15 @@ const NUMBERS: [(&[u8], Option<u128>); 9] = [
 
 #[test]
 fn numbers(rt: HostRuntime) {
-    for (word, wanted) in NUMBERS {
-        assert_eq!(rt; number(word), wanted);
+    for (word, wanted) in &NUMBERS {
+        assert!(rt; number(word) == *wanted);
     }
 }
 
 #[test]
 fn greatest_numbers(rt: HostRuntime) {
-    assert_eq!(rt; number_of_64_bits(b"18446744073709551615"), Some(u64::MAX));
-    assert_eq!(rt; number_of_64_bits(b"18446744073709551616"), None);
-    assert_eq!(rt; number_of_8_bits(b"255"), Some(255));
-    assert_eq!(rt; number_of_8_bits(b"256"), None);
+    assert!(rt; number_of_64_bits(b"18446744073709551615") == Some(u64::MAX));
+    assert!(rt; number_of_64_bits(b"18446744073709551616").is_none());
+    assert!(rt; number_of_8_bits(b"255") == Some(255));
+    assert!(rt; number_of_8_bits(b"256").is_none());
 }

@@ -1,30 +1,36 @@
 //! Each call once; the other rows are those of `text_rows`, and indices of the consensus layer's
 //! types those of `program_rows`.
+use super::types::schema;
 use ssz_gindex::{Gindex, are_helpers, helper_indices};
-use ssz_schema::{Name, PathStep, Schema, TypeExpr, Width};
+use ssz_schema::{PathStep, Schema};
+use std::alloc::Global;
 use std::test::Fail;
+
+// The index of an element of the type of this name.
+fn index_of(schema: &Schema, name: &str, element: u64) -> Option<u128> {
+    let id = schema.find(name)?;
+    let index = Gindex::of_path(schema, id, &[PathStep::Index(element)])?;
+    Some(index.get())
+}
 
 #[test]
 fn path_in_a_vector(rt: HostRuntime) -> Result<(), Fail> {
-    let alloc = rt.alloc();
-    let mut schema = Schema::empty(alloc)?;
-    let elem = Box::new(alloc, TypeExpr::Uint(Width::W64))?;
-    let name = Name::copy_of(alloc, b"T")?;
-    let id = schema.add(&name, &TypeExpr::Vector(elem, 8))?;
-    let index = Gindex::of_path(&schema, id, &[PathStep::Index(4)]).ok_or("no index")?;
-    assert!(rt; index.get() == 3);
+    let schema = schema(rt.alloc())?;
+    assert!(rt; index_of(&schema, "Eight", 4) == Some(3));
     Ok(())
+}
+
+// How many helpers the index has, and whether they are known as those.
+fn helpers_of(alloc: Global, index: Gindex) -> Result<(usize, bool), Fail> {
+    let indices = [index];
+    let helpers = helper_indices(alloc, &indices)?;
+    let known = are_helpers(alloc, &indices, helpers.as_slice())?;
+    Ok((helpers.len(), known))
 }
 
 #[test]
 fn helpers_of_an_index(rt: HostRuntime) -> Result<(), Fail> {
-    let alloc = rt.alloc();
-    let mut indices = Vec::new(alloc);
-    if let Some(index) = Gindex::new(9) {
-        indices.push(index)?;
-    }
-    let helpers = helper_indices(alloc, indices.as_slice())?;
-    assert!(rt; helpers.len() == 3);
-    assert!(rt; are_helpers(alloc, indices.as_slice(), helpers.as_slice())?);
+    let index = Gindex::new(9).ok_or("an index of 0")?;
+    assert!(rt; helpers_of(rt.alloc(), index)? == (3, true));
     Ok(())
 }

@@ -1,11 +1,12 @@
 // What single words spell: each case of the grammar, and its neighbours that are refused.
-ghost use Rattle.std.specs.Prelude.{◌<◌, length, IfOk};
+ghost use Rattle.std.specs.Prelude.{◌<◌, length};
 
+use super::types::schema;
 use ssz_line::{
     Index, LineFault, Steps, Words, read_file, read_index, read_literal, read_name, read_path,
     read_selector,
 };
-use ssz_schema::{Name, PathStep, Schema, TypeExpr, TypeId, Width};
+use ssz_schema::{PathStep, Schema, TypeId};
 use std::alloc::{AllocError, Global};
 use std::test::Fail;
 
@@ -76,23 +77,6 @@ const FITTING: [(&[u8], Option<usize>); 9] = [
     (b"/0/0/0/0/0/0/0/0/0/0/0/0", None),
 ];
 
-// Lists of at most eight lists of at most four numbers.
-fn lists(alloc: Global) -> Result<TypeExpr, AllocError> {
-    let number = Box::new(alloc, TypeExpr::Uint(Width::W64))?;
-    let inner = Box::new(alloc, TypeExpr::List(number, 4))?;
-    Ok(TypeExpr::List(inner, 8))
-}
-
-// The type of these lists, which gets a name.
-fn added(alloc: Global, schema: &mut Schema) -> Result<TypeId, Fail>
-    ensures { IfOk result (λ id. id < length schema.new.trees) }
-{
-    match schema.add(&Name::copy_of(alloc, b"L")?, &lists(alloc)?) {
-        Ok(id) => Ok(id),
-        Err(_) => Err("an accepted type".into()),
-    }
-}
-
 // How many steps a path from the type has, where it fits.
 fn fitting(
     alloc: Global,
@@ -128,8 +112,8 @@ fn fits(
 
 #[test]
 fn paths_that_fit(rt: HostRuntime) -> Result<(), Fail> {
-    let mut schema = Schema::empty(rt.alloc())?;
-    let id = added(rt.alloc(), &mut schema)?;
+    let schema = schema(rt.alloc())?;
+    let id = schema.find("Lists").ok_or("no lists")?;
     for (word, count) in &FITTING {
         assert!(rt; fits(rt.alloc(), &schema, id, word, *count)?, "{word:?}");
     }

@@ -14,11 +14,18 @@ fn container(alloc: Global, first: &[u8], second: &[u8]) -> Result<TypeExpr, All
     Ok(TypeExpr::Container(fields))
 }
 
-// The type that the definition of a name gives.
-fn added(alloc: Global, schema: &mut Schema, name: &[u8], expr: &TypeExpr) -> Result<TypeId, Fail>
+// The type that the definition of a name gives, which could be made.
+fn added(
+    alloc: Global,
+    schema: &mut Schema,
+    name: &[u8],
+    expr: Result<TypeExpr, AllocError>,
+) -> Result<TypeId, Fail>
     ensures { IfOk result (λ id. id < length schema.new.trees) }
 {
-    match schema.add(&Name::copy_of(alloc, name)?, expr) {
+    let expr = expr?;
+    let name = Name::copy_of(alloc, name)?;
+    match schema.add(&name, &expr) {
         Ok(id) => Ok(id),
         Err(_) => Err("no accepted type".into()),
     }
@@ -33,7 +40,7 @@ fn list(alloc: Global) -> Result<TypeExpr, AllocError> {
 #[test]
 fn a_list_is_added(rt: HostRuntime) -> Result<(), Fail> {
     let mut schema = Schema::empty(rt.alloc())?;
-    let id = added(rt.alloc(), &mut schema, b"L", &list(rt.alloc())?)?;
+    let id = added(rt.alloc(), &mut schema, b"L", list(rt.alloc()))?;
     assert!(rt; schema.find("L") == Some(id));
     assert!(rt; schema.levels(id) == 2);
     Ok(())
@@ -49,26 +56,31 @@ fn union(alloc: Global) -> Result<TypeExpr, AllocError> {
 #[test]
 fn a_union_is_added(rt: HostRuntime) -> Result<(), Fail> {
     let mut schema = Schema::empty_for(rt.alloc(), Format::Two)?;
-    let id = added(rt.alloc(), &mut schema, b"U", &union(rt.alloc())?)?;
+    let id = added(rt.alloc(), &mut schema, b"U", union(rt.alloc()))?;
     assert!(rt; schema.default_len(id) == 3);
     Ok(())
 }
 
-// Whether a definition of T is refused for two fields of one name.
-fn is_refused(alloc: Global, schema: &mut Schema, expr: &TypeExpr) -> Result<bool, AllocError> {
+// Whether a definition of T by two fields of these names is refused since they are the same.
+fn is_refused(alloc: Global, schema: &mut Schema, names: [&[u8]; 2]) -> Result<bool, AllocError> {
     let name = Name::copy_of(alloc, b"T")?;
-    let refused = schema.add(&name, expr);
+    let expr = container(alloc, names[0], names[1])?;
+    let refused = schema.add(&name, &expr);
     Ok(refused == Err(SchemaError::Fault(SchemaFault::FieldTaken)))
 }
 
 // A refusal in the last field leaves nothing behind.
 #[test]
 fn a_refusal_leaves_the_schema(rt: HostRuntime) -> Result<(), Fail> {
-    let alloc = rt.alloc();
-    let mut schema = Schema::empty(alloc)?;
-    assert!(rt; is_refused(alloc, &mut schema, &container(alloc, b"a", b"a")?)?);
+    let mut schema = Schema::empty(rt.alloc())?;
+    assert!(rt; is_refused(rt.alloc(), &mut schema, [b"a", b"a"])?);
     assert!(rt; schema.find("T").is_none());
-    let id = added(alloc, &mut schema, b"T", &container(alloc, b"a", b"b")?)?;
+    let id = added(
+        rt.alloc(),
+        &mut schema,
+        b"T",
+        container(rt.alloc(), b"a", b"b"),
+    )?;
     assert!(rt; schema.fixed_size(id) == Some(2));
     Ok(())
 }
