@@ -125,14 +125,16 @@ fn same(rt: HostRuntime) -> Result<(), Fail> {
     Ok(())
 }
 
+const OTHER: Lists = ([(2, (1, 0)), NONE], [(3, (3, 0)), NONE, NONE]);
+
+const BESIDE: Lists = ([(3, (2, 0)), NONE], [(2, (1, 0)), NONE, NONE]);
+
 #[test]
 fn faults(rt: HostRuntime) -> Result<(), Fail> {
-    let other: Lists = ([(2, (1, 0)), NONE], [(3, (3, 0)), NONE, NONE]);
-    let (answer, _) = compared(rt.alloc(), &TWO, &other)?;
     let roots = ClashFault::OtherRoot(chunk((2, 1)), chunk((3, 1)));
+    let (answer, _) = compared(rt.alloc(), &TWO, &OTHER)?;
     assert!(rt; answer == Err(roots));
-    let beside: Lists = ([(3, (2, 0)), NONE], [(2, (1, 0)), NONE, NONE]);
-    let (answer, count) = compared(rt.alloc(), &TWO, &beside)?;
+    let (answer, count) = compared(rt.alloc(), &TWO, &BESIDE)?;
     assert!(rt; answer == Err(ClashFault::OtherIndices));
     assert!(rt; count == 0);
     Ok(())

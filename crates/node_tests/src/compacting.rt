@@ -7,6 +7,7 @@ use ssz_chunk::{PairHash, XorPair};
 use ssz_edit::set;
 use ssz_schema::{Schema, TypeId};
 use ssz_value::{Value, fits};
+use std::alloc::Global;
 use std::test::Fail;
 
 // The node of a number that is set in the place of another.
@@ -49,14 +50,21 @@ fn set_numbers<H: PairHash>(
     Ok(node)
 }
 
+// The type of the number that is set last, and its node.
+fn set_last<H: PairHash>(alloc: Global, arena: &mut Arena<H>) -> Result<(TypeId, NodeId), Fail>
+    ensures { IfOk result (λ last. IsNodeOf arena.new last.1) }
+{
+    let schema = Schema::empty(alloc)?;
+    let id = schema.find("uint64").ok_or("uint64")?;
+    let first = arena.zero(0);
+    Ok((id, set_numbers(arena, &schema, id, first)?))
+}
+
 // The zero table of 127 nodes and the number's leaf are left.
 #[test]
 fn a_thousand_sets_leave_one_leaf(rt: HostRuntime) -> Result<(), Fail> {
-    let schema = Schema::empty(rt.alloc())?;
-    let id = schema.find("uint64").ok_or("uint64")?;
     let mut arena = Arena::start(rt.alloc(), &mut XorPair::new())?;
-    let first = arena.zero(0);
-    let last = set_numbers(&mut arena, &schema, id, first)?;
+    let (id, last) = set_last(rt.alloc(), &mut arena)?;
     assert!(rt; arena.len() > 1000);
     assert!(rt; compacted(rt.alloc(), &mut arena, id, last)?);
     assert!(rt; arena.len() == 128);

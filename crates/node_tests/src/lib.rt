@@ -7,6 +7,8 @@ mod arena;
 #[cfg(test)]
 mod chunk;
 #[cfg(test)]
+mod chunks;
+#[cfg(test)]
 mod clash;
 #[cfg(test)]
 mod compacting;

@@ -1,3 +1,4 @@
+use super::chunks::chunk;
 use ssz_chunk::{Chunk, PairHash, ShaPair, XorPair};
 use ssz_gindex::Gindex;
 use ssz_proof::{Entry, Proof, ProofFault, calc, proof_text, read_proof, verify};
@@ -79,13 +80,6 @@ const BY_XOR: [(&str, u128, u128); 4] = [
     (ONE, 0x01000000000000000000000000000000, 0),
     (DEEP, 0x03000000000000000000000000000000, 0x1220),
 ];
-
-fn chunk(high: u128, low: u128) -> Chunk {
-    let mut bytes = [0; 32];
-    bytes[..16].copy_from_slice(&high.to_be_bytes());
-    bytes[16..].copy_from_slice(&low.to_be_bytes());
-    Chunk(bytes)
-}
 
 pub fn expanded(alloc: Global, text: &str) -> Result<Vec<u8>, AllocError> {
     let mut bytes = Vec::new(alloc);
@@ -182,26 +176,39 @@ fn entries(alloc: Global, list: &[(u128, u8)]) -> Result<Vec<Entry>, Fail> {
     Ok(entries)
 }
 
+// The proof of these leaves and nodes.
+fn listed(alloc: Global, leaves: &[(u128, u8)], nodes: &[(u128, u8)]) -> Result<Proof, Fail> {
+    let leaves = entries(alloc, leaves)?;
+    let nodes = entries(alloc, nodes)?;
+    Ok(Proof::new(alloc, &leaves, &nodes)?)
+}
+
+// Whether the entries are these.
+fn are(alloc: Global, found: &[Entry], wanted: &[(u128, u8)]) -> Result<bool, Fail> {
+    let wanted = entries(alloc, wanted)?;
+    Ok(found == wanted.as_slice())
+}
+
 #[test]
 fn lists(rt: HostRuntime) -> Result<(), Fail> {
-    let leaves = entries(rt.alloc(), &[(6, 3), (4, 1)])?;
-    let nodes = entries(rt.alloc(), &[(7, 4), (5, 2)])?;
-    let proof = Proof::new(rt.alloc(), &leaves, &nodes)?;
-    let sorted = entries(rt.alloc(), &[(4, 1), (6, 3)])?;
-    assert!(rt; proof.leaves() == sorted.as_slice());
-    assert!(rt; proof.nodes() == nodes.as_slice());
+    let nodes = [(7, 4), (5, 2)];
+    let proof = listed(rt.alloc(), &[(6, 3), (4, 1)], &nodes)?;
+    assert!(rt; are(rt.alloc(), proof.leaves(), &[(4, 1), (6, 3)])?);
+    assert!(rt; are(rt.alloc(), proof.nodes(), &nodes)?);
     Ok(())
 }
 
-fn are_refused(alloc: Global, leaves: &[Entry], nodes: &[Entry]) -> bool {
-    Proof::new(alloc, leaves, nodes).err() == Some(ProofFault::BadProof)
+fn are_refused(alloc: Global, leaves: &[(u128, u8)], nodes: &[(u128, u8)]) -> Result<bool, Fail> {
+    let leaves = entries(alloc, leaves)?;
+    let nodes = entries(alloc, nodes)?;
+    let refused = Proof::new(alloc, &leaves, &nodes).err();
+    Ok(refused == Some(ProofFault::BadProof))
 }
 
 #[test]
 fn refused_lists(rt: HostRuntime) -> Result<(), Fail> {
-    let leaves = entries(rt.alloc(), &[(6, 3), (4, 1)])?;
-    let nodes = entries(rt.alloc(), &[(5, 2), (7, 4)])?;
-    assert!(rt; are_refused(rt.alloc(), &leaves, &nodes));
-    assert!(rt; are_refused(rt.alloc(), &[], &nodes));
+    let nodes = [(5, 2), (7, 4)];
+    assert!(rt; are_refused(rt.alloc(), &[(6, 3), (4, 1)], &nodes)?);
+    assert!(rt; are_refused(rt.alloc(), &[], &nodes)?);
     Ok(())
 }

@@ -1,21 +1,15 @@
 ghost use Rattle.std.specs.Prelude.{IfOk};
 ghost use Rattle.ssz_arena.specs.Content.{IsNodeOf};
 
+use super::chunks::beginning;
 use super::proof::expanded;
 use ssz_arena::{Arena, NodeId};
-use ssz_chunk::{Chunk, PairHash, XorPair};
+use ssz_chunk::{PairHash, XorPair};
 use ssz_gindex::Gindex;
 use ssz_proof::{Proof, proof_text, verify};
 use ssz_prove::{ProveFault, prove};
 use std::alloc::{AllocError, Global};
 use std::test::Fail;
-
-// A chunk that begins with this byte.
-fn beginning(first: u8) -> Chunk {
-    let mut chunk = Chunk::ZERO;
-    chunk.0[0] = first;
-    chunk
-}
 
 // What the rows are about.
 #[derive(Clone, Copy, Debug)]
@@ -60,6 +54,30 @@ fn indices(alloc: Global, numbers: &[u128]) -> Result<Vec<Gindex>, AllocError> {
     Ok(indices)
 }
 
+// The proof at these indices, which leads to the root, if there is one.
+fn proved_at(
+    arena: &mut Arena<XorPair>,
+    top: NodeId,
+    indices: &[Gindex],
+    hasher: &mut XorPair,
+) -> Result<Result<Proof, ProveFault>, Fail>
+    requires { IsNodeOf arena.old top }
+{
+    if indices.is_empty() {
+        return Err("no index".into());
+    }
+    match prove(arena, top, indices, hasher) {
+        Ok(proof) => {
+            let root = arena.root(top, hasher);
+            if !verify(&proof, &root, hasher) {
+                return Err("another root".into());
+            }
+            Ok(Ok(proof))
+        }
+        Err(fault) => Ok(Err(fault)),
+    }
+}
+
 // The proof at these numbers, if there is one.
 fn proved(
     alloc: Global,
@@ -67,20 +85,10 @@ fn proved(
     numbers: &[u128],
     hasher: &mut XorPair,
 ) -> Result<Result<Proof, ProveFault>, Fail> {
+    let indices = indices(alloc, numbers)?;
     let mut arena = Arena::start(alloc, hasher)?;
     let top = built(&mut arena, kind)?;
-    let indices = indices(alloc, numbers)?;
-    if indices.is_empty() {
-        return Err("no index".into());
-    }
-    let proof = prove(&mut arena, top, &indices, hasher);
-    if let Ok(proof) = &proof {
-        let root = arena.root(top, hasher);
-        if !verify(proof, &root, hasher) {
-            return Err("another root".into());
-        }
-    }
-    Ok(proof)
+    proved_at(&mut arena, top, &indices, hasher)
 }
 
 type ProofRow = (Made, [u128; 4], &'static str);
@@ -129,6 +137,14 @@ fn named(fault: ProveFault) -> (u128, u128) {
     }
 }
 
+// The numbers of the fault where there is no proof at these numbers.
+fn fault_of(alloc: Global, kind: Made, numbers: &[u128]) -> Result<Option<(u128, u128)>, Fail> {
+    match proved(alloc, kind, numbers, &mut XorPair::new())? {
+        Ok(_) => Ok(None),
+        Err(fault) => Ok(Some(named(fault))),
+    }
+}
+
 type FaultRow = (Made, [u128; 4], (u128, u128));
 
 // The least index without a node first, and then the lowest of two that are nested.
@@ -143,10 +159,24 @@ const FAULTS: [FaultRow; 5] = [
 #[test]
 fn faults(rt: HostRuntime) -> Result<(), Fail> {
     for (kind, numbers, answer) in &FAULTS {
-        let proof = proved(rt.alloc(), *kind, numbers, &mut XorPair::new())?;
-        assert!(rt; proof.err().map(named) == Some(*answer));
+        assert!(rt; fault_of(rt.alloc(), *kind, numbers)? == Some(*answer));
     }
     Ok(())
+}
+
+// How many pairs are hashed for a proof at an index.
+fn pairs_for(
+    arena: &mut Arena<XorPair>,
+    top: NodeId,
+    index: Gindex,
+    hasher: &mut XorPair,
+) -> Result<u64, Fail>
+    requires { IsNodeOf arena.old top }
+    ensures { IsNodeOf arena.new top }
+{
+    let start = hasher.count();
+    prove(arena, top, &[index], hasher)?;
+    Ok(hasher.count().saturating_sub(start))
 }
 
 // A proof of all hashes nothing, and one of a leaf the pair beside it.
@@ -155,10 +185,7 @@ fn pairs(rt: HostRuntime) -> Result<(), Fail> {
     let mut hasher = XorPair::new();
     let mut arena = Arena::start(rt.alloc(), &mut hasher)?;
     let top = built(&mut arena, Made::Four)?;
-    let start = hasher.count();
-    prove(&mut arena, top, &[Gindex::root().right()], &mut hasher)?;
-    assert!(rt; hasher.count() == start.saturating_add(2));
-    prove(&mut arena, top, &[Gindex::root()], &mut hasher)?;
-    assert!(rt; hasher.count() == start.saturating_add(3));
+    assert!(rt; pairs_for(&mut arena, top, Gindex::root().right(), &mut hasher)? == 2);
+    assert!(rt; pairs_for(&mut arena, top, Gindex::root(), &mut hasher)? == 1);
     Ok(())
 }

@@ -30,8 +30,14 @@ fn union(alloc: Global) -> Result<TypeExpr, AllocError> {
     Ok(TypeExpr::Union(options))
 }
 
-// Gives the type a name.
-fn add(schema: &mut Schema, alloc: Global, name: &[u8], expr: TypeExpr) -> Result<(), Fail> {
+// Gives a type that could be made a name.
+fn add(
+    schema: &mut Schema,
+    alloc: Global,
+    name: &[u8],
+    expr: Result<TypeExpr, AllocError>,
+) -> Result<(), Fail> {
+    let expr = expr?;
     let name = Name::copy_of(alloc, name)?;
     match schema.add(&name, &expr) {
         Ok(_) => Ok(()),
@@ -44,14 +50,9 @@ fn schema(alloc: Global) -> Result<Schema, Fail> {
     let mut schema = Schema::empty(alloc)?;
     let two = [Width::W64, Width::W64];
     let three = [Width::W64, Width::W8, Width::W64];
-    add(&mut schema, alloc, b"P", container(alloc, b"ab", &two)?)?;
-    add(
-        &mut schema,
-        alloc,
-        b"New",
-        container(alloc, b"bac", &three)?,
-    )?;
-    add(&mut schema, alloc, b"Either", union(alloc)?)?;
+    add(&mut schema, alloc, b"P", container(alloc, b"ab", &two))?;
+    add(&mut schema, alloc, b"New", container(alloc, b"bac", &three))?;
+    add(&mut schema, alloc, b"Either", union(alloc))?;
     Ok(schema)
 }
 
@@ -76,29 +77,29 @@ fn one_and_two<H: PairHash>(arena: &mut Arena<H>) -> Result<NodeId, AllocError>
 
 // The upgrade of a node between two types of the schema above.
 fn upgraded<H: PairHash>(
+    alloc: Global,
     arena: &mut Arena<H>,
-    schema: &Schema,
     from: &str,
     to: &str,
     node: NodeId,
-) -> Result<NodeId, UpgradeFault>
+) -> Result<Result<NodeId, UpgradeFault>, Fail>
     requires { IsNodeOf arena.old node }
-    ensures made { IfOk result (IsNodeOf arena.new) }
+    ensures made { IfOk result (λ made. IfOk made (IsNodeOf arena.new)) }
     ensures stays { IsNodeOf arena.new node }
 {
+    let schema = schema(alloc)?;
     match (schema.find(from), schema.find(to)) {
-        (Some(from), Some(to)) => upgrade(arena, schema, from, node, to),
-        _ => Err(UpgradeFault::Memory),
+        (Some(from), Some(to)) => Ok(upgrade(arena, &schema, from, node, to)),
+        _ => Err("no type".into()),
     }
 }
 
 #[test]
 fn a_field_of_an_equal_type_is_taken(rt: HostRuntime) -> Result<(), Fail> {
-    let schema = schema(rt.alloc())?;
     let mut hasher = XorPair::new();
     let mut arena = Arena::start(rt.alloc(), &mut hasher)?;
     let node = one_and_two(&mut arena)?;
-    let made = upgraded(&mut arena, &schema, "P", "New", node).expect(&rt, "a newer one");
+    let made = upgraded(rt.alloc(), &mut arena, "P", "New", node)??;
     // By hand: the first leaf goes one byte to the left on each of two levels.
     assert!(rt; arena.root(made, &mut hasher) == chunk(30, 2));
     Ok(())
@@ -116,26 +117,24 @@ fn halves<H: PairHash>(arena: &Arena<H>, node: NodeId) -> Option<(NodeId, NodeId
 
 #[test]
 fn the_same_type_takes_all(rt: HostRuntime) -> Result<(), Fail> {
-    let schema = schema(rt.alloc())?;
     let mut arena = Arena::start(rt.alloc(), &mut XorPair::new())?;
     let node = one_and_two(&mut arena)?;
     let grown = arena.len() + 1;
-    let made = upgraded(&mut arena, &schema, "P", "P", node).expect(&rt, "the same");
+    let made = upgraded(rt.alloc(), &mut arena, "P", "P", node)??;
     assert!(rt; arena.len() == grown);
-    let pair = halves(&arena, node).ok_or("a leaf")?;
-    assert!(rt; halves(&arena, made) == Some(pair));
+    assert!(rt; halves(&arena, node).is_some());
+    assert!(rt; halves(&arena, made) == halves(&arena, node));
     Ok(())
 }
 
 #[test]
 fn a_union_takes_no_fields(rt: HostRuntime) -> Result<(), Fail> {
-    let schema = schema(rt.alloc())?;
     let mut arena = Arena::start(rt.alloc(), &mut XorPair::new())?;
     let node = one_and_two(&mut arena)?;
     let before = arena.len();
-    let into = upgraded(&mut arena, &schema, "P", "Either", node);
+    let into = upgraded(rt.alloc(), &mut arena, "P", "Either", node)?;
     assert!(rt; into == Err(UpgradeFault::NotContainer));
-    let of = upgraded(&mut arena, &schema, "Either", "P", node);
+    let of = upgraded(rt.alloc(), &mut arena, "Either", "P", node)?;
     assert!(rt; of == Err(UpgradeFault::NotContainer));
     assert!(rt; arena.len() == before);
     Ok(())

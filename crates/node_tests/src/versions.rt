@@ -98,17 +98,26 @@ fn is_dropped(versions: &mut Versions, name: &Name) -> Result<bool, Fail>
     Ok(there && versions.get(FIRST, name).is_none())
 }
 
+// Whether the changes of a version and of its fork stay apart, until the version is dropped.
+fn stay_apart(alloc: Global, from: &Name, to: &Name) -> Result<bool, Fail>
+    requires from { IsName from.now }
+    requires to { IsName to.now }
+{
+    let id = uint8(alloc)?;
+    let nodes = zeros(alloc)?;
+    let mut versions = forked(alloc, from, to, id, nodes)?;
+    if !are_apart(&versions, from, to, id, nodes) || count(alloc, &versions)? != 2 {
+        return Ok(false);
+    }
+    is_dropped(&mut versions, from)
+}
+
 // A name that begins with another one, forked, edited and dropped.
 #[test]
 fn changes(rt: HostRuntime) -> Result<(), Fail> {
-    let id = uint8(rt.alloc())?;
-    let nodes = zeros(rt.alloc())?;
     let a = name(rt.alloc(), "a")?;
     let ab = name(rt.alloc(), "ab")?;
-    let mut versions = forked(rt.alloc(), &ab, &a, id, nodes)?;
-    assert!(rt; are_apart(&versions, &ab, &a, id, nodes));
-    assert!(rt; count(rt.alloc(), &versions)? == 2);
-    assert!(rt; is_dropped(&mut versions, &ab)?);
+    assert!(rt; stay_apart(rt.alloc(), &ab, &a)?);
     Ok(())
 }
 
@@ -123,14 +132,21 @@ fn adopted(alloc: Global, name: &Name, id: TypeId, node: NodeId) -> Result<Versi
     Ok(versions)
 }
 
+// Whether the version is then both the first writer's and the base's.
+fn is_adopted(alloc: Global, name: &Name) -> Result<bool, Fail>
+    requires { IsName name.now }
+{
+    let id = uint8(alloc)?;
+    let (_, node) = zeros(alloc)?;
+    let versions = adopted(alloc, name, id, node)?;
+    let wanted = Some((id, node));
+    Ok(versions.get(FIRST, name) == wanted && versions.get(BASE, name) == wanted)
+}
+
 #[test]
 fn adopts(rt: HostRuntime) -> Result<(), Fail> {
-    let id = uint8(rt.alloc())?;
-    let (_, node) = zeros(rt.alloc())?;
     let a = name(rt.alloc(), "A")?;
-    let versions = adopted(rt.alloc(), &a, id, node)?;
-    assert!(rt; versions.get(FIRST, &a) == Some((id, node)));
-    assert!(rt; versions.get(BASE, &a) == Some((id, node)));
+    assert!(rt; is_adopted(rt.alloc(), &a)?);
     Ok(())
 }
 
