@@ -35,80 +35,106 @@ fn no_session(alloc: Global) -> SszSession {
     }
 }
 
-#[test]
-fn bytes_are_judged(rt: HostRuntime) -> Result<(), Fail> {
-    let alloc = rt.alloc();
-    let mut schema = no_schema(alloc);
+// The number of P, once the schema is read.
+fn number_of_p(alloc: Global, schema: &mut SszSchema) -> Option<u64> {
     let mut fault = SszFault::none();
     let mut number = 7;
-    let read = ssz_schema_read(alloc, &mut schema, TYPES, &mut fault);
-    assert_eq!(rt; read, status::OK);
-    let found = ssz_type(alloc, &mut schema, b"P", &mut number, &mut fault);
-    assert_eq!(rt; found, status::OK);
-    let judged = ssz_check(alloc, &mut schema, number, &[0; 17], &mut fault);
-    assert_eq!(rt; judged, status::INVALID);
-    assert_eq!(rt; fault.code, 2);
-    assert_eq!(rt; fault.position, 16);
+    let read = ssz_schema_read(alloc, schema, TYPES, &mut fault);
+    let found = ssz_type(alloc, schema, b"P", &mut number, &mut fault);
+    if read == status::OK && found == status::OK {
+        Some(number)
+    } else {
+        None
+    }
+}
+
+// Whether a byte behind the value of P is found.
+fn is_judged(alloc: Global, schema: &mut SszSchema, number: u64) -> bool {
+    let mut fault = SszFault::none();
+    let judged = ssz_check(alloc, schema, number, &[0; 17], &mut fault);
+    judged == status::INVALID && fault.code == 2 && fault.position == 16
+}
+
+fn is_hashed(alloc: Global, schema: &mut SszSchema, number: u64) -> bool {
+    let mut fault = SszFault::none();
     let mut root = [0; 32];
-    let hashed = ssz_root(alloc, &mut schema, number, &[0; 16], &mut root, &mut fault);
-    assert_eq!(rt; hashed, status::OK);
-    assert_eq!(rt; root, ZEROS);
-    assert_eq!(rt; ssz_schema_free(alloc, &mut schema), status::OK);
-    Ok(())
+    let hashed = ssz_root(alloc, schema, number, &[0; 16], &mut root, &mut fault);
+    hashed == status::OK && root == ZEROS
 }
 
 #[test]
-fn parts_are_found(rt: HostRuntime) -> Result<(), Fail> {
-    let alloc = rt.alloc();
-    let mut schema = no_schema(alloc);
+fn bytes_are_judged(rt: HostRuntime) -> Result<(), Fail> {
+    let mut schema = no_schema(rt.alloc());
+    let number = number_of_p(rt.alloc(), &mut schema).ok_or("no P")?;
+    assert!(rt; is_judged(rt.alloc(), &mut schema, number));
+    assert!(rt; is_hashed(rt.alloc(), &mut schema, number));
+    assert!(rt; ssz_schema_free(rt.alloc(), &mut schema) == status::OK);
+    Ok(())
+}
+
+// Whether b of P is at 3.
+fn is_placed(alloc: Global, schema: &mut SszSchema, number: u64) -> bool {
     let mut fault = SszFault::none();
-    let mut number = 7;
-    let _read = ssz_schema_read(alloc, &mut schema, TYPES, &mut fault);
-    let _found = ssz_type(alloc, &mut schema, b"P", &mut number, &mut fault);
     let mut index = SszIndex { low: 0, high: 0 };
-    let placed = ssz_gindex(alloc, &mut schema, number, b"/b", &mut index, &mut fault);
-    assert_eq!(rt; placed, status::OK);
-    assert_eq!(rt; index.low, 3);
+    let placed = ssz_gindex(alloc, schema, number, b"/b", &mut index, &mut fault);
+    placed == status::OK && index.low == 3
+}
+
+// Whether the eight bytes of b of P are copied.
+fn is_copied(alloc: Global, schema: &mut SszSchema, number: u64) -> bool {
+    let mut fault = SszFault::none();
     let mut room = [7; 8];
     let mut len = 0;
     let (path, bytes) = (b"/b", [0; 16]);
     let part = ssz_part(
-        alloc,
-        &mut schema,
-        number,
-        &bytes,
-        path,
-        &mut room,
-        &mut len,
-        &mut fault,
+        alloc, schema, number, &bytes, path, &mut room, &mut len, &mut fault,
     );
-    assert_eq!(rt; part, status::OK);
-    assert_eq!(rt; len, 8);
-    assert_eq!(rt; room, [0; 8]);
-    assert_eq!(rt; ssz_verify(alloc, &ZEROS, b"proof /\n"), status::BAD_PROOF);
-    Ok(())
+    part == status::OK && len == 8 && room == [0; 8]
 }
 
 #[test]
-fn a_session_replies(rt: HostRuntime) -> Result<(), Fail> {
-    let alloc = rt.alloc();
-    let mut session = no_session(alloc);
-    let mut fault = SszFault::none();
-    let started = ssz_session_start(alloc, &mut session, TYPES, &mut fault);
-    assert_eq!(rt; started, status::OK);
-    let mut len = 0;
-    let made = ssz_session_run(alloc, &mut session, b"new V P", &mut len, &mut fault);
-    assert_eq!(rt; made, status::OK);
-    let loaded = ssz_session_run(alloc, &mut session, b"load W P f", &mut len, &mut fault);
-    assert_eq!(rt; loaded, status::NO_READ);
-    assert_eq!(rt; fault.position, 2);
-    let listed = ssz_session_run(alloc, &mut session, b"list", &mut len, &mut fault);
-    assert_eq!(rt; listed, status::OK);
-    let mut reply = [0; 7];
-    let taken = ssz_session_reply(alloc, &mut session, &mut reply, &mut len, &mut fault);
-    assert_eq!(rt; taken, status::OK);
-    assert_eq!(rt; reply.as_slice(), b"list V\n".as_slice());
-    assert_eq!(rt; ssz_session_end(alloc, &mut session), status::OK);
-    assert_eq!(rt; ssz_session_end(alloc, &mut session), status::NO_HANDLE);
+fn parts_are_found(rt: HostRuntime) -> Result<(), Fail> {
+    let mut schema = no_schema(rt.alloc());
+    let number = number_of_p(rt.alloc(), &mut schema).ok_or("no P")?;
+    assert!(rt; is_placed(rt.alloc(), &mut schema, number));
+    assert!(rt; is_copied(rt.alloc(), &mut schema, number));
+    assert!(rt; ssz_verify(rt.alloc(), &ZEROS, b"proof /\n") == status::BAD_PROOF);
     Ok(())
+}
+
+// How a line ends, and the position of its fault.
+fn ran(alloc: Global, session: &mut SszSession, line: &[u8]) -> (u32, u64) {
+    let mut fault = SszFault::none();
+    let mut len = 0;
+    let status = ssz_session_run(alloc, session, line, &mut len, &mut fault);
+    (status, fault.position)
+}
+
+fn is_started(alloc: Global, session: &mut SszSession) -> bool {
+    ssz_session_start(alloc, session, TYPES, &mut SszFault::none()) == status::OK
+}
+
+// Whether a statement that wants a file is refused, and the others are done.
+fn runs(alloc: Global, session: &mut SszSession) -> bool {
+    ran(alloc, session, b"new V P").0 == status::OK
+        && ran(alloc, session, b"load W P f") == (status::NO_READ, 2)
+        && ran(alloc, session, b"list").0 == status::OK
+}
+
+// Whether the last reply is this one.
+fn replied(alloc: Global, session: &mut SszSession, line: &[u8; 7]) -> bool {
+    let mut fault = SszFault::none();
+    let (mut reply, mut len) = ([0; 7], 0);
+    let taken = ssz_session_reply(alloc, session, &mut reply, &mut len, &mut fault);
+    taken == status::OK && reply == *line
+}
+
+#[test]
+fn a_session_replies(rt: HostRuntime) {
+    let mut session = no_session(rt.alloc());
+    assert!(rt; is_started(rt.alloc(), &mut session));
+    assert!(rt; runs(rt.alloc(), &mut session));
+    assert!(rt; replied(rt.alloc(), &mut session, b"list V\n"));
+    assert!(rt; ssz_session_end(rt.alloc(), &mut session) == status::OK);
+    assert!(rt; ssz_session_end(rt.alloc(), &mut session) == status::NO_HANDLE);
 }
