@@ -1,3 +1,6 @@
+ghost use Rattle.std.specs.Prelude.{◌≡◌, length};
+ghost use Rattle.ssz_bytes.specs.Bytes.{bits_size};
+
 use ssz_basic::{bit, put_bits, put_uint, read_bitlist, read_bitvector, read_bool, read_uint};
 use ssz_bytes::{BitRun, Fault};
 use ssz_schema::Width;
@@ -14,14 +17,19 @@ fn numbers_are_little_endian(rt: HostRuntime) {
     assert!(rt; read_uint(Width::W32, &[0xaa, 0xbb, 0, 1]) == 0x0100_bbaa);
 }
 
+// The one byte of the bits, with a delimiter behind them or without.
+fn byte_of(bits: &BitRun, delimiter: bool) -> u8
+    requires { bits_size delimiter (length bits.now) ≡ 1 }
+{
+    let mut bytes = [0; 1];
+    put_bits(bits, delimiter, &mut bytes);
+    bytes[0]
+}
+
 // The bits 1, 0, 1 as a bitvector and as a bitlist.
 fn bytes_of_bits(alloc: Global) -> Result<(u8, u8), AllocError> {
     let bits = BitRun::copy_of(alloc, &[true, false, true])?;
-    let mut bytes = [0; 1];
-    put_bits(&bits, false, &mut bytes);
-    let vector = bytes[0];
-    put_bits(&bits, true, &mut bytes);
-    Ok((vector, bytes[0]))
+    Ok((byte_of(&bits, false), byte_of(&bits, true)))
 }
 
 #[test]

@@ -6,11 +6,17 @@ use ssz_schema::{Format, Name, Schema, SchemaError, SchemaFault, TypeExpr, TypeI
 use std::alloc::{AllocError, Global};
 use std::test::Fail;
 
-// Two fields of booleans, with the names of the two letters.
-fn container(alloc: Global, first: &[u8], second: &[u8]) -> Result<TypeExpr, AllocError> {
+// A field of a boolean.
+fn field(alloc: Global, name: &[u8]) -> Result<(Name, TypeExpr), AllocError> {
+    Ok((Name::copy_of(alloc, name)?, TypeExpr::Boolean))
+}
+
+// Fields of booleans, with these names.
+fn container(alloc: Global, names: &[&[u8]]) -> Result<TypeExpr, AllocError> {
     let mut fields = Vec::new(alloc);
-    fields.push((Name::copy_of(alloc, first)?, TypeExpr::Boolean))?;
-    fields.push((Name::copy_of(alloc, second)?, TypeExpr::Boolean))?;
+    for name in names {
+        fields.push(field(alloc, name)?)?;
+    }
     Ok(TypeExpr::Container(fields))
 }
 
@@ -62,9 +68,9 @@ fn a_union_is_added(rt: HostRuntime) -> Result<(), Fail> {
 }
 
 // Whether a definition of T by two fields of these names is refused since they are the same.
-fn is_refused(alloc: Global, schema: &mut Schema, names: [&[u8]; 2]) -> Result<bool, AllocError> {
+fn is_refused(alloc: Global, schema: &mut Schema, names: &[&[u8]]) -> Result<bool, AllocError> {
     let name = Name::copy_of(alloc, b"T")?;
-    let expr = container(alloc, names[0], names[1])?;
+    let expr = container(alloc, names)?;
     let refused = schema.add(&name, &expr);
     Ok(refused == Err(SchemaError::Fault(SchemaFault::FieldTaken)))
 }
@@ -73,14 +79,10 @@ fn is_refused(alloc: Global, schema: &mut Schema, names: [&[u8]; 2]) -> Result<b
 #[test]
 fn a_refusal_leaves_the_schema(rt: HostRuntime) -> Result<(), Fail> {
     let mut schema = Schema::empty(rt.alloc())?;
-    assert!(rt; is_refused(rt.alloc(), &mut schema, [b"a", b"a"])?);
+    assert!(rt; is_refused(rt.alloc(), &mut schema, &[b"a", b"a"])?);
     assert!(rt; schema.find("T").is_none());
-    let id = added(
-        rt.alloc(),
-        &mut schema,
-        b"T",
-        container(rt.alloc(), b"a", b"b"),
-    )?;
+    let two = container(rt.alloc(), &[b"a", b"b"]);
+    let id = added(rt.alloc(), &mut schema, b"T", two)?;
     assert!(rt; schema.fixed_size(id) == Some(2));
     Ok(())
 }
