@@ -11,7 +11,7 @@ pub fn chunk(high: u128, low: u128) -> Chunk {
 
 // A chunk that begins with this byte.
 pub fn beginning(first: u8) -> Chunk {
-    let mut chunk = Chunk::ZERO;
-    chunk.0[0] = first;
-    chunk
+    let mut bytes = [0; 32];
+    bytes[0] = first;
+    Chunk(bytes)
 }

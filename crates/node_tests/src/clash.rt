@@ -28,12 +28,17 @@ fn chunk(ends: Ends) -> Chunk {
     Chunk(bytes)
 }
 
+fn entry(number: u128, ends: Ends) -> Option<Entry> {
+    let index = Gindex::new(number)?;
+    let chunk = chunk(ends);
+    Some(Entry { index, chunk })
+}
+
 fn entries(alloc: Global, list: &[(u128, Ends)]) -> Result<Vec<Entry>, Fail> {
     let mut entries = Vec::new(alloc);
     for (number, ends) in list {
-        if let Some(index) = Gindex::new(*number) {
-            let chunk = chunk(*ends);
-            entries.push(Entry { index, chunk })?;
+        if let Some(entry) = entry(*number, *ends) {
+            entries.push(entry)?;
         }
     }
     Ok(entries)

@@ -139,10 +139,8 @@ fn named(fault: ProveFault) -> (u128, u128) {
 
 // The numbers of the fault where there is no proof at these numbers.
 fn fault_of(alloc: Global, kind: Made, numbers: &[u128]) -> Result<Option<(u128, u128)>, Fail> {
-    match proved(alloc, kind, numbers, &mut XorPair::new())? {
-        Ok(_) => Ok(None),
-        Err(fault) => Ok(Some(named(fault))),
-    }
+    let proof = proved(alloc, kind, numbers, &mut XorPair::new())?;
+    Ok(proof.err().map(named))
 }
 
 type FaultRow = (Made, [u128; 4], (u128, u128));

@@ -11,7 +11,8 @@ use std::test::Fail;
 
 // A field of one byte, of a number.
 fn field(alloc: Global, name: u8, width: Width) -> Result<(Name, TypeExpr), AllocError> {
-    Ok((Name::copy_of(alloc, &[name])?, TypeExpr::Uint(width)))
+    let name = Name::copy_of(alloc, &[name])?;
+    Ok((name, TypeExpr::Uint(width)))
 }
 
 // A container of these fields, of as many numbers.
@@ -60,9 +61,9 @@ fn schema(alloc: Global) -> Result<Schema, Fail> {
 fn chunk(place: usize, byte: u8) -> Chunk
     requires { place < 32 }
 {
-    let mut chunk = Chunk::ZERO;
-    chunk.0[place] = byte;
-    chunk
+    let mut bytes = [0; 32];
+    bytes[place] = byte;
+    Chunk(bytes)
 }
 
 // P of a 1, b 2.

@@ -38,13 +38,11 @@ fn zeros(alloc: Global) -> Result<(NodeId, NodeId), AllocError> {
 fn edit(versions: &mut Versions, name: &Name, node: NodeId) -> bool
     requires { IsName name.now }
 {
-    match versions.edit(FIRST, name) {
-        Some(held) => {
-            *held = node;
-            true
-        }
-        None => false,
-    }
+    let Some(held) = versions.edit(FIRST, name) else {
+        return false;
+    };
+    *held = node;
+    true
 }
 
 // A version of the first node, forked, and the fork edited to the second one.
