@@ -8,8 +8,9 @@ ghost use Rattle.std.specs.Prelude.{◌≡◌, ◌<◌, length, IfOk, IfSome};
 ghost use Rattle.ssz_arena.specs.Content.{IsNodeOf, node_count};
 ghost use Rattle.node_rows.specs.Versions.{AreVersions};
 
+use super::digits::Digits;
 use super::edit_calls::edited;
-use super::rows::{cut, rows_of, schema_of, type_named, value_of_type};
+use super::rows::{Subject, cut, type_named, value_of_type};
 use anyhow::{Result, bail};
 use ssz_arena::{Arena, NodeId};
 use ssz_chunk::{PairHash, ShaPair};
@@ -81,8 +82,7 @@ fn print_root<H: PairHash>(
     ensures { node_count arena.new ≡ node_count arena.old }
 {
     let root = arena.root(node, hasher);
-    let digits = hex::encode(rt.alloc(), root.0.as_slice())?;
-    println!(rt; "{} {digits}", cut(row).0)?;
+    println!(rt; "{} {}", cut(row).0, Digits(root.0.as_slice()))?;
     Ok(())
 }
 
@@ -169,8 +169,6 @@ fn print_rows(rt: &HostRuntime, schema: &Schema, rows: &str) -> Result<()> {
 
 /// Prints what the edits of the rows of edit.txt lead to.
 pub fn print_subject(rt: &HostRuntime) -> Result<()> {
-    println!(rt; "edit")?;
-    let schema = schema_of(rt, "edit_schema.json")?;
-    let rows = rows_of(rt, "edit.txt")?;
-    print_rows(rt, &schema, rows.as_str())
+    let subject = Subject::begin(rt, "edit", "edit_schema.json", "edit.txt")?;
+    print_rows(rt, &subject.schema, subject.rows.as_str())
 }

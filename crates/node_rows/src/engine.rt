@@ -9,9 +9,10 @@
 //!
 //! The files that scripts read are those of engine_files.txt, each behind a line `--- NAME`, or as
 //! one line `--- NAME DIGITS`.
+use super::digits::Digits;
 use super::engine_weave::push_replies;
 use super::engine_world::{Failing, World, files_of};
-use super::rows::{parted, print_hex, rows_of, schema_of};
+use super::rows::{parted, rows_of, schema_of};
 use anyhow::{Result, bail};
 use ssz_chunk::{PairHash, ShaPair, XorPair};
 use ssz_engine::Engine;
@@ -37,9 +38,7 @@ fn print_text(rt: &HostRuntime, bytes: &[u8]) -> Result<()> {
 
 // Prints a file that a script saved.
 fn print_bytes(rt: &HostRuntime, name: &str, bytes: &[u8]) -> Result<()> {
-    print!(rt; "{name} ")?;
-    print_hex(rt, bytes)?;
-    println!(rt; "")?;
+    println!(rt; "{name} 0x{}", Digits(bytes))?;
     Ok(())
 }
 

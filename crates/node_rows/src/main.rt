@@ -7,6 +7,7 @@
 //! merkle-proofs.md alone. The stored run compares, so that the rows need no proof.
 #![tactic(auto)]
 
+mod digits;
 mod edit;
 mod edit_calls;
 mod edit_values;

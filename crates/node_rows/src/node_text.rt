@@ -1,7 +1,8 @@
 ghost use Rattle.std.specs.Prelude.{◌≤◌, IfOk};
 ghost use Rattle.ssz_arena.specs.Content.{IsNodeOf, node_count};
 
-use anyhow::{Context, Result, bail};
+use super::rows::bytes_of;
+use anyhow::{Result, bail};
 use ssz_arena::{Arena, NodeId};
 use ssz_chunk::{Chunk, LEVELS, PairHash};
 use std::alloc::Global;
@@ -48,17 +49,23 @@ fn read_end<H: PairHash>(alloc: Global, arena: &mut Arena<H>, word: &str) -> Res
     if let Some(digits) = word.strip_prefix("z") {
         return zero_tree(arena, digits.parse()?);
     }
-    let digits = word.strip_prefix("0x").context("no tree")?;
-    let Ok(bytes) = hex::decode(alloc, digits) else {
-        bail!("no bytes");
+    let chunk = chunk_of(alloc, word)?;
+    arena.reserve(1)?;
+    Ok(arena.leaf(chunk))
+}
+
+// The chunk that begins with the bytes of the digits.
+fn chunk_of(alloc: Global, word: &str) -> Result<Chunk> {
+    let Some(digits) = word.strip_prefix("0x") else {
+        bail!("no tree");
     };
+    let bytes = bytes_of(alloc, digits)?;
     if bytes.len() > 32 {
         bail!("no chunk");
     }
-    let mut chunk = Chunk::ZERO;
-    chunk.0[..bytes.len()].copy_from_slice(bytes.as_slice());
-    arena.reserve(1)?;
-    Ok(arena.leaf(chunk))
+    let mut chunk = [0; 32];
+    chunk[..bytes.len()].copy_from_slice(bytes.as_slice());
+    Ok(Chunk(chunk))
 }
 
 fn zero_tree<H: PairHash>(arena: &Arena<H>, depth: u32) -> Result<NodeId>

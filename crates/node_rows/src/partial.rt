@@ -4,9 +4,8 @@ ghost use Rattle.ssz_schema.specs.Unfolding.{type_of};
 ghost use Rattle.ssz_value.specs.Standing.{value_of};
 ghost use Rattle.ssz_partial.specs.Partial.{FitsAt};
 
-use super::rows::{
-    cut, parted, print_hex, rows_of, schema_of, steps_of, type_named, value_of_type,
-};
+use super::digits::Digits;
+use super::rows::{Subject, cut, parted, steps_of, type_named, value_of_type};
 use anyhow::{Result, bail};
 use ssz_chunk::ShaPair;
 use ssz_partial::Partial;
@@ -17,9 +16,7 @@ use std::alloc::Global;
 
 fn print_root(rt: &HostRuntime, partial: &Partial) -> Result<()> {
     let root = partial.root(&mut ShaPair::new());
-    print!(rt; "root: ")?;
-    print_hex(rt, root.0.as_slice())?;
-    println!(rt; "")?;
+    println!(rt; "root: 0x{}", Digits(root.0.as_slice()))?;
     Ok(())
 }
 
@@ -28,9 +25,8 @@ fn print_part(rt: &HostRuntime, schema: &Schema, partial: &Partial, path: &[Path
 {
     match partial.get(schema, path) {
         Ok(piece) => {
-            print!(rt; "len {}, chunk ", piece.len)?;
-            print_hex(rt, piece.bytes.0.as_slice())?;
-            println!(rt; "")?;
+            let chunk = Digits(piece.bytes.0.as_slice());
+            println!(rt; "len {}, chunk 0x{chunk}", piece.len)?;
         }
         Err(fault) => println!(rt; "{fault:?}")?,
     }
@@ -132,13 +128,15 @@ fn print_block(rt: &HostRuntime, schema: &Schema, block: &str) -> Result<()> {
     Ok(())
 }
 
-/// Prints what trees answer for the rows of partial.txt.
-pub fn print_subject(rt: &HostRuntime) -> Result<()> {
-    println!(rt; "partial")?;
-    let schema = schema_of(rt, "partial_schema.json")?;
-    let rows = rows_of(rt, "partial.txt")?;
+fn print_blocks(rt: &HostRuntime, schema: &Schema, rows: &str) -> Result<()> {
     for block in rows.split("\n\n") {
-        print_block(rt, &schema, block)?;
+        print_block(rt, schema, block)?;
     }
     Ok(())
+}
+
+/// Prints what trees answer for the rows of partial.txt.
+pub fn print_subject(rt: &HostRuntime) -> Result<()> {
+    let subject = Subject::begin(rt, "partial", "partial_schema.json", "partial.txt")?;
+    print_blocks(rt, &subject.schema, subject.rows.as_str())
 }

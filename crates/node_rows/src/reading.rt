@@ -3,9 +3,10 @@
 ghost use Rattle.std.specs.Prelude.{◌<◌, length, IfOk};
 ghost use Rattle.ssz_arena.specs.Content.{IsNodeOf};
 
+use super::digits::Digits;
 use super::node_text::read_tree;
 use super::reading_parts::print_part;
-use super::rows::{parted, print_hex, rows_of, schema_of, type_named};
+use super::rows::{Subject, parted, type_named};
 use anyhow::{Result, bail};
 use ssz_arena::{Arena, NodeId};
 use ssz_chunk::{PairHash, XorPair};
@@ -44,9 +45,7 @@ fn print_encoding<H: PairHash>(
     let mut out = Vec::new(rt.alloc());
     out.push(7)?;
     let written = write_encoding(arena, schema, id, node, max, &mut out);
-    print!(rt; "encoding {max}: {written:?}, ")?;
-    print_hex(rt, out.as_slice())?;
-    println!(rt; "")?;
+    println!(rt; "encoding {max}: {written:?}, 0x{}", Digits(out.as_slice()))?;
     Ok(())
 }
 
@@ -102,13 +101,15 @@ fn print_block(rt: &HostRuntime, schema: &Schema, block: &str) -> Result<()> {
     Ok(())
 }
 
-/// Prints what is read for the rows of reading.txt.
-pub fn print_subject(rt: &HostRuntime) -> Result<()> {
-    println!(rt; "reading")?;
-    let schema = schema_of(rt, "reading_schema.json")?;
-    let rows = rows_of(rt, "reading.txt")?;
+fn print_blocks(rt: &HostRuntime, schema: &Schema, rows: &str) -> Result<()> {
     for block in rows.split("\n\n") {
-        print_block(rt, &schema, block)?;
+        print_block(rt, schema, block)?;
     }
     Ok(())
+}
+
+/// Prints what is read for the rows of reading.txt.
+pub fn print_subject(rt: &HostRuntime) -> Result<()> {
+    let subject = Subject::begin(rt, "reading", "reading_schema.json", "reading.txt")?;
+    print_blocks(rt, &subject.schema, subject.rows.as_str())
 }

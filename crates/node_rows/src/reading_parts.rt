@@ -1,6 +1,7 @@
-use super::rows::{print_hex, steps_of};
+use super::digits::Shown;
+use super::rows::steps_of;
 use anyhow::{Result, bail};
-use ssz_chunk::{Chunk, PairHash};
+use ssz_chunk::PairHash;
 use ssz_schema::PathStep;
 use ssz_value::PathFault;
 use ssz_views::View;
@@ -66,21 +67,8 @@ fn print_found<H: PairHash>(
 
 fn print_answers<H: PairHash>(rt: &HostRuntime, view: &View<'_, H>) -> Result<()> {
     let (len, selector, uint) = (view.len(), view.selector(), view.uint());
-    print!(rt; "len {len:?}, selector {selector:?}, uint {uint:?}, wide ")?;
-    print_chunk(rt, view.wide())?;
-    let boolean = view.boolean();
-    print!(rt; ", boolean {boolean:?}, chunk ")?;
-    print_chunk(rt, view.chunk())?;
-    println!(rt; "")?;
+    print!(rt; "len {len:?}, selector {selector:?}, uint {uint:?}, ")?;
+    let (wide, chunk) = (Shown(view.wide()), Shown(view.chunk()));
+    println!(rt; "wide {wide}, boolean {:?}, chunk {chunk}", view.boolean())?;
     Ok(())
-}
-
-fn print_chunk(rt: &HostRuntime, chunk: Option<&Chunk>) -> Result<()> {
-    match chunk {
-        Some(chunk) => print_hex(rt, chunk.0.as_slice()),
-        None => {
-            print!(rt; "None")?;
-            Ok(())
-        }
-    }
 }

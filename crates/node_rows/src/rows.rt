@@ -12,6 +12,23 @@ use ssz_value::Value;
 use std::alloc::Global;
 use std::fs;
 
+/// The types and the rows of a subject.
+#[derive(Drop)]
+pub struct Subject {
+    pub schema: Schema,
+    pub rows: String,
+}
+
+impl Subject {
+    /// What its two files have. Its name is printed.
+    pub fn begin(rt: &HostRuntime, name: &str, schema: &str, rows: &str) -> Result<Self> {
+        println!(rt; "{name}")?;
+        let schema = schema_of(rt, schema)?;
+        let rows = rows_of(rt, rows)?;
+        Ok(Subject { schema, rows })
+    }
+}
+
 /// The types of a schema file.
 pub fn schema_of(rt: &HostRuntime, file: &str) -> Result<Schema> {
     let text = fs::read(rt, file)?;
@@ -78,11 +95,4 @@ pub fn value_of_type(alloc: Global, schema: &Schema, id: TypeId, digits: &str) -
         Ok(value) => Ok(value),
         Err(_) => bail!("not decoded"),
     }
-}
-
-/// Prints the digits of the bytes.
-pub fn print_hex(rt: &HostRuntime, bytes: &[u8]) -> Result<()> {
-    let digits = hex::encode(rt.alloc(), bytes)?;
-    print!(rt; "0x{digits}")?;
-    Ok(())
 }

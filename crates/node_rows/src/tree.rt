@@ -8,8 +8,9 @@ ghost use Rattle.ssz_schema.specs.Unfolding.{type_of};
 ghost use Rattle.ssz_value.specs.Standing.{IsValue};
 ghost use Rattle.ssz_arena.specs.Content.{IsNodeOf};
 
-use super::rows::{bytes_of, cut, parted, rows_of, schema_of, type_named, value_of_type};
-use anyhow::{Context, Result, bail};
+use super::digits::Digits;
+use super::rows::{Subject, bytes_of, cut, parted, type_named, value_of_type};
+use anyhow::{Result, bail};
 use ssz_arena::{Arena, NodeId};
 use ssz_chunk::{Chunk, PairHash, ShaPair};
 use ssz_codec::check;
@@ -116,6 +117,24 @@ fn of_encoded<H: PairHash>(
     of_bytes(arena, schema, id, bytes.as_slice(), hasher)
 }
 
+// Of both, which must be alike.
+fn of_digits<H: PairHash>(
+    alloc: Global,
+    arena: &mut Arena<H>,
+    schema: &Schema,
+    id: TypeId,
+    digits: &str,
+    hasher: &mut H,
+) -> Result<Made>
+    requires { id < length schema.now.trees }
+{
+    let made = of_encoded(alloc, arena, schema, id, digits, hasher)?;
+    if of_decoded(alloc, arena, schema, id, digits, hasher)? != made {
+        bail!("the value has another node than its bytes");
+    }
+    Ok(made)
+}
+
 // Of the node of the default of the type.
 fn of_default<H: PairHash>(
     arena: &mut Arena<H>,
@@ -143,18 +162,15 @@ fn of_row<H: PairHash>(
         return of_default(arena, schema, type_named(schema, second)?, hasher);
     }
     let id = type_named(schema, first)?;
-    let digits = second.strip_prefix("0x").context("no bytes")?;
-    let made = of_encoded(alloc, arena, schema, id, digits, hasher)?;
-    if of_decoded(alloc, arena, schema, id, digits, hasher)? != made {
-        bail!("the value has another node than its bytes");
-    }
-    Ok(made)
+    let Some(digits) = second.strip_prefix("0x") else {
+        bail!("no bytes");
+    };
+    of_digits(alloc, arena, schema, id, digits, hasher)
 }
 
 fn print_made(rt: &HostRuntime, words: &str, made: &Made) -> Result<()> {
-    let digits = hex::encode(rt.alloc(), made.root.0.as_slice())?;
-    let (nodes, pairs) = (made.nodes, made.pairs);
-    println!(rt; "{words} {digits} {nodes} {pairs}")?;
+    let root = Digits(made.root.0.as_slice());
+    println!(rt; "{words} {root} {} {}", made.nodes, made.pairs)?;
     Ok(())
 }
 
@@ -171,8 +187,6 @@ fn print_rows(rt: &HostRuntime, schema: &Schema, rows: &str) -> Result<()> {
 
 /// Prints what is made for the rows of tree.txt.
 pub fn print_subject(rt: &HostRuntime) -> Result<()> {
-    println!(rt; "tree")?;
-    let schema = schema_of(rt, "tree_schema.json")?;
-    let rows = rows_of(rt, "tree.txt")?;
-    print_rows(rt, &schema, rows.as_str())
+    let subject = Subject::begin(rt, "tree", "tree_schema.json", "tree.txt")?;
+    print_rows(rt, &subject.schema, subject.rows.as_str())
 }
