@@ -68,12 +68,15 @@ fn print_run<H: PairHash>(
 fn print_replies(rt: &HostRuntime, status: Status, world: &World) -> Result<()> {
     print_text(rt, world.out.taken())?;
     println!(rt; "status {}", status as u8)?;
-    for name in ["f", "g"] {
-        if let Some(bytes) = world.files.held(name) {
-            print_bytes(rt, name, bytes)?;
-        }
+    print_held(rt, &world.files, "f")?;
+    print_held(rt, &world.files, "g")
+}
+
+fn print_held(rt: &HostRuntime, files: &MemFiles, name: &str) -> Result<()> {
+    match files.held(name) {
+        Some(bytes) => print_bytes(rt, name, bytes),
+        None => Ok(()),
     }
-    Ok(())
 }
 
 // Prints how a script ended of which a call failed, and what the sink took.

@@ -66,9 +66,14 @@ fn print_found<H: PairHash>(
 }
 
 fn print_answers<H: PairHash>(rt: &HostRuntime, view: &View<'_, H>) -> Result<()> {
-    let (len, selector, uint) = (view.len(), view.selector(), view.uint());
-    print!(rt; "len {len:?}, selector {selector:?}, uint {uint:?}, ")?;
+    print_numbers(rt, view)?;
     let (wide, chunk) = (Shown(view.wide()), Shown(view.chunk()));
     println!(rt; "wide {wide}, boolean {:?}, chunk {chunk}", view.boolean())?;
+    Ok(())
+}
+
+fn print_numbers<H: PairHash>(rt: &HostRuntime, view: &View<'_, H>) -> Result<()> {
+    let (len, selector, uint) = (view.len(), view.selector(), view.uint());
+    print!(rt; "len {len:?}, selector {selector:?}, uint {uint:?}, ")?;
     Ok(())
 }
