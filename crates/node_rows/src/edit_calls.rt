@@ -61,6 +61,7 @@ pub fn edited<H: PairHash>(
     called(alloc, arena, schema, old, &Edit { steps, words })
 }
 
+// By the call that the words name.
 fn called<H: PairHash>(
     alloc: Global,
     arena: &mut Arena<H>,

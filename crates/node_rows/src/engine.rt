@@ -72,6 +72,7 @@ fn print_replies(rt: &HostRuntime, status: Status, world: &World) -> Result<()> 
     print_held(rt, &world.files, "g")
 }
 
+// Nothing for a file that is absent.
 fn print_held(rt: &HostRuntime, files: &MemFiles, name: &str) -> Result<()> {
     match files.held(name) {
         Some(bytes) => print_bytes(rt, name, bytes),

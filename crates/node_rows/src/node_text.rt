@@ -31,6 +31,7 @@ pub fn read_tree<'a, H: PairHash>(
     Ok((paired(arena, left, right)?, rest))
 }
 
+// The node of a pair, in room that is made for it.
 fn paired<H: PairHash>(arena: &mut Arena<H>, left: NodeId, right: NodeId) -> Result<NodeId>
     requires left { IsNodeOf arena.old left }
     requires right { IsNodeOf arena.old right }

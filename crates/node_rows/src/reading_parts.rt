@@ -72,6 +72,7 @@ fn print_answers<H: PairHash>(rt: &HostRuntime, view: &View<'_, H>) -> Result<()
     Ok(())
 }
 
+// The part of the line that has numbers.
 fn print_numbers<H: PairHash>(rt: &HostRuntime, view: &View<'_, H>) -> Result<()> {
     let (len, selector, uint) = (view.len(), view.selector(), view.uint());
     print!(rt; "len {len:?}, selector {selector:?}, uint {uint:?}, ")?;
