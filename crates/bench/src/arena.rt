@@ -1,5 +1,5 @@
 // Edits leaves of a tree and asks its root after each edit or after all of them, or makes as many
-// pairs in a bare loop: same|near|far|bulk|pairs DEPTH COUNT.
+// pairs in a bare loop: same|near|far|bulk|sets|pairs DEPTH COUNT.
 ghost use Rattle.std.specs.Prelude.{IfOk, ◌≤◌};
 ghost use Rattle.ssz_arena.specs.Content.{IsNodeOf};
 
@@ -11,7 +11,7 @@ use ssz_gindex::Gindex;
 use std::alloc::Global;
 
 const USAGE: &str =
-    "usage: bench arena same|near|far|bulk|pairs DEPTH COUNT, with a depth of at most 32";
+    "usage: bench arena same|near|far|bulk|sets|pairs DEPTH COUNT, with a depth of at most 32";
 
 // From an edit's leaf to the next one's: an odd number that leads all over the leaves.
 const FAR: u32 = 2_654_435_761;
@@ -68,8 +68,14 @@ fn edit<H: PairHash>(
     Ok(arena.len())
 }
 
-// Edits as many leaves, all over the tree, with one root behind them.
-fn bulk<H: PairHash>(alloc: Global, depth: u32, count: u32, hasher: &mut H) -> Result<usize>
+// Edits as many leaves, all over the tree, with one root behind them where it is asked.
+fn bulk<H: PairHash>(
+    alloc: Global,
+    depth: u32,
+    count: u32,
+    asks: bool,
+    hasher: &mut H,
+) -> Result<usize>
     requires { depth ≤ 32 }
 {
     let mut arena = Arena::start(alloc, hasher)?;
@@ -77,7 +83,9 @@ fn bulk<H: PairHash>(alloc: Global, depth: u32, count: u32, hasher: &mut H) -> R
     for i in 0..count {
         top = edited(&mut arena, top, depth, i.wrapping_mul(FAR))?;
     }
-    arena.root(top, hasher);
+    if asks {
+        arena.root(top, hasher);
+    }
     Ok(arena.len())
 }
 
@@ -112,8 +120,8 @@ fn nodes<H: PairHash>(
 ) -> Result<usize>
     requires { depth ≤ 32 }
 {
-    if what == "bulk" {
-        return bulk(alloc, depth, count, hasher);
+    if what == "bulk" || what == "sets" {
+        return bulk(alloc, depth, count, what == "bulk", hasher);
     }
     let stride = stride_of(what)?;
     edit(alloc, depth, count, stride, hasher)
