@@ -118,7 +118,7 @@ module _ (result : List NodeId) (n : ℕ) (one : n ≡ 1) where
   pub first_is : id_at (take n result) 0 ≡ id_at result 0
   first_is = get_or-take n result 0 (record { 0 = 0 }) (omega arith)
 
-  pub one_below : (limit : ℕ) → length result ≡ 8 → AreBelow limit (take n result)
+  pub one_below : (limit : ℕ) → length result ≡ 64 → AreBelow limit (take n result)
       → (id_at result 0).0 < limit
   one_below limit long below =
       subst (λ (id : NodeId). id.0 < limit) first_is
@@ -131,7 +131,7 @@ module _ (result : List NodeId) (n : ℕ) (one : n ≡ 1) where
       ap (λ k. due nodes (id_at (take n result) k).0) here
       ∙ ap (λ (id : NodeId). due nodes id.0) first_is ∙ none
 
-pub one_sum : (nodes : List Node) (result : List NodeId) (n : ℕ) → n ≡ 1 → length result ≡ 8
+pub one_sum : (nodes : List Node) (result : List NodeId) (n : ℕ) → n ≡ 1 → length result ≡ 64
     → todo_all nodes (take n result) ≡ due nodes (id_at result 0).0
 one_sum nodes [] n one long = absurd (omega arith)
 one_sum nodes (id ∷ ids) zero one long = absurd (omega arith)

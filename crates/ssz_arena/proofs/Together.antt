@@ -1,5 +1,5 @@
 -- Nodes that are hashed together: which of them are due, their children, and their roots.
-use Rattle.std.proofs.Common.{◌≡◌, ℕ, zero, suc, ◌+◌, ◌-◌, ◌*◌, ◌<◌, ◌≤◌, List, [], ◌∷◌, ◌++◌, length, min, take, drop, refl, sym, ap, ap₂, ◌∙◌, subst, slice_get, Bool, true, false, not, cond, Some, None, inl, inr, arith, length-take, length-drop}
+use Rattle.std.proofs.Common.{◌≡◌, ℕ, zero, suc, ◌+◌, ◌-◌, ◌*◌, ◌<◌, ◌≤◌, List, [], ◌∷◌, ◌++◌, length, min, take, drop, refl, sym, ap, ap₂, ◌∙◌, subst, slice_get, Bool, true, false, not, cond, Option, Some, None, inl, inr, arith, length-take, length-drop}
 use Rattle.std.specs.Option.{option_and_then}
 use Rattle.std.specs.List.{All, filter, sum_by}
 use Rattle.std.proofs.lemmas.Bool.{cases_lt}
@@ -314,22 +314,74 @@ halved_row p row half rest n fits is long j below =
     ap (λ (c : Chunk). c.0) (get_or_append_left half rest d j (omega arith))
     ∙ is.made j (omega arith) ∙ ap₂ p left right
 
--- the children of the due ones, in two parts of at most eight
+-- some more of these
+pub hashed_on : (nodes : List Node) (ids : List NodeId) (from end : ℕ) → end ≤ length ids
+    → ((j : ℕ) → j < from → due nodes (id_at ids j).0 ≡ 0)
+    → AreHashed nodes (take (end - from) (drop from ids))
+    → (j : ℕ) → j < end → due nodes (id_at ids j).0 ≡ 0
+hashed_on nodes ids from end few before these j within = elim (cases_lt j from) [
+  | inl below ↦ before j below
+  | inr above ↦
+      let back : from + (j - from) ≡ j = omega arith in
+      let rest : List NodeId = drop from ids in
+      ap (λ k. due nodes (id_at ids k).0) (sym back)
+      ∙ ap (λ (id : NodeId). due nodes id.0)
+      (sym (get_or-drop from ids (j - from) (record { 0 = 0 })))
+      ∙ ap (λ (id : NodeId). due nodes id.0)
+      (sym (get_or-take (end - from) rest (j - from) (record { 0 = 0 }) (omega arith)))
+      ∙ these (j - from) (omega (arith, length-take (end - from) rest, length-drop from ids))
+]
+
+-- what is ready stays so
+ready_as : (old new : List Node) (id left right : NodeId) → IsReady old id
+    → ((j : ℕ) → due new j ≤ due old j) → (found : Option Node) → slice_get old id.0 ≡ found
+    → option_and_then (child false) found ≡ Some left
+    → option_and_then (child true) found ≡ Some right
+    → (due new left.0 ≡ 0) × (due new right.0 ≡ 0)
+ready_as old new id left right was less None is to_left to_right = cc
+ready_as old new id left right was less (Some (Leaf chunk)) is to_left to_right = cc
+ready_as old new id left right was less (Some (Pair a b cached)) is to_left to_right =
+    let both : _ = was a b cached is in (
+      omega (
+        arith,
+        both.0,
+        less left.0,
+        ap (λ (n : NodeId). due old n.0) (same_Some _ _ to_left),
+      ),
+      omega (
+        arith,
+        both.1,
+        less right.0,
+        ap (λ (n : NodeId). due old n.0) (same_Some _ _ to_right),
+      ),
+    )
+
+pub ready_still : (ids : List NodeId) (limit : ℕ) (old new : List Node) → FillsUpTo limit old new
+    → All (IsReady old) ids → All (IsReady new) ids
+ready_still ids limit old new fills ready =
+    All-from_get_or (IsReady new) ids (record { 0 = 0 }) (λ j within left right cached there.
+    let id = id_at ids j in
+    ready_as old new id left right (ready j (record { 0 = 0 }) within) fills.todo
+    (slice_get old id.0) refl
+    (sym (fills.children id.0 false) ∙ ap (option_and_then (child false)) there)
+    (sym (fills.children id.0 true) ∙ ap (option_and_then (child true)) there))
+
+-- the children of the due ones, in two parts of at most 64
 pub record KidsParts (nodes : List Node) (found result : List NodeId) (n first limit : ℕ)
     : Type 0 where
   pub some : 0 < limit
   pub count : length found ≡ n
   pub first_is : take first result ≡ take first (kids nodes found)
   pub rest_is : take (2 * n - first) (drop first result) ≡ drop first (kids nodes found)
-  pub first_few : length (take first result) ≤ 8
-  pub rest_few : length (take (2 * n - first) (drop first result)) ≤ 8
+  pub first_few : length (take first result) ≤ 64
+  pub rest_few : length (take (2 * n - first) (drop first result)) ≤ 64
   pub first_below : AreBelow (limit - 1) (take first result)
   pub rest_below : AreBelow (limit - 1) (take (2 * n - first) (drop first result))
   pub cut : first ≤ length (kids nodes found)
 
 pub kids_parts : (p : List ℕ → List ℕ → List ℕ) (nodes : List Node) (found result : List NodeId)
     (n first limit : ℕ) → IsArena p nodes → AreBelow (length nodes) found → AreBelow limit found
-    → AreDue nodes found → length found ≡ n → (n ≡ 0 → ⊥) → n ≤ 8 → first ≡ min 8 (2 * n)
+    → AreDue nodes found → length found ≡ n → (n ≡ 0 → ⊥) → n ≤ 64 → first ≡ min 64 (2 * n)
     → take (2 * length found) result ≡ kids nodes found
     → KidsParts nodes found result n first limit
 kids_parts p nodes found result n first limit arena inside below pairs count some few is_first
