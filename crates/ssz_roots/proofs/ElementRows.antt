@@ -1,5 +1,5 @@
 -- The roots of more elements of one size.
-use Rattle.std.proofs.Common.{◌≡◌, ℕ, zero, suc, ◌+◌, ◌-◌, ◌*◌, ◌<◌, ◌≤◌, ◌^◌, List, [], ◌∷◌, ◌++◌, length, map, take, drop, get_or, slice_range, Some, sym, ap, refl, ◌∙◌, subst, add-zero, arith, append_assoc}
+use Rattle.std.proofs.Common.{◌≡◌, ℕ, suc, ◌+◌, ◌-◌, ◌*◌, ◌<◌, ◌≤◌, ◌^◌, List, [], ◌∷◌, ◌++◌, length, map, take, drop, get_or, slice_range, Some, sym, ap, refl, ◌∙◌, subst, add-zero, arith, append_assoc}
 use Rattle.std.specs.List.{sum_by}
 use Rattle.std.proofs.Math.Seq.{take-add, drop-append_seam}
 use Rattle.std.proofs.lemmas.List.{append-nil, map-append, drop-drop}
@@ -280,10 +280,3 @@ FirstElements-row pair_of depth frontier after t count b i n start now middle en
     (CountsUp-add _ _ start middle end (CountsUp-add _ _ start now middle
     (FirstElements-counted pair_of depth frontier t count b i start now h (omega arith)) made)
     above))
-
--- a tree with room for eight has three levels
-pub eight_deep : (depth : ℕ) → 8 ≤ 2 ^ depth → 3 ≤ depth
-eight_deep zero room = absurd (omega arith)
-eight_deep (suc zero) room = absurd (omega arith)
-eight_deep (suc (suc zero)) room = absurd (omega arith)
-eight_deep (suc (suc (suc depth))) room = omega arith

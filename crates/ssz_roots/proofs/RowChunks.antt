@@ -1,8 +1,8 @@
 -- The chunks of bytes, pushed a row at a time.
 use Rattle.std.proofs.Common.{◌≡◌, ℕ, zero, suc, ◌+◌, ◌-◌, ◌*◌, ◌/◌, ◌^◌, ◌<◌, ◌≤◌, List, [], ◌∷◌, ◌++◌, length, drop, get_or, refl, sym, ap, ap₂, subst, ◌∙◌, ⊎_elim, zero-add, add-zero, arith}
+use Rattle.std.proofs.Math.Pow.{pow-lt}
 use Rattle.std.proofs.lemmas.Bool.{cases_lt}
 use Rattle.std.proofs.lemmas.List.{drop-drop, ext_get_or, get_or-map, length-map}
-use Rattle.std.proofs.lemmas.Nat.{pow_pos, pow-add}
 use Rattle.ssz_chunk.specs.declared.Chunk.{Chunk}
 use Rattle.ssz_chunk.specs.Chunk.{CountsUp}
 use Rattle.ssz_chunk.specs.Rows.{chunk_at}
@@ -109,21 +109,11 @@ Packed-rows pair_of depth bytes i frontier start now new_depth deep stays held c
 }
 
 -- a tree with room for a row has its levels
-pub row_deep : (depth : ℕ) → 128 ≤ 2 ^ depth → 7 ≤ depth
-row_deep depth room = ⊎_elim
-    (λ (less : depth < 7).
-    let rest : depth + (6 - depth) ≡ 6 = omega arith in
-    let whole : 2 ^ depth * 2 ^ (6 - depth) ≡ 64 =
-    sym (pow-add 2 depth (6 - depth)) ∙ ap (λ k. 2 ^ k) rest in
-    absurd (too_many (2 ^ depth) (2 ^ (6 - depth)) room (pow_pos (6 - depth)) whole))
-    (λ (enough : 7 ≤ depth). enough)
-    (cases_lt depth 7)
-  where
-    too_many : (a b : ℕ) → 128 ≤ a → 0 < b → a * b ≡ 64 → ⊥
-    too_many a zero large some is = omega arith
-    too_many a (suc b) large some is =
-        let next : a * suc b ≡ a * b + a = omega arith in
-        omega (arith, next)
+pub row_high : (depth height : ℕ) → 2 ^ height ≤ 2 ^ depth → height ≤ depth
+row_high depth height room = ⊎_elim
+    (λ (less : depth < height). let more : 2 ^ depth < 2 ^ height = pow-lt less in omega arith)
+    (λ (enough : height ≤ depth). enough)
+    (cases_lt depth height)
 
 -- bytes with the same chunks
 chunks-same : (n : ℕ) (b c : List ℕ) → ((i : ℕ) → i < n → chunk_of b i ≡ chunk_of c i)

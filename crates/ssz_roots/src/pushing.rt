@@ -13,7 +13,7 @@ ghost use Rattle.ssz_parts.specs.PartValues.{element_values};
 
 use super::columns::{Column, Lanes, WIDE};
 use super::eights::roots_of_eight;
-use super::rows::ROW;
+use super::rows::{LONGEST, next_row};
 use ssz_chunk::{Chunk, PairHash};
 use ssz_merkle::Accumulator;
 use ssz_schema::{Schema, TypeId};
@@ -44,34 +44,36 @@ fn column_of<H: PairHash>(
     roots_of_eight(lanes, elem, from, size, hasher)
 }
 
-// The roots of a row of elements of the lanes' size, from one on.
-fn row_of<H: PairHash>(
+// Makes a row of the roots of elements of the lanes' size, from one on.
+fn fill_row<H: PairHash>(
     lanes: &Lanes<'_, H>,
     elem: TypeId,
     count: u64,
     first: u64,
+    row: &mut [Chunk],
     hasher: &mut H,
-) -> [Chunk; ROW]
+)
     requires known { elem < length lanes.now.schema.now.trees }
     requires legal { IsLegal lanes.now.schema.now.format (type_of lanes.now.schema.now elem) }
     requires size { fixed_size (type_of lanes.now.schema.now elem) ≡ Some lanes.now.stride }
     requires faultless { let t = type_of lanes.now.schema.now elem in
         elements_fault (why t) (fixed_size t) count 0 lanes.now.bytes.now ≡ None }
-    requires inside { first + 128 ≤ count }
+    requires eights { length row.old % 8 ≡ 0 }
+    requires inside { first + length row.old ≤ count }
     ensures roots { let t = type_of lanes.now.schema.now elem in
-        let vs = take 128 (drop first (element_values t count lanes.now.bytes.now)) in
-        bytes_of result ≡ map (root H.pair_of) (map (tree t) vs) }
+        let vs = take (length row.old)
+        (drop first (element_values t count lanes.now.bytes.now)) in
+        bytes_of row.new ≡ map (root H.pair_of) (map (tree t) vs) }
     ensures counts { let t = type_of lanes.now.schema.now elem in
-        let vs = take 128 (drop first (element_values t count lanes.now.bytes.now)) in
+        let vs = take (length row.old)
+        (drop first (element_values t count lanes.now.bytes.now)) in
         CountsUp (sum_by (pairs t) vs) (H.pairs hasher.old) (H.pairs hasher.new) }
 {
-    let mut row = [Chunk::ZERO; ROW];
-    for k in 0..ROW / WIDE {
+    for k in 0..row.len() / WIDE {
         let at = WIDE * k;
         let column = column_of(lanes, elem, count, first + at as u64, hasher);
         row[at..at + WIDE].copy_from_slice(&column);
     }
-    row
 }
 
 // Pushes the roots of as many elements of the lanes' size as make whole rows, and says how many
@@ -91,7 +93,6 @@ fn push_element_rows<H: PairHash>(
     requires empty { Holds H.pair_of [] pushed.old }
     requires few { count ≤ 2 ^ pushed.old.depth }
     ensures at_most { result ≤ count }
-    ensures whole { result % 8 ≡ 0 }
     ensures depth { pushed.new.depth ≡ pushed.old.depth }
     ensures holds { let t = type_of lanes.now.schema.now elem in
         let vs = take result (element_values t count lanes.now.bytes.now) in
@@ -101,16 +102,19 @@ fn push_element_rows<H: PairHash>(
         CountsUp (whole_pairs pushed.old.depth result + sum_by (pairs t) vs)
         (H.pairs hasher.old) (H.pairs hasher.new) }
 {
-    let rows = count / ROW as u64;
-    'rows: for i in 0..rows {
-        let mut row = row_of(lanes, elem, count, ROW as u64 * i, hasher);
-        pushed.push_row(7, &mut row, hasher);
+    let mut row = [Chunk::ZERO; LONGEST];
+    let mut done = 0;
+    'rows: while count - done >= WIDE as u64 {
+        let (height, width) = next_row(done as usize, count as usize);
+        fill_row(lanes, elem, count, done, &mut row[..width], hasher);
+        pushed.push_row(height, &mut row[..width], hasher);
+        done += width as u64;
     }
-    ROW as u64 * rows
+    done
 }
 
-/// Pushes the roots of as many elements as make whole rows and eights, where they are fixed-size,
-/// and says how many they are.
+/// Pushes the roots of as many elements as make whole rows, where they are fixed-size, and says how
+/// many they are.
 pub(crate) fn push_eights<H: PairHash>(
     schema: &Schema,
     elem: TypeId,
@@ -139,6 +143,10 @@ pub(crate) fn push_eights<H: PairHash>(
     let Some(size) = schema.fixed_size(elem) else {
         return 0;
     };
+    let few = count < 8;
+    if few {
+        return 0;
+    }
     let stride = size as usize;
     let lanes = Lanes {
         schema,
@@ -146,11 +154,5 @@ pub(crate) fn push_eights<H: PairHash>(
         stride,
         zeros: pushed.zeros(),
     };
-    let done = push_element_rows(&lanes, elem, count, pushed, hasher);
-    let eights = count / 8;
-    'eights: for i in done / 8..eights {
-        let mut column = column_of(&lanes, elem, count, 8 * i, hasher);
-        pushed.push_row(3, &mut column, hasher);
-    }
-    8 * eights
+    push_element_rows(&lanes, elem, count, pushed, hasher)
 }

@@ -8,11 +8,11 @@ use Rattle.ssz_chunk.proofs.Counting.{CountsUp-none, CountsUp-add}
 use Rattle.ssz_schema.specs.Unfolding.{type_of}
 use Rattle.ssz_merkle.specs.Frontier.{bytes_of}
 use Rattle.ssz_roots.proofs.ElementRows.{roots_from, costs_from, roots_joined, costs_joined}
-use Rattle.ssz_roots.proofs.pushing.row_of.Goals as goal
+use Rattle.ssz_roots.proofs.pushing.fill_row.Goals as goal
 
 pub loop-k-init : goal.loop-k-init
 loop-k-init g c = record {
-  long = omega arith;
+  long = refl;
   made = refl;
   counted = CountsUp-none _;
 }
@@ -48,17 +48,17 @@ loop-k-preserved g c =
 pub returns-clause-roots : goal.returns-clause-roots
 returns-clause-roots g c =
     let ty = type_of c.args.lanes.now.schema.now c.args.elem in
-    let last : c.loop-k.k ≡ 16 = omega arith in
+    let last : 8 * c.loop-k.k ≡ length c.args.row.now = omega (arith, c.requires.eights) in
     let whole : take (8 * c.loop-k.k) c.loop-k.row ≡ c.loop-k.row =
     take_all (8 * c.loop-k.k) c.loop-k.row (omega (arith, last, c.loop-k.invariant.long)) in
     sym (ap bytes_of whole) ∙ c.loop-k.invariant.made
-    ∙ ap (λ k. roots_from g.H.PairHash.pair_of ty c.args.count c.args.lanes.now.bytes.now
-    c.args.first (8 * k)) last
+    ∙ ap (roots_from g.H.PairHash.pair_of ty c.args.count c.args.lanes.now.bytes.now
+    c.args.first) last
 
 pub returns-clause-counts : goal.returns-clause-counts
 returns-clause-counts g c =
     let ty = type_of c.args.lanes.now.schema.now c.args.elem in
-    let last : c.loop-k.k ≡ 16 = omega arith in
-    subst (λ k. CountsUp (costs_from ty c.args.count c.args.lanes.now.bytes.now c.args.first
-    (8 * k)) (g.H.PairHash.pairs c.args.hasher.now) (g.H.PairHash.pairs c.loop-k.hasher)) last
+    let last : 8 * c.loop-k.k ≡ length c.args.row.now = omega (arith, c.requires.eights) in
+    subst (λ k. CountsUp (costs_from ty c.args.count c.args.lanes.now.bytes.now c.args.first k)
+    (g.H.PairHash.pairs c.args.hasher.now) (g.H.PairHash.pairs c.loop-k.hasher)) last
     c.loop-k.invariant.counted
