@@ -6,13 +6,14 @@ use Rattle.ssz_schema.specs.Sizes.{head_size, depth}
 use Rattle.ssz_schema.specs.Unfolding.{tree_at, fields_over}
 use Rattle.ssz_schema.specs.Legal.{IsLegal, AreLegalFields}
 use Rattle.ssz_arena.specs.Content.{Content}
+use Rattle.ssz_value.specs.Encoding.{heads_length}
 use Rattle.ssz_value.specs.Faults.{why, scopes, bytes_of}
 use Rattle.ssz_value.specs.Reading.{value_in, fields_in}
 use Rattle.ssz_value.proofs.Agree.{IsInput, IsInput-range, no_faults}
 use Rattle.ssz_schema.proofs.WalkFields.{drop_at}
 use Rattle.ssz_value.proofs.PartLemmas.{Part as FieldPart, sizes_of, size_at}
 use Rattle.ssz_parts.specs.Ranges.{part_range}
-use Rattle.ssz_parts.proofs.FieldLemmas.{FieldsFrom, FieldsFrom-start, FieldsFrom-more, next_field}
+use Rattle.ssz_parts.proofs.FieldLemmas.{FieldsFrom, FieldsFrom-start, FieldsFrom-next, FieldsFrom-more, next_field}
 use Rattle.ssz_parts.proofs.Faultless.{anywhere, IsFaultless}
 use Rattle.ssz_parts.specs.PartValues.{field_values}
 use Rattle.ssz_parts.proofs.Faultless.{container_faultless}
@@ -92,6 +93,23 @@ legal_at format trees (p ∷ parts) (suc i) part h e legal =
 abbrev pub range_of : List SszType → List FieldPart → List ℕ → ℕ → ℕ → FieldPart → ℕ × ℕ
 range_of trees parts b i place part =
     part_range (size_at trees part) (sizes_of trees (drop (i + 1) parts)) place b
+
+-- the next field lies within the bytes, and behind it the fixed parts of the others
+pub FieldsAt-within : (trees : List SszType) (parts : List FieldPart) (b : List ℕ) (i place : ℕ)
+    (part : FieldPart) (range : ℕ × ℕ) → FieldsAt trees parts b i place → i < length parts
+    → part ≡ get_or parts i part → range ≡ range_of trees parts b i place part
+    → (range.0 ≤ range.1) × (range.1 ≤ length b)
+FieldsAt-within trees parts b i place part range h below e is =
+    let next = FieldsFrom-next trees parts 0 b i place part h.fields below e in
+    subst (λ (r : ℕ × ℕ). (r.0 ≤ r.1) × (r.1 ≤ length b)) (sym is) (next.up, next.inside)
+
+pub FieldsAt-room : (trees : List SszType) (parts : List FieldPart) (b : List ℕ) (i place : ℕ)
+    (part : FieldPart) → FieldsAt trees parts b i place → i < length parts
+    → part ≡ get_or parts i part
+    → place + head_size (size_at trees part)
+    + heads_length (sizes_of trees (drop (i + 1) parts)) ≤ length b
+FieldsAt-room trees parts b i place part h below e =
+    (FieldsFrom-next trees parts 0 b i place part h.fields below e).room
 
 -- field i has no fault
 pub FieldsAt-faultless : (format : Format) (trees : List SszType) (parts : List FieldPart)

@@ -26,7 +26,7 @@ use Rattle.ssz_tree.specs.Built.{part_of, chosen_part, elements_part}
 use Rattle.ssz_tree.proofs.Adding.{makes_leaf, makes_pair, Makes-chunk, Makes-joined, Makes-none, Makes-same, joined_room}
 use Rattle.ssz_tree.proofs.BytesForms.{element-at, packed_elements, vector_made, list_made, bitvector_made, bitlist_made, bitlist_nodes, basic_made, union-part, same_nodes}
 use Rattle.ssz_tree.proofs.Chunks.{nodes-of_chunks}
-use Rattle.ssz_tree.proofs.FieldGathering.{FirstFields, FieldsAt-start, FieldsAt-faultless, FieldsAt-next, fields-room, container_made, length-parts_from, parts_from}
+use Rattle.ssz_tree.proofs.FieldGathering.{FirstFields, FieldsAt-start, FieldsAt-faultless, FieldsAt-next, FieldsAt-room, FieldsAt-within, fields-room, container_made, length-parts_from, parts_from}
 use Rattle.ssz_tree.proofs.Forms.{elements-composite}
 use Rattle.ssz_tree.proofs.Gathering.{First-start, First-room, First-push, First-more, First-finish, First-done, has_room}
 use Rattle.ssz_tree.proofs.bytes.+node.Goals as goal
@@ -179,6 +179,49 @@ pub fields_node-part_range-from-requires-clause-known :
 fields_node-part_range-from-requires-clause-known g t c =
     known_weaker c.args.id (length c.args.schema.now.trees)
     c.args.fields.now c.requires.known c.requires.before
+
+pub fields_node-part_range-from-requires-clause-field :
+    goal.fields_node-part_range-from-requires-clause-field
+fields_node-part_range-from-requires-clause-field g t c =
+    let below : c.index-fields-i.result.1 < c.args.id =
+    part_known c.args.id c.args.fields.now c.loop-i.i c.index-fields-i.result c.loop-i-test.true
+    c.index-fields-i.is c.requires.before in
+    omega (arith, below, c.requires.known)
+
+pub fields_node-fixed_size-requires : goal.fields_node-fixed_size-requires
+fields_node-fixed_size-requires g t c =
+    let below : c.index-fields-i.result.1 < c.args.id =
+    part_known c.args.id c.args.fields.now c.loop-i.i c.index-fields-i.result c.loop-i-test.true
+    c.index-fields-i.is c.requires.before in
+    omega (arith, below, c.requires.known)
+
+pub fields_node-part_range-from-requires-clause-room :
+    goal.fields_node-part_range-from-requires-clause-room
+fields_node-part_range-from-requires-clause-room g t c =
+    FieldsAt-room c.args.schema.now.trees c.args.fields.now c.args.bytes.now c.loop-i.i
+    c.loop-i.place c.index-fields-i.result c.loop-i.invariant.fields c.loop-i-test.true
+    c.index-fields-i.is
+
+pub fields_node-slice_bounds-part-count : goal.fields_node-slice_bounds-part-count
+fields_node-slice_bounds-part-count g t c =
+    let within = FieldsAt-within c.args.schema.now.trees c.args.fields.now c.args.bytes.now
+    c.loop-i.i c.loop-i.place c.index-fields-i.result c.part_range-from.result
+    c.loop-i.invariant.fields c.loop-i-test.true c.index-fields-i.is c.part_range-from.ensures in
+    omega (arith, within.0, within.1)
+
+pub fields_node-slice_bounds-part-start : goal.fields_node-slice_bounds-part-start
+fields_node-slice_bounds-part-start g t c =
+    let within = FieldsAt-within c.args.schema.now.trees c.args.fields.now c.args.bytes.now
+    c.loop-i.i c.loop-i.place c.index-fields-i.result c.part_range-from.result
+    c.loop-i.invariant.fields c.loop-i-test.true c.index-fields-i.is c.part_range-from.ensures in
+    omega (arith, within.0, within.1)
+
+pub fields_node-slice_bounds-part-end : goal.fields_node-slice_bounds-part-end
+fields_node-slice_bounds-part-end g t c =
+    let within = FieldsAt-within c.args.schema.now.trees c.args.fields.now c.args.bytes.now
+    c.loop-i.i c.loop-i.place c.index-fields-i.result c.part_range-from.result
+    c.loop-i.invariant.fields c.loop-i-test.true c.index-fields-i.is c.part_range-from.ensures in
+    omega (arith, within.0, within.1)
 
 pub fields_node-bytes_node-node-requires : goal.fields_node-bytes_node-node-requires
 fields_node-bytes_node-node-requires g t c κs within =

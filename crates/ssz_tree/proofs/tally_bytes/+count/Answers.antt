@@ -23,7 +23,7 @@ use Rattle.ssz_packing.proofs.Options.{below_at}
 use Rattle.ssz_tree.specs.Built.{part_of, chosen_part}
 use Rattle.ssz_tree.proofs.BytesForms.{element-at, packed_elements, vector_made, list_made, bitvector_tally, bitlist_tally, union-part}
 use Rattle.ssz_tree.proofs.Chunks.{tally-chunks}
-use Rattle.ssz_tree.proofs.FieldGathering.{SumsFields, FieldsAt-start, FieldsAt-faultless, FieldsAt-next, container_made, length-parts_from, parts_from}
+use Rattle.ssz_tree.proofs.FieldGathering.{SumsFields, FieldsAt-start, FieldsAt-faultless, FieldsAt-next, FieldsAt-room, FieldsAt-within, container_made, length-parts_from, parts_from}
 use Rattle.ssz_tree.proofs.Alike.{alike, has_size, sum-alike, elements_fit, found_faultless, found_fit}
 use Rattle.ssz_tree.proofs.Forms.{costs-values, nodes-values, elements-composite}
 use Rattle.ssz_tree.specs.Nodes.{new_nodes}
@@ -163,6 +163,49 @@ pub fields_tally-part_range-from-requires-clause-known :
 fields_tally-part_range-from-requires-clause-known t c =
     known_weaker c.args.id (length c.args.schema.now.trees)
     c.args.fields.now c.requires.known c.requires.before
+
+pub fields_tally-part_range-from-requires-clause-field :
+    goal.fields_tally-part_range-from-requires-clause-field
+fields_tally-part_range-from-requires-clause-field t c =
+    let below : c.index-fields-i.result.1 < c.args.id =
+    part_known c.args.id c.args.fields.now c.loop-i.i c.index-fields-i.result c.loop-i-test.true
+    c.index-fields-i.is c.requires.before in
+    omega (arith, below, c.requires.known)
+
+pub fields_tally-fixed_size-requires : goal.fields_tally-fixed_size-requires
+fields_tally-fixed_size-requires t c =
+    let below : c.index-fields-i.result.1 < c.args.id =
+    part_known c.args.id c.args.fields.now c.loop-i.i c.index-fields-i.result c.loop-i-test.true
+    c.index-fields-i.is c.requires.before in
+    omega (arith, below, c.requires.known)
+
+pub fields_tally-part_range-from-requires-clause-room :
+    goal.fields_tally-part_range-from-requires-clause-room
+fields_tally-part_range-from-requires-clause-room t c =
+    FieldsAt-room c.args.schema.now.trees c.args.fields.now c.args.bytes.now c.loop-i.i
+    c.loop-i.place c.index-fields-i.result c.loop-i.invariant.fields c.loop-i-test.true
+    c.index-fields-i.is
+
+pub fields_tally-slice_bounds-part-count : goal.fields_tally-slice_bounds-part-count
+fields_tally-slice_bounds-part-count t c =
+    let within = FieldsAt-within c.args.schema.now.trees c.args.fields.now c.args.bytes.now
+    c.loop-i.i c.loop-i.place c.index-fields-i.result c.part_range-from.result
+    c.loop-i.invariant.fields c.loop-i-test.true c.index-fields-i.is c.part_range-from.ensures in
+    omega (arith, within.0, within.1)
+
+pub fields_tally-slice_bounds-part-start : goal.fields_tally-slice_bounds-part-start
+fields_tally-slice_bounds-part-start t c =
+    let within = FieldsAt-within c.args.schema.now.trees c.args.fields.now c.args.bytes.now
+    c.loop-i.i c.loop-i.place c.index-fields-i.result c.part_range-from.result
+    c.loop-i.invariant.fields c.loop-i-test.true c.index-fields-i.is c.part_range-from.ensures in
+    omega (arith, within.0, within.1)
+
+pub fields_tally-slice_bounds-part-end : goal.fields_tally-slice_bounds-part-end
+fields_tally-slice_bounds-part-end t c =
+    let within = FieldsAt-within c.args.schema.now.trees c.args.fields.now c.args.bytes.now
+    c.loop-i.i c.loop-i.place c.index-fields-i.result c.part_range-from.result
+    c.loop-i.invariant.fields c.loop-i-test.true c.index-fields-i.is c.part_range-from.ensures in
+    omega (arith, within.0, within.1)
 
 pub fields_tally-bytes_tally-requires : goal.fields_tally-bytes_tally-requires
 fields_tally-bytes_tally-requires t c =
