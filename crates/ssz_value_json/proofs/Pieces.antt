@@ -44,9 +44,9 @@ elements_more t parts i v out one two whole below here h comma text =
     (ap (λ s. out ++ s) (sym split) ∙ h))
 
 pub elements_end : (t : SszType) (parts : List Value) (i : ℕ) (out new whole : List ℕ)
-    → length parts ≤ i → out ++ elements_left t parts i ≡ whole → 0 < i
-    → new ≡ out ++ 93 ∷ [] → new ≡ whole
-elements_end t parts i out new whole all h some is =
+    → length parts ≤ i → out ++ elements_left t parts i ≡ whole → new ≡ out ++ 93 ∷ []
+    → new ≡ whole
+elements_end t parts i out new whole all h is =
     is ∙ ap (λ s. out ++ s) (sym (ap (λ vs. items_text (nat_lt 0 i)
     (items_of (map (json_of t) (map value_of vs)))) (drop_all i parts all))) ∙ h
 

@@ -21,7 +21,7 @@ use Rattle.ssz_value_json.specs.Order.{members_over, IsFieldOf}
 use Rattle.ssz_value_json.proofs.Keeping.{joined, keeps_trans}
 use Rattle.ssz_value_json.proofs.Names.{fields_are_named}
 use Rattle.ssz_value_json.proofs.Forms.{seq_json, bytes_json, container_json, chosen_text, none_text}
-use Rattle.ssz_value_json.proofs.Pieces.{members_moved, members_of_fields, part_json, part_json_at, value_at_field}
+use Rattle.ssz_value_json.proofs.Pieces.{elements_left, elements_more, elements_end, members_moved, members_of_fields, part_json, part_json_at, value_at_field}
 use Rattle.ssz_value_json.proofs.appending.+append.Goals as goal
 
 pub append_value-returns-in-Uint-clause-text : goal.append_value-returns-in-Uint-clause-text
@@ -306,3 +306,27 @@ append_fields-returns-in_err-append_value-clause-front t c =
 pub append_fields-returns-clause-front : goal.append_fields-returns-clause-front
 append_fields-returns-clause-front t c =
     keeps_trans c.loop-name.invariant.front c.put-2.ensures.front
+
+pub append_elements-loop-i-init : goal.append_elements-loop-i-init
+append_elements-loop-i-init t c = record {
+  text = ap (λ s. s ++ elements_left (type_of c.args.schema.now c.args.elem) c.args.parts.now 0)
+      c.in_ok-put.ensures.text ∙ append_assoc c.args.out.now.items (91 ∷ []) _;
+  front = c.in_ok-put.ensures.front;
+}
+
+pub append_elements-loop-i-preserved : goal.append_elements-loop-i-preserved
+append_elements-loop-i-preserved t c = record {
+  text = elements_more (type_of c.args.schema.now c.args.elem) c.args.parts.now c.loop-i.i
+      c.index-parts-i.result c.loop-i.out.items c.put_comma.new.out.items
+      c.append_value.new.out.items _ c.loop-i-test.true c.index-parts-i.is
+      c.loop-i.invariant.text c.in_ok-put_comma.ensures.text c.in_ok-append_value.ensures.text;
+  front = keeps_trans (keeps_trans c.loop-i.invariant.front c.in_ok-put_comma.ensures.front)
+      c.in_ok-append_value.ensures.front;
+}
+
+pub append_elements-returns-clause-text : goal.append_elements-returns-clause-text
+append_elements-returns-clause-text t c =
+    on_ok_weaker c.put-2.result
+    (λ e. elements_end (type_of c.args.schema.now c.args.elem) c.args.parts.now c.loop-i.i
+    c.loop-i.out.items c.put-2.new.out.items _ c.loop-i-test.false c.loop-i.invariant.text e)
+    c.put-2.ensures.text
