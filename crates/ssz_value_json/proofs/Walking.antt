@@ -1,5 +1,5 @@
 -- Walks over parts one after another.
-use Rattle.std.proofs.Common.{◌≡◌, ℕ, zero, suc, ◌+◌, ◌<◌, List, [], ◌∷◌, ◌++◌, length, drop, get_or, Option, Some, None, Ok, Err, Result, refl, sym, ap, ap₂, ◌∙◌, append_assoc}
+use Rattle.std.proofs.Common.{◌≡◌, ℕ, zero, suc, ◌+◌, ◌<◌, List, [], ◌∷◌, ◌++◌, length, drop, get_or, Option, Some, None, Ok, Err, Result, refl, sym, ap, ap₂, subst, ◌∙◌, append_assoc}
 use Rattle.std.specs.Option.{ok_or}
 use Rattle.std.proofs.Common.{Bool, true, false, slice_get}
 use Rattle.serde_json.specs.Data.{Data, null, boolean, number, string, array, object, Items, item, Members}
@@ -9,6 +9,8 @@ use Rattle.ssz_value_json.specs.declared.count.Count.{Count}
 use Rattle.serde_json.specs.View.{view, items_view}
 use Rattle.serde_json.specs.declared.value.Value.{Value as Json}
 use Rattle.ssz_value.specs.Values.{SszValue, sequence, chosen, values}
+use Rattle.ssz_value.specs.declared.value.Value.{Value}
+use Rattle.ssz_value.specs.Standing.{value_of, IsFormed}
 use Rattle.ssz_schema.proofs.WalkFields.{drop_at}
 use Rattle.ssz_value.proofs.PartLemmas.{Part}
 use Rattle.ssz_schema.specs.Types.{SszType, Fields, Options, container}
@@ -58,6 +60,21 @@ pub leaf_walks : {X : Type 0} (seen : X → SszValue) (P Q : X → Type 0) (n : 
 leaf_walks seen P Q n found (Ok x) f h = (ap (leaf n) h.0, f x h.1)
 leaf_walks seen P Q n found (Err (Bad g)) f h = ap (leaf n) h
 leaf_walks seen P Q n found (Err Memory) f h = tt
+
+-- the same at a type whose values have one form each
+pub leaf_of : (t form : SszType) (first here behind : ℕ) (d : Data)
+    (found : ℕ → Found SszValue) (r : Result Value JsonRead) → t ≡ form
+    → ((n : ℕ) → walk form n d ≡ leaf n (found n)) → ((v : Value) → IsFormed form v)
+    → here ≡ first → behind ≡ next first → Finds value_of (λ _. Unit {0}) (found here) r
+    → Walks value_of (IsFormed t) (walk t first d) behind r
+leaf_of t form first here behind d found r same is formed at after finds =
+    let walked = subst (λ (w : Walked SszValue). Walks value_of (IsFormed form) w (next first) r)
+    (sym (is first))
+    (leaf_walks value_of (λ _. Unit {0}) (IsFormed form) first (found first) r
+    (λ v known. formed v)
+    (subst (λ (n : ℕ). Finds value_of (λ _. Unit {0}) (found n) r) at finds)) in
+    subst (λ (ty : SszType). Walks value_of (IsFormed ty) (walk ty first d) behind r) (sym same)
+    (subst (λ (n : ℕ). Walks value_of (IsFormed form) (walk form first d) n r) (sym after) walked)
 
 -- the fault of a part is that of the whole
 pub passed_on : {X Y A B : Type 0} (seen : X → A) (P : X → Type 0) (r : Walked A) (behind : ℕ)

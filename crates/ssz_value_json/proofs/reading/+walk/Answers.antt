@@ -1,25 +1,27 @@
-use Rattle.std.proofs.Common.{◌∙◌, ◌+◌, ◌≡◌, ap, sym, subst, arith, rules, length, map, Some, None, slice_get, ℕ, drop, Ok, Err, append-nil, Vec, Global}
+use Rattle.std.proofs.Common.{◌∙◌, ◌+◌, ◌≡◌, ap, sym, subst, arith, rules, length, map, Some, None, slice_get, ℕ, drop, Ok, Err, append-nil, refl, ◌<◌, Vec, Global}
 use Rattle.std.specs.List.{AllByRecursion}
 use Rattle.std.proofs.lemmas.Result.{err_from_is_err_and}
 use Rattle.std.proofs.lemmas.List.{drop_all, length_push}
 use Rattle.serde_json.specs.Find.{get_member}
 use Rattle.serde_json.specs.View.{view, items_view, members_view}
-use Rattle.ssz_schema.specs.Unfolding.{type_of, tree_at, fields_over, options_over}
+use Rattle.ssz_schema.specs.Legal.{IsLegal}
+use Rattle.ssz_schema.specs.Unfolding.{type_of, tree_at, tree_over, fields_over, options_over, IsBelow, AreBelow}
 use Rattle.ssz_value.specs.Standing.{value_of, is_byte, IsFormed, FieldsFormed}
 use Rattle.ssz_schema.proofs.WalkFields.{drop_at}
-use Rattle.ssz_value.proofs.PartLemmas.{values_push}
+use Rattle.ssz_value.proofs.PartLemmas.{Part, values_push}
 use Rattle.ssz_value.proofs.FormLemmas.{formed_push, fields_push, seq_formed_alike, seq_formed_fields, chosen_formed}
-use Rattle.ssz_value_json.specs.Walk.{walk, elements_at, fields_at, field_walked, members_in, none_at}
+use Rattle.ssz_value_json.specs.declared.count.Count.TheVariants.{Exactly, AtMost}
+use Rattle.ssz_value_json.specs.Walk.{walk, uint_at, boolean_at, bits_at, elements_at, fields_at, field_walked, members_in, none_at}
 use Rattle.ssz_value_json.specs.Steps.{allows, bad_count, bad_member, bad_selector}
-use Rattle.ssz_value_json.specs.Answers.{IsFormedSequence, IsFormedUnion}
+use Rattle.ssz_value_json.specs.Answers.{Walks, IsFormedSequence, IsFormedUnion}
 use Rattle.ssz_value.specs.declared.value.Value.{Value}
 use Rattle.ssz_value.specs.Values.{chosen}
 use Rattle.ssz_value.proofs.ValueLemmas.{seq_is, chosen_is}
-use Rattle.ssz_schema.specs.Types.{container, union}
+use Rattle.ssz_schema.specs.Types.{SszType, uint, boolean, bitvector, bitlist, container, union}
 use Rattle.serde_json.specs.Events.{members_len}
 use Rattle.serde_json.proofs.Views.{members_len-members_view}
 use Rattle.ssz_value_json.proofs.Names.{fields_are_named}
-use Rattle.ssz_value_json.proofs.Walking.{before, before_none, then_more, then_found, passed_on, item_here, refused_walks, walks_as, array_refused, array_from, items_len_is, whole_of, object_members, container_from, container_refused, union_then, chosen_of, option_past, option_none, option_some}
+use Rattle.ssz_value_json.proofs.Walking.{before, before_none, leaf_of, then_more, then_found, passed_on, item_here, refused_walks, walks_as, array_refused, array_from, items_len_is, whole_of, object_members, container_from, container_refused, union_then, chosen_of, option_past, option_none, option_some}
 use Rattle.ssz_value_json.proofs.reading.+walk.Goals as goal
 
 pub elements_in-loop-item-init : goal.elements_in-loop-item-init
@@ -289,3 +291,111 @@ chosen_in-returns-in_ok-new-in-Some-Some t c =
       chosen_formed c.args.schema.now.trees c.args.options.now k c.in-Some-Some.option box here
           (subst (IsFormed ty) (sym is) c.in_ok-inner-in-Some-Some.ensures.1),
     )
+
+pub value_in-returns-in-Uint : goal.value_in-returns-in-Uint
+value_in-returns-in-Uint t c =
+    let d = view c.args.json.now in
+    leaf_of (type_of c.args.schema.now c.args.id) (uint c.in-Uint.width) c.args.number.now c.take_number.result
+    c.take_number.new.number d (λ n. uint_at c.in-Uint.width n d) c.number_in.result
+    (sym c.ty.ensures.form ∙ ap (tree_over c.args.schema.now.trees) c.in-Uint.is)
+    (λ n. refl) (λ v. tt) c.take_number.ensures.here c.take_number.ensures.behind c.number_in.ensures
+
+pub value_in-returns-in-Boolean : goal.value_in-returns-in-Boolean
+value_in-returns-in-Boolean t c =
+    let d = view c.args.json.now in
+    leaf_of (type_of c.args.schema.now c.args.id) (boolean) c.args.number.now c.take_number-in-Boolean.result
+    c.take_number-in-Boolean.new.number d (λ n. boolean_at n d) c.flag_in.result
+    (sym c.ty.ensures.form ∙ ap (tree_over c.args.schema.now.trees) c.in-Boolean.is)
+    (λ n. refl) (λ v. tt) c.take_number-in-Boolean.ensures.here c.take_number-in-Boolean.ensures.behind c.flag_in.ensures
+
+pub value_in-returns-in-Bitvector : goal.value_in-returns-in-Bitvector
+value_in-returns-in-Bitvector t c =
+    let d = view c.args.json.now in
+    leaf_of (type_of c.args.schema.now c.args.id) (bitvector c.in-Bitvector.length) c.args.number.now c.take_number-in-Bitvector.result
+    c.take_number-in-Bitvector.new.number d (λ n. bits_at (Exactly c.in-Bitvector.length) n d) c.bits_in.result
+    (sym c.ty.ensures.form ∙ ap (tree_over c.args.schema.now.trees) c.in-Bitvector.is)
+    (λ n. refl) (λ v. tt) c.take_number-in-Bitvector.ensures.here c.take_number-in-Bitvector.ensures.behind c.bits_in.ensures
+
+pub value_in-returns-in-Bitlist : goal.value_in-returns-in-Bitlist
+value_in-returns-in-Bitlist t c =
+    let d = view c.args.json.now in
+    leaf_of (type_of c.args.schema.now c.args.id) (bitlist c.in-Bitlist.limit) c.args.number.now c.take_number-in-Bitlist.result
+    c.take_number-in-Bitlist.new.number d (λ n. bits_at (AtMost c.in-Bitlist.limit) n d) c.bits_in-in-Bitlist.result
+    (sym c.ty.ensures.form ∙ ap (tree_over c.args.schema.now.trees) c.in-Bitlist.is)
+    (λ n. refl) (λ v. tt) c.take_number-in-Bitlist.ensures.here c.take_number-in-Bitlist.ensures.behind c.bits_in-in-Bitlist.ensures
+
+pub value_in-returns-in-Vector : goal.value_in-returns-in-Vector
+value_in-returns-in-Vector t c =
+    subst (λ (ty : SszType). Walks value_of (IsFormed ty)
+    (walk ty c.args.number.now (view c.args.json.now)) c.sequence_in.new.number c.sequence_in.result)
+    (sym (sym c.ty.ensures.form ∙ ap (tree_over c.args.schema.now.trees) c.in-Vector.is))
+    c.sequence_in.ensures
+
+pub value_in-returns-in-List : goal.value_in-returns-in-List
+value_in-returns-in-List t c =
+    subst (λ (ty : SszType). Walks value_of (IsFormed ty)
+    (walk ty c.args.number.now (view c.args.json.now)) c.sequence_in-in-List.new.number c.sequence_in-in-List.result)
+    (sym (sym c.ty.ensures.form ∙ ap (tree_over c.args.schema.now.trees) c.in-List.is))
+    c.sequence_in-in-List.ensures
+
+pub value_in-returns-in-Union : goal.value_in-returns-in-Union
+value_in-returns-in-Union t c =
+    subst (λ (ty : SszType). Walks value_of (IsFormed ty)
+    (walk ty c.args.number.now (view c.args.json.now)) c.chosen_in.new.number c.chosen_in.result)
+    (sym (sym c.ty.ensures.form ∙ ap (tree_over c.args.schema.now.trees) c.in-Union.is
+    ∙ ap (λ ids. union (options_over c.args.schema.now.trees ids)) (sym c.as_slice.ensures.value)))
+    c.chosen_in.ensures
+
+pub value_in-returns-in-Container : goal.value_in-returns-in-Container
+value_in-returns-in-Container t c =
+    subst (λ (ty : SszType). Walks value_of (IsFormed ty)
+    (walk ty c.args.number.now (view c.args.json.now)) c.container_in.new.number c.container_in.result)
+    (sym (sym c.ty.ensures.form ∙ ap (tree_over c.args.schema.now.trees) c.in-Container.is
+    ∙ ap (λ parts. container (fields_over c.args.schema.now.trees parts))
+    (sym c.as_slice-in-Container.ensures.value)))
+    c.container_in.ensures
+
+pub value_in-chosen_in-requires : goal.value_in-chosen_in-requires
+value_in-chosen_in-requires t c =
+    let before : AllByRecursion (IsBelow c.args.id) c.as_slice.result.now =
+    subst (AllByRecursion (IsBelow c.args.id)) (sym c.as_slice.ensures.value)
+    (subst (AreBelow c.args.id) c.in-Union.is c.ty.ensures.before) in
+    search rules
+
+pub value_in-container_in-requires : goal.value_in-container_in-requires
+value_in-container_in-requires t c =
+    let before : AllByRecursion (λ (part : Part). part.1 < c.args.id)
+    c.as_slice-in-Container.result.now =
+    subst (AllByRecursion (λ (part : Part). part.1 < c.args.id))
+    (sym c.as_slice-in-Container.ensures.value)
+    (subst (AreBelow c.args.id) c.in-Container.is c.ty.ensures.before) in
+    let legal : IsLegal c.args.schema.now.format
+    (container (fields_over c.args.schema.now.trees c.as_slice-in-Container.result.now)) =
+    subst (IsLegal c.args.schema.now.format)
+    (sym c.ty.ensures.form ∙ ap (tree_over c.args.schema.now.trees) c.in-Container.is
+    ∙ ap (λ parts. container (fields_over c.args.schema.now.trees parts))
+    (sym c.as_slice-in-Container.ensures.value)) c.ty.ensures.legal in
+    search rules
+
+pub fields_in-returns-in_err-part : goal.fields_in-returns-in_err-part
+fields_in-returns-in_err-part t c =
+    let trees = c.args.schema.now.trees in
+    let fields = c.args.fields.now in
+    let i = c.loop-field.field-index in
+    let f = c.field-item.result in
+    let ms = members_in (view c.args.json.now) in
+    let done = map value_of c.loop-field.parts.items in
+    let rest = λ (m : ℕ). fields_at (fields_over trees (drop (i + 1) fields)) m ms in
+    let p = err_from_is_err_and c.from_residual-in_err-part.result
+    c.from_residual-in_err-part.ensures.1 in
+    rw (p.1, p.2) (passed_on value_of (IsFormed (tree_at trees f.1)) _ c.field_in.new.number
+    c.in_err-part.field-0.0 (λ (vs : Vec Value Global). map value_of vs.items)
+    (λ (vs : Vec Value Global). FieldsFormed (fields_over trees fields) vs.items) _
+    c.field_in.new.number c.in_err-part.ensures
+    (λ fault found. then_found _ done
+    (field_walked (walk (tree_at trees f.1)) c.loop-field.number (get_member f.0 ms)) rest fault
+    (c.loop-field.invariant.walked
+    ∙ ap (λ ps. before done (fields_at (fields_over trees ps) c.loop-field.number ms))
+    (drop_at fields i f c.loop-field-test.true c.field-item.is))
+    (ap (field_walked (walk (tree_at trees f.1)) c.loop-field.number) (sym c.member.ensures)
+    ∙ found)))
