@@ -6,6 +6,7 @@ pub mod Levels
 pub mod Searching
 pub mod Located
 pub mod Descending
+pub mod Rowwise
 pub mod TextSteps
 pub mod ReadingSteps
 pub mod AscendingSteps

@@ -1,5 +1,6 @@
 pub mod Calculation
 pub mod Multiproof
+pub mod Rows
 pub mod Text
 pub mod Judgement
 pub mod Laws

@@ -7,6 +7,7 @@ ghost use Rattle.ssz_proof.specs.Descent.{IsAscending, IsDescending, IsReached, 
 use crate::entry::Entry;
 use crate::places::{ascending_place, descending_place};
 use crate::proof::Proof;
+use crate::rows::calculate;
 use ssz_chunk::{Chunk, PairHash};
 
 /// The root that a proof leads to (calculate_multi_merkle_root): what pair_of gives from the root
@@ -18,7 +19,10 @@ pub fn calc<H: PairHash>(proof: &Proof, hasher: &mut H) -> Chunk
     ensures pairs { H.pairs hasher.new
         ≤ H.pairs hasher.old + sum_by levels (indices_of proof.now.leaves) }
 {
-    calculate(proof.leaves(), proof.nodes(), 1, hasher)
+    match chunk_of(proof.leaves(), proof.nodes(), 1) {
+        Some(chunk) => chunk,
+        None => calculate(proof.leaves(), proof.nodes(), 1, hasher),
+    }
 }
 
 /// Whether a proof leads to this root (verify_merkle_multiproof). It hashes at most as many pairs
@@ -30,24 +34,6 @@ pub fn verify<H: PairHash>(proof: &Proof, root: &Chunk, hasher: &mut H) -> bool
         ≤ H.pairs hasher.old + sum_by levels (indices_of proof.now.leaves) }
 {
     calc(proof, hasher) == *root
-}
-
-// The chunk at an index that is on the way to a leaf, or known.
-fn calculate<H: PairHash>(leaves: &[Entry], nodes: &[Entry], index: u128, hasher: &mut H) -> Chunk
-    requires ordered { IsOrdered (record { leaves = leaves.now; nodes = nodes.now }) }
-    requires positive { 0 < index }
-    requires reached { IsReached leaves.now nodes.now index }
-    ensures value { result.0 ≡ calculated H.pair_of (leaves.now ++ nodes.now) index }
-    ensures rises { H.pairs hasher.old ≤ H.pairs hasher.new }
-    ensures pairs { H.pairs hasher.new
-        ≤ H.pairs hasher.old + levels_below index (indices_of leaves.now) }
-{
-    if let Some(chunk) = chunk_of(leaves, nodes, index) {
-        return chunk;
-    }
-    let left = calculate(leaves, nodes, 2 * index, hasher);
-    let right = calculate(leaves, nodes, 2 * index + 1, hasher);
-    hasher.pair(&left, &right)
 }
 
 // The chunk at an index, of a leaf or a node.

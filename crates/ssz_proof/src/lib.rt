@@ -13,6 +13,7 @@ mod laws;
 mod places;
 mod proof;
 mod reading;
+mod rows;
 mod text;
 mod words;
 
