@@ -199,7 +199,7 @@ def encode(t, v):
     if kind == "bitlist":
         return bits_as_bytes([*v, True])
     if is_sequence(t):
-        return encode_parts([t[1]] * len(v), v)
+        return bytes(v) if t[1] == BYTE else encode_parts([t[1]] * len(v), v)
     if kind == "container":
         return encode_parts(field_types(t), v)
     selector, inner = v
@@ -383,7 +383,7 @@ def tree(t, v):
         selector, inner = v
         option = t[1][selector]
         return Pair(Full(0, []) if option is None else tree(option, inner), number_chunk(selector))
-    parts = pack(b"".join(encode(t[1], part) for part in v)) if is_basic(t[1]) else [tree(t[1], part) for part in v]
+    parts = pack(encode(t, v)) if is_basic(t[1]) else [tree(t[1], part) for part in v]
     return Full(depth(t), parts) if kind == "vector" else Pair(Full(depth(t), parts), number_chunk(len(v)))
 
 
