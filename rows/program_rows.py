@@ -32,7 +32,6 @@ SCHEMAS = {
     "work.json": works.TYPES,
     "partial.json": partials.SCHEMA,
     **{name: example(file) for name, file in ethereum.SCHEMAS.items()},
-    "upgrade.json": example("upgrade.json"),
 }
 
 

@@ -14,8 +14,8 @@ from program.runs import ETHEREUM, Run, Shared
 
 FORKS = ["phase0", "altair", "bellatrix", "capella", "deneb", "electra", "fulu"]
 # The copies in data/ by their names, of the files in examples/ethereum
-SCHEMAS = {**{f"{fork}.json": f"{fork}.json" for fork in FORKS},
-           **{f"minimal-{fork}.json": os.path.join("minimal", f"{fork}.json") for fork in FORKS}}
+SCHEMAS = {**{f"{name}.json": f"{name}.json" for name in [*FORKS, "upgrade"]},
+           **{f"minimal-{name}.json": os.path.join("minimal", f"{name}.json") for name in [*FORKS, "upgrade"]}}
 GENESIS_VALIDATORS = "4b363db94e286120d76eb905340fdd4e54bfe9f06bf33ff6cf5ad27f511bfe95"
 GENESIS_STATE = "7e76880eb67bbdc86250aa578958e9d0675e64e714337855204fb5abaaf82c2b"
 GENESIS_BODY = "ccb62460692be0ec813b56be97f68a82cf57abc102e27bf49ebf4190ff22eedd"

@@ -338,6 +338,4 @@ def runs():
     yield from (of_seed(seed, drawn.compacting(seed, drawn.script(seed, 60)))
                 for seed in range(64, 80))
     yield from (run_of(*row) for row in COUNTED)
-    for name in "state.script", "upgrade.script":
-        types = "deneb.json" if name == "state.script" else "upgrade.json"
-        yield run_of("sha", example(name), (), types, example(types))
+    yield run_of("sha", example("state.script"), (), "deneb.json", example("deneb.json"))

@@ -1,6 +1,7 @@
 """The scripts of examples/ethereum/tasks, each over the schema that its page names."""
 import os
 
+from program import upgrades
 from program.runs import example
 from program.scripts import run_of
 
@@ -20,3 +21,4 @@ def runs():
     for task, name in TASKS.items():
         script = example(os.path.join("tasks", task + ".script"))
         yield run_of("sha", script, (), name, example(schema_of(name)))
+    yield from upgrades.runs()
