@@ -1,7 +1,7 @@
 #!/usr/bin/env python3
 """Runs the test vectors of consensus-specs on SSZ (ssz_generic and ssz_static) over the program.
 
-  spec_tests.py SSZ TESTS    SSZ is the program; TESTS is the folder `tests` of the unpacked archives, which hold
+  spec_tests.py SSZ TESTS    SSZ is the program, a file or a name in the PATH; TESTS is the folder `tests` of the unpacked archives, which hold
                              general/phase0/ssz_generic/HANDLER/SUITE/CASE and PRESET/FORK/ssz_static/TYPE/SUITE/CASE
 
 Each case is one call of `ssz root`: a valid encoding must get the root that the case names, an invalid one must be refused. What is passed
@@ -11,6 +11,7 @@ import collections
 import json
 import os
 import re
+import shutil
 import subprocess
 import sys
 import tempfile
@@ -185,4 +186,5 @@ def main(ssz, tests):
 if __name__ == "__main__":
     if len(sys.argv) != 3:
         sys.exit(__doc__)
-    sys.exit(main(os.path.realpath(sys.argv[1]), sys.argv[2]))
+    program = shutil.which(sys.argv[1]) or sys.exit(f"no program {sys.argv[1]}")
+    sys.exit(main(program, sys.argv[2]))
