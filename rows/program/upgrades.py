@@ -128,5 +128,6 @@ def runs():
     registry = [validator(1, 2), validator(2, 0, 20 * 10 ** 9, 7, 2 ** 64 - 1)]
     made = ALTAIR % tuple(one.hex() for one in registry)
     yield run_of("sha", through(Chain("mainnet", made), make.FORKS[2:]), (), "upgrade.json", mainnet)
-    # not among the rows, for its length
+    # not among the rows, for their length
     through(Chain("minimal", drawn_script(1)), make.FORKS[1:])
+    through(Chain("mainnet", drawn_script(2)), ["altair"])
