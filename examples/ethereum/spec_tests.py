@@ -186,5 +186,7 @@ def main(ssz, tests):
 if __name__ == "__main__":
     if len(sys.argv) != 3:
         sys.exit(__doc__)
-    program = shutil.which(sys.argv[1]) or sys.exit(f"no program {sys.argv[1]}")
-    sys.exit(main(program, sys.argv[2]))
+    program = shutil.which(sys.argv[1])
+    if not program:
+        sys.exit(f"no program {sys.argv[1]}")
+    sys.exit(main(os.path.realpath(program), sys.argv[2]))
