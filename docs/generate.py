@@ -4,8 +4,9 @@
   python3 docs/generate.py          writes the two pages
   python3 docs/generate.py --check  writes nothing; exit status 1 where a page is not what it would write, where
                                     docs/believe.md names a definition or a call that is not there, where code of
-                                    docs/library.md or docs/c.md is not in the sources that it is of, or where a crate
-                                    stands on one of a higher floor of docs/architecture.md
+                                    docs/library.md or docs/c.md is not in the sources that it is of, where a link of
+                                    a page leads nowhere, or where a crate stands on one of a higher floor of
+                                    docs/architecture.md
 
 proved.md has, for each crate, what its root file exports: a call's comment, its signature and its clauses as they
 stand in src/; of a type what a contract sees of it; of a call that is a law the definition that it is. definitions.md
@@ -414,11 +415,37 @@ def check_code():
                 yield "" if there else f"{page}: not in {folder}: {shown.splitlines()[0]}"
 
 
+def check_links():
+    """Each link of a page of the repository leads to a file that is there, and to a heading that it has."""
+    pages = [path for folder in ("docs", "examples", "bench", "hostile", "rows") for path in files(folder, ".md")]
+    for page in ["README.md", *pages]:
+        for link in re.findall(r"\]\(([^)\s:]+)\)", without_code(read(page))):
+            path, _, heading = link.partition("#")
+            target = os.path.normpath(os.path.join(os.path.dirname(page), path)) if path else page
+            there = os.path.exists(f"{TOP}/{target}") and (not heading or heading in headings(target))
+            yield "" if there else f"{page}: {link} leads nowhere"
+
+
+def without_code(text):
+    return re.sub(r"^```.*?^```", "", text, flags=re.S | re.M)
+
+
+def headings(page):
+    """The names by which links lead to the headings of a page."""
+    seen, found = {}, set()
+    for line in re.findall(r"^#+ (.*)", without_code(read(page)), re.M):
+        plain = re.sub(r"\[([^\]]*)\]\([^)]*\)", r"\1", line).lower()
+        name = re.sub(r"[^\w\- ]", "", plain).replace(" ", "-")
+        found.add(name if name not in seen else f"{name}-{seen[name]}")
+        seen[name] = seen.get(name, 0) + 1
+    return found
+
+
 def main():
     known = all_definitions()
     pages = {"docs/proved.md": proved(known), "docs/definitions.md": page_of_definitions(known, cited())}
     if sys.argv[1:] == ["--check"]:
-        checks = [*check_pages(pages), *check_floors(), *check_believe(known), *check_code()]
+        checks = [*check_pages(pages), *check_floors(), *check_believe(known), *check_code(), *check_links()]
         wrong = [one for one in checks if one]
         print("\n".join(wrong + [f"{len(checks)} checks, {len(wrong)} faults"]))
         return 1 if wrong else 0

@@ -77,8 +77,10 @@ def as_shown(shown):
 def run(page, found, folder, home):
     """How many commands of one shell printed something else."""
     script = "".join(f"{one.text}\nstatus=$?; echo '{MARK}'; (exit $status)\n" for one in found)
+    # rustc finds its toolchain by HOME, unless it is told
+    env = {"RUSTUP_HOME": os.path.expanduser("~/.rustup"), **os.environ, "HOME": home}
     done = subprocess.run(["bash", "-c", script], cwd=folder, stdin=subprocess.DEVNULL, stdout=subprocess.PIPE,
-                          stderr=subprocess.STDOUT, text=True, env={**os.environ, "HOME": home})
+                          stderr=subprocess.STDOUT, text=True, env=env)
     said = done.stdout.split(MARK + "\n")
     said += ["(the shell ended before this command)\n"] * (len(found) - len(said))
     differ = 0
