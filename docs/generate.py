@@ -280,12 +280,22 @@ def laws(item, origin, known):
             yield known[name]
 
 
+def contents(shown):
+    """Links to the crates of a page, floor by floor."""
+    lines = [""]
+    for floor, crates in libraries():
+        links = ", ".join(f"[`{crate}`](#{crate})" for crate in crates if shown(crate))
+        lines += wrapped(f"- {floor}: {links}", "  ")
+    return [*lines, ""]
+
+
 def proved(known):
     page = ["# What is proved: the clauses", "",
             "Made by `python3 docs/generate.py` of the sources; [believe.md](believe.md) says in words what matters most.",
             "For each crate the calls that it exports, each with the comment, the signature and the clauses as they stand in its",
             "`src/`; of a type, what a contract sees of it; of a law, the definition that it is. The names in a clause are in",
-            "[definitions.md](definitions.md). Left out: that a fault is made of a want of memory by `from`.", ""]
+            "[definitions.md](definitions.md). Left out: that a fault is made of a want of memory by `from`.",
+            *contents(lambda crate: True)]
     for floor, crates in libraries():
         page += [f"## {floor}", ""]
         for crate in crates:
@@ -343,7 +353,8 @@ def page_of_definitions(known, used):
     page = ["# Definitions", "",
             "Made by `python3 docs/generate.py` of the sources; [believe.md](believe.md) says which of them a reader must believe.",
             "For each crate the public definitions of its `specs/`, file by file, each with the comment that stands above it. Those in",
-            "**bold** are cited by a clause of a public call; the others are what these are made of.", ""]
+            "**bold** are cited by a clause of a public call; the others are what these are made of.",
+            *contents(lambda crate: any(low == crate for low, _, _ in known))]
     for floor, crates in libraries():
         page += [f"## {floor}", ""]
         for crate in crates:
