@@ -2,7 +2,8 @@
 //!
 //! The entries are a finite map, and each call says which map it leaves. They stand in a balanced
 //! tree in the order of writers and names, so a call passes a few entries whatever the names are. A
-//! name is kept in its entry, so that after `Versions::reserve` so many more take no memory.
+//! name is kept in its entry, so that after `Versions::reserve` so many more take no memory, nor does
+//! one for which a caller has a `Room`.
 #![tactic(auto)]
 
 mod adding;
@@ -14,6 +15,7 @@ mod key;
 mod pool;
 mod raise;
 mod remove;
+mod room;
 mod search;
 mod tree;
 mod versions;
@@ -22,5 +24,6 @@ mod writer;
 
 pub use compaction::compact;
 pub use fault::VersionFault;
+pub use room::Room;
 pub use versions::Versions;
 pub use writer::Writer;

@@ -2,7 +2,7 @@ ghost use Rattle.std.specs.Prelude.{◌≡◌, ◌+◌, ◌≤◌, ℕ, List, No
 ghost use Rattle.std.specs.Borrow.{sem};
 ghost use Rattle.std.specs.FinMap as finite;
 ghost use Rattle.ssz_schema.specs.Names.{IsName};
-ghost use Rattle.ssz_versions.specs.Content.{held_at, names_of};
+ghost use Rattle.ssz_versions.specs.Content.{held_at, names_of, with_held};
 ghost use Rattle.ssz_versions.specs.Lending.{LendsNode};
 ghost use Rattle.ssz_versions.specs.Outcomes.{Adopts, Makes, Forks, Drops, IsUnchanged};
 
@@ -10,6 +10,7 @@ use super::adding::with_all;
 use super::fault::VersionFault;
 use super::key::VersionKey;
 use super::pool::Pool;
+use super::room::Room;
 use super::tree::Tree;
 use super::writer::Writer;
 use ssz_arena::NodeId;
@@ -106,6 +107,19 @@ impl Versions {
             }
             Err(_) => Err(VersionFault::Memory),
         }
+    }
+
+    /// A version under a name, in memory that was taken before: in place of what the writer held
+    /// there, if anything was. Takes no memory.
+    pub fn put(&mut self, room: Room, writer: Writer, name: &Name, id: TypeId, node: NodeId)
+        requires { IsName name.now }
+        ensures entries { self.new.entries
+            ≡ with_held self.old.entries writer.0 name.now (id, node) }
+        ensures spare { self.new.spare ≡ self.old.spare }
+    {
+        let key = VersionKey::new(writer.0, name.as_bytes());
+        let held = mem::replace(&mut self.held, Tree::empty());
+        self.held = held.insert(room.cell, &key, (id, node));
     }
 
     /// A second version with the type and the node of a first. Takes no memory while there is room.
