@@ -80,7 +80,8 @@ over types most entries base arena = record {
 -- What is answered where a node was made for a name that is free, and the row makes that version.
 pub made-answers : (pair_of : PairOf) (types : Types) (most : ℕ) (entries : Entries) (base : ℕ)
     (old new : Nodes) (row : Rules → Versions → Row) (writer : ℕ) (name : Bor (List ℕ)) (id : ℕ)
-    (node : NodeId) (v : SszValue) (n m : ℕ) → id < length types.trees → Fits (type_of types id) v
+    (node : NodeId) (room : Unit {0}) (v : SszValue) (n m : ℕ) → id < length types.trees
+    → Fits (type_of types id) v
     → IsPart new (part_of (type_of types id) v) node → Adds n m old new
     → m ≤ pairs (type_of types id) v → n ≤ 2 * pairs (type_of types id) v + 1
     → held_at entries writer name.now ≡ None
@@ -89,9 +90,9 @@ pub made-answers : (pair_of : PairOf) (types : Types) (most : ℕ) (entries : En
     → row (rules_of pair_of (over types most entries base old)) versions
     ≡ makes versions name.now (type_of types id) v (pairs (type_of types id) v))
     → AnswersAnew pair_of row (puts name.now) writer (over types most entries base old)
-    (over types most entries base new) (Made name id node)
-made-answers pair_of types most entries base old new row writer name id node v n m known fits part
-    adds most_pairs most_nodes free is = (
+    (over types most entries base new) (Made name id node room)
+made-answers pair_of types most entries base old new row writer name id node room v n m known fits
+    part adds most_pairs most_nodes free is = (
       answers,
       λ versions stand.
           subst (λ r. todo new node ≤ charge_in r) (sym (is versions stand)) part.todo,
@@ -104,7 +105,7 @@ made-answers pair_of types most entries base old new row writer name id node v n
     stands = part-stands types new id node v known fits part
 
     answers : AnswersWith pair_of row (puts name.now) writer (over types most entries base old)
-        (over types most entries base new) (Made name id node)
+        (over types most entries base new) (Made name id node room)
     answers = λ count. record {
       can = (free, (version, stands));
       of = refl;

@@ -25,9 +25,9 @@ forked (decision.Refused code) v w writer line first mid new Accepted told_old t
   where
     not-both : Accepted ≡ Refused → ⊥
     not-both e = cc
-forked (decision.Made name id node) v w writer line first mid new Refused told_old told_new out_old
-    out_new same makes out = tt
-forked (decision.Made name id node) v w writer line first mid new Accepted told_old told_new
+forked (decision.Made name id node room) v w writer line first mid new Refused told_old told_new
+    out_old out_new same makes out = tt
+forked (decision.Made name id node room) v w writer line first mid new Accepted told_old told_new
     out_old out_new same makes out =
     ap (λ (n : Name). held_at new writer n) (sym makes.0)
     ∙ ap (λ (es : Entries). held_at es writer name.now) out.entries

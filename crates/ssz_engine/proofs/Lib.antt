@@ -22,6 +22,7 @@ pub mod Edited
 pub mod UpgradeRows
 pub mod UpgradeSteps
 pub mod Stepping
+pub mod Wholes
 pub mod Moving
 pub mod Paying
 pub mod Replies

@@ -209,7 +209,7 @@ module _ (pair_of : PairOf) (engine : Content) (writer : ℕ) (v : Name) (indice
   }
   proves-answers new asked count after (decision.BadBytes f) found proves takes = absurd proves
   proves-answers new asked count after (decision.BadJson f) found proves takes = absurd proves
-  proves-answers new asked count after (decision.Made n id node) found proves takes = absurd proves
+  proves-answers new asked count after (decision.Made n id node room) found proves takes = absurd proves
   proves-answers new asked count after (decision.Edited n node) found proves takes = absurd proves
   proves-answers new asked count after (decision.Dropped n) found proves takes = absurd proves
   proves-answers new asked count after (decision.Saved n bytes) found proves takes = absurd proves

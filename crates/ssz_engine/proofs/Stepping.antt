@@ -77,7 +77,7 @@ module _ (first mid new : Content) (grows : Grows first mid) (same : SameNodes m
     where
       not-both : nothing ≡ puts name → ⊥
       not-both e = cc
-  edit-paid (decision.Made n id node) versions row does name was is can of comes out does-put ok
+  edit-paid (decision.Made n id node room) versions row does name was is can of comes out does-put ok
       there now = absurd (not-both (sym can.0
       ∙ ap (λ (m : Name). held_at mid.entries writer m) (same-name n.now name (sym of ∙ does-put))
       ∙ ap (λ (es : Entries). held_at es writer name) grows.entries ∙ there))
@@ -141,7 +141,7 @@ module _ (first mid new : Content) (grows : Grows first mid) (same : SameNodes m
       absurd (refused-accepted (sym out.outcome ∙ ok))
   anew-paid (decision.Said r) does charge name is of paid out does-put ok now =
       absurd (nothing-put name (sym of ∙ does-put))
-  anew-paid (decision.Made n id node) does charge name is of paid out does-put ok now =
+  anew-paid (decision.Made n id node room) does charge name is of paid out does-put ok now =
       node-paid n.now name (id, node) is charge paid (same-name n.now name (sym of ∙ does-put))
       out.entries now
   anew-paid (decision.Edited n node) does charge name is of paid out does-put ok now =
@@ -168,7 +168,7 @@ module _ (first mid new : Content) (grows : Grows first mid) (same : SameNodes m
       by (decision.BadJson f) of few = few
       by (decision.Said r) of few =
           subst (λ (t : Touch). AddsFew Accepted t charge first.arena mid.arena) (sym of) few
-      by (decision.Made n id node) of few =
+      by (decision.Made n id node room) of few =
           subst (λ (t : Touch). AddsFew Accepted t charge first.arena mid.arena) (sym of) few
       by (decision.Edited n node) of few =
           subst (λ (t : Touch). AddsFew Accepted t charge first.arena mid.arena) (sym of) few
@@ -241,7 +241,7 @@ module _ (first mid new : Content) (grows : Grows first mid) (same : SameNodes m
     stops (decision.BadBytes fault) Write found fails = absurd fails
     stops (decision.BadJson fault) Write found fails = absurd fails
     stops (decision.Said reply) Write found fails = absurd fails
-    stops (decision.Made name id node) Write found fails = absurd fails
+    stops (decision.Made name id node room) Write found fails = absurd fails
     stops (decision.Edited name node) Write found fails = absurd fails
     stops (decision.Dropped name) Write found fails = absurd fails
 

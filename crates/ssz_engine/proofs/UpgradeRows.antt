@@ -114,16 +114,17 @@ module _ (pair_of : PairOf) (types : Types) (most : ℕ) (entries : Entries) (ba
 -- a node was made for the new name
 pub upgrade-answers : (pair_of : PairOf) (types : Types) (most : ℕ) (entries : Entries) (base : ℕ)
     (old new : Nodes) (writer : ℕ) (v : Name) (w : Bor (List ℕ)) (t : Name) (id : ℕ)
-    (held : Held) (node : NodeId) → id < length types.trees → number_of types t ≡ Some id
-    → AreVersions types old entries → held_at entries writer v ≡ Some held
+    (held : Held) (node : NodeId) (room : Unit {0}) → id < length types.trees
+    → number_of types t ≡ Some id → AreVersions types old entries → held_at entries writer v ≡ Some held
     → held_at entries writer w.now ≡ None
     → ((x : SszValue) → IsTreeOf (type_of types held.0) x (tree_of old held.1)
     → AnswersUpgrade (type_of types held.0) (type_of types id) old new held.1
     (upgraded (type_of types held.0) x (type_of types id)) (Ok node))
     → AnswersWith pair_of (λ rules versions. upgrade rules versions v w.now t) (puts w.now) writer
-    (over types most entries base old) (over types most entries base new) (Made w id node)
-upgrade-answers pair_of types most entries base old new writer v w t id held node below known all
-    there free answers = λ count. record {
+    (over types most entries base old) (over types most entries base new)
+    (Made w id node room)
+upgrade-answers pair_of types most entries base old new writer v w t id held node room below known
+    all there free answers = λ count. record {
       can =
           let some = all.each writer v held there in
           let made = answers some.0.value (tree-stands types old held some.0 some.1) in (

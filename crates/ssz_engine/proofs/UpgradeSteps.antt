@@ -24,11 +24,11 @@ module _ (writer line : ℕ) (first mid new : Content) (same : SameNodes mid new
   IsDone made done =
       IsCarriedOut made writer line mid.entries new.entries done told_old told_new out_old out_new
 
-  made_of : (name : Bor (List ℕ)) (id : ℕ) (node : NodeId) (v w t : Name)
-      → MakesUpgrade (statement.Upgrade v w t) writer first mid (decision.Made name id node)
-      → IsDone (decision.Made name id node) Accepted
+  made_of : (name : Bor (List ℕ)) (id : ℕ) (node : NodeId) (room : Unit {0}) (v w t : Name)
+      → MakesUpgrade (statement.Upgrade v w t) writer first mid (decision.Made name id node room)
+      → IsDone (decision.Made name id node room) Accepted
       → UpgradesWhere Accepted (statement.Upgrade v w t) writer first new
-  made_of name id node v w t makes out = λ was is there here.
+  made_of name id node room v w t makes out = λ was is there here.
       let found : Some (id, node) ≡ Some is =
       sym (ap (λ (n : Name). held_at new.entries writer n) (sym makes.named)
       ∙ ap (λ (es : Entries). held_at es writer name.now) out.entries
@@ -44,8 +44,8 @@ module _ (writer line : ℕ) (first mid new : Content) (same : SameNodes mid new
       → MakesUpgrade (statement.Upgrade v w t) writer first mid made → IsDone made done
       → UpgradesWhere done (statement.Upgrade v w t) writer first new
   upgraded made v w t Refused makes out = tt
-  upgraded (decision.Made name id node) v w t Accepted makes out =
-      made_of name id node v w t makes out
+  upgraded (decision.Made name id node room) v w t Accepted makes out =
+      made_of name id node room v w t makes out
   upgraded (decision.Refused code) v w t Accepted makes out = absurd (not-both out.outcome)
     where
       not-both : Accepted ≡ Refused → ⊥

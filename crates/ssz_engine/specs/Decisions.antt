@@ -53,7 +53,7 @@ Comes old new before after writer versions row (decision.BadBytes fault) =
 Comes old new before after writer versions row (decision.BadJson fault) =
     row ≡ Err (bad_json fault)
 Comes old new before after writer versions row (decision.Said reply) = row ≡ says versions reply
-Comes old new before after writer versions row (decision.Made name id node) =
+Comes old new before after writer versions row (decision.Made name id node room) =
     Makes new versions name.now (id, node) row
 Comes old new before after writer versions row (decision.Edited name node) =
     Edits old new before after versions writer name.now node row
@@ -80,7 +80,7 @@ CanDo engine writer (decision.Refused code) = Unit {0}
 CanDo engine writer (decision.BadBytes fault) = Unit {0}
 CanDo engine writer (decision.BadJson fault) = Unit {0}
 CanDo engine writer (decision.Said reply) = Unit {0}
-CanDo engine writer (decision.Made name id node) =
+CanDo engine writer (decision.Made name id node room) =
     (held_at engine.entries writer name.now ≡ None)
     × IsSomeVersion engine.types engine.arena (id, node)
 CanDo engine writer (decision.Edited name node) = CanEdit engine writer name.now node
@@ -93,7 +93,7 @@ IsOf touch (decision.Refused code) = Unit {0}
 IsOf touch (decision.BadBytes fault) = Unit {0}
 IsOf touch (decision.BadJson fault) = Unit {0}
 IsOf touch (decision.Said reply) = touch ≡ nothing
-IsOf touch (decision.Made name id node) = touch ≡ puts name.now
+IsOf touch (decision.Made name id node room) = touch ≡ puts name.now
 IsOf touch (decision.Edited name node) = touch ≡ puts name.now
 IsOf touch (decision.Dropped name) = touch ≡ takes name.now
 IsOf touch (decision.Saved name bytes) = touch ≡ nothing
@@ -101,7 +101,7 @@ IsOf touch (decision.Saved name bytes) = touch ≡ nothing
 -- How many nodes it made, by its charge: at most two for each pair, and one; and none where no
 -- version gets a node.
 abbrev pub MakesFew : Decision → ℕ → Nodes → Nodes → Type 0
-MakesFew (decision.Made name id node) charge old new =
+MakesFew (decision.Made name id node room) charge old new =
     node_count new ≤ node_count old + 2 * charge + 1
 MakesFew (decision.Edited name node) charge old new =
     node_count new ≤ node_count old + 2 * charge + 1
@@ -131,7 +131,7 @@ AnswersWith pair_of row touch writer old new made =
 
 -- no more is to be hashed for the node of a decision than its charge
 abbrev pub IsPaid : Nodes → ℕ → Decision → Type 0
-IsPaid arena charge (decision.Made name id node) = todo arena node ≤ charge
+IsPaid arena charge (decision.Made name id node room) = todo arena node ≤ charge
 IsPaid arena charge (decision.Edited name node) = todo arena node ≤ charge
 IsPaid arena charge made = Unit {0}
 

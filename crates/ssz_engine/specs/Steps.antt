@@ -57,7 +57,7 @@ Does (decision.Refused code) writer old new = new ≡ old
 Does (decision.BadBytes fault) writer old new = new ≡ old
 Does (decision.BadJson fault) writer old new = new ≡ old
 Does (decision.Said reply) writer old new = new ≡ old
-Does (decision.Made name id node) writer old new =
+Does (decision.Made name id node room) writer old new =
     new ≡ with_held old writer name.now (id, node)
 Does (decision.Edited name node) writer old new = Edits old new writer name.now node
 Does (decision.Dropped name) writer old new = new ≡ without_held old writer name.now
@@ -69,7 +69,7 @@ reply_to line (decision.Refused code) = reply.Refused line code None
 reply_to line (decision.BadBytes fault) = reply.Refused line BAD_LITERAL (Some fault)
 reply_to line (decision.BadJson fault) = reply.BadJson line fault.code fault.number
 reply_to line (decision.Said said) = said
-reply_to line (decision.Made name id node) = reply.Done
+reply_to line (decision.Made name id node room) = reply.Done
 reply_to line (decision.Edited name node) = reply.Done
 reply_to line (decision.Dropped name) = reply.Done
 reply_to line (decision.Saved name bytes) = reply.Done
@@ -100,6 +100,13 @@ Fails Memory made old new = new ≡ old
 Fails Write (decision.Saved name bytes) old new = Tears name.now bytes.items old new
 Fails Write _ old new = ⊥
 
+-- What may lack memory: a decision that makes, edits or drops a version has all that it takes.
+abbrev pub CanLack : Decision → Type 0
+CanLack (decision.Made name id node room) = ⊥
+CanLack (decision.Edited name node) = ⊥
+CanLack (decision.Dropped name) = ⊥
+CanLack made = Unit {0}
+
 -- only what the table of statements names changes of the entries
 abbrev pub Touches : Touch → ℕ → Entries → Entries → Type 0
 Touches nothing writer old new = new ≡ old
@@ -122,7 +129,7 @@ ForksWhere Refused statement writer old new = Unit {0}
 -- a fork is found to come to that, or is refused
 abbrev pub MakesFork : Statement → ℕ → Entries → Decision → Type 0
 MakesFork (Fork v w) writer entries (decision.Refused code) = Unit {0}
-MakesFork (Fork v w) writer entries (decision.Made name id node) =
+MakesFork (Fork v w) writer entries (decision.Made name id node room) =
     (name.now ≡ w) × (held_at entries writer v ≡ Some (id, node))
 MakesFork (Fork v w) writer entries _ = ⊥
 MakesFork _ writer entries made = Unit {0}
@@ -152,7 +159,7 @@ pub record IsUpgradeOf (v w : Name) (writer : ℕ) (old new : Content) (name : N
 -- an upgrade is found to come to that, or is refused
 abbrev pub MakesUpgrade : Statement → ℕ → Content → Content → Decision → Type 0
 MakesUpgrade (Upgrade v w t) writer old new (decision.Refused code) = Unit {0}
-MakesUpgrade (Upgrade v w t) writer old new (decision.Made name id node) =
+MakesUpgrade (Upgrade v w t) writer old new (decision.Made name id node room) =
     IsUpgradeOf v w writer old new name.now id node
 MakesUpgrade (Upgrade v w t) writer old new _ = ⊥
 MakesUpgrade _ writer old new made = Unit {0}

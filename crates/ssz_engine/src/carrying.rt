@@ -5,7 +5,7 @@ ghost use Rattle.ssz_versions.specs.Content.{held_at, with_held, without_held};
 ghost use Rattle.ssz_engine.specs.Content.{SameNodes};
 ghost use Rattle.ssz_engine.specs.Standing.{IsSomeVersion};
 ghost use Rattle.ssz_engine.specs.Decisions.{CanDo, CanEdit};
-ghost use Rattle.ssz_engine.specs.Steps.{Edits, Fails, IsCarriedOut};
+ghost use Rattle.ssz_engine.specs.Steps.{CanLack, Edits, Fails, IsCarriedOut};
 ghost use Rattle.ssz_engine.specs.Outside.{CountsReads, CountsWrites, PutsFile};
 
 use super::decision::Decision;
@@ -17,7 +17,7 @@ use ssz_chunk::PairHash;
 use ssz_outside::{Files, PutFault};
 use ssz_schema::TypeId;
 use ssz_script::{FileName, Identifier, Reply, reply_text};
-use ssz_versions::Writer;
+use ssz_versions::{Room, Writer};
 
 /// Appends `ok`, for which there is room.
 pub(crate) fn say_done(out: &mut Vec<u8>)
@@ -28,6 +28,16 @@ pub(crate) fn say_done(out: &mut Vec<u8>)
         Ok(()) => {}
         Err(_) => unreachable!(),
     }
+}
+
+// Appends `ok`, for which there is room, to a statement that was done.
+fn done(out: &mut Vec<u8>) -> Outcome
+    requires { vec_len out.old + 3 ≤ vec_capacity out.old }
+    ensures text { out.new.items ≡ out.old.items ++ reply_line Reply.Done }
+    ensures outcome { result ≡ Outcome.Accepted }
+{
+    say_done(out);
+    Outcome::Accepted
 }
 
 // Appends the line of a reply, whose statement comes to this outcome.
@@ -46,113 +56,61 @@ fn make<H: PairHash>(
     engine: &mut Engine<H>,
     writer: Writer,
     name: &Identifier,
-    id: TypeId,
-    node: NodeId,
-    out: &mut Vec<u8>,
-) -> Result<Outcome, EngineFault>
-    requires free { held_at engine.old.entries writer.0 name.now ≡ None }
-    requires stands { IsSomeVersion engine.old.types engine.old.arena (id, node) }
+    held: (TypeId, NodeId),
+    room: Room,
+)
+    requires { IsSomeVersion engine.old.types engine.old.arena held }
     ensures nodes { SameNodes engine.old engine.new }
-    ensures entries { OnOk result
-        (engine.new.entries ≡ with_held engine.old.entries writer.0 name.now (id, node)) }
-    ensures ok { IfOk result (λ outcome. outcome ≡ Outcome.Accepted) }
-    ensures text { OnOk result (out.new.items ≡ out.old.items ++ reply_line Reply.Done) }
-    ensures err { OnErr result ((engine.new.entries ≡ engine.old.entries)
-        × (out.new.items ≡ out.old.items)) }
-    ensures memory { IfErr result (λ fault. fault ≡ EngineFault.Memory) }
+    ensures entries { engine.new.entries ≡ with_held engine.old.entries writer.0 name.now held }
 {
-    out.reserve(3)?;
-    engine.versions.reserve(1)?;
-    match engine.versions.make(writer, name.as_name(), id, node) {
-        Ok(()) => {}
-        Err(_) => unreachable!(),
-    }
-    say_done(out);
-    Ok(Outcome::Accepted)
+    engine
+        .versions
+        .put(room, writer, name.as_name(), held.0, held.1);
 }
 
 // A version gets another node.
-fn edit<H: PairHash>(
-    engine: &mut Engine<H>,
-    writer: Writer,
-    name: &Identifier,
-    node: NodeId,
-    out: &mut Vec<u8>,
-) -> Result<Outcome, EngineFault>
+fn edit<H: PairHash>(engine: &mut Engine<H>, writer: Writer, name: &Identifier, node: NodeId)
     requires { CanEdit engine.old writer.0 name.now node }
     ensures nodes { SameNodes engine.old engine.new }
-    ensures entries { OnOk result
-        (Edits engine.old.entries engine.new.entries writer.0 name.now node) }
-    ensures ok { IfOk result (λ outcome. outcome ≡ Outcome.Accepted) }
-    ensures text { OnOk result (out.new.items ≡ out.old.items ++ reply_line Reply.Done) }
-    ensures err { OnErr result ((engine.new.entries ≡ engine.old.entries)
-        × (out.new.items ≡ out.old.items)) }
-    ensures memory { IfErr result (λ fault. fault ≡ EngineFault.Memory) }
+    ensures entries { Edits engine.old.entries engine.new.entries writer.0 name.now node }
 {
-    out.reserve(3)?;
     match engine.versions.edit(writer, name.as_name()) {
         Some(held) => *held = node,
         None => unreachable!(),
     }
-    say_done(out);
-    Ok(Outcome::Accepted)
 }
 
 // A name is given up.
-fn give_up<H: PairHash>(
-    engine: &mut Engine<H>,
-    writer: Writer,
-    name: &Identifier,
-    out: &mut Vec<u8>,
-) -> Result<Outcome, EngineFault>
+fn give_up<H: PairHash>(engine: &mut Engine<H>, writer: Writer, name: &Identifier)
     requires { IsSome (held_at engine.old.entries writer.0 name.now) }
     ensures nodes { SameNodes engine.old engine.new }
-    ensures entries { OnOk result
-        (engine.new.entries ≡ without_held engine.old.entries writer.0 name.now) }
-    ensures ok { IfOk result (λ outcome. outcome ≡ Outcome.Accepted) }
-    ensures text { OnOk result (out.new.items ≡ out.old.items ++ reply_line Reply.Done) }
-    ensures err { OnErr result ((engine.new.entries ≡ engine.old.entries)
-        × (out.new.items ≡ out.old.items)) }
-    ensures memory { IfErr result (λ fault. fault ≡ EngineFault.Memory) }
+    ensures entries { engine.new.entries
+        ≡ without_held engine.old.entries writer.0 name.now }
 {
-    out.reserve(3)?;
     match engine.versions.drop_version(writer, name.as_name()) {
         Ok(()) => {}
         Err(_) => unreachable!(),
     }
-    say_done(out);
-    Ok(Outcome::Accepted)
 }
 
 // A file gets these bytes.
-fn save<F: Files>(
-    files: &mut F,
-    name: &FileName,
-    bytes: &[u8],
-    out: &mut Vec<u8>,
-) -> Result<Outcome, EngineFault>
+fn save<F: Files>(files: &mut F, name: &FileName, bytes: &[u8]) -> Result<(), EngineFault>
     ensures content { PutsFile result name.now bytes.now (F.content files.old)
         (F.content files.new) }
     ensures told { is_some (F.content files.new) ≡ is_some (F.content files.old) }
-    ensures ok { IfOk result (λ outcome. outcome ≡ Outcome.Accepted) }
-    ensures text { OnOk result (out.new.items ≡ out.old.items ++ reply_line Reply.Done) }
-    ensures err { OnErr result (out.new.items ≡ out.old.items) }
     ensures readable { (other : List ℕ) → F.readable files.old other → F.readable files.new other }
     ensures gets { F.get_faults files.new ≡ F.get_faults files.old }
     ensures puts { CountsWrites result (F.put_faults files.old) (F.put_faults files.new) }
 {
-    out.reserve(3)?;
     match files.put(name.as_str(), bytes) {
-        Ok(()) => {}
-        Err(PutFault::Failed) => return Err(EngineFault::Write),
-        Err(PutFault::Memory) => return Err(EngineFault::Memory),
+        Ok(()) => Ok(()),
+        Err(PutFault::Failed) => Err(EngineFault::Write),
+        Err(PutFault::Memory) => Err(EngineFault::Memory),
     }
-    say_done(out);
-    Ok(Outcome::Accepted)
 }
 
-/// Carries out a decision, and appends the line of the reply. All memory is taken before anything
-/// is changed.
+/// Carries out a decision, and appends the line of the reply. For what changes a version all memory
+/// was taken before: there is room for `ok`.
 pub(crate) fn carry_out<F: Files, H: PairHash>(
     engine: &mut Engine<H>,
     writer: Writer,
@@ -161,7 +119,8 @@ pub(crate) fn carry_out<F: Files, H: PairHash>(
     files: &mut F,
     out: &mut Vec<u8>,
 ) -> Result<Outcome, EngineFault>
-    requires { CanDo engine.old writer.0 decision }
+    requires can { CanDo engine.old writer.0 decision }
+    requires room { vec_len out.old + 3 ≤ vec_capacity out.old }
     ensures nodes { SameNodes engine.old engine.new }
     ensures ok { IfOk result (λ outcome. IsCarriedOut decision.entry writer.0 line
         engine.old.entries engine.new.entries outcome (F.content files.old) (F.content files.new)
@@ -170,6 +129,7 @@ pub(crate) fn carry_out<F: Files, H: PairHash>(
         × (out.new.items ≡ out.old.items)) }
     ensures fails { IfErr result (λ fault. Fails fault decision.entry (F.content files.old)
         (F.content files.new)) }
+    ensures sure { OnErr result (CanLack decision.entry) }
     ensures told { is_some (F.content files.new) ≡ is_some (F.content files.old) }
     ensures readable { (other : List ℕ) → F.readable files.old other → F.readable files.new other }
     ensures gets { F.get_faults files.new ≡ F.get_faults files.old }
@@ -189,9 +149,21 @@ pub(crate) fn carry_out<F: Files, H: PairHash>(
             say(Reply::BadJson { line, code, number }, Outcome::Refused, out)
         }
         Decision::Said(reply) => say(reply, Outcome::Accepted, out),
-        Decision::Made(name, id, node) => make(engine, writer, name, id, node, out),
-        Decision::Edited(name, node) => edit(engine, writer, name, node, out),
-        Decision::Dropped(name) => give_up(engine, writer, name, out),
-        Decision::Saved(name, bytes) => save(files, name, bytes.as_slice(), out),
+        Decision::Made(name, id, node, room) => {
+            make(engine, writer, name, (id, node), room);
+            Ok(done(out))
+        }
+        Decision::Edited(name, node) => {
+            edit(engine, writer, name, node);
+            Ok(done(out))
+        }
+        Decision::Dropped(name) => {
+            give_up(engine, writer, name);
+            Ok(done(out))
+        }
+        Decision::Saved(name, bytes) => {
+            save(files, name, bytes.as_slice())?;
+            Ok(done(out))
+        }
     }
 }

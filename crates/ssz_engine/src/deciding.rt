@@ -1,5 +1,5 @@
-ghost use Rattle.std.specs.Prelude.{◌≡◌, ◌≢◌, ◌+◌, ◌-◌, ◌≤◌, ℕ, List, Some, None, Err, false, IfOk, IfErr};
-ghost use Rattle.ssz_arena.specs.Content.{unhashed};
+ghost use Rattle.std.specs.Prelude.{◌≡◌, ◌≢◌, ◌+◌, ◌-◌, ◌≤◌, ℕ, List, Some, None, Err, false, IfOk, IfErr, OnErr};
+ghost use Rattle.ssz_arena.specs.Content.{node_count, unhashed};
 ghost use Rattle.ssz_machine.specs.Counts.{asks_root};
 ghost use Rattle.ssz_engine.specs.Compacting.{is_compact};
 ghost use Rattle.ssz_engine.specs.Content.{Grows};
@@ -45,6 +45,7 @@ pub(crate) fn decide<'a, F: Files, H: PairHash>(
     ensures asked { result ≡ Err EngineFault.Read
         → CanAsk H.pair_of engine.old writer.0 statement.now }
     ensures no_write { result ≢ Err EngineFault.Write }
+    ensures whole { OnErr result (node_count engine.new.arena ≡ node_count engine.old.arena) }
     ensures rises { H.pairs hasher.old ≤ H.pairs hasher.new }
     ensures hashed { H.pairs hasher.new ≤ H.pairs hasher.old + unhashed engine.old.arena }
     ensures due { HashesDue statement.now writer.0 engine.old (H.pairs hasher.old)
@@ -85,6 +86,7 @@ fn decide_alone<'a, H: PairHash>(
         (H.pairs hasher.old - engine.old.base) engine.old engine.new
         (H.pairs hasher.old) (H.pairs hasher.new)) }
     ensures memory { IfErr result (λ fault. fault ≡ EngineFault.Memory) }
+    ensures whole { OnErr result (node_count engine.new.arena ≡ node_count engine.old.arena) }
     ensures rises { H.pairs hasher.old ≤ H.pairs hasher.new }
     ensures hashed { H.pairs hasher.new ≤ H.pairs hasher.old + unhashed engine.old.arena }
     ensures due { HashesDue statement.now writer.0 engine.old (H.pairs hasher.old)
@@ -98,7 +100,7 @@ fn decide_alone<'a, H: PairHash>(
     match statement {
         Statement::New(v, t) => new(engine, writer, v, t),
         Statement::Lit(v, t, literal) => lit(engine, writer, v, t, literal.as_slice()),
-        Statement::Fork(v, w) => Ok(fork(engine, writer, v, w)),
+        Statement::Fork(v, w) => fork(engine, writer, v, w),
         Statement::Drop(v) => Ok(drop(engine, writer, v)),
         Statement::List => list(engine, writer),
         Statement::Root(v) => Ok(root(engine, writer, v, hasher)),

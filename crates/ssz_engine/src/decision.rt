@@ -3,6 +3,7 @@ use ssz_bytes::Fault;
 use ssz_schema::TypeId;
 use ssz_script::{FileName, Identifier, Reply};
 use ssz_value_json::JsonFault;
+use ssz_versions::Room;
 
 /// What a statement comes to.
 #[derive(Drop)]
@@ -15,8 +16,8 @@ pub(crate) enum Decision<'a> {
     BadJson(JsonFault),
     /// It changes nothing.
     Said(Reply),
-    /// A name that is free gets a version.
-    Made(&'a Identifier, TypeId, NodeId),
+    /// A name that is free gets a version, for which there is memory.
+    Made(&'a Identifier, TypeId, NodeId, Room),
     /// A version gets another node.
     Edited(&'a Identifier, NodeId),
     /// A name is given up.

@@ -2,7 +2,8 @@
 //!
 //! Each finds what it edits first, so that its literal is read only where no test refuses it, and
 //! makes the nodes of the edited value last.
-ghost use Rattle.std.specs.Prelude.{◌≡◌, ◌<◌, ◌^◌, length, IfOk, IfErr, IfSome};
+ghost use Rattle.std.specs.Prelude.{◌≡◌, ◌<◌, ◌^◌, length, IfOk, IfErr, IfSome, OnErr};
+ghost use Rattle.ssz_arena.specs.Content.{node_count};
 ghost use Rattle.ssz_machine.specs.Editing.{append, choose, pop, set};
 ghost use Rattle.ssz_machine.specs.Changes.{puts};
 ghost use Rattle.ssz_engine.specs.Content.{Grows};
@@ -63,6 +64,7 @@ pub(crate) fn set<'a, H: PairHash>(
         (λ rules versions. set versions v.now path.now literal.now) (puts v.now) writer.0
         engine.old engine.new) }
     ensures memory { IfErr result (λ fault. fault ≡ EngineFault.Memory) }
+    ensures whole { OnErr result (node_count engine.new.arena ≡ node_count engine.old.arena) }
 {
     let way = match way_from(engine, writer, v, path)? {
         Ok(way) => way,
@@ -104,6 +106,7 @@ pub(crate) fn append<'a, H: PairHash>(
         (λ rules versions. append versions v.now path.now literal.now) (puts v.now) writer.0
         engine.old engine.new) }
     ensures memory { IfErr result (λ fault. fault ≡ EngineFault.Memory) }
+    ensures whole { OnErr result (node_count engine.new.arena ≡ node_count engine.old.arena) }
 {
     let way = match way_from(engine, writer, v, path)? {
         Ok(way) => way,
@@ -143,6 +146,7 @@ pub(crate) fn pop<'a, H: PairHash>(
         (λ rules versions. pop versions v.now path.now) (puts v.now) writer.0
         engine.old engine.new) }
     ensures memory { IfErr result (λ fault. fault ≡ EngineFault.Memory) }
+    ensures whole { OnErr result (node_count engine.new.arena ≡ node_count engine.old.arena) }
 {
     let way = match way_from(engine, writer, v, path)? {
         Ok(way) => way,
@@ -170,6 +174,7 @@ pub(crate) fn choose<'a, H: PairHash>(
         (λ rules versions. choose versions v.now path.now selector literal.now) (puts v.now)
         writer.0 engine.old engine.new) }
     ensures memory { IfErr result (λ fault. fault ≡ EngineFault.Memory) }
+    ensures whole { OnErr result (node_count engine.new.arena ≡ node_count engine.old.arena) }
 {
     let way = match way_from(engine, writer, v, path)? {
         Ok(way) => way,

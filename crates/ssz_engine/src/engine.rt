@@ -2,7 +2,7 @@ ghost use Rattle.std.specs.Prelude.{◌≡◌, ◌≢◌, ◌+◌, ◌-◌, ◌�
 ghost use Rattle.std.specs.FinMap as finite;
 ghost use Rattle.ssz_chunk.specs.declared.TheConstants.{LEVELS};
 ghost use Rattle.ssz_chunk.specs.Chunk.{CountsUp};
-ghost use Rattle.ssz_arena.specs.Content.{KeepsNodes, unhashed};
+ghost use Rattle.ssz_arena.specs.Content.{KeepsNodes, node_count, unhashed};
 ghost use Rattle.ssz_versions.specs.Compacted.{IsCompacted};
 ghost use Rattle.ssz_machine.specs.Changes.{touch};
 ghost use Rattle.ssz_machine.specs.Counts.{asks_root};
@@ -102,9 +102,10 @@ impl<H: PairHash> Engine<H> {
     }
 
     /// Does a statement of this line of a script, and appends the line of the reply. All memory is
-    /// taken before a version or a file changes: after `Memory` or `Read` the versions, the files
-    /// and `out` are as before, and after `Write` all but the file, which has what it had or a part
-    /// of the new bytes.
+    /// taken before a node is made, and before a version or a file changes: after `Memory` or `Read`
+    /// the versions, the files and `out` are as before, and after `Write` all but the file, which
+    /// has what it had or a part of the new bytes. The nodes are then the same ones, too: `root` and
+    /// `prove` may have hashed some.
     pub fn step<F: Files>(
         &mut self,
         writer: Writer,
@@ -126,8 +127,9 @@ impl<H: PairHash> Engine<H> {
         // zero trees.
         ensures compacted { compacted statement.now result ≡ true
             → IsCompacted self.old.entries self.new.entries self.old.arena self.new.arena }
-        // One for which there was no memory leaves all as it was.
-        ensures whole { is_compact statement.now ≡ true → OnErr result (self.new ≡ self.old) }
+        // A statement that was not done adds no node, and `compact` then leaves all as it was.
+        ensures whole { OnErr result (node_count self.new.arena ≡ node_count self.old.arena) }
+        ensures intact { is_compact statement.now ≡ true → OnErr result (self.new ≡ self.old) }
         ensures ok { IfOk result (DoesStep H.pair_of place writer.0 line statement.now self.old
             self.new (H.pairs hasher.old) (H.pairs hasher.new) (F.content files.old)
             (F.content files.new) out.old.items out.new.items) }
@@ -169,6 +171,9 @@ impl<H: PairHash> Engine<H> {
             compact(self, out)?;
             return Ok(Outcome::Accepted);
         }
+        out.reserve(3)?;
+        // So what its clauses say of all versions for which it stands is said of some.
+        self.stands();
         let decision = decide(self, writer, place, statement, files, hasher)?;
         carry_out(self, writer, line, decision, files, out)
     }

@@ -3,9 +3,10 @@
 //! An engine keeps a schema, an arena of nodes, and what each writer holds under each name. A
 //! statement is done in two steps. First it is decided (`decide`, one function a statement): what
 //! it comes to, over the entries as they stand. All that this changes is that the arena may have
-//! more nodes and roots. Then the decision is carried out (`carry_out`), with all memory taken
-//! before anything is changed. So each statement has one function with one shape of contract:
-//! whatever versions of the plain machine the entries stand for, the decision is the machine's row.
+//! more nodes and roots. Then the decision is carried out (`carry_out`). All memory is taken before
+//! the first node is made, and before anything else is changed. So each statement has one function
+//! with one shape of contract: whatever versions of the plain machine the entries stand for, the
+//! decision is the machine's row.
 //! `compact` alone goes another way (`compaction`), since it gives up nodes.
 //!
 //! A script is done line by line (`run_script`): each line's reply is made in memory and printed in

@@ -1,6 +1,7 @@
 //! Statements that make a version of the value that a file has.
-ghost use Rattle.std.specs.Prelude.{◌≡◌, ◌≢◌, ◌<◌, ◌^◌, ℕ, List, None, Err, length, IfOk, IfErr};
+ghost use Rattle.std.specs.Prelude.{◌≡◌, ◌≢◌, ◌<◌, ◌^◌, ℕ, List, None, Err, length, IfOk, IfErr, OnErr};
 ghost use Rattle.ssz_schema.specs.Unfolding.{type_of};
+ghost use Rattle.ssz_arena.specs.Content.{node_count};
 ghost use Rattle.ssz_versions.specs.Content.{held_at};
 ghost use Rattle.ssz_machine.specs.Changes.{puts};
 ghost use Rattle.ssz_engine.specs.Content.{Grows};
@@ -18,7 +19,7 @@ use ssz_schema::TypeId;
 use ssz_script::{FileName, Identifier, Reply};
 use ssz_tree::build;
 use ssz_value_json::{JsonRead, read_json};
-use ssz_versions::Writer;
+use ssz_versions::{Room, Writer};
 
 // A name that is free gets the value of a type whose JSON text some bytes are.
 fn bring_json<'a, H: PairHash>(
@@ -35,6 +36,7 @@ fn bring_json<'a, H: PairHash>(
         text.now)
         (puts v.now) writer engine.old engine.new) }
     ensures memory { IfErr result (λ fault. fault ≡ EngineFault.Memory) }
+    ensures whole { OnErr result (node_count engine.new.arena ≡ node_count engine.old.arena) }
 {
     let value = match read_json(engine.alloc, &engine.schema, id, text) {
         Ok(value) => value,
@@ -43,8 +45,9 @@ fn bring_json<'a, H: PairHash>(
     };
     // Every type of a schema is legal, so that no other value has this text.
     let _legal = engine.schema.ty(id);
+    let room = Room::new(engine.alloc)?;
     let node = build(&mut engine.arena, &engine.schema, id, &value)?;
-    Ok(Decision::Made(v, id, node))
+    Ok(Decision::Made(v, id, node, room))
 }
 
 // A name that is free gets the value that some bytes have in this form.
@@ -64,6 +67,7 @@ fn bring_as<'a, H: PairHash>(
         (λ rules versions. brought_as form versions v.now (type_of engine.old.types id) bytes.now)
         (puts v.now) writer.0 engine.old engine.new) }
     ensures memory { IfErr result (λ fault. fault ≡ EngineFault.Memory) }
+    ensures whole { OnErr result (node_count engine.new.arena ≡ node_count engine.old.arena) }
 {
     match form {
         Form::Encoding => bring(engine, writer, v, id, bytes),
@@ -88,6 +92,7 @@ pub(crate) fn load<'a, F: Files, H: PairHash>(
     ensures asked { result ≡ Err EngineFault.Read
         → CanLoad H.pair_of engine.old writer.0 v.now t.now }
     ensures no_write { result ≢ Err EngineFault.Write }
+    ensures whole { OnErr result (node_count engine.new.arena ≡ node_count engine.old.arena) }
     ensures content { F.content files.new ≡ F.content files.old }
     ensures fails { F.readable files.old file.now → result ≢ Err EngineFault.Read }
     ensures readable { (other : List ℕ) → F.readable files.old other → F.readable files.new other }

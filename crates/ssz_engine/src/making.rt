@@ -1,4 +1,5 @@
-ghost use Rattle.std.specs.Prelude.{◌≡◌, ◌<◌, ◌^◌, None, length, IfOk, IfErr};
+ghost use Rattle.std.specs.Prelude.{◌≡◌, ◌<◌, ◌^◌, None, length, IfOk, IfErr, OnErr};
+ghost use Rattle.ssz_arena.specs.Content.{node_count};
 ghost use Rattle.ssz_schema.specs.Unfolding.{type_of};
 ghost use Rattle.ssz_versions.specs.Content.{held_at};
 ghost use Rattle.ssz_machine.specs.Making.{new, lit, fork, drop, list};
@@ -17,7 +18,7 @@ use ssz_codec::check;
 use ssz_schema::TypeId;
 use ssz_script::{Identifier, Reply};
 use ssz_tree::{build_bytes, build_default};
-use ssz_versions::Writer;
+use ssz_versions::{Room, Writer};
 
 /// The type of a name, for a version whose name is free; else the code of the refusal.
 pub(crate) fn free_type<H: PairHash>(
@@ -50,6 +51,7 @@ pub(crate) fn new<'a, H: PairHash>(
         (λ rules versions. new rules versions v.now t.now) (puts v.now) writer.0
         engine.old engine.new) }
     ensures memory { IfErr result (λ fault. fault ≡ EngineFault.Memory) }
+    ensures whole { OnErr result (node_count engine.new.arena ≡ node_count engine.old.arena) }
 {
     let id = match free_type(engine, writer, v, t) {
         Ok(id) => id,
@@ -57,8 +59,9 @@ pub(crate) fn new<'a, H: PairHash>(
     };
     // Every type of a schema is legal, so that its default fits.
     let _legal = engine.schema.ty(id);
+    let room = Room::new(engine.alloc)?;
     let node = build_default(&mut engine.arena, &engine.schema, id)?;
-    Ok(Decision::Made(v, id, node))
+    Ok(Decision::Made(v, id, node, room))
 }
 
 /// `lit V T LIT`.
@@ -75,6 +78,7 @@ pub(crate) fn lit<'a, H: PairHash>(
         (λ rules versions. lit rules versions v.now t.now literal.now) (puts v.now) writer.0
         engine.old engine.new) }
     ensures memory { IfErr result (λ fault. fault ≡ EngineFault.Memory) }
+    ensures whole { OnErr result (node_count engine.new.arena ≡ node_count engine.old.arena) }
 {
     let id = match free_type(engine, writer, v, t) {
         Ok(id) => id,
@@ -99,6 +103,7 @@ pub(crate) fn bring<'a, H: PairHash>(
         (λ rules versions. brought versions v.now (type_of engine.old.types id) bytes.now)
         (puts v.now) writer.0 engine.old engine.new) }
     ensures memory { IfErr result (λ fault. fault ≡ EngineFault.Memory) }
+    ensures whole { OnErr result (node_count engine.new.arena ≡ node_count engine.old.arena) }
 {
     let _bytes = as_bytes(bytes);
     match check(&engine.schema, id, bytes) {
@@ -106,8 +111,9 @@ pub(crate) fn bring<'a, H: PairHash>(
         None => {
             // Every type of a schema is legal, so that the value of the bytes fits.
             let _legal = engine.schema.ty(id);
+            let room = Room::new(engine.alloc)?;
             let node = build_bytes(&mut engine.arena, &engine.schema, id, bytes)?;
-            Ok(Decision::Made(v, id, node))
+            Ok(Decision::Made(v, id, node, room))
         }
     }
 }
@@ -118,17 +124,18 @@ pub(crate) fn fork<'a, H: PairHash>(
     writer: Writer,
     v: &Identifier,
     w: &'a Identifier,
-) -> Decision<'a>
-    ensures answers { AnswersOf H.pair_of (λ rules versions. fork versions v.now w.now) (puts w.now)
-        writer.0 engine.now result }
-    ensures forks { MakesFork (Fork v.now w.now) writer.0 engine.now.entries result }
+) -> Result<Decision<'a>, EngineFault>
+    ensures answers { IfOk result (AnswersOf H.pair_of
+        (λ rules versions. fork versions v.now w.now) (puts w.now) writer.0 engine.now) }
+    ensures forks { IfOk result (MakesFork (Fork v.now w.now) writer.0 engine.now.entries) }
+    ensures memory { IfErr result (λ fault. fault ≡ EngineFault.Memory) }
 {
     let Some((id, node)) = engine.versions.get(writer, v.as_name()) else {
-        return Decision::Refused(Reply::NO_VERSION);
+        return Ok(Decision::Refused(Reply::NO_VERSION));
     };
     match engine.versions.get(writer, w.as_name()) {
-        Some(_) => Decision::Refused(Reply::NAME_TAKEN),
-        None => Decision::Made(w, id, node),
+        Some(_) => Ok(Decision::Refused(Reply::NAME_TAKEN)),
+        None => Ok(Decision::Made(w, id, node, Room::new(engine.alloc)?)),
     }
 }
 

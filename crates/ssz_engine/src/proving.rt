@@ -1,8 +1,8 @@
 //! `prove`.
-ghost use Rattle.std.specs.Prelude.{◌≡◌, ◌≢◌, ◌+◌, ◌<◌, ◌≤◌, [], Ok, Contains, IfOk, IfErr, IfSome, MatchOption, length, option_map};
+ghost use Rattle.std.specs.Prelude.{◌≡◌, ◌≢◌, ◌+◌, ◌<◌, ◌≤◌, [], Ok, Contains, IfOk, IfErr, IfSome, OnErr, MatchOption, length, option_map};
 ghost use Rattle.ssz_schema.specs.Unfolding.{type_of};
 ghost use Rattle.ssz_schema.specs.Indices.{generalized_index};
-ghost use Rattle.ssz_arena.specs.Content.{IsNodeOf, todo, tree_of, unhashed};
+ghost use Rattle.ssz_arena.specs.Content.{IsNodeOf, node_count, todo, tree_of, unhashed};
 ghost use Rattle.ssz_prove.specs.Taken.{TakesRoots};
 ghost use Rattle.ssz_machine.specs.Rules.{need};
 ghost use Rattle.ssz_machine.specs.Asking.{asked_index, asked_indices, prove};
@@ -169,6 +169,7 @@ pub(crate) fn prove<'a, H: PairHash>(
         (λ rules versions. prove rules versions v.now indices.now) nothing writer.0
         engine.old engine.new (H.pairs hasher.old) (H.pairs hasher.new)) }
     ensures memory { IfErr result (λ fault. fault ≡ EngineFault.Memory) }
+    ensures whole { OnErr result (node_count engine.new.arena ≡ node_count engine.old.arena) }
     ensures rises { H.pairs hasher.old ≤ H.pairs hasher.new }
     ensures hashed { H.pairs hasher.new ≤ H.pairs hasher.old + unhashed engine.old.arena }
     ensures due { HashesFor v.now writer.0 engine.old (H.pairs hasher.old) (H.pairs hasher.new) }

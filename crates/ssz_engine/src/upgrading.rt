@@ -1,4 +1,5 @@
-ghost use Rattle.std.specs.Prelude.{◌≡◌, IfOk, IfErr};
+ghost use Rattle.std.specs.Prelude.{◌≡◌, IfOk, IfErr, OnErr};
+ghost use Rattle.ssz_arena.specs.Content.{node_count};
 ghost use Rattle.ssz_machine.specs.Making.{upgrade};
 ghost use Rattle.ssz_machine.specs.Changes.{puts};
 ghost use Rattle.ssz_script.specs.declared.statement.Statement.TheVariants.{Upgrade};
@@ -12,7 +13,7 @@ use super::fault::EngineFault;
 use ssz_chunk::PairHash;
 use ssz_forms::UpgradeFault;
 use ssz_script::{Identifier, Reply};
-use ssz_versions::Writer;
+use ssz_versions::{Room, Writer};
 
 /// `upgrade V W T`.
 pub(crate) fn upgrade<'a, H: PairHash>(
@@ -29,6 +30,7 @@ pub(crate) fn upgrade<'a, H: PairHash>(
     ensures upgrades { IfOk result (MakesUpgrade (Upgrade v.now w.now t.now) writer.0
         engine.old engine.new) }
     ensures memory { IfErr result (λ fault. fault ≡ EngineFault.Memory) }
+    ensures whole { OnErr result (node_count engine.new.arena ≡ node_count engine.old.arena) }
 {
     let Some(id) = engine.schema.find_name(t.as_name()) else {
         return Ok(Decision::Refused(Reply::NO_TYPE));
@@ -39,6 +41,7 @@ pub(crate) fn upgrade<'a, H: PairHash>(
     if engine.versions.get(writer, w.as_name()).is_some() {
         return Ok(Decision::Refused(Reply::NAME_TAKEN));
     }
+    let room = Room::new(engine.alloc)?;
     let made = ssz_upgrade::upgrade(&mut engine.arena, &engine.schema, held.0, held.1, id);
     let node = match made {
         Ok(node) => node,
@@ -47,5 +50,5 @@ pub(crate) fn upgrade<'a, H: PairHash>(
             UpgradeFault::Memory => return Err(EngineFault::Memory),
         },
     };
-    Ok(Decision::Made(w, id, node))
+    Ok(Decision::Made(w, id, node, room))
 }

@@ -1,6 +1,6 @@
 use Rattle.std.proofs.Common.{◌-◌, IfOk, List, ℕ, Result, Ok, Err, refl, subst}
 use Rattle.ssz_outside.specs.Content.{Content as Files}
-use Rattle.ssz_machine.specs.Making.{new, lit, list, upgrade}
+use Rattle.ssz_machine.specs.Making.{fork, new, lit, list, upgrade}
 use Rattle.ssz_machine.specs.Editing.{append, choose, pop, set}
 use Rattle.ssz_machine.specs.Asking.{bytes, gindex, json_row, len, prove, save}
 use Rattle.ssz_machine.specs.Changes.{nothing, puts}
@@ -59,11 +59,14 @@ returns-in-Upgrade-clause-decides g c =
 
 pub returns-in-Fork-clause-decides : goal.returns-in-Fork-clause-decides
 returns-in-Fork-clause-decides g c =
-    alone g.H.PairHash.pair_of c.args.place
+    alone-ok g.H.PairHash.pair_of c.args.place
     (g.H.PairHash.pairs c.args.hasher.now - c.args.engine.now.base) c.args.writer.0
     c.args.engine.now c.args.engine.now (g.H.PairHash.pairs c.args.hasher.now)
-    (g.H.PairHash.pairs c.args.hasher.now) c.args.statement.now _ _ c.in-Fork.is refl
-    (λ files. c.fork.ensures.answers (g.H.PairHash.pairs c.args.hasher.now))
+    (g.H.PairHash.pairs c.args.hasher.now) c.args.statement.now _ c.fork.result c.in-Fork.is refl
+    (with-ok g.H.PairHash.pair_of
+    (λ rules versions. fork versions c.in-Fork.v c.in-Fork.w) (puts c.in-Fork.w)
+    c.args.writer.0 c.args.engine.now c.args.engine.now (g.H.PairHash.pairs c.args.hasher.now)
+    c.fork.result c.fork.ensures.answers)
 
 pub returns-in-Drop-clause-decides : goal.returns-in-Drop-clause-decides
 returns-in-Drop-clause-decides g c =

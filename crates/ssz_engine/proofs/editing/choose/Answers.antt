@@ -1,4 +1,5 @@
 use Rattle.std.proofs.Common.{◌≡◌, ◌∙◌, Some, Ok, Err, Result, IfOk, option_map, sym, ap, subst}
+use Rattle.std.specs.Prelude.{OnErr}
 use Rattle.ssz_schema.specs.Paths.{Path}
 use Rattle.ssz_schema.specs.Unfolding.{type_of}
 use Rattle.ssz_schema.specs.Unfolding.{options_over}
@@ -21,6 +22,7 @@ use Rattle.ssz_value.specs.Suiting.{inner_of}
 use Rattle.ssz_engine.proofs.Brought.{over}
 use Rattle.ssz_engine.proofs.EditRows.{choose_read, choose_refused}
 use Rattle.ssz_engine.proofs.Edited.{unread-answers, code-answers, finished-answers}
+use Rattle.ssz_engine.proofs.Wholes.{edit-whole}
 use Rattle.ssz_engine.proofs.Straying.{choose-astray}
 use Rattle.ssz_engine.proofs.editing.choose.Goals as goal
 
@@ -133,3 +135,10 @@ returns-clause-answers g c =
     path found k literal os (Err (bad_bytes bad)) (can.tests value of)
     (subst (λ (f : DecodeFault). IsInnerRead os k literal (Err f)) is
     (c.in-Err-inner_value.ensures can.options k can.there))))))
+
+pub returns-in-Ok-inner_value-clause-whole : goal.returns-in-Ok-inner_value-clause-whole
+returns-in-Ok-inner_value-clause-whole g c =
+    edit-whole c.args.engine.now c.choose-made.new.arena c.args.v.now c.choose-made.result c.finish.result
+    c.finish.ensures
+    (subst (λ (seen : Content). OnErr c.choose-made.result
+    (c.choose-made.new.arena.nodes ≡ seen.arena.nodes)) c.engine.view_is c.choose-made.ensures.refused)

@@ -1,4 +1,5 @@
 use Rattle.std.proofs.Common.{◌≡◌, ◌∙◌, Some, IfOk, sym, subst}
+use Rattle.std.specs.Prelude.{OnErr}
 use Rattle.ssz_schema.specs.Paths.{Path}
 use Rattle.ssz_schema.specs.Unfolding.{type_of}
 use Rattle.ssz_value.specs.Edits.{pop_at}
@@ -11,6 +12,7 @@ use Rattle.ssz_engine.specs.Decisions.{AnswersWith}
 use Rattle.ssz_engine.proofs.Brought.{over}
 use Rattle.ssz_engine.proofs.EditRows.{pop_row}
 use Rattle.ssz_engine.proofs.Edited.{finished-answers}
+use Rattle.ssz_engine.proofs.Wholes.{edit-whole}
 use Rattle.ssz_engine.proofs.Straying.{pop-astray}
 use Rattle.ssz_engine.proofs.editing.pop.Goals as goal
 
@@ -50,3 +52,10 @@ returns-clause-answers g c =
     (record { type = t; value = value }) path c.ty-legal.ensures.legal of.fits found)
     c.engine.invariant there c.pop-made.result c.pop-made.ensures.refused c.pop-made.ensures.answers
     c.finish.result c.finish.ensures))
+
+pub returns-clause-whole : goal.returns-clause-whole
+returns-clause-whole g c =
+    edit-whole c.args.engine.now c.pop-made.new.arena c.args.v.now c.pop-made.result c.finish.result
+    c.finish.ensures
+    (subst (λ (seen : Content). OnErr c.pop-made.result
+    (c.pop-made.new.arena.nodes ≡ seen.arena.nodes)) c.engine.view_is c.pop-made.ensures.refused)

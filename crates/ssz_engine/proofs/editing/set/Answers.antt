@@ -1,4 +1,5 @@
 use Rattle.std.proofs.Common.{◌≡◌, ◌∙◌, Some, None, Result, IfOk, sym, ap, subst}
+use Rattle.std.specs.Prelude.{OnErr}
 use Rattle.ssz_schema.specs.Paths.{Path}
 use Rattle.ssz_schema.specs.Unfolding.{type_of}
 use Rattle.ssz_value.specs.Standing.{value_of}
@@ -20,6 +21,7 @@ use Rattle.ssz_value.specs.Faults.{why}
 use Rattle.ssz_engine.proofs.Brought.{are-kept, over}
 use Rattle.ssz_engine.proofs.EditRows.{set_read, set_refused}
 use Rattle.ssz_engine.proofs.Edited.{unread-answers, code-answers, finished-answers}
+use Rattle.ssz_engine.proofs.Wholes.{edit-whole}
 use Rattle.ssz_engine.proofs.Straying.{set-astray}
 use Rattle.ssz_engine.proofs.editing.set.Goals as goal
 
@@ -130,3 +132,10 @@ pub invariant_of-engine : goal.invariant_of-engine
 invariant_of-engine g c =
     are-kept c.engine.inside.schema c.engine.inside.arena c.set-made.new.arena
     c.engine.inside.versions.entries c.set-made.ensures.keeps c.engine.invariant
+
+pub returns-in-Ok-decode-clause-whole : goal.returns-in-Ok-decode-clause-whole
+returns-in-Ok-decode-clause-whole g c =
+    edit-whole c.args.engine.now c.set-made.new.arena c.args.v.now c.set-made.result c.finish.result
+    c.finish.ensures
+    (subst (λ (seen : Content). OnErr c.set-made.result
+    (c.set-made.new.arena.nodes ≡ seen.arena.nodes)) c.engine.view_is c.set-made.ensures.refused)

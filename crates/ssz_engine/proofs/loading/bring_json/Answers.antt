@@ -24,6 +24,7 @@ returns-clause-answers g c = λ writer none.
     let v = c.args.v in
     let arena = c.build.new.arena in
     let node = c.in_ok-node.node in
+    let room = c.in_ok-room.room in
     let value = value_of c.in-Ok.value in
     let answer = c.in-Ok.ensures.answer in
     let fits = c.in-Ok.ensures.fits.fits in
@@ -39,10 +40,10 @@ returns-clause-answers g c = λ writer none.
     (λ rules versions. brought_as Json versions v.now (type_of seen.types c.args.id) text)
     (puts v.now) writer seen
     (over schema c.engine.inside.max entries c.engine.inside.base arena)
-    (Made v c.args.id node)) c.engine.view_is
+    (Made v c.args.id node room)) c.engine.view_is
     (made-answers g.H.PairHash.pair_of schema c.engine.inside.max entries c.engine.inside.base
     c.engine.inside.arena arena (λ rules versions. brought_as Json versions v.now t text) writer v
-    c.args.id node value _ _ known fits c.in_ok-node.ensures.part
+    c.args.id node room value _ _ known fits c.in_ok-node.ensures.part
     c.in_ok-node.ensures.adds (omega arith) (few_nodes t value fits) free
     (λ versions free. json-row versions v.now t text answer.0
     ∙ ap (λ x. makes versions v.now t x (pairs t x)) is))

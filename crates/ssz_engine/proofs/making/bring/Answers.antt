@@ -22,6 +22,7 @@ returns-in_ok-node-in-None-clause-answers g c =
     let w = c.args.writer.0 in
     let arena = c.build_bytes.new.arena in
     let node = c.in_ok-node-in-None.node in
+    let room = c.in_ok-room-in-None.room in
     let none : why t 0 bytes ≡ None = sym c.check.ensures ∙ c.in-None.is in
     let fits = (faultless_is_read schema.format t bytes c.ty-legal.ensures.legal
     c.as_bytes-bytes.ensures.bytes c.requires.short none).fits in
@@ -35,9 +36,9 @@ returns-in_ok-node-in-None-clause-answers g c =
     (λ rules versions. brought versions v.now (type_of seen.types c.args.id) bytes)
     (puts v.now) w seen
     (over schema c.engine.inside.max entries c.engine.inside.base arena)
-    (Made v c.args.id node)) c.engine.view_is
+    (Made v c.args.id node room)) c.engine.view_is
     (made-answers g.H.PairHash.pair_of schema c.engine.inside.max entries c.engine.inside.base
     c.engine.inside.arena arena (λ rules versions. brought versions v.now t bytes) w v
-    c.args.id node (value_in t bytes) _ _ known fits c.in_ok-node-in-None.ensures.part
+    c.args.id node room (value_in t bytes) _ _ known fits c.in_ok-node-in-None.ensures.part
     c.in_ok-node-in-None.ensures.adds (omega arith) (few_nodes t (value_in t bytes) fits) free
     (λ versions free. brought-row versions v.now t bytes none))

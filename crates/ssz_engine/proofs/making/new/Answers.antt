@@ -31,11 +31,11 @@ returns-clause-answers g c =
     c.in-Ok.ensures.ok in
     subst (λ (s : Content). AnswersAnew pair_of
     (λ rules versions. new rules versions v.now c.args.t.now) (puts v.now) w s
-    (over schema c.engine.inside.max entries c.engine.inside.base arena) (Made v id node))
+    (over schema c.engine.inside.max entries c.engine.inside.base arena) (Made v id node c.in_ok-room.room))
     c.engine.view_is
     (made-answers pair_of schema c.engine.inside.max entries c.engine.inside.base
     c.engine.inside.arena arena (λ rules versions. new rules versions v.now c.args.t.now) w v
-    id node (default_of type) _ _ free.known
+    id node c.in_ok-room.room (default_of type) _ _ free.known
     (default_fits schema.format type c.ty-legal.ensures.legal)
     c.in_ok-node.ensures.part c.in_ok-node.ensures.adds (omega arith)
     (let few = shared_few schema.format type c.ty-legal.ensures.legal in omega arith) free.free

@@ -1,4 +1,4 @@
-use Rattle.std.proofs.Common.{◌-◌, Option, IfOk, IfErr, sym, subst}
+use Rattle.std.proofs.Common.{◌-◌, ℕ, List, Option, IfOk, IfErr, sym, subst}
 use Rattle.ssz_outside.specs.Content.{Content as Files}
 use Rattle.ssz_script.specs.declared.statement.Statement.{Statement}
 use Rattle.ssz_engine.specs.Steps.{Decides, DoesStep, Fails, ForksWhere, IsCarriedOut, LeavesHashed, Stops, UpgradesWhere}
@@ -8,6 +8,7 @@ use Rattle.ssz_engine.proofs.Moving.{compact-step}
 use Rattle.ssz_engine.proofs.Rooting.{roots}
 use Rattle.ssz_engine.proofs.UpgradeSteps.{upgrades}
 use Rattle.ssz_engine.proofs.Stepping.{does-step, err-of, ok-of, stops}
+use Rattle.ssz_engine.proofs.Wholes.{whole}
 use Rattle.ssz_engine.proofs.engine.Engine.step.Goals as goal
 
 pub returns-in-Compact-clause-ok : goal.returns-in-Compact-clause-ok
@@ -38,7 +39,7 @@ returns-clause-ok g c =
     let made = c.in_ok-decision.decision in
     let told_mid = g.F.Files.content c.decide.new.files in
     let told_new = g.F.Files.content c.carry_out.new.files in
-    let out_old = c.args.out.now.items in
+    let out_old = c.reserve.new.self.items in
     let out_new = c.carry_out.new.out.items in
     let same = c.in_ok-decision.ensures.content in
     let found : Decides pair_of c.args.place statement w (before - first.base) told_mid first mid
@@ -46,7 +47,10 @@ returns-clause-ok g c =
     = subst (λ (told : Option Files). Decides pair_of c.args.place statement w
     (before - first.base) told first mid before after made) (sym same)
     c.in_ok-decision.ensures.decides in
-    subst (λ (told : Option Files). IfOk c.carry_out.result (DoesStep pair_of c.args.place w
+    subst (λ (out : List ℕ). IfOk c.carry_out.result (DoesStep pair_of c.args.place w
+    c.args.line statement first new before after (g.F.Files.content c.args.files.now) told_new out
+    out_new)) c.reserve.ensures.items
+    (subst (λ (told : Option Files). IfOk c.carry_out.result (DoesStep pair_of c.args.place w
     c.args.line statement first new before after told told_new out_old out_new)) same
     (ok-of (λ done. IsCarriedOut made w c.args.line mid.entries new.entries done told_mid told_new
     out_old out_new)
@@ -56,7 +60,7 @@ returns-clause-ok g c =
     (λ done out. does-step first mid new c.in_ok-decision.ensures.grows
     c.carry_out.ensures.nodes before after w c.args.line done told_mid told_new out_old
     out_new pair_of c.args.place statement made found out)
-    c.carry_out.ensures.ok)
+    c.carry_out.ensures.ok))
 
 pub returns-clause-stops : goal.returns-clause-stops
 returns-clause-stops g c =
@@ -71,7 +75,7 @@ returns-clause-stops g c =
     let made = c.in_ok-decision.decision in
     let told_mid = g.F.Files.content c.decide.new.files in
     let told_new = g.F.Files.content c.carry_out.new.files in
-    let out_old = c.args.out.now.items in
+    let out_old = c.reserve.new.self.items in
     let out_new = c.carry_out.new.out.items in
     let same = c.in_ok-decision.ensures.content in
     let found : Decides pair_of c.args.place statement w (before - first.base) told_mid first mid
@@ -90,6 +94,13 @@ returns-clause-stops g c =
     out_new pair_of c.args.place statement made fault found fails)
     c.carry_out.ensures.fails)
 
+pub returns-clause-whole : goal.returns-clause-whole
+returns-clause-whole g c =
+    whole g.H.PairHash.pair_of c.args.place c.args.statement.now c.args.writer.0 _ _ c.args.self.now
+    c.decide.new.engine c.carry_out.new.engine _ _ c.in_ok-decision.decision
+    c.in_ok-decision.ensures.decides c.carry_out.ensures.nodes c.stands.ensures c.carry_out.result
+    c.carry_out.ensures.sure
+
 pub returns-clause-forks : goal.returns-clause-forks
 returns-clause-forks g c =
     let first = c.args.self.now.entries in
@@ -100,7 +111,7 @@ returns-clause-forks g c =
     let made = c.in_ok-decision.decision in
     let told_mid = g.F.Files.content c.decide.new.files in
     let told_new = g.F.Files.content c.carry_out.new.files in
-    let out_old = c.args.out.now.items in
+    let out_old = c.reserve.new.self.items in
     let out_new = c.carry_out.new.out.items in
     ok-of (λ done. IsCarriedOut made w c.args.line mid new done told_mid told_new out_old out_new)
     (λ done. ForksWhere done statement w first new) c.carry_out.result
@@ -118,7 +129,7 @@ returns-clause-upgrades g c =
     let made = c.in_ok-decision.decision in
     let told_mid = g.F.Files.content c.decide.new.files in
     let told_new = g.F.Files.content c.carry_out.new.files in
-    let out_old = c.args.out.now.items in
+    let out_old = c.reserve.new.self.items in
     let out_new = c.carry_out.new.out.items in
     ok-of (λ done. IsCarriedOut made w c.args.line mid.entries new.entries done told_mid told_new
     out_old out_new)
@@ -136,7 +147,7 @@ returns-clause-roots g c =
     let made = c.in_ok-decision.decision in
     let told_mid = g.F.Files.content c.decide.new.files in
     let told_new = g.F.Files.content c.carry_out.new.files in
-    let out_old = c.args.out.now.items in
+    let out_old = c.reserve.new.self.items in
     let out_new = c.carry_out.new.out.items in
     ok-of (λ done. IsCarriedOut made w c.args.line mid.entries new.entries done told_mid told_new
     out_old out_new)
