@@ -1,5 +1,6 @@
 -- What a changed entry says of all entries.
-use Rattle.std.proofs.Common.{◌≡◌, ℕ, Bool, true, false, cond, List, Option, Some, None, refl, sym, ap, subst, ◌∙◌}
+use Rattle.std.proofs.Common.{◌≡◌, ℕ, ◌==◌, Bool, true, false, cond, List, Option, Some, None, Result, Ok, Err, refl, sym, ap, subst, ◌∙◌}
+use Rattle.std.specs.Prelude.{OnErr, OnOk}
 use Rattle.std.proofs.lemmas.Slice.Eq.{bytes_eq-Decides}
 use Rattle.std.specs.FinMap as finite
 use Rattle.std.specs.Ordering.{eq_by_cmp}
@@ -7,6 +8,7 @@ use Rattle.ssz_schema.specs.Unfolding.{Types}
 use Rattle.ssz_arena.specs.Content.{Content as Nodes}
 use Rattle.ssz_versions.specs.Content.{Entries, Held, held_at, with_held, without_held}
 use Rattle.ssz_versions.specs.Keys.{key_cmp, key_cmp-total}
+use Rattle.ssz_versions.specs.Outcomes.{Adopts}
 use Rattle.ssz_engine.specs.Standing.{IsSomeVersion, AreVersions}
 use Rattle.ssz_engine.proofs.Keys.{same_writer}
 
@@ -78,3 +80,26 @@ module _ (types : Types) (arena : Nodes) (entries : Entries) (all : AreVersions 
       let e : new ≡ without_held entries writer name
       = is ∙ ap (λ es. without_held es writer name) same in
       subst (AreVersions types arena) (sym e) are-without
+
+-- what a writer took over from another
+pub are-adopted : (types : Types) (arena : Nodes) (old new : Entries) (from to : ℕ)
+    → AreVersions types arena old → Adopts old new from to → AreVersions types arena new
+are-adopted types arena old new from to all adopts = record {
+  each = λ w n held there. by w n held (w == to) (sym (adopts w n) ∙ there);
+}
+  where
+    by : (w : ℕ) (n : List ℕ) (held : Held) (test : Bool)
+        → cond test (held_at old from n) (held_at old w n) ≡ Some held
+        → IsSomeVersion types arena held
+    by w n held true there = all.each from n held there
+    by w n held false there = all.each w n held there
+
+-- or there was no memory for it
+pub are-adopted-or-same : {A E : Type 0} (r : Result A E) (types : Types) (arena : Nodes)
+    (before old new : Entries) (from to : ℕ) → before ≡ old → AreVersions types arena old
+    → OnOk r (Adopts before new from to) → OnErr r (new ≡ before) → AreVersions types arena new
+are-adopted-or-same (Ok x) types arena before old new from to same all adopts none =
+    are-adopted types arena before new from to
+    (subst (λ (es : Entries). AreVersions types arena es) (sym same) all) adopts
+are-adopted-or-same (Err e) types arena before old new from to same all adopts none =
+    subst (λ (es : Entries). AreVersions types arena es) (sym (none ∙ same)) all
