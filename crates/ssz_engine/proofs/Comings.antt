@@ -14,19 +14,21 @@ use Rattle.ssz_schema.specs.Unfolding.{Types}
 use Rattle.ssz_script.specs.Texts.{reply_line}
 use Rattle.ssz_machine.specs.declared.place.Place.{Place}
 use Rattle.ssz_machine.specs.Machine.{Line, Turn, step, reply_of, state_of, is_refused}
-use Rattle.ssz_machine.specs.Plays.{Event, says, front, play, shown, shown_all}
+use Rattle.ssz_machine.specs.Plays.{Event, charges, says, front, play, shown, shown_all}
 use Rattle.ssz_machine.specs.Runs.{IsUnderWay}
-use Rattle.ssz_machine.proofs.UnderWay.{under_way_line}
-use Rattle.ssz_machine.proofs.Endings.{ends_without_memory, ends_unread, ends_torn_file, ends_torn_line, ends_ahead}
+use Rattle.ssz_machine.proofs.UnderWay.{line_follows, under_way_line}
+use Rattle.ssz_machine.proofs.Endings.{ends_without_memory, ends_unread, ends_torn_file, ends_torn_line, ends_ahead, steps_without_memory, steps_unread, steps_torn_file, steps_torn_line, steps_ahead}
 use Rattle.ssz_engine.specs.Content.{Content, rules_of}
 use Rattle.ssz_engine.specs.Steps.{Keeps, SavesPart, is_refusal}
-use Rattle.ssz_engine.specs.Scripts.{Scene, files_reached}
+use Rattle.ssz_engine.specs.Standing.{StaysFor}
+use Rattle.ssz_engine.specs.Scripts.{IsStopped, Scene, files_reached}
 use Rattle.ssz_engine.specs.Points.{Course, Comes, IsCutShort, Pays, turns_of}
 use Rattle.ssz_engine.specs.Lines.{Makes, Missed}
 use Rattle.ssz_engine.specs.declared.outcome.Outcome.{Outcome}
-use Rattle.ssz_engine.proofs.Paying.{pays_step}
+use Rattle.ssz_engine.proofs.Paying.{pays_step, pays_total}
 use Rattle.ssz_engine.proofs.Reaching.{reached_at}
 use Rattle.ssz_engine.proofs.Settling.{pays_nothing, settled}
+use Rattle.ssz_engine.proofs.Stopping.{stopped_at}
 
 -- the rules stay where types and limit do
 pub same_rules : (pair_of : PairOf) (old new : Content) → Keeps old new
@@ -58,10 +60,20 @@ any-append done turn before was old new = rw (old, new) (sides done)
     sides (first ∷ done) =
         under (is_refused first) (is_refused turn) (list_any is_refused done) _ (sides done)
 
--- no pair was hashed beyond those that were to be hashed
-pub record Hashes (before after : Scene) : Type 0 where
+-- What is so of a line that was not done: no pair was hashed beyond those that were to be hashed,
+-- and what was stood for is stood for.
+pub record Passes (before after : Scene) : Type 0 where
   pub rises : before.hashed ≤ after.hashed
   pub most : after.hashed ≤ before.hashed + unhashed before.engine.arena
+  pub stays : StaysFor before.engine after.engine
+
+-- so it is of no line
+pub passes_none : (scene : Scene) → Passes scene scene
+passes_none scene = record {
+  rises = omega arith;
+  most = omega arith;
+  stays = λ versions stands. stands;
+}
 
 no-read-write : (P : Type 0) → status.WriteFault ≡ status.ReadFault → P
 no-read-write P e = absurd cc
@@ -74,26 +86,48 @@ module _ (pair_of : PairOf) (place : Place) (course : Course) where
   abbrev last : Scene → List Event → List ℕ
   last scene left = replicate (length left) (scene.hashed - course.base)
 
+  -- what was hashed in a line that was not done was left before it
+  owed_still : (before after : Scene) (done : List Turn)
+      → Pays course.base done course.hashed course.left before.hashed
+      (unhashed before.engine.arena)
+      → Passes before after → after.hashed ≤ course.hashed + course.left + charges done
+  owed_still before after done pays passes =
+      let total = pays_total course.base done course.hashed course.left before.hashed
+      (unhashed before.engine.arena) pays in
+      let most = passes.most in
+      omega arith
+
   -- no memory between two lines
   pub no_memory : (left : List Event) (refused : Bool) (before after : Scene)
       → Comes pair_of place course left refused before → after.told ≡ before.told
-      → after.pieces ≡ before.pieces → Hashes before after
+      → after.pieces ≡ before.pieces → Passes before after
       → IsCutShort place course status.Memory before after
-  no_memory left refused before after c told pieces hashes =
+  no_memory left refused before after c told pieces passes =
       let u = c.at.under in
+      let printed = pieces ∙ c.at.printed in
+      let held = told ∙ c.at.files in
       record {
         numbers = u.numbers ++ last before left;
-        ends = ends_without_memory course.rules place course.events course.first c.done c.state left
-            u (last before left) course.ample course.pieces after.pieces after.told
-            (pieces ∙ c.at.printed) (told ∙ c.at.files);
+        ends = ends_without_memory course.rules place course.events course.first c.at.front c.done
+            c.state left c.at.all u (last before left) course.ample course.pieces after.pieces
+            after.told printed held;
         now = before.hashed;
         rest = unhashed before.engine.arena;
         pays = settled course.rules place course.base before.hashed (unhashed before.engine.arena)
-            course.events course.first c.done c.state left course.hashed course.left u c.at.pays;
-        most = hashes.rises;
-        least = hashes.most;
+            course.events c.at.front course.first c.done c.state left course.hashed course.left
+            c.at.all u c.at.pays;
+        most = passes.rises;
+        least = passes.most;
         broken = λ done. done;
         reached = λ all. no-read-memory;
+        stopped = stopped_at course.rules place course.events c.at.front course.first c.done
+            c.state left (course.hashed + course.left) after u (u.numbers ++ last before left)
+            (record { more = last before left; are = refl }) c.at.all _
+            (steps_without_memory course.rules place course.events course.first c.at.front c.done
+            c.state left c.at.all u (last before left) course.ample course.pieces after.pieces
+            after.told printed held)
+            (passes.stays c.state.versions c.at.versions)
+            (owed_still before after c.done c.at.pays passes);
       }
 
   module _ (writer : ℕ) (line : Line) (left : List Event) (was : Bool) (before after : Scene)
@@ -104,10 +138,13 @@ module _ (pair_of : PairOf) (place : Place) (course : Course) where
     abbrev turn : Turn
     turn = step course.rules place number c.state writer line
 
-    abbrev on : IsUnderWay course.rules place course.events course.first (c.done ++ turn ∷ [])
-        (state_of turn) left
-    on = under_way_line course.rules place course.events course.first c.done c.state writer line
-        left number c.at.under
+    abbrev on : IsUnderWay course.rules place (c.at.front ++ says writer line ∷ []) course.first
+        (c.done ++ turn ∷ []) (state_of turn)
+    on = under_way_line course.rules place course.first c.at.front c.done c.state writer line
+        number c.at.under
+
+    longer : course.events ≡ (c.at.front ++ says writer line ∷ []) ++ left
+    longer = c.at.all ∙ sym (append_assoc c.at.front (says writer line ∷ []) left)
 
     abbrev numbers_before : List ℕ
     numbers_before = on.numbers ++ last before left
@@ -117,8 +154,8 @@ module _ (pair_of : PairOf) (place : Place) (course : Course) where
         before.hashed (unhashed before.engine.arena)
     pays_before =
         settled course.rules place course.base before.hashed (unhashed before.engine.arena)
-        course.events course.first (c.done ++ turn ∷ []) (state_of turn) left course.hashed
-        course.left on
+        course.events (c.at.front ++ says writer line ∷ []) course.first (c.done ++ turn ∷ [])
+        (state_of turn) left course.hashed course.left longer on
         (pays_step course.base c.done turn course.hashed course.left before.hashed
         (unhashed before.engine.arena) before.hashed (unhashed before.engine.arena) c.at.pays
         (pays_nothing course.rules place course.base before.hashed (unhashed before.engine.arena)
@@ -128,51 +165,77 @@ module _ (pair_of : PairOf) (place : Place) (course : Course) where
         → turns_of place course (on.numbers ++ numbers)
         ≡ c.done ++ turn ∷ play course.rules place numbers (state_of turn) left
     split numbers =
-        on.turns numbers
+        ap (λ es. play course.rules place (on.numbers ++ numbers) course.first es) longer
+        ∙ on.turns left numbers
         ∙ append_assoc c.done (turn ∷ []) (play course.rules place numbers (state_of turn) left)
 
+    -- the line was not done
+    stopped_before : (after : Scene) → Passes before after → (steps : ℕ) → steps ≡ length c.done
+        → IsStopped course.rules place course.events course.first numbers_before steps
+        (course.hashed + course.left) after
+    stopped_before after passes steps are =
+        stopped_at course.rules place course.events c.at.front course.first c.done c.state
+        (says writer line ∷ left) (course.hashed + course.left) after c.at.under numbers_before
+        (line_follows course.rules place course.first c.at.front c.done c.state writer line number
+        c.at.under (last before left)) c.at.all steps are
+        (passes.stays c.state.versions c.at.versions)
+        (owed_still before after c.done c.at.pays passes)
+
     pub line_unread : Missed course.rules turn before after → after.pieces ≡ before.pieces
-        → Hashes before after → IsCutShort place course status.ReadFault before after
-    line_unread missed pieces hashes = record {
-      numbers = numbers_before;
-      ends = ends_unread course.rules place course.events course.first c.done c.state writer line
-          left number c.at.under (last before left) course.ample course.pieces after.pieces after.told
-          missed.reads (pieces ∙ c.at.printed) (missed.files ∙ c.at.files);
-      now = before.hashed;
-      rest = unhashed before.engine.arena;
-      pays = pays_before;
-      most = hashes.rises;
-      least = hashes.most;
-      broken = λ done. done;
-      reached = λ all e. missed.unread (reached_at before.readable course.rules c.done turn
-          (play course.rules place (last before left) (state_of turn) left) missed.name missed.reads
-          missed.named
-          (subst (λ turns. AllByRecursion before.readable (files_reached course.rules turns))
-          (split (last before left)) all));
-    }
+        → Passes before after → IsCutShort place course status.ReadFault before after
+    line_unread missed pieces passes =
+        let printed = pieces ∙ c.at.printed in
+        let held = missed.files ∙ c.at.files in
+        record {
+          numbers = numbers_before;
+          ends = ends_unread course.rules place course.events course.first c.at.front c.done
+              c.state writer line left number c.at.all c.at.under (last before left) course.ample
+              course.pieces after.pieces after.told missed.reads printed held;
+          now = before.hashed;
+          rest = unhashed before.engine.arena;
+          pays = pays_before;
+          most = passes.rises;
+          least = passes.most;
+          broken = λ done. done;
+          reached = λ all e. missed.unread (reached_at before.readable course.rules c.done turn
+              (play course.rules place (last before left) (state_of turn) left) missed.name
+              missed.reads missed.named
+              (subst (λ turns. AllByRecursion before.readable (files_reached course.rules turns))
+              (split (last before left)) all));
+          stopped = stopped_before after passes _
+              (steps_unread course.rules place course.events course.first c.at.front c.done
+              c.state writer line left number c.at.all c.at.under (last before left) course.ample
+              course.pieces after.pieces after.told missed.reads printed held);
+        }
 
     pub line_unwritten : SavesPart turn before.told after.told → after.pieces ≡ before.pieces
-        → Hashes before after → IsCutShort place course status.WriteFault before after
-    line_unwritten part pieces hashes = record {
-      numbers = numbers_before;
-      ends = ends_torn_file course.rules place course.events course.first c.done c.state writer line
-          left number c.at.under (last before left) course.ample course.pieces after.pieces
-          after.told part.0 part.1 (pieces ∙ c.at.printed)
-          (subst (λ (told : Option Files). Tears part.0.name part.0.bytes told after.told)
-          c.at.files part.2);
-      now = before.hashed;
-      rest = unhashed before.engine.arena;
-      pays = pays_before;
-      most = hashes.rises;
-      least = hashes.most;
-      broken = λ done. done;
-      reached = λ all. no-read-write ⊥;
-    }
+        → Passes before after → IsCutShort place course status.WriteFault before after
+    line_unwritten part pieces passes =
+        let printed = pieces ∙ c.at.printed in
+        let tears = subst (λ (told : Option Files). Tears part.0.name part.0.bytes told after.told)
+        c.at.files part.2 in
+        record {
+          numbers = numbers_before;
+          ends = ends_torn_file course.rules place course.events course.first c.at.front c.done
+              c.state writer line left number c.at.all c.at.under (last before left) course.ample
+              course.pieces after.pieces after.told part.0 part.1 printed tears;
+          now = before.hashed;
+          rest = unhashed before.engine.arena;
+          pays = pays_before;
+          most = passes.rises;
+          least = passes.most;
+          broken = λ done. done;
+          reached = λ all. no-read-write ⊥;
+          stopped = stopped_before after passes _
+              (steps_torn_file course.rules place course.events course.first c.at.front c.done
+              c.state writer line left number c.at.all c.at.under (last before left) course.ample
+              course.pieces after.pieces after.told part.0 part.1 printed tears);
+        }
 
-    pub line_memory : after.told ≡ before.told → after.pieces ≡ before.pieces → Hashes before after
+    pub line_memory : after.told ≡ before.told → after.pieces ≡ before.pieces → Passes before after
         → IsCutShort place course status.Memory before after
-    line_memory told pieces hashes =
-        no_memory (says writer line ∷ left) was before after c told pieces hashes
+    line_memory told pieces passes =
+        no_memory (says writer line ∷ left) was before after c told pieces passes
 
     module _ (made : Outcome) (text piece : List ℕ)
         (makes : Makes course.base turn made before after text piece)
@@ -200,6 +263,8 @@ module _ (pair_of : PairOf) (place : Place) (course : Course) where
         done = c.done ++ turn ∷ [];
         state = state_of turn;
         at = record {
+          front = c.at.front ++ says writer line ∷ [];
+          all = longer;
           under = on;
           rules = same_rules pair_of before.engine after.engine keeps ∙ c.at.rules;
           base = keeps.base ∙ c.at.base;
@@ -221,44 +286,69 @@ module _ (pair_of : PairOf) (place : Place) (course : Course) where
           course.left after.hashed (unhashed after.engine.arena)
       pays_settled =
           settled course.rules place course.base after.hashed (unhashed after.engine.arena)
-          course.events course.first (c.done ++ turn ∷ []) (state_of turn) left course.hashed
-          course.left on pays_after
+          course.events (c.at.front ++ says writer line ∷ []) course.first (c.done ++ turn ∷ [])
+          (state_of turn) left course.hashed course.left longer on pays_after
+
+      -- the line was done
+      stopped_behind : (steps : ℕ) → steps ≡ length (c.done ++ turn ∷ [])
+          → IsStopped course.rules place course.events course.first numbers_after steps
+          (course.hashed + course.left) after
+      stopped_behind steps are =
+          stopped_at course.rules place course.events (c.at.front ++ says writer line ∷ [])
+          course.first (c.done ++ turn ∷ []) (state_of turn) left (course.hashed + course.left)
+          after on numbers_after (record { more = last after left; are = refl }) longer steps are
+          makes.versions
+          (let total = pays_total course.base (c.done ++ turn ∷ []) course.hashed course.left
+          after.hashed (unhashed after.engine.arena) pays_after in omega arith)
 
       -- it was done, and printed in part
       pub line_cut : (count : ℕ) → after.pieces ≡ told_append before.pieces (take count piece ∷ [])
           → IsCutShort place course status.WriteFault before after
-      line_cut count printed = record {
-        numbers = numbers_after;
-        ends = ends_torn_line course.rules place course.events course.first c.done c.state writer
-            line left number c.at.under (last after left) course.ample course.pieces after.pieces
-            after.told count
-            (printed ∙ ap (λ (t : Told). told_append t (take count piece ∷ [])) c.at.printed
-            ∙ told_append-twice course.pieces (shown_all place c.done) (take count piece ∷ [])
-            ∙ ap (λ p. told_append course.pieces (shown_all place c.done ++ take count p ∷ []))
-            is_shown)
-            makes.files;
-        now = after.hashed;
-        rest = unhashed after.engine.arena;
-        pays = pays_settled;
-        most = omega arith;
-        least = omega arith;
-        broken = λ done. done;
-        reached = λ all. no-read-write ⊥;
-      }
+      line_cut count cut =
+          let printed : after.pieces ≡ told_append course.pieces (shown_all place c.done
+          ++ take count (shown place turn) ∷ []) =
+          cut ∙ ap (λ (t : Told). told_append t (take count piece ∷ [])) c.at.printed
+          ∙ told_append-twice course.pieces (shown_all place c.done) (take count piece ∷ [])
+          ∙ ap (λ p. told_append course.pieces (shown_all place c.done ++ take count p ∷ []))
+          is_shown in
+          record {
+            numbers = numbers_after;
+            ends = ends_torn_line course.rules place course.events course.first c.at.front c.done
+                c.state writer line left number c.at.all c.at.under (last after left) course.ample
+                course.pieces after.pieces after.told count printed makes.files;
+            now = after.hashed;
+            rest = unhashed after.engine.arena;
+            pays = pays_settled;
+            most = omega arith;
+            least = omega arith;
+            broken = λ done. done;
+            reached = λ all. no-read-write ⊥;
+            stopped = stopped_behind _
+                (steps_torn_line course.rules place course.events course.first c.at.front c.done
+                c.state writer line left number c.at.all c.at.under (last after left)
+                course.ample course.pieces after.pieces after.told count printed makes.files);
+          }
 
       -- it was done, and there was no memory to print it
       pub line_ahead : before.ample ≡ false → after.pieces ≡ before.pieces
           → IsCutShort place course status.Memory before after
-      line_ahead wanting same = record {
-        numbers = numbers_after;
-        ends = ends_ahead course.rules place course.events course.first c.done c.state writer line
-            left number c.at.under (last after left) course.ample course.pieces after.pieces
-            after.told (sym c.at.ample ∙ wanting) (same ∙ c.at.printed) makes.files;
-        now = after.hashed;
-        rest = unhashed after.engine.arena;
-        pays = pays_settled;
-        most = omega arith;
-        least = omega arith;
-        broken = λ done. done;
-        reached = λ all. no-read-memory;
-      }
+      line_ahead wanting same =
+          let wants = sym c.at.ample ∙ wanting in
+          let printed = same ∙ c.at.printed in
+          record {
+            numbers = numbers_after;
+            ends = ends_ahead course.rules place course.events course.first c.at.front c.done
+                c.state writer line left number c.at.all c.at.under (last after left) course.ample
+                course.pieces after.pieces after.told wants printed makes.files;
+            now = after.hashed;
+            rest = unhashed after.engine.arena;
+            pays = pays_settled;
+            most = omega arith;
+            least = omega arith;
+            broken = λ done. done;
+            reached = λ all. no-read-memory;
+            stopped = stopped_behind _
+                (steps_ahead course.rules place course.events course.first c.at.front c.done
+                c.state writer line left number c.at.all c.at.under (last after left)
+                course.ample course.pieces after.pieces after.told wants printed makes.files);
+          }

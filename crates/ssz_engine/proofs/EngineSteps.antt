@@ -212,3 +212,9 @@ pub stays_uncompacted : (statement : Statement) (result : Result Outcome EngineF
 stays_uncompacted statement (Ok Accepted) none = none
 stays_uncompacted statement (Ok Refused) none = refl
 stays_uncompacted statement (Err fault) none = refl
+
+-- nor does one that was not done
+pub err-kept : (statement : Statement) (result : Result Outcome EngineFault) (P : Type 0)
+    → (compacted statement result ≡ false → P) → OnErr result P
+err-kept statement (Ok made) P kept = tt
+err-kept statement (Err fault) P kept = kept refl

@@ -12,7 +12,7 @@ use Rattle.ssz_engine.specs.Content.{Content}
 use Rattle.ssz_engine.specs.Steps.{Keeps}
 use Rattle.ssz_engine.specs.Scripts.{Scene, files_reached}
 use Rattle.ssz_engine.specs.Points.{Course, Goes, IsCutShort, LeadsTo, turns_of}
-use Rattle.ssz_engine.proofs.Comings.{no_memory}
+use Rattle.ssz_engine.proofs.Comings.{no_memory, passes_none}
 use Rattle.ssz_engine.proofs.Reaching.{all_names}
 
 -- what could be read before can be read in the middle
@@ -35,6 +35,7 @@ earlier place course ended before mid after readable cut = record {
   reached = λ all. cut.reached
       (all_names before.readable mid.readable readable
       (files_reached course.rules (turns_of place course cut.numbers)) all);
+  stopped = cut.stopped;
 }
 
 module _ (pair_of : PairOf) (place : Place) (these : List Event) (writer : ℕ)
@@ -85,4 +86,4 @@ pub leads_memory : (pair_of : PairOf) (place : Place) (these those : List Event)
 leads_memory pair_of place these those first was before mid leads readable course left comes =
     earlier place course status.Memory before mid mid readable
     (no_memory pair_of place course (those ++ left) was mid mid (leads course left comes) refl refl
-    (record { rises = omega arith; most = omega arith }))
+    (passes_none mid))

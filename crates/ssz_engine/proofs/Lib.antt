@@ -28,6 +28,7 @@ pub mod Paying
 pub mod Replies
 pub mod Settling
 pub mod Reaching
+pub mod Stopping
 pub mod Comings
 pub mod LineSteps
 pub mod EngineSteps

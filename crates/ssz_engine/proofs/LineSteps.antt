@@ -15,7 +15,7 @@ use Rattle.ssz_engine.specs.Lines.{Does, DoesLine, Prints, ended_by}
 use Rattle.ssz_engine.specs.declared.outcome.Outcome.{Outcome}
 use Rattle.ssz_engine.specs.declared.fault.EngineFault.{EngineFault}
 use Rattle.ssz_engine.specs.declared.fault.EngineFault.TheVariants.{Read, Write, Memory}
-use Rattle.ssz_engine.proofs.Comings.{Hashes, line_ahead, line_cut, line_done, line_memory, line_unread, line_unwritten}
+use Rattle.ssz_engine.proofs.Comings.{Passes, line_ahead, line_cut, line_done, line_memory, line_unread, line_unwritten}
 
 module _ (pair_of : PairOf) (place : Place) (writer : ℕ) (line : Line) (was : Bool)
     (before after : Scene) (text more : List ℕ) where
@@ -37,17 +37,17 @@ module _ (pair_of : PairOf) (place : Place) (writer : ℕ) (line : Line) (was : 
   -- it was not done
   pub stop_goes : (fault : EngineFault)
       → DoesLine pair_of place writer line (Err fault) before after text more
-      → after.pieces ≡ before.pieces → Hashes before after
+      → after.pieces ≡ before.pieces → Passes before after
       → Goes pair_of place (says writer line ∷ []) (Err (ended_by fault)) was was before after
-  stop_goes Read does pieces hashes course left c =
+  stop_goes Read does pieces passes course left c =
       line_unread pair_of place course writer line left was before after c
-      (line_does (Err Read) course left c does) pieces hashes
-  stop_goes Write does pieces hashes course left c =
+      (line_does (Err Read) course left c does) pieces passes
+  stop_goes Write does pieces passes course left c =
       line_unwritten pair_of place course writer line left was before after c
-      (line_does (Err Write) course left c does) pieces hashes
-  stop_goes Memory does pieces hashes course left c =
+      (line_does (Err Write) course left c does) pieces passes
+  stop_goes Memory does pieces passes course left c =
       line_memory pair_of place course writer line left was before after c
-      (line_does (Err Memory) course left c does) pieces hashes
+      (line_does (Err Memory) course left c does) pieces passes
 
   -- it was done, and was printed or not
   pub print_goes : (printed : Result (Unit {0}) Status) (made : Outcome)

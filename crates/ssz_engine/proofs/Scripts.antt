@@ -1,10 +1,10 @@
 -- A whole script.
-use Rattle.std.proofs.Common.{ℕ, ◌-◌, ◌≡◌, ◌++◌, Bool, true, false, List, [], Some, None, refl, sym, ap, subst, arith}
+use Rattle.std.proofs.Common.{ℕ, ◌-◌, ◌≡◌, ◌++◌, Bool, true, false, List, [], Some, None, refl, sym, ap, ◌∙◌, subst, arith}
 use Rattle.std.specs.Prelude.{Ok, Err, ◌≢◌}
 use Rattle.std.specs.List.{AllByRecursion}
 use Rattle.std.proofs.lemmas.List.{append-nil}
 use Rattle.ssz_arena.specs.Content.{unhashed}
-use Rattle.ssz_outside.specs.Job.{Ends}
+use Rattle.ssz_outside.specs.Job.{Ends, IsFinished}
 use Rattle.ssz_outside.specs.Pieces.{Told, told_append}
 use Rattle.ssz_outside.specs.declared.status.Status.{Status}
 use Rattle.ssz_outside.specs.declared.status.Status.TheVariants as status
@@ -14,10 +14,10 @@ use Rattle.ssz_machine.specs.declared.place.Place.{Place}
 use Rattle.ssz_machine.specs.declared.place.Place.TheVariants.{Run}
 use Rattle.ssz_machine.specs.State.{State}
 use Rattle.ssz_machine.specs.Machine.{Turn}
-use Rattle.ssz_machine.specs.Plays.{Event, all_of}
+use Rattle.ssz_machine.specs.Plays.{Event, all_of, play, state_after}
 use Rattle.ssz_machine.specs.Counts.{AreCounts}
 use Rattle.ssz_machine.specs.Runs.{job_from}
-use Rattle.ssz_machine.proofs.UnderWay.{under_way_all, under_way_begins}
+use Rattle.ssz_machine.proofs.UnderWay.{Follow, under_way_all, under_way_begins, under_way_last}
 use Rattle.ssz_machine.proofs.Endings.{ends_done}
 use Rattle.ssz_engine.specs.Content.{rules_of}
 use Rattle.ssz_engine.specs.Standing.{StandsFor}
@@ -36,6 +36,10 @@ fresh_counts : (base : ℕ) (turns : List Turn) (a b c d : ℕ) → base ≡ a �
 fresh_counts base turns a b c d start none pays =
     subst (λ n. AreCounts turns (c - n)) start
     (pays_counts base turns b c d (subst (λ n. Pays base turns n b c d) (sym start) pays) none)
+
+finished_ends : (refused : Bool) → IsFinished (finished refused)
+finished_ends true = tt
+finished_ends false = tt
 
 -- a run that was done ended with no fault
 finished_no_fault : (refused : Bool) → finished refused ≢ status.ReadFault
@@ -65,7 +69,9 @@ module _ (pair_of : PairOf) (place : Place) (events : List Event) (before after 
         done = [];
         state = first;
         at = record {
-          under = under_way_begins course.rules place events first;
+          front = [];
+          all = refl;
+          under = under_way_begins course.rules place first;
           rules = refl;
           base = refl;
           versions = versions;
@@ -83,8 +89,11 @@ module _ (pair_of : PairOf) (place : Place) (events : List Event) (before after 
   run_done refused c =
       let u = c.at.under in
       let numbers = u.numbers ++ [] in
+      let whole : events ≡ c.at.front = c.at.all ∙ append-nil c.at.front in
+      let follow : Follow u.numbers numbers = record { more = []; are = refl } in
       let every : turns_of place course numbers ≡ c.done =
-      under_way_all course.rules place events first c.done c.state u in
+      ap (λ es. play course.rules place numbers first es) whole
+      ∙ under_way_all course.rules place first c.at.front c.done c.state u numbers follow in
       let pays : Pays course.base (turns_of place course numbers) course.hashed course.left
       after.hashed (unhashed after.engine.arena) =
       subst (λ turns. Pays course.base turns course.hashed course.left after.hashed
@@ -96,7 +105,8 @@ module _ (pair_of : PairOf) (place : Place) (events : List Event) (before after 
         ends = subst (λ (r : Bool). Ends before.ample (finished r)
             (job_from course.rules place events first numbers) before.pieces after.pieces
             after.told) (sym c.at.answer)
-            (ends_done course.rules place events first c.done c.state u before.ample before.pieces
+            (ends_done course.rules place events first c.at.front c.done c.state c.at.all u
+            before.ample before.pieces
             after.pieces after.told c.at.printed c.at.files);
         paid = omega (arith, total);
         counts = λ fresh. record {
@@ -109,9 +119,12 @@ module _ (pair_of : PairOf) (place : Place) (events : List Event) (before after 
         reached = λ others all. finished_no_fault refused;
         through = λ done. record {
           paid = total;
-          stands = subst (λ (s : State). StandsFor after.engine s.versions) (sym (u.final []))
+          stands = subst (λ (s : State). StandsFor after.engine s.versions)
+              (sym (ap (λ es. state_after course.rules place numbers first es) whole
+              ∙ under_way_last course.rules place first c.at.front c.done c.state u numbers follow))
               c.at.versions;
         };
+        stopped = λ broken. absurd (broken (finished_ends refused));
       }
 
   -- or the run ended before
@@ -136,6 +149,7 @@ module _ (pair_of : PairOf) (place : Place) (events : List Event) (before after 
             (subst (λ names. AllByRecursion before.readable names)
             (same_files course.rules place events first others cut.numbers) all);
         through = λ done. absurd (cut.broken done);
+        stopped = λ broken. cut.stopped;
       }
 
 module _ (pair_of : PairOf) (script : List ℕ) (before after : Scene) (refused : Bool) where

@@ -1,5 +1,5 @@
 -- What is left of a run whose last number is printed for all lines to come.
-use Rattle.std.proofs.Common.{ℕ, zero, suc, ◌-◌, ◌≤◌, ◌≡◌, List, [], ◌∷◌, ◌++◌, length, replicate, Option, Some, None, refl, sym, subst, arith}
+use Rattle.std.proofs.Common.{ℕ, zero, suc, ◌-◌, ◌≤◌, ◌≡◌, List, [], ◌∷◌, ◌++◌, length, replicate, Option, Some, None, refl, sym, ap, ◌∙◌, subst, arith}
 use Rattle.ssz_script.specs.declared.statement.Statement.{Statement}
 use Rattle.ssz_script.specs.declared.statement.Statement.TheVariants.{Hashes}
 use Rattle.ssz_machine.specs.declared.place.Place.{Place}
@@ -57,13 +57,16 @@ module _ (rules : Rules) (place : Place) (base h l : ℕ) where
       )
 
   -- A run that is under way was paid for whole, as if nothing were hashed any more.
-  pub settled : (events : List Event) (first : State) (done : List Turn) (state : State)
-      (left : List Event) (a b : ℕ)
-      → (u : IsUnderWay rules place events first done state left) → Pays base done a b h l
+  pub settled : (events front : List Event) (first : State) (done : List Turn) (state : State)
+      (left : List Event) (a b : ℕ) → events ≡ front ++ left
+      → (u : IsUnderWay rules place front first done state) → Pays base done a b h l
       → Pays base (play rules place (u.numbers ++ replicate (length left) number) first events)
       a b h l
-  settled events first done state left a b u pays =
-      subst (λ turns. Pays base turns a b h l) (sym (u.turns (replicate (length left) number)))
+  settled events front first done state left a b all u pays =
+      let numbers = replicate (length left) number in
+      subst (λ turns. Pays base turns a b h l)
+      (sym (ap (λ es. play rules place (u.numbers ++ numbers) first es) all
+      ∙ u.turns left numbers))
       (pays_append base done
       (play rules place (replicate (length left) number) state left) a b h l h l pays
       (rest_pays left (length left) state (omega arith)))

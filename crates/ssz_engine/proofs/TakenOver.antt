@@ -1,11 +1,13 @@
 -- Writers that take over what the base's writer holds.
-use Rattle.std.proofs.Common.{ℕ, zero, suc, ◌+◌, ◌<◌, ◌≤◌, ◌≡◌, ◌≢◌, ◌==◌, Bool, true, false, cond, List, [], ◌∷◌, ◌++◌, length, Option, Some, refl, sym, ap, ◌∙◌, subst, arith}
+use Rattle.std.proofs.Common.{ℕ, zero, suc, ◌+◌, ◌<◌, ◌≤◌, ◌≡◌, ◌≢◌, ◌==◌, Bool, true, false, cond, List, [], ◌∷◌, ◌++◌, length, take, Option, Some, refl, sym, ap, ◌∙◌, subst, arith, append_assoc}
 use Rattle.std.specs.Prelude.{nat_lt}
 use Rattle.std.proofs.lemmas.Bool.Decides.{nat_tests, Decides-eqb}
+use Rattle.std.proofs.lemmas.List.{append-nil}
 use Rattle.ssz_schema.specs.Unfolding.{Types}
 use Rattle.ssz_arena.specs.Content.{Content as Nodes, unhashed}
 use Rattle.ssz_outside.specs.Content.{Content as Files}
 use Rattle.ssz_outside.specs.Pieces.{Told}
+use Rattle.ssz_outside.specs.declared.status.Status.TheVariants as status
 use Rattle.ssz_proof.specs.Calculation.{PairOf}
 use Rattle.ssz_versions.specs.Content.{Entries, Held, held_at}
 use Rattle.ssz_versions.specs.Outcomes.{Adopts}
@@ -13,14 +15,17 @@ use Rattle.ssz_machine.specs.declared.place.Place.TheVariants.{Weave}
 use Rattle.ssz_machine.specs.State.{Name, State, Versions, version_of}
 use Rattle.ssz_machine.specs.Rules.{Rules}
 use Rattle.ssz_machine.specs.Machine.{Line, Turn}
+use Rattle.ssz_machine.specs.Plays as plays
 use Rattle.ssz_machine.specs.Plays.{Event, adopted, adoptions, base_writer}
 use Rattle.ssz_machine.specs.Runs.{IsUnderWay}
 use Rattle.ssz_machine.proofs.UnderWay.{under_way_adopts}
 use Rattle.ssz_engine.specs.Content.{Content, SameNodes, rules_of}
 use Rattle.ssz_engine.specs.Standing.{Match, StandsFor, StandsForVersions}
 use Rattle.ssz_engine.specs.Scripts.{scene}
-use Rattle.ssz_engine.specs.Points.{Comes, Course, Pays}
-use Rattle.ssz_engine.specs.Weaves.{AdoptsAll, HoldsNone}
+use Rattle.ssz_engine.proofs.Comings.{no_memory, passes_none}
+use Rattle.ssz_engine.proofs.Leading.{earlier}
+use Rattle.ssz_engine.specs.Points.{Comes, Course, IsCutShort, Pays}
+use Rattle.ssz_engine.specs.Weaves.{AdoptsAll, AdoptsSome, HoldsNone}
 
 -- the next writer holds nothing yet
 pub next_holds_none : (count : ℕ) (old new : Entries) → AdoptsAll count old new
@@ -156,14 +161,29 @@ module _ (scripts : List (List Line)) (state : State) (old new : Content)
       above : (writer : ℕ) → nat_lt writer (length scripts) ≡ false → length scripts ≤ writer
       above writer known = grind (arith, nat_tests)
 
-under_way_all_adopt : (rules : Rules) (events : List Event) (first : State) (done : List Turn)
-    (n : ℕ) (scripts : List (List Line)) (state : State) (left : List Event)
-    → IsUnderWay rules Weave events first done state (adoptions n scripts ++ left)
-    → IsUnderWay rules Weave events first done (after_all n scripts state) left
-under_way_all_adopt rules events first done n [] state left u = u
-under_way_all_adopt rules events first done n (script ∷ scripts) state left u =
-    under_way_all_adopt rules events first done (n + 1) scripts (adopted n state) left
-    (under_way_adopts rules Weave events first done state n (adoptions (n + 1) scripts ++ left) u)
+under_way_all_adopt : (rules : Rules) (front : List Event) (first : State) (done : List Turn)
+    (n : ℕ) (scripts : List (List Line)) (state : State)
+    → IsUnderWay rules Weave front first done state
+    → IsUnderWay rules Weave (front ++ adoptions n scripts) first done (after_all n scripts state)
+under_way_all_adopt rules front first done n [] state u =
+    subst (λ es. IsUnderWay rules Weave es first done state) (sym (append-nil front)) u
+under_way_all_adopt rules front first done n (script ∷ scripts) state u =
+    subst (λ es. IsUnderWay rules Weave es first done (after_all n (script ∷ scripts) state))
+    (append_assoc front (plays.adopts n ∷ []) (adoptions (n + 1) scripts))
+    (under_way_all_adopt rules (front ++ plays.adopts n ∷ []) first done (n + 1) scripts
+    (adopted n state) (under_way_adopts rules Weave first front done state n u))
+
+-- the adoptions begin with those of the first scripts
+record FirstAdopt (n k : ℕ) (scripts : List (List Line)) : Type 0 where
+  left : List Event
+  are : adoptions n scripts ≡ adoptions n (take k scripts) ++ left
+
+first_adopt : (n k : ℕ) (scripts : List (List Line)) → FirstAdopt n k scripts
+first_adopt n zero scripts = record { left = adoptions n scripts; are = refl }
+first_adopt n (suc k) [] = record { left = []; are = refl }
+first_adopt n (suc k) (script ∷ scripts) =
+    let rest = first_adopt (n + 1) k scripts in
+    record { left = rest.left; are = ap (λ es. plays.adopts n ∷ es) rest.are }
 
 -- the adoptions of a run were done
 pub comes_adopted : (pair_of : PairOf) (course : Course) (scripts : List (List Line))
@@ -179,8 +199,10 @@ comes_adopted pair_of course scripts left refused old new hashed told readable p
       done = c.done;
       state = after_all 0 scripts c.state;
       at = record {
-        under = under_way_all_adopt course.rules course.events course.first c.done 0 scripts c.state
-            left c.at.under;
+        front = c.at.front ++ adoptions 0 scripts;
+        all = c.at.all ∙ sym (append_assoc c.at.front (adoptions 0 scripts) left);
+        under = under_way_all_adopt course.rules c.at.front course.first c.done 0 scripts c.state
+            c.at.under;
         rules = (λ i. record {
           type_named = (rules_of pair_of (record old { types = nodes.types i })).type_named;
           max_bytes = nodes.most i;
@@ -196,3 +218,38 @@ comes_adopted pair_of course scripts left refused old new hashed told readable p
             course.hashed course.left hashed (unhashed arena)) (sym nodes.arena) c.at.pays;
       };
     }
+
+length_first : (k : ℕ) (scripts : List (List Line)) → k ≤ length scripts
+    → length (take k scripts) ≡ k
+length_first zero scripts few = refl
+length_first (suc k) [] few = absurd (omega arith)
+length_first (suc k) (script ∷ scripts) few = ap suc (length_first k scripts (omega arith))
+
+-- some of them were done, and there was no memory for the others
+pub cut_adopting : (pair_of : PairOf) (course : Course) (scripts : List (List Line))
+    (left : List Event) (refused : Bool) (old new : Content) (hashed : ℕ) (told : Option Files)
+    (readable : Name → Type 0) (pieces : Told) (ample : Bool)
+    → length scripts ≤ base_writer → SameNodes old new
+    → AdoptsSome (length scripts) old.entries new.entries
+    → Comes pair_of Weave course (adoptions 0 scripts ++ left) refused
+    (scene old hashed told readable pieces ample)
+    → IsCutShort Weave course status.Memory (scene old hashed told readable pieces ample)
+    (scene new hashed told readable pieces ample)
+cut_adopting pair_of course scripts left refused old new hashed told readable pieces ample few nodes
+    adopts c =
+    let k = adopts.0 in
+    let before = scene old hashed told readable pieces ample in
+    let after = scene new hashed told readable pieces ample in
+    let first = first_adopt 0 k scripts in
+    let count = length_first k scripts adopts.1 in
+    let begun : Comes pair_of Weave course (adoptions 0 (take k scripts) ++ (first.left ++ left))
+    refused before =
+    subst (λ (events : List Event). Comes pair_of Weave course events refused before)
+    (ap (λ (es : List Event). es ++ left) first.are
+    ∙ append_assoc (adoptions 0 (take k scripts)) first.left left) c in
+    earlier Weave course status.Memory before after after (λ name is. is)
+    (no_memory pair_of Weave course (first.left ++ left) refused after after
+    (comes_adopted pair_of course (take k scripts) (first.left ++ left) refused old new hashed told
+    readable pieces ample (let all = adopts.1 in omega arith) nodes
+    (subst (λ n. AdoptsAll n old.entries new.entries) (sym count) adopts.2) begun)
+    refl refl (passes_none after))

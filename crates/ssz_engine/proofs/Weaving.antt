@@ -1,5 +1,5 @@
 -- A whole weave.
-use Rattle.std.proofs.Common.{ℕ, ◌≡◌, Bool, false, List, [], map, ap, subst, arith}
+use Rattle.std.proofs.Common.{ℕ, ◌≡◌, Bool, false, List, [], length, map, refl, sym, ap, ◌∙◌, subst, arith}
 use Rattle.std.specs.Prelude.{Ok, Err}
 use Rattle.ssz_outside.specs.Job.{Ends}
 use Rattle.ssz_outside.specs.declared.status.Status.{Status}
@@ -11,6 +11,7 @@ use Rattle.ssz_machine.specs.Rules.{Rules}
 use Rattle.ssz_machine.specs.Machine.{Turn}
 use Rattle.ssz_machine.specs.Plays.{Event, charges, play, weaving}
 use Rattle.ssz_machine.specs.Jobs.{job_of, turns_of_weave}
+use Rattle.ssz_machine.specs.Runs.{steps_done}
 use Rattle.ssz_machine.proofs.NoNumbers.{same_weave}
 use Rattle.ssz_machine.proofs.Numbering.{same_run}
 use Rattle.ssz_engine.specs.Content.{rules_of}
@@ -25,6 +26,14 @@ module _ (pair_of : PairOf) (base order : List ℕ) (scripts : List (List ℕ)) 
     abbrev events : List Event
     events = weaving (statements_in base) order (map statements_in scripts)
 
+    -- a weave of these steps ended with so many done
+    abbrev EndsWith : Status → Rules → State → ℕ → List Turn → Type 0
+    EndsWith ended rules first steps turns =
+        (ends : Ends before.ample ended (job_of rules Weave first.files turns) before.pieces
+        after.pieces after.told)
+        × (steps_done before.ample ended (job_of rules Weave first.files turns) before.pieces
+        after.pieces after.told ends ≡ steps)
+
     -- the numbers of a weave tell nothing
     without_numbers : (rules : Rules) (first : State) (ended : Status)
         → EndsRun rules Weave events first ended before after
@@ -34,9 +43,16 @@ module _ (pair_of : PairOf) (base order : List ℕ) (scripts : List (List ℕ)) 
         ≡ turns_of_weave rules first base order scripts =
         same_weave rules events first run.numbers [] in
         let final = (same_run rules Weave first events run.numbers []).final in
+        let ends : EndsWith ended rules first
+        (steps_done before.ample ended
+        (job_of rules Weave first.files (play rules Weave run.numbers first events)) before.pieces
+        after.pieces after.told run.ends) (turns_of_weave rules first base order scripts) =
+        subst (λ (turns : List Turn). EndsWith ended rules first
+        (steps_done before.ample ended
+        (job_of rules Weave first.files (play rules Weave run.numbers first events)) before.pieces
+        after.pieces after.told run.ends) turns) same (run.ends, refl) in
         record {
-          ends = subst (λ (turns : List Turn). Ends before.ample ended
-              (job_of rules Weave first.files turns) before.pieces after.pieces after.told) same run.ends;
+          ends = ends.0;
           paid = let charged = ap charges same in omega (arith, run.paid, charged);
           reached = run.reached [];
           through = λ done.
@@ -45,6 +61,21 @@ module _ (pair_of : PairOf) (base order : List ℕ) (scripts : List (List ℕ)) 
                 paid = let charged = ap charges same in omega (arith, through.paid, charged);
                 stands = subst (λ (state : State). StandsFor after.engine state.versions) final
                     through.stands;
+              };
+          stopped = λ broken.
+              let stopped = run.stopped broken in
+              let steps : play rules Weave run.numbers first stopped.front
+              ≡ play rules Weave [] first stopped.front =
+              same_weave rules stopped.front first run.numbers [] in
+              record {
+                front = stopped.front;
+                left = stopped.left;
+                all = stopped.all;
+                count = ap length (sym steps) ∙ stopped.count ∙ sym ends.1;
+                stands = subst (λ (state : State). StandsFor after.engine state.versions)
+                    (same_run rules Weave first stopped.front run.numbers []).final
+                    stopped.stands;
+                paid = let charged = ap charges steps in omega (arith, stopped.paid, charged);
               };
         }
 

@@ -1,6 +1,7 @@
 -- How the two lines of a work are printed, and how the work ends.
 use Rattle.std.proofs.Common.{ℕ, ◌≡◌, Bool, List, [], ◌∷◌, ◌++◌, take, Some, refl, sym, ap, ◌∙◌, inl, inr, arith}
 use Rattle.std.specs.Prelude.{◌≢◌, Err, codes, decimal}
+use Rattle.std.proofs.lemmas.List.{append-nil}
 use Rattle.ssz_outside.specs.Content.{Content as Files}
 use Rattle.ssz_outside.specs.Job.{CountsRun, Ends, IsThatOrStopped, Job}
 use Rattle.ssz_outside.specs.Pieces.{Told, told_append}
@@ -22,6 +23,7 @@ use Rattle.ssz_engine.specs.Works.{AreBroken, AreDone, EndsWorkFrom, Point, Repl
 use Rattle.ssz_engine.specs.declared.fault.EngineFault.{EngineFault}
 use Rattle.ssz_engine.specs.declared.fault.EngineFault.TheVariants.{Read, Write, Memory}
 use Rattle.ssz_engine.proofs.Scripts.{told_append-none}
+use Rattle.ssz_engine.proofs.WorkSteps.{broken_paid}
 
 module _ (ample : Bool) (held : Files) (first second : List ℕ) where
   abbrev job : Job
@@ -131,9 +133,16 @@ module _ (pair_of : PairOf) (type_name : Name) (seed count : ℕ) (before after 
         },
       ),
     );
-    paid = broken.paid;
-    through = λ none. absurd none;
-    roots = λ none. absurd none;
+    paid = broken_paid whole.turns Memory old new broken;
+    through = λ other. absurd (other refl);
+    roots = λ other. absurd (other refl);
+    stopped = λ same. record {
+      done = broken.done;
+      left = broken.next ∷ broken.left;
+      all = broken.all;
+      stands = broken.stands;
+      paid = broken.paid;
+    };
   }
 
   -- it was done, and the lines were printed or not
@@ -147,8 +156,15 @@ module _ (pair_of : PairOf) (type_name : Name) (seed count : ℕ) (before after 
   work_done ended made reply all edits replies ends = record {
     ends = rw (all.told ∙ told, sym edits, sym replies) ends;
     paid = let paid = all.paid in omega (arith, paid);
-    through = λ finished. record { paid = all.paid; stands = all.at.versions };
-    roots = λ finished. all.roots;
+    through = λ other. record { paid = all.paid; stands = all.at.versions };
+    roots = λ other. all.roots;
+    stopped = λ same. record {
+      done = whole.turns;
+      left = [];
+      all = sym (append-nil whole.turns);
+      stands = all.at.versions;
+      paid = let paid = all.paid in omega (arith, paid);
+    };
   }
 
 -- a fault that is no failed read is counted as its status says

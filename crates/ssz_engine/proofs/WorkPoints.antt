@@ -1,5 +1,5 @@
 -- The points of a work, by what an engine keeps.
-use Rattle.std.proofs.Common.{◌≡◌, ℕ, [], ◌∷◌, Some, refl, sym, subst}
+use Rattle.std.proofs.Common.{◌≡◌, ℕ, [], ◌∷◌, Option, Some, None, refl, sym, subst}
 use Rattle.std.specs.Prelude.{Result, Err}
 use Rattle.ssz_script.specs.declared.statement.Statement.{Statement}
 use Rattle.ssz_script.specs.declared.statement.Statement.TheVariants.{Root}
@@ -10,11 +10,13 @@ use Rattle.ssz_proof.specs.Calculation.{PairOf}
 use Rattle.ssz_machine.specs.Rules.{Rules}
 use Rattle.ssz_engine.specs.Content.{Content, rules_of}
 use Rattle.ssz_machine.specs.Work.{Worked, done, round}
+use Rattle.ssz_engine.specs.Standing.{StandsFor}
 use Rattle.ssz_engine.specs.Steps.{Keeps}
 use Rattle.ssz_engine.specs.Works.{AreBroken, AreDone, Point, Works}
 use Rattle.ssz_engine.specs.declared.fault.EngineFault.{EngineFault}
+use Rattle.ssz_engine.specs.declared.fault.EngineFault.TheVariants.{Memory}
 use Rattle.ssz_engine.proofs.Comings.{same_rules}
-use Rattle.ssz_engine.proofs.WorkSteps.{done_then}
+use Rattle.ssz_engine.proofs.WorkSteps.{broken_here, done_then}
 
 -- what was made by the rules of an engine was made by those of the one before
 pub by_first_rules : (pair_of : PairOf) (old new : Content) (keeps : Keeps old new)
@@ -46,3 +48,13 @@ round_done rules state way edit seed before mid after is first then =
           then,
       (refl, refl),
     )
+
+-- there was no memory for a round, whatever it is
+pub round_here : (rules : Rules) (state : State) (edit : Option Statement) (here : Point)
+    → StandsFor here.engine state.versions
+    → AreBroken (round rules state edit).turns Memory here here
+round_here rules state None here stands =
+    broken_here (done rules state (Root worked)) [] here stands
+round_here rules state (Some edit) here stands =
+    let turn : Turn = done rules state edit in
+    broken_here turn (done rules (state_of turn) (Root worked) ∷ []) here stands

@@ -1,6 +1,6 @@
 -- The steps of a work, one by one and one behind another.
-use Rattle.std.proofs.Common.{ℕ, ◌+◌, ◌-◌, ◌≤◌, ◌≡◌, false, List, [], ◌∷◌, ◌++◌, Option, Some, None, refl, sym, ap, ◌∙◌, subst, arith}
-use Rattle.std.specs.Prelude.{◌≢◌, Result, Ok, Err, IfOk}
+use Rattle.std.proofs.Common.{ℕ, ◌+◌, ◌-◌, ◌≤◌, ◌≡◌, false, List, [], ◌∷◌, ◌++◌, Option, Some, None, refl, sym, ap, ◌∙◌, subst, arith, append_assoc}
+use Rattle.std.specs.Prelude.{◌≢◌, Result, Ok, Err, IfOk, OnErr}
 use Rattle.std.specs.List.{AllByRecursion}
 use Rattle.std.proofs.lemmas.List.Sums.{sum_by-append, sum_by-cons}
 use Rattle.ssz_arena.specs.Content.{KeepsNodes, unhashed}
@@ -14,6 +14,7 @@ use Rattle.ssz_machine.specs.State.{Name, State, view_of}
 use Rattle.ssz_machine.specs.Rules.{Row, Rules}
 use Rattle.ssz_machine.specs.Machine.{Turn, charge_of, effect, save_in, save_of, saved, state_in, state_of, step}
 use Rattle.ssz_machine.specs.Changes.{IsChange, SavesInto}
+use Rattle.ssz_machine.specs.Plays.{charges}
 use Rattle.ssz_machine.specs.Work.{done}
 use Rattle.ssz_machine.proofs.Moves.{statements_change_their_entry_lem}
 use Rattle.ssz_engine.specs.Compacting.{is_compact}
@@ -21,6 +22,7 @@ use Rattle.ssz_engine.specs.Content.{rules_of}
 use Rattle.ssz_engine.specs.Lines.{Does, DoesLine}
 use Rattle.ssz_engine.specs.Outside.{CountsReads}
 use Rattle.ssz_engine.specs.Scripts.{Scene, name_before}
+use Rattle.ssz_engine.specs.Standing.{StandsFor, StaysFor}
 use Rattle.ssz_engine.specs.Steps.{LeavesHashed, file_read}
 use Rattle.ssz_engine.specs.Works.{AreBroken, AreDone, IsAtState, IsOfWork, Point, Replies, Works, one_step, point}
 use Rattle.ssz_engine.specs.declared.outcome.Outcome.{Outcome}
@@ -142,16 +144,21 @@ module _ (pair_of : PairOf) (statement : Statement) (is : IsOfWork statement)
       → DoesLine pair_of Run 0 (0, Some statement) (Err fault) before after [] reply
       → IsAtState state old
       → after.hashed ≤ before.hashed + unhashed before.engine.arena
-      → AreBroken (turn ∷ []) fault old new
-  statement_broken Read line at most =
+      → StaysFor before.engine after.engine → AreBroken (turn ∷ []) fault old new
+  statement_broken Read line at most stays =
       let missed = does (Err Read) line at in
       not-some missed.name _ (sym (names_none statement is) ∙ missed.named)
-  statement_broken Write line at most =
+  statement_broken Write line at most stays =
       let part = does (Err Write) line at in
       not-some part.0 _ (sym (no_save rules state statement is) ∙ part.1)
-  statement_broken Memory line at most = record {
+  statement_broken Memory line at most stays = record {
     memory = refl;
     told = does (Err Memory) line at;
+    done = [];
+    next = turn;
+    left = [];
+    all = refl;
+    stands = stays state.versions at.versions;
     paid = omega (arith, most);
   }
 
@@ -161,9 +168,12 @@ module _ (pair_of : PairOf) (statement : Statement) (is : IsOfWork statement)
       → IsAtState state old → after.hashed ≤ before.hashed + unhashed before.engine.arena
       → KeepsNodes before.engine.arena after.engine.arena
       → IfOk result (λ made. LeavesHashed statement 0 after.engine)
+      → OnErr result (StaysFor before.engine after.engine)
       → Works result (one_step turn) (λ made. Replies turn reply) old new
-  statement_works (Ok made) line at most nodes roots = statement_done made line at nodes roots
-  statement_works (Err fault) line at most nodes roots = statement_broken fault line at most
+  statement_works (Ok made) line at most nodes roots stays =
+      statement_done made line at nodes roots
+  statement_works (Err fault) line at most nodes roots stays =
+      statement_broken fault line at most stays
 
 -- no file is named
 pub none_named : (readable : Name → Type 0) (statement : Statement) → IsOfWork statement
@@ -203,10 +213,16 @@ pub broken_then : (turns more : List Turn) (middle : State) (fault : EngineFault
 broken_then turns more middle fault before mid after first then = record {
   memory = then.memory;
   told = then.told ∙ first.told;
+  done = turns ++ then.done;
+  next = then.next;
+  left = then.left;
+  all = ap (λ rest. turns ++ rest) then.all
+      ∙ sym (append_assoc turns then.done (then.next ∷ then.left));
+  stands = then.stands;
   paid =
       let a = first.paid in
       let b = then.paid in
-      omega (arith, a, b, sum_by-append charge_of turns more);
+      omega (arith, a, b, sum_by-append charge_of turns then.done);
 }
 
 -- nor for them, and so none for those behind them
@@ -215,9 +231,34 @@ pub broken_early : (turns more : List Turn) (fault : EngineFault) (before after 
 broken_early turns more fault before after first = record {
   memory = first.memory;
   told = first.told;
-  paid = let a = first.paid in omega (arith, a, sum_by-append charge_of turns more);
+  done = first.done;
+  next = first.next;
+  left = first.left ++ more;
+  all = ap (λ steps. steps ++ more) first.all
+      ∙ append_assoc first.done (first.next ∷ first.left) more;
+  stands = first.stands;
+  paid = first.paid;
 }
 
 -- there is none before any of them
-pub broken_here : (turns : List Turn) (here : Point) → AreBroken turns Memory here here
-broken_here turns here = record { memory = refl; told = refl; paid = omega arith }
+pub broken_here : (turn : Turn) (turns : List Turn) (here : Point)
+    → StandsFor here.engine turn.before.versions → AreBroken (turn ∷ turns) Memory here here
+broken_here turn turns here stands = record {
+  memory = refl;
+  told = refl;
+  done = [];
+  next = turn;
+  left = turns;
+  all = refl;
+  stands = stands;
+  paid = omega arith;
+}
+
+-- what was hashed is paid for by all of them, too
+pub broken_paid : (turns : List Turn) (fault : EngineFault) (before after : Point)
+    → AreBroken turns fault before after
+    → after.hashed ≤ before.hashed + unhashed before.engine.arena + charges turns
+broken_paid turns fault before after broken =
+    let paid = broken.paid in
+    let all = ap charges broken.all in
+    omega (arith, paid, all, sum_by-append charge_of broken.done (broken.next ∷ broken.left))

@@ -13,10 +13,10 @@ use Rattle.ssz_machine.specs.Rules.{Rules}
 use Rattle.ssz_machine.specs.Machine.{Turn, reply_of, charge_of, is_refused}
 use Rattle.ssz_machine.specs.Plays.{Event, play, shown_all}
 use Rattle.ssz_machine.specs.Counts.{may_hash, number_said}
-use Rattle.ssz_machine.specs.Runs.{IsUnderWay, job_from}
+use Rattle.ssz_machine.specs.Runs.{IsUnderWay, job_from, steps_done}
 use Rattle.ssz_engine.specs.Content.{rules_of}
 use Rattle.ssz_engine.specs.Standing.{StandsFor}
-use Rattle.ssz_engine.specs.Scripts.{Scene, files_reached}
+use Rattle.ssz_engine.specs.Scripts.{IsStopped, Scene, files_reached}
 
 -- A step was paid for. Before it `was` pairs were hashed and `left` were to be hashed, behind it
 -- `now` and `rest`; where it prints a number, that is what was hashed since the count was `base`.
@@ -54,7 +54,9 @@ turns_of place course numbers = play course.rules place numbers course.first cou
 -- left.
 pub record IsAt (pair_of : PairOf) (place : Place) (course : Course) (done : List Turn)
     (state : State) (events : List Event) (refused : Bool) (scene : Scene) : Type 0 where
-  pub under : IsUnderWay course.rules place course.events course.first done state events
+  pub front : List Event
+  pub all : course.events ≡ front ++ events
+  pub under : IsUnderWay course.rules place front course.first done state
   pub rules : rules_of pair_of scene.engine ≡ course.rules
   pub base : scene.engine.base ≡ course.base
   pub versions : StandsFor scene.engine state.versions
@@ -73,8 +75,8 @@ pub record Comes (pair_of : PairOf) (place : Place) (course : Course) (events : 
   pub at : IsAt pair_of place course done state events refused scene
 
 -- What is so of a run that a fault or want of memory ended: for some numbers it ended as its job
--- does; its steps were paid for, as if nothing had been hashed in the last one begun; and a read
--- failed only of a file that the steps read.
+-- does; its steps were paid for, as if nothing had been hashed in the last one begun; a read failed
+-- only of a file that the steps read; and it left what the steps that were done leave.
 pub record IsCutShort (place : Place) (course : Course) (ended : Status) (before after : Scene)
     : Type 0 where
   pub numbers : List ℕ
@@ -89,6 +91,10 @@ pub record IsCutShort (place : Place) (course : Course) (ended : Status) (before
   pub reached : AllByRecursion before.readable
       (files_reached course.rules (turns_of place course numbers))
       → ended ≢ status.ReadFault
+  pub stopped : IsStopped course.rules place course.events course.first numbers
+      (steps_done course.ample ended
+      (job_from course.rules place course.events course.first numbers) course.pieces after.pieces
+      after.told ends) (course.hashed + course.left) after
 
 -- the run went on, or it ended
 abbrev pub GoesTo : PairOf → Place → Course → List Event → Result (Unit {0}) Status → Bool → Scene

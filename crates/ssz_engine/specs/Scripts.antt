@@ -1,5 +1,5 @@
 -- How the run of a script ends.
-use Rattle.std.specs.Prelude.{◌≡◌, ◌≢◌, ◌≤◌, ℕ, ◌+◌, ◌-◌, if◌then◌else◌, Bool, List, [], ◌∷◌, Option, Some, None}
+use Rattle.std.specs.Prelude.{◌≡◌, ◌≢◌, ◌≤◌, ℕ, ◌+◌, ◌-◌, if◌then◌else◌, Bool, List, [], ◌∷◌, ◌++◌, length, Option, Some, None}
 use Rattle.std.specs.List.{AllByRecursion}
 use Rattle.ssz_arena.specs.Content.{unhashed}
 use Rattle.ssz_outside.specs.Content.{Content as Files}
@@ -17,6 +17,7 @@ use Rattle.ssz_machine.specs.Rules.{Rules}
 use Rattle.ssz_machine.specs.Machine.{Line, Turn, reads_file}
 use Rattle.ssz_machine.specs.Plays.{Event, all_of, charges, play, state_after}
 use Rattle.ssz_machine.specs.Jobs.{job_of}
+use Rattle.ssz_machine.specs.Runs.{steps_done}
 use Rattle.ssz_machine.specs.Counts.{AreCounts}
 use Rattle.ssz_engine.specs.Content.{Content, rules_of}
 use Rattle.ssz_engine.specs.Standing.{StandsFor}
@@ -92,6 +93,18 @@ pub record IsThrough (turns : List Turn) (last : State) (before after : Scene) :
       ≤ before.hashed + unhashed before.engine.arena + charges turns
   pub stands : StandsFor after.engine last.versions
 
+-- What is there after a run that was stopped with so many steps done: the engine stands for the
+-- versions after a front of the events that has these steps; and what was hashed is at most what was
+-- to be hashed in any case, and the charges of these steps. So no line behind them was done.
+pub record IsStopped (rules : Rules) (place : Place) (events : List Event) (first : State)
+    (numbers : List ℕ) (steps owed : ℕ) (after : Scene) : Type 0 where
+  pub front : List Event
+  pub left : List Event
+  pub all : events ≡ front ++ left
+  pub count : length (play rules place numbers first front) ≡ steps
+  pub stands : StandsFor after.engine (state_after rules place numbers first front).versions
+  pub paid : after.hashed ≤ owed + charges (play rules place numbers first front)
+
 -- A run of some events from a first state ended: for some numbers that `hashes` prints, as the job
 -- of the events does.
 pub record EndsRun (rules : Rules) (place : Place) (events : List Event) (first : State)
@@ -111,6 +124,11 @@ pub record EndsRun (rules : Rules) (place : Place) (events : List Event) (first 
       → ended ≢ status.ReadFault
   pub through : IsFinished ended → IsThrough (play rules place numbers first events)
       (state_after rules place numbers first events) before after
+  -- where a fault or want of memory ended it, it left what the steps leave that were done
+  pub stopped : (IsFinished ended → ⊥) → IsStopped rules place events first numbers
+      (steps_done before.ample ended
+      (job_of rules place first.files (play rules place numbers first events)) before.pieces
+      after.pieces after.told ends) (before.hashed + unhashed before.engine.arena) after
 
 -- So the run of a script by writer 0 ended, whatever state of the machine was stood for, where the
 -- files tell what they hold.

@@ -14,10 +14,11 @@ use Rattle.ssz_machine.specs.State.{Name, State}
 use Rattle.ssz_machine.specs.Rules.{Rules}
 use Rattle.ssz_machine.specs.Plays.{base_writer, charges, state_after, weaving}
 use Rattle.ssz_machine.specs.Jobs.{turns_of_weave, weave_job}
+use Rattle.ssz_machine.specs.Runs.{steps_done}
 use Rattle.ssz_machine.specs.Isolation.{lines_alone, marked}
 use Rattle.ssz_engine.specs.Content.{rules_of}
 use Rattle.ssz_engine.specs.Standing.{StandsFor}
-use Rattle.ssz_engine.specs.Scripts.{IsThrough, Scene, files_reached}
+use Rattle.ssz_engine.specs.Scripts.{IsStopped, IsThrough, Scene, files_reached}
 
 -- the writer holds nothing
 abbrev pub HoldsNone : Entries → ℕ → Type 0
@@ -28,6 +29,10 @@ abbrev pub AdoptsAll : ℕ → Entries → Entries → Type 0
 AdoptsAll count old new = (writer : ℕ) (name : Name)
     → held_at new writer name
     ≡ (if nat_lt writer count then held_at old base_writer name else held_at old writer name)
+
+-- so have those of at most so many
+abbrev pub AdoptsSome : ℕ → Entries → Entries → Type 0
+AdoptsSome most old new = (count : ℕ) × (count ≤ most) × AdoptsAll count old new
 
 -- A weave from a first state ended, as its job does. No line of it prints a number.
 pub record EndsWeaveFrom (rules : Rules) (base order : List ℕ) (scripts : List (List ℕ))
@@ -44,6 +49,11 @@ pub record EndsWeaveFrom (rules : Rules) (base order : List ℕ) (scripts : List
   pub through : IsFinished ended → IsThrough (turns_of_weave rules first base order scripts)
       (state_after rules Weave [] first
       (weaving (statements_in base) order (map statements_in scripts))) before after
+  -- where a fault or want of memory ended it, it left what the steps leave that were done
+  pub stopped : (IsFinished ended → ⊥) → IsStopped rules Weave
+      (weaving (statements_in base) order (map statements_in scripts)) first []
+      (steps_done before.ample ended (weave_job rules first base order scripts) before.pieces
+      after.pieces after.told ends) (before.hashed + unhashed before.engine.arena) after
 
 -- So it ended whatever state of the machine was stood for, where the files tell what they hold.
 abbrev pub EndsWeave : PairOf → List ℕ → List ℕ → List (List ℕ) → Status → Scene → Scene → Type 0

@@ -1,11 +1,11 @@
 -- How the work of the command `work` goes on, and how it ends.
-use Rattle.std.specs.Prelude.{◌≡◌, ◌≤◌, ⊤, ℕ, ◌+◌, false, List, [], ◌∷◌, take, Option, Some, None, Result, Ok, Err}
+use Rattle.std.specs.Prelude.{◌≡◌, ◌≢◌, ◌≤◌, ⊤, ℕ, ◌+◌, false, List, [], ◌∷◌, ◌++◌, take, Option, Some, None, Result, Ok, Err}
 use Rattle.std.specs.List.{AllByRecursion}
 use Rattle.ssz_value.specs.Trees.{tree}
 use Rattle.ssz_arena.specs.Content.{Content as Nodes, IsNodeOf, KeepsNodes, todo, tree_of, unhashed}
 use Rattle.ssz_arena.specs.declared.node.NodeId.{NodeId}
 use Rattle.ssz_outside.specs.Content.{Content as Files}
-use Rattle.ssz_outside.specs.Job.{Ends, IsFinished, Job}
+use Rattle.ssz_outside.specs.Job.{Ends, Job}
 use Rattle.ssz_outside.specs.declared.status.Status.{Status}
 use Rattle.ssz_outside.specs.declared.status.Status.TheVariants as status
 use Rattle.ssz_proof.specs.Calculation.{PairOf}
@@ -85,12 +85,18 @@ pub record AreDone (turns : List Turn) (last : State) (before after : Point) : T
   pub paid : after.hashed + unhashed after.engine.arena
       ≤ before.hashed + unhashed before.engine.arena + charges turns
 
--- There was no memory for them, and what was hashed was paid for; no file changed.
+-- There was no memory for one of them, and none was done from that one on: what is there stands for
+-- the versions before it, and what was hashed is paid for by those that were done; no file changed.
 pub record AreBroken (turns : List Turn) (fault : EngineFault) (before after : Point) : Type 0
   where
     pub memory : fault ≡ Memory
     pub told : after.told ≡ before.told
-    pub paid : after.hashed ≤ before.hashed + unhashed before.engine.arena + charges turns
+    pub done : List Turn
+    pub next : Turn
+    pub left : List Turn
+    pub all : turns ≡ done ++ next ∷ left
+    pub stands : StandsFor after.engine next.before.versions
+    pub paid : after.hashed ≤ before.hashed + unhashed before.engine.arena + charges done
 
 -- They were made, with an answer of which this is so, or there was no memory for them.
 abbrev pub Works : {T : Type 0} → Result T EngineFault → Worked → (T → Type 0) → Point → Point
@@ -116,6 +122,21 @@ two_lines_job held first second = record {
   status = status.Accepted;
 }
 
+-- the state before the first of some steps, or this one where there are none
+abbrev pub before_of : State → List Turn → State
+before_of last [] = last
+before_of last (turn ∷ turns) = turn.before
+
+-- The first of these steps to this state were done, and no other: what is there stands for the
+-- versions behind them, and what was hashed is at most what was to be hashed in any case, and their
+-- charges.
+pub record StopsAmong (turns : List Turn) (last : State) (owed : ℕ) (after : Scene) : Type 0 where
+  pub done : List Turn
+  pub left : List Turn
+  pub all : turns ≡ done ++ left
+  pub stands : StandsFor after.engine (before_of last left).versions
+  pub paid : after.hashed ≤ owed + charges done
+
 -- A work from a first state ended, as its job does.
 pub record EndsWorkFrom (rules : Rules) (type_name : Name) (seed count : ℕ) (first : State)
     (ended : Status) (before after : Scene) : Type 0 where
@@ -124,11 +145,18 @@ pub record EndsWorkFrom (rules : Rules) (type_name : Name) (seed count : ℕ) (f
   -- what was hashed is at most what was left to be hashed before, and the charges
   pub paid : after.hashed ≤ before.hashed + unhashed before.engine.arena
       + charges (whole_work rules first type_name seed count).turns
-  pub through : IsFinished ended → IsThrough (whole_work rules first type_name seed count).turns
+  -- all steps were done, also where their lines were not printed whole
+  pub through : ended ≢ status.Memory
+      → IsThrough (whole_work rules first type_name seed count).turns
       (whole_work rules first type_name seed count).state before after
   -- the root behind each edit was made, and is kept
-  pub roots : IsFinished ended → AllByRecursion (MakesRoot after.engine.arena)
+  pub roots : ended ≢ status.Memory → AllByRecursion (MakesRoot after.engine.arena)
       (whole_work rules first type_name seed count).turns
+  -- where memory was wanting, some were done
+  pub stopped : ended ≡ status.Memory → StopsAmong
+      (whole_work rules first type_name seed count).turns
+      (whole_work rules first type_name seed count).state
+      (before.hashed + unhashed before.engine.arena) after
 
 -- So it ended whatever state of the machine was stood for, where the files tell what they hold.
 abbrev pub EndsWork : PairOf → Name → ℕ → ℕ → Status → Scene → Scene → Type 0

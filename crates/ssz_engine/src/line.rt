@@ -1,5 +1,5 @@
 // One line of a script.
-ghost use Rattle.std.specs.Prelude.{◌≡◌, ◌≢◌, ◌≤◌, ◌<◌, ◌+◌, ◌^◌, ◌∷◌, ◌++◌, [], ℕ, List, Bool, true, false, length, Some, None, Err, IfOk, IfErr, IfSome, OnOk};
+ghost use Rattle.std.specs.Prelude.{◌≡◌, ◌≢◌, ◌≤◌, ◌<◌, ◌+◌, ◌^◌, ◌∷◌, ◌++◌, [], ℕ, List, Bool, true, false, length, Some, None, Err, IfOk, IfErr, IfSome, OnOk, OnErr};
 ghost use Rattle.std.specs.List.{AllByRecursion};
 ghost use Rattle.ssz_arena.specs.Content.{KeepsNodes, unhashed};
 ghost use Rattle.ssz_outside.specs.Job.{IsFinished};
@@ -12,6 +12,7 @@ ghost use Rattle.ssz_engine.specs.Lines.{CountsPrint, DoesLine, LeavesOthers, Pr
 ghost use Rattle.ssz_engine.specs.Outside.{CountsReads, CountsWrites};
 ghost use Rattle.ssz_engine.specs.Points.{Counts, Goes};
 ghost use Rattle.ssz_engine.specs.Scripts.{files_named};
+ghost use Rattle.ssz_engine.specs.Standing.{StaysFor};
 ghost use Rattle.ssz_engine.specs.Steps.{IsShort, Keeps, LeavesHashed, is_refusal};
 
 use super::engine::Engine;
@@ -121,6 +122,7 @@ pub(crate) fn reply_to<F: Files, H: PairHash>(
         })
         out.old.items out.new.items }
     ensures others { LeavesOthers writer.0 engine.old.entries engine.new.entries }
+    ensures stays { OnErr result (StaysFor engine.old engine.new) }
     ensures roots { IfOk result (λ made. IfSome line.now.statement (λ statement.
         LeavesHashed statement writer.0 engine.new)) }
     ensures fails { AllByRecursion (F.readable files.old)

@@ -102,7 +102,8 @@ impl<H: PairHash> Engine<H> {
         ensures nodes { NoneCompacts (statements_in script.now)
             → KeepsNodes self.old.arena self.new.arena }
         // Whatever state of the machine the engine stood for, where the files tell what they hold:
-        // for some numbers that `hashes` prints, the run ended as the script's job does.
+        // for some numbers that `hashes` prints, the run ended as the script's job does; and where it
+        // was stopped, the engine stands for the versions after the lines that were done.
         ensures ends { EndsScript H.pair_of script.now result
             (record {
               engine = self.old;

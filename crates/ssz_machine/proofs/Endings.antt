@@ -4,7 +4,7 @@ use Rattle.std.proofs.Common.{ℕ, ◌+◌, ◌<◌, ◌≤◌, ◌≡◌, ◌==
 use Rattle.std.specs.Prelude.{slice_get, ◌&&◌}
 use Rattle.std.specs.List.{list_any}
 use Rattle.std.proofs.lemmas.Bool.{or_right}
-use Rattle.std.proofs.lemmas.List.{map-append}
+use Rattle.std.proofs.lemmas.List.{append-nil, map-append}
 use Rattle.std.proofs.Math.Seq.{take-append_seam, take-length}
 use Rattle.ssz_outside.specs.Content.{Content}
 use Rattle.ssz_outside.specs.Job.{Job, Moment, Save, Ends, StandsAt, Finishes}
@@ -18,7 +18,7 @@ use Rattle.ssz_machine.specs.Rules.{Rules}
 use Rattle.ssz_machine.specs.Machine.{Line, Turn, step, state_of, save_of, reads_file, is_refused}
 use Rattle.ssz_machine.specs.Plays.{Event, says, play, shown, shown_all}
 use Rattle.ssz_machine.specs.Jobs.{files_after, is_reading, saved_by, status_after, after_reading}
-use Rattle.ssz_machine.specs.Runs.{IsUnderWay, job_from}
+use Rattle.ssz_machine.specs.Runs.{IsUnderWay, job_from, steps_done}
 use Rattle.ssz_machine.proofs.UnderWay.{under_way_line, under_way_all}
 
 -- the step behind some others
@@ -30,30 +30,35 @@ at-seam (first ∷ done) turn rest = at-seam done turn rest
 -- What a run that is under way looks like in the job of all its steps, where these numbers are
 -- still to be printed.
 module _ (rules : Rules) (place : Place) (events : List Event) (first : State)
-    (done : List Turn) (state : State) (left : List Event)
-    (u : IsUnderWay rules place events first done state left) (more : List ℕ) where
+    (front : List Event) (done : List Turn) (state : State) (left : List Event)
+    (all : events ≡ front ++ left) (u : IsUnderWay rules place front first done state)
+    (more : List ℕ) where
   abbrev turns : List Turn
   turns = play rules place (u.numbers ++ more) first events
 
   abbrev this_job : Job
   this_job = job_from rules place events first (u.numbers ++ more)
 
-  front : take (length done) turns ≡ done
-  front =
-      ap (take (length done)) (u.turns more)
+  split_turns : turns ≡ done ++ play rules place more state left
+  split_turns =
+      ap (λ es. play rules place (u.numbers ++ more) first es) all ∙ u.turns left more
+
+  first_turns : take (length done) turns ≡ done
+  first_turns =
+      ap (take (length done)) split_turns
       ∙ take-append_seam done (play rules place more state left)
 
   -- where it stands
   moment : this_job.at (length done) ≡ record { files = state.files; lines = shown_all place done }
   moment i = record {
-    files = (ap (files_after first.files) front ∙ u.files) i;
-    lines = ap (shown_all place) front i;
+    files = (ap (files_after first.files) first_turns ∙ u.files) i;
+    lines = ap (shown_all place) first_turns i;
   }
 
   within : length done ≤ length turns
   within =
       let rest = play rules place more state left in
-      let whole = ap length (u.turns more) ∙ length-append done rest in
+      let whole = ap length split_turns ∙ length-append done rest in
       omega arith
 
   stands : (old new : Told) (held : Option Content)
@@ -70,16 +75,24 @@ module _ (rules : Rules) (place : Place) (events : List Event) (first : State)
   ends_without_memory ample old new held printed are =
       (length done, inl (within, stands old new held printed are))
 
+  pub steps_without_memory : (ample : Bool) (old new : Told) (held : Option Content)
+      (printed : new ≡ told_append old (shown_all place done)) (are : held ≡ Some state.files)
+      → steps_done ample status.Memory this_job old new held
+      (ends_without_memory ample old new held printed are) ≡ length done
+  unfolding ends_without_memory
+  steps_without_memory ample old new held printed are = refl
+
 -- what a run looks like in which one line more was done, or was begun
 module _ (rules : Rules) (place : Place) (events : List Event) (first : State)
-    (done : List Turn) (state : State) (writer : ℕ) (line : Line) (left : List Event) (number : ℕ)
-    (u : IsUnderWay rules place events first done state (says writer line ∷ left))
-    (more : List ℕ) where
+    (front : List Event) (done : List Turn) (state : State) (writer : ℕ) (line : Line)
+    (left : List Event) (number : ℕ) (begun : events ≡ front ++ says writer line ∷ left)
+    (u : IsUnderWay rules place front first done state) (more : List ℕ) where
   abbrev turn : Turn
   turn = step rules place number state writer line
 
-  abbrev on : IsUnderWay rules place events first (done ++ turn ∷ []) (state_of turn) left
-  on = under_way_line rules place events first done state writer line left number u
+  abbrev on : IsUnderWay rules place (front ++ says writer line ∷ []) first (done ++ turn ∷ [])
+      (state_of turn)
+  on = under_way_line rules place first front done state writer line number u
 
   abbrev all : List Turn
   all = play rules place (on.numbers ++ more) first events
@@ -90,8 +103,14 @@ module _ (rules : Rules) (place : Place) (events : List Event) (first : State)
   abbrev rest : List Turn
   rest = play rules place more (state_of turn) left
 
+  behind : all ≡ (done ++ turn ∷ []) ++ rest
+  behind =
+      ap (λ es. play rules place (on.numbers ++ more) first es)
+      (begun ∙ sym (append_assoc front (says writer line ∷ []) left))
+      ∙ on.turns left more
+
   split : all ≡ done ++ turn ∷ rest
-  split = on.turns more ∙ append_assoc done (turn ∷ []) rest
+  split = behind ∙ append_assoc done (turn ∷ []) rest
 
   front_before : take (length done) all ≡ done
   front_before = ap (take (length done)) split ∙ take-append_seam done (turn ∷ rest)
@@ -102,7 +121,7 @@ module _ (rules : Rules) (place : Place) (events : List Event) (first : State)
   front_after : take (length done + 1) all ≡ done ++ turn ∷ []
   front_after =
       ap (λ n. take n all) (sym one_more)
-      ∙ ap (take (length (done ++ turn ∷ []))) (on.turns more)
+      ∙ ap (take (length (done ++ turn ∷ []))) behind
       ∙ take-append_seam (done ++ turn ∷ []) rest
 
   here : slice_get all (length done) ≡ Some turn
@@ -139,6 +158,14 @@ module _ (rules : Rules) (place : Place) (events : List Event) (first : State)
     },
   )
 
+  pub steps_unread : (ample : Bool) (old new : Told) (held : Option Content)
+      (reads : reads_file rules turn ≡ true)
+      (printed : new ≡ told_append old (shown_all place done)) (are : held ≡ Some state.files)
+      → steps_done ample status.ReadFault whole old new held
+      (ends_unread ample old new held reads printed are) ≡ length done
+  unfolding ends_unread
+  steps_unread ample old new held reads printed are = refl
+
   -- the line's file was not written whole
   pub ends_torn_file : (ample : Bool) (old new : Told) (held : Option Content) (save : Save)
       → save_of turn ≡ Some save → new ≡ told_append old (shown_all place done)
@@ -155,6 +182,15 @@ module _ (rules : Rules) (place : Place) (events : List Event) (first : State)
           (sym files_before) tears;
     }),
   )
+
+  pub steps_torn_file : (ample : Bool) (old new : Told) (held : Option Content) (save : Save)
+      (saves : save_of turn ≡ Some save)
+      (printed : new ≡ told_append old (shown_all place done))
+      (tears : Tears save.name save.bytes (Some state.files) held)
+      → steps_done ample status.WriteFault whole old new held
+      (ends_torn_file ample old new held save saves printed tears) ≡ length done
+  unfolding ends_torn_file
+  steps_torn_file ample old new held save saves printed tears = refl
 
   -- the line was done, and its reply was not printed whole
   pub ends_torn_line : (ample : Bool) (old new : Told) (held : Option Content) (count : ℕ)
@@ -175,6 +211,14 @@ module _ (rules : Rules) (place : Place) (events : List Event) (first : State)
     }),
   )
 
+  pub steps_torn_line : (ample : Bool) (old new : Told) (held : Option Content) (count : ℕ)
+      (printed : new ≡ told_append old (shown_all place done ++ take count (shown place turn) ∷ []))
+      (are : held ≡ Some (state_of turn).files)
+      → steps_done ample status.WriteFault whole old new held
+      (ends_torn_line ample old new held count printed are) ≡ length (done ++ turn ∷ [])
+  unfolding ends_torn_line
+  steps_torn_line ample old new held count printed are = sym one_more
+
   -- the line was done, and there was no memory to print its reply
   pub ends_ahead : (ample : Bool) (old new : Told) (held : Option Content) → ample ≡ false
       → new ≡ told_append old (shown_all place done) → held ≡ Some (state_of turn).files
@@ -191,15 +235,26 @@ module _ (rules : Rules) (place : Place) (events : List Event) (first : State)
     ),
   )
 
+  pub steps_ahead : (ample : Bool) (old new : Told) (held : Option Content) (wanting : ample ≡ false)
+      (printed : new ≡ told_append old (shown_all place done))
+      (are : held ≡ Some (state_of turn).files)
+      → steps_done ample status.Memory whole old new held
+      (ends_ahead ample old new held wanting printed are) ≡ length (done ++ turn ∷ [])
+  unfolding ends_ahead
+  steps_ahead ample old new held wanting printed are = sym one_more
+
 -- all lines were done
 module _ (rules : Rules) (place : Place) (events : List Event) (first : State)
-    (done : List Turn) (state : State)
-    (u : IsUnderWay rules place events first done state []) where
+    (front : List Event) (done : List Turn) (state : State) (all : events ≡ front ++ [])
+    (u : IsUnderWay rules place front first done state) where
   abbrev last : List ℕ
   last = u.numbers ++ []
 
   every : play rules place last first events ≡ done
-  every = under_way_all rules place events first done state u
+  every =
+      ap (λ es. play rules place last first es) (all ∙ append-nil front)
+      ∙ under_way_all rules place first front done state u last
+      (record { more = []; are = refl })
 
   finished : (old new : Told) (held : Option Content)
       → new ≡ told_append old (shown_all place done) → held ≡ Some state.files

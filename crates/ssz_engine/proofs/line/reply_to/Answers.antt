@@ -4,7 +4,8 @@ use Rattle.ssz_engine.specs.Compacting.{compacts}
 use Rattle.ssz_engine.specs.Lines.{DoesLine}
 use Rattle.ssz_engine.specs.Scripts.{Scene}
 use Rattle.ssz_machine.specs.Changes.{touch}
-use Rattle.ssz_engine.proofs.EngineSteps.{same_counts, stays_uncompacted, step_does, step_leaves_others}
+use Rattle.ssz_engine.proofs.EngineSteps.{err-kept, same_counts, stays_uncompacted, step_does, step_leaves_others}
+use Rattle.ssz_engine.proofs.Stopping.{err-stays}
 use Rattle.ssz_engine.proofs.line.reply_to.Goals as goal
 
 pub returns-clause-does : goal.returns-clause-does
@@ -42,6 +43,11 @@ returns-clause-others g c =
     step_leaves_others c.args.writer.0 (touch c.in-Some.statement) c.args.engine.now.entries
     c.step.new.self.entries c.args.engine.now.arena c.step.new.self.arena _ c.in-Some.statement
     c.step.result c.step.ensures.entries c.step.ensures.compacted c.step.ensures.err
+
+pub returns-clause-stays : goal.returns-clause-stays
+returns-clause-stays g c =
+    err-stays c.step.result c.args.engine.now c.step.new.self _ c.step.ensures.keeps
+    (err-kept c.in-Some.statement c.step.result _ c.step.ensures.nodes) c.step.ensures.err
 
 pub returns-clause-nodes : goal.returns-clause-nodes
 returns-clause-nodes g c = λ none.

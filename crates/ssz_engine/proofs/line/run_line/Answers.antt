@@ -81,4 +81,8 @@ returns-clause-goes g c =
     after
     c.push_front.new.out.items c.reply_to.new.out.items c.in-Err.fault
     (c.in-Err.ensures.does before.pieces after.pieces before.ample after.ample) refl
-    (record { rises = c.reply_to.ensures.rises; most = c.reply_to.ensures.hashed }))
+    (record {
+      rises = c.reply_to.ensures.rises;
+      most = c.reply_to.ensures.hashed;
+      stays = c.in-Err.ensures.stays;
+    }))

@@ -11,10 +11,9 @@ use Rattle.ssz_machine.specs.declared.place.Place.TheVariants.{Weave}
 use Rattle.ssz_engine.specs.Compacting.{NoneCompacts}
 use Rattle.ssz_engine.specs.Points.{Goes}
 use Rattle.ssz_engine.specs.Scripts.{Scene, scene}
-use Rattle.ssz_engine.specs.Weaves.{AdoptsAll}
-use Rattle.ssz_engine.proofs.Comings.{no_memory}
+use Rattle.ssz_engine.specs.Weaves.{AdoptsAll, AdoptsSome}
 use Rattle.ssz_engine.proofs.Going.{goes_stops, goes_then}
-use Rattle.ssz_engine.proofs.TakenOver.{comes_adopted}
+use Rattle.ssz_engine.proofs.TakenOver.{comes_adopted, cut_adopting}
 use Rattle.ssz_engine.proofs.weave.run_base.Goals as goal
 
 pub returns-in_err-run_lines-clause-goes : goal.returns-in_err-run_lines-clause-goes
@@ -80,11 +79,14 @@ returns-in-Err-clause-goes g c = λ scripts count.
     let begins = subst (λ (left : List Line). Goes g.H.PairHash.pair_of Weave
     (all_of base_writer left) (Ok tt) c.args.refused.now c.run_lines.new.refused before mid)
     c.new-lines.ensures c.in_ok-run_lines.ensures.goes in
+    let adopts = subst (λ n. AdoptsSome n c.run_lines.new.engine.entries
+    c.adopt_all.new.engine.entries) (sym {A = ℕ} count) c.in-Err.ensures.err in
     goes_then g.H.PairHash.pair_of Weave lines (adoptions 0 scripts) c.args.refused.now
     c.run_lines.new.refused c.run_lines.new.refused before mid after (Err status.Memory) begins
-    (λ course left comes. no_memory g.H.PairHash.pair_of Weave course
-    (adoptions 0 scripts ++ left) c.run_lines.new.refused mid after comes refl refl
-    (record { rises = omega arith; most = omega arith }))
+    (λ course left comes. cut_adopting g.H.PairHash.pair_of course scripts left
+    c.run_lines.new.refused c.run_lines.new.engine c.adopt_all.new.engine mid.hashed mid.told
+    mid.readable mid.pieces mid.ample (omega (arith, c.requires.few, count))
+    c.in-Err.ensures.nodes adopts comes)
     c.in_ok-run_lines.ensures.readable
 
 pub returns-in_err-run_lines-clause-nodes : goal.returns-in_err-run_lines-clause-nodes

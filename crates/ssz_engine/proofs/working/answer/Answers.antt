@@ -18,7 +18,7 @@ returns-clause-works g c = λ state at.
     c.reply_to-made.result before after text c.reply_to-made.new.out.items) c.clear.ensures.items
     (c.reply_to-made.ensures.does None None true true)) at c.reply_to-made.ensures.hashed
     (c.reply_to-made.ensures.nodes (none_compacts c.args.statement c.requires))
-    c.reply_to-made.ensures.roots
+    c.reply_to-made.ensures.roots c.reply_to-made.ensures.stays
 
 pub returns-clause-read : goal.returns-clause-read
 returns-clause-read g c =

@@ -10,12 +10,13 @@ use Rattle.ssz_machine.specs.Work.{done, round, walk_from}
 use Rattle.ssz_engine.specs.Content.{rules_of}
 use Rattle.ssz_engine.specs.Works.{AreBroken, AreDone, Draws, Point, point}
 use Rattle.ssz_engine.specs.declared.fault.EngineFault.{EngineFault}
-use Rattle.ssz_engine.proofs.WorkPoints.{by_first_rules, round_done, works_exit}
-use Rattle.ssz_engine.proofs.WorkSteps.{broken_here, broken_then}
+use Rattle.ssz_engine.proofs.WorkPoints.{by_first_rules, round_done, round_here, works_exit}
+use Rattle.ssz_engine.proofs.WorkSteps.{broken_early, broken_then}
 use Rattle.ssz_engine.proofs.working.work_round.Goals as goal
 
 pub returns-in-Err-clause-works : goal.returns-in-Err-clause-works
-returns-in-Err-clause-works g c = λ state at. broken_here _ _
+returns-in-Err-clause-works g c = λ state at.
+    round_here (rules_of g.H.PairHash.pair_of c.args.engine.now) state _ _ at.versions
 
 -- the edit was done, and there was no memory for the root
 round_broken : (rules : Rules) (state : State) (way : Walk) (edit : Statement) (seed : ℕ)
@@ -87,3 +88,35 @@ returns-in_ok-answer_root-in-Ok-Some-clause-works g c = λ state at.
     (subst (λ (e : Option Statement). Draws (version_of worked (state.versions 0))
     c.args.generator.now c.draw_edit.new.generator e) c.in-Ok-Some.field-0-is drawn)
     first.0 second
+
+-- there was no memory for the edit
+round_first : (rules : Rules) (state : State) (way : Walk) (edit : Statement) (seed : ℕ)
+    (fault : EngineFault) (before mid : Point) → way ≡ record { edit = Some edit; seed = seed }
+    → AreBroken (done rules state edit ∷ []) fault before mid
+    → AreBroken (round rules state way.edit).turns fault before mid
+round_first rules state way edit seed fault before mid is first =
+    let turn : Turn = done rules state edit in
+    subst (λ (w : Walk). AreBroken (round rules state w.edit).turns fault before mid) (sym is)
+    (broken_early (turn ∷ []) (done rules (state_of turn) (Root worked) ∷ []) fault before mid
+    first)
+
+pub returns-in_err-answer-in-Ok-Some-clause-works :
+    goal.returns-in_err-answer-in-Ok-Some-clause-works
+returns-in_err-answer-in-Ok-Some-clause-works g c = λ state at.
+    let before : Point = point c.args.engine.now (g.H.PairHash.pairs c.args.hasher.now)
+    (g.F.Files.content c.args.files.now) in
+    let mid : Point = point c.answer.new.engine (g.H.PairHash.pairs c.answer.new.hasher)
+    (g.F.Files.content c.answer.new.files) in
+    let rules : Rules = rules_of g.H.PairHash.pair_of c.args.engine.now in
+    let edit : Statement = c.in-Ok-Some.edit in
+    let fault : EngineFault = c.in_err-answer-in-Ok-Some.field-0.0 in
+    let exit = err_from_is_err_and c.from_residual-in_err-answer-in-Ok-Some.result
+    c.from_residual-in_err-answer-in-Ok-Some.ensures.1 in
+    let way : Walk = walk_from (version_of worked (state.versions 0)) c.args.generator.now in
+    let drawn = c.in-Ok-Some.ensures.drawn (state.versions 0) (at.versions.each 0) in
+    works_exit c.from_residual-in_err-answer-in-Ok-Some.result (round rules state way.edit) _
+    before mid exit.0 fault exit.1 exit.2
+    (round_first rules state way edit c.draw_edit.new.generator fault before mid
+    (subst (λ (e : Option Statement). Draws (version_of worked (state.versions 0))
+    c.args.generator.now c.draw_edit.new.generator e) c.in-Ok-Some.field-0-is drawn)
+    (c.in_err-answer-in-Ok-Some.ensures.works state at))

@@ -1,0 +1,11 @@
+use Rattle.ssz_script.specs.declared.statement.Statement.TheVariants.{Root}
+use Rattle.ssz_machine.specs.Drawing.{worked}
+use Rattle.ssz_machine.specs.Work.{done}
+use Rattle.ssz_engine.specs.Content.{rules_of}
+use Rattle.ssz_engine.proofs.WorkSteps.{broken_here}
+use Rattle.ssz_engine.proofs.working.answer_root.Goals as goal
+
+pub returns-in_default-clause-works : goal.returns-in_default-clause-works
+returns-in_default-clause-works g c = λ state at.
+    broken_here (done (rules_of g.H.PairHash.pair_of c.args.engine.now) state (Root worked)) _ _
+    at.versions
