@@ -280,8 +280,8 @@ module _ (rules : Rules) (place : Place) (events : List Event) (first : State)
       by : (b : Bool)
           → Finishes (job_from rules place events first last)
           (cond b status.Refused status.Accepted) old new held
-          → Ends ample (cond b status.Refused status.Accepted) (job_from rules place events first last)
-          old new held
+          → Ends ample (cond b status.Refused status.Accepted)
+          (job_from rules place events first last) old new held
       by true is = is
       by false is = is
 

@@ -86,7 +86,8 @@ module _ (rules : Rules) (format : Format) (legal : HasLegalTypes rules format) 
     sound_of : (v : Name) (version : Version) → need NO_VERSION (version_of v versions) ≡ Ok version
         → IsSound format version
     sound_of v version is =
-        sound_found format v versions version all (needed NO_VERSION (version_of v versions) version is)
+        sound_found format v versions version all
+        (needed NO_VERSION (version_of v versions) version is)
 
     new_keeps : (v t : Name) → Keeps (new rules versions v t)
     new_keeps v t = given_is (need NO_TYPE (rules.type_named t)) _ (λ type is.
@@ -130,8 +131,8 @@ module _ (rules : Rules) (format : Format) (legal : HasLegalTypes rules format) 
         record { is = sound_without format v versions all })
 
     -- the value of an edit of the part at a path
-    whole : (v : Name) (version : Version) (is : need NO_VERSION (version_of v versions) ≡ Ok version)
-        (path : Path) (edit : SszType → SszValue → Edited) (charge : ℕ)
+    whole : (v : Name) (version : Version)
+        (is : need NO_VERSION (version_of v versions) ≡ Ok version) (path : Path) (edit : SszType → SszValue → Edited) (charge : ℕ)
         → ((u : SszType) (w x : SszValue) → IsLegalValue format u w
         → path_type version.type path ≡ Some u → edit u w ≡ Ok x → Fits u x)
         → Keeps (edits versions v version.type (edited edit version.type version.value path) charge)
@@ -195,14 +196,16 @@ module _ (rules : Rules) (format : Format) (legal : HasLegalTypes rules format) 
         ∙ options_is type os (needed NOT_THAT (options_of type) os union_is) in
         let options = union_legal format os (subst (IsLegal format) of lv.legal) in
         (law_of_choice u w x k inner ok (subst (λ t. IsChoice t k inner) (sym of)
-        (choice_fits format os k literal inner options (below os k few) brings given_inner))).0)))))))
+        (choice_fits format os k literal inner options (below os k few) brings
+        given_inner))).0)))))))
 
   -- what a statement does
   statement_keeps : (place : Place) (number : ℕ) (view : View) (statement : Statement)
       → BringsBytes view.files (Some statement) → AreSound format view.versions
       → Keeps (effect rules place number view statement)
   statement_keeps place number view (New v t) brings all = new_keeps view.versions all v t
-  statement_keeps place number view (Lit v t x) brings all = lit_keeps view.versions all v t x brings
+  statement_keeps place number view (Lit v t x) brings all =
+      lit_keeps view.versions all v t x brings
   statement_keeps place number view (Load v t f) brings all =
       load_keeps view.versions all v t (contents view.files f) brings
   statement_keeps place number view (Fork v w) brings all = fork_keeps view.versions all v w

@@ -42,8 +42,8 @@ pub zero_table : (first : ℕ) → CountsUp 126 first (first + 126)
 zero_table first = record { rises = omega arith; at_most = omega arith; exact = λ few. refl }
 
 -- so a job of one line is done for no numbers
-pub line_does : (ample : Bool) (held : Content) (reads : Bool) (made : Printed) (ended : Status) (first last : ℕ)
-    (old new : Told) → Ends ample ended (job_of_print held reads made) old new (Some held)
+pub line_does : (ample : Bool) (held : Content) (reads : Bool) (made : Printed) (ended : Status)
+    (first last : ℕ) (old new : Told) → Ends ample ended (job_of_print held reads made) old new (Some held)
     → Does (λ numbers. job_of_print held reads made) (λ numbers. []) ended first last
     (λ job. Ends ample ended job old new (Some held))
 line_does ample held reads made ended first last old new ends = record {
@@ -55,8 +55,8 @@ line_does ample held reads made ended first last old new ends = record {
 }
 
 -- and so is one of a line that is the same
-pub line_does_as : (ample : Bool) (held : Content) (reads : Bool) (line wanted : Line) (ended : Status)
-    (first last : ℕ) (old new : Told) → line ≡ wanted
+pub line_does_as : (ample : Bool) (held : Content) (reads : Bool) (line wanted : Line)
+    (ended : Status) (first last : ℕ) (old new : Told) → line ≡ wanted
     → Ends ample ended (job_of_line held reads line) old new (Some held)
     → Does (λ numbers. job_of_line held reads wanted) (λ numbers. []) ended first last
     (λ job. Ends ample ended job old new (Some held))
@@ -229,8 +229,8 @@ module _ (pair_of : PairOf) (schema : Types) (most : ℕ) (held : Content) (scri
       first after.hashed (λ job. Ends before.ample ended job before.pieces after.pieces after.told)
   script_does reads first zeros = record {
     numbers = run.numbers;
-    left = ends_after_reading before.ample reads ended (script_job rules run.numbers (fresh held) script)
-        before.pieces after.pieces after.told run.ends;
+    left = ends_after_reading before.ample reads ended
+        (script_job rules run.numbers (fresh held) script) before.pieces after.pieces after.told run.ends;
     base = before.hashed;
     zeros = zeros;
     counts = run.counts new;

@@ -71,15 +71,15 @@ script-given t lists proof script is = by (is_too_long script) refl
     })
 
 -- the run of a script over a tree ended as its job does
-pub tree_does : (ample : Bool) (pair_of : PairOf) (t : SszType) (proof : Multiproof) (script : List ℕ)
-    (held : Content) (reads : Bool) (ended : Status) (first last : ℕ) (old new : Told)
+pub tree_does : (ample : Bool) (pair_of : PairOf) (t : SszType) (proof : Multiproof)
+    (script : List ℕ) (held : Content) (reads : Bool) (ended : Status) (first last : ℕ) (old new : Told)
     → Ends ample ended (script_job pair_of t proof held script) old new (Some held)
     → Does (λ numbers. job_of_task pair_of numbers held reads (plays_tree t proof script))
     (λ numbers. []) ended first last (λ job. Ends ample ended job old new (Some held))
 tree_does ample pair_of t proof script held reads ended first last old new ends = record {
   numbers = [];
-  left = ends_after_reading ample reads ended (script_job pair_of t proof held script) old new (Some held)
-      ends;
+  left = ends_after_reading ample reads ended (script_job pair_of t proof held script) old new
+      (Some held) ends;
   base = first + 126;
   zeros = zero_table first;
   counts = no_counts ended (last - (first + 126));

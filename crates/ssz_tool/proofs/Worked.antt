@@ -78,8 +78,8 @@ module _ (pair_of : PairOf) (schema : Types) (held : Content) (type_name : Name)
       (λ job. Ends before.ample ended job before.pieces after.pieces after.told)
   work_does reads first zeros = record {
     numbers = [];
-    left = ends_after_reading before.ample reads ended (work_job rules (fresh held) type_name seed count)
-        before.pieces after.pieces after.told run.ends;
+    left = ends_after_reading before.ample reads ended
+        (work_job rules (fresh held) type_name seed count) before.pieces after.pieces after.told run.ends;
     base = before.hashed;
     zeros = zeros;
     counts = no_counts ended (after.hashed - before.hashed);

@@ -55,8 +55,8 @@ module _ (pair_of : PairOf) (schema : Types) (most : ℕ) (held : Content) (base
       (λ job. Ends before.ample ended job before.pieces after.pieces after.told)
   weave_does reads first zeros = record {
     numbers = [];
-    left = ends_after_reading before.ample reads ended (weave_job rules (fresh held) base order scripts)
-        before.pieces after.pieces after.told run.ends;
+    left = ends_after_reading before.ample reads ended
+        (weave_job rules (fresh held) base order scripts) before.pieces after.pieces after.told run.ends;
     base = before.hashed;
     zeros = zeros;
     counts = weave_counts rules (fresh held) base order scripts ended

@@ -49,8 +49,8 @@ ProvesValidly pair_of turn =
     → IfOk turn.row (λ effect.
     IsValidFor pair_of (hash_tree_root pair_of version.type version.value) effect.reply)
 
--- So it is of each step of scripts, where each type is legal, and what the steps bring in are bytes:
--- no version of theirs is any other.
+-- So it is of each step of scripts, where each type is legal, and what the steps bring in are
+-- bytes: no version of theirs is any other.
 abbrev pub ScriptsPrintValidProofs : Type 0
 ScriptsPrintValidProofs =
     (rules : Rules) (format : Format) (place : Place) (numbers : List ℕ) (state : State)

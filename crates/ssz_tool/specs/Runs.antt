@@ -44,9 +44,11 @@ job_of_task pair_of numbers held reads (prints made most) = job_of_print held re
 job_of_task pair_of numbers held reads (plays type_named most script) =
     after_reading reads (script_job (rules_of pair_of type_named most) numbers (fresh held) script)
 job_of_task pair_of numbers held reads (weaves type_named most base order scripts) =
-    after_reading reads (weave_job (rules_of pair_of type_named most) (fresh held) base order scripts)
+    after_reading reads
+    (weave_job (rules_of pair_of type_named most) (fresh held) base order scripts)
 job_of_task pair_of numbers held reads (works type_named type_name seed count) =
-    after_reading reads (work_job (rules_of_work pair_of type_named) (fresh held) type_name seed count)
+    after_reading reads
+    (work_job (rules_of_work pair_of type_named) (fresh held) type_name seed count)
 job_of_task pair_of numbers held reads (plays_tree t lists script) =
     after_reading reads (tree_job pair_of t lists held script)
 

@@ -10,14 +10,16 @@ use Rattle.ssz_tool.proofs.top.do_task.Goals as goal
 
 pub returns-in-Says-clause-ends : goal.returns-in-Says-clause-ends
 returns-in-Says-clause-ends g c = λ reads held told.
-    rw (told, c.in-Says.is) (line_does (g.S.Sink.ample c.args.out.now) held reads (printed c.in-Says.line) c.print_line.result
+    rw (told, c.in-Says.is) (line_does (g.S.Sink.ample c.args.out.now) held reads
+    (printed c.in-Says.line) c.print_line.result
     (g.H.PairHash.pairs c.args.hasher.now) (g.H.PairHash.pairs c.args.hasher.now)
     (g.S.Sink.pieces c.args.out.now) (g.S.Sink.pieces c.print_line.new.out)
     (c.print_line.ensures.ends held reads))
 
 pub returns-in-Text-clause-ends : goal.returns-in-Text-clause-ends
 returns-in-Text-clause-ends g c = λ reads held told.
-    rw (told, c.in-Text.is, sym c.as_str.ensures.value) (line_does (g.S.Sink.ample c.args.out.now) held reads
+    rw (told, c.in-Text.is, sym c.as_str.ensures.value)
+    (line_does (g.S.Sink.ample c.args.out.now) held reads
     (record { text = c.as_str.result.now; status = Accepted }) c.say_line.result
     (g.H.PairHash.pairs c.args.hasher.now) (g.H.PairHash.pairs c.args.hasher.now)
     (g.S.Sink.pieces c.args.out.now) (g.S.Sink.pieces c.say_line.new.out)
@@ -26,7 +28,8 @@ returns-in-Text-clause-ends g c = λ reads held told.
 pub returns-in-Root-clause-ends : goal.returns-in-Root-clause-ends
 returns-in-Root-clause-ends g c = λ reads held told.
     let t = type_of c.in-Root.schema c.in-Root.id in
-    rw (told, c.in-Root.is) (line_does_as (g.S.Sink.ample c.args.out.now) held reads c.line_of_value-line.result
+    rw (told, c.in-Root.is) (line_does_as (g.S.Sink.ample c.args.out.now) held reads
+    c.line_of_value-line.result
     (line_of_value g.H.PairHash.pair_of t c.in-Root.bytes.items) c.print_line-in-Root.result
     (g.H.PairHash.pairs c.args.hasher.now) (g.H.PairHash.pairs c.line_of_value-line.new.hasher)
     (g.S.Sink.pieces c.args.out.now) (g.S.Sink.pieces c.print_line-in-Root.new.out)
@@ -37,14 +40,16 @@ returns-in-Root-clause-ends g c = λ reads held told.
 pub returns-in-Verify-clause-ends : goal.returns-in-Verify-clause-ends
 returns-in-Verify-clause-ends g c = λ reads held told.
     rw (told, c.in-Verify.is, sym c.line_of_proof-line.ensures.value)
-    (line_does (g.S.Sink.ample c.args.out.now) held reads (printed c.line_of_proof-line.result) c.print_line-in-Verify.result
+    (line_does (g.S.Sink.ample c.args.out.now) held reads (printed c.line_of_proof-line.result)
+    c.print_line-in-Verify.result
     (g.H.PairHash.pairs c.args.hasher.now) (g.H.PairHash.pairs c.line_of_proof-line.new.hasher)
     (g.S.Sink.pieces c.args.out.now) (g.S.Sink.pieces c.print_line-in-Verify.new.out)
     (c.print_line-in-Verify.ensures.ends held reads))
 
 pub returns-in-Clash-clause-ends : goal.returns-in-Clash-clause-ends
 returns-in-Clash-clause-ends g c = λ reads held told.
-    rw (told, c.in-Clash.is) (line_does_as (g.S.Sink.ample c.args.out.now) held reads (Compared c.clash.result)
+    rw (told, c.in-Clash.is) (line_does_as (g.S.Sink.ample c.args.out.now) held reads
+    (Compared c.clash.result)
     (Compared (compared g.H.PairHash.pair_of c.in-Clash.one c.in-Clash.other))
     c.print_line-in-Clash.result
     (g.H.PairHash.pairs c.args.hasher.now) (g.H.PairHash.pairs c.clash.new.hasher)
@@ -63,8 +68,8 @@ pub returns-in-Partial-clause-ends : goal.returns-in-Partial-clause-ends
 returns-in-Partial-clause-ends g c = λ reads held told.
     let t = type_of c.in-Partial.schema c.in-Partial.partial.id in
     rw (told, c.in-Partial.is, sym c.as_slice-in-Partial.ensures.value)
-    (tree_does (g.S.Sink.ample c.args.out.now) g.H.PairHash.pair_of t c.in-Partial.partial.proof c.as_slice-in-Partial.result.now
-    held reads c.run_partial.result (g.H.PairHash.pairs c.args.hasher.now)
+    (tree_does (g.S.Sink.ample c.args.out.now) g.H.PairHash.pair_of t c.in-Partial.partial.proof
+    c.as_slice-in-Partial.result.now held reads c.run_partial.result (g.H.PairHash.pairs c.args.hasher.now)
     (g.H.PairHash.pairs c.run_partial.new.hasher) (g.S.Sink.pieces c.args.out.now)
     (g.S.Sink.pieces c.run_partial.new.out) (c.run_partial.ensures.ends held))
 

@@ -6,8 +6,8 @@ returns-clause-main_theorem g c = λ held told gets puts sinks memory.
     let does = c.run_words.ensures.ends held told in
     record {
       numbers = does.numbers;
-      left = Finishes-quiet (g.S.Sink.ample c.args.out.now) c.run_words.result _ _ _ _ _ _ _ _ _ _ does.left
-          c.run_words.ensures.counts gets puts sinks memory;
+      left = Finishes-quiet (g.S.Sink.ample c.args.out.now) c.run_words.result _ _ _ _ _ _ _ _ _ _
+          does.left c.run_words.ensures.counts gets puts sinks memory;
       base = does.base;
       zeros = does.zeros;
       counts = does.counts;

@@ -27,16 +27,16 @@ returns-in-Ok-clause-reached g c = λ held told all.
 
 pub returns-in-Err-Read-clause-ends : goal.returns-in-Err-Read-clause-ends
 returns-in-Err-Read-clause-ends g c = λ held told.
-    rw (c.task_of.ensures.content, told) (fails_first (g.S.Sink.ample c.args.out.now) g.H.PairHash.pair_of held
-    (is_some (taken (texts c.args.words.now))) (task_of held (texts c.args.words.now))
+    rw (c.task_of.ensures.content, told) (fails_first (g.S.Sink.ample c.args.out.now)
+    g.H.PairHash.pair_of held (is_some (taken (texts c.args.words.now))) (task_of held (texts c.args.words.now))
     (g.H.PairHash.pairs c.args.hasher.now) (g.H.PairHash.pairs c.args.hasher.now)
     (g.S.Sink.pieces c.args.out.now) (c.task_of.ensures.taken (c.in-Err-Read.is
     ∙ ap Err c.in-Err-Read.field-0-is)))
 
 pub returns-in-Err-Memory-clause-ends : goal.returns-in-Err-Memory-clause-ends
 returns-in-Err-Memory-clause-ends g c = λ held told.
-    rw (c.task_of.ensures.content, told) (wants_memory_first (g.S.Sink.ample c.args.out.now) g.H.PairHash.pair_of held
-    (is_some (taken (texts c.args.words.now))) (task_of held (texts c.args.words.now))
+    rw (c.task_of.ensures.content, told) (wants_memory_first (g.S.Sink.ample c.args.out.now)
+    g.H.PairHash.pair_of held (is_some (taken (texts c.args.words.now))) (task_of held (texts c.args.words.now))
     (g.H.PairHash.pairs c.args.hasher.now) _ (g.H.PairHash.pairs c.args.hasher.now)
     (g.S.Sink.pieces c.args.out.now) (zero_table (g.H.PairHash.pairs c.args.hasher.now)))
 

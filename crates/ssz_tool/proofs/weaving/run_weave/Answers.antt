@@ -20,8 +20,8 @@ returns-in-Ok-clause-ends g c = λ reads held told.
     (g.S.Sink.pieces c.args.out.now) (g.S.Sink.ample c.args.out.now))
     (scene c.weave.new.self (g.H.PairHash.pairs c.weave.new.hasher)
     (g.F.Files.content c.weave.new.files) (g.F.Files.readable c.weave.new.files)
-    (g.S.Sink.pieces c.weave.new.out) (g.S.Sink.ample c.weave.new.out)) c.in-Ok.ensures.types c.in-Ok.ensures.most
-    c.in-Ok.ensures.stands told
+    (g.S.Sink.pieces c.weave.new.out) (g.S.Sink.ample c.weave.new.out))
+    c.in-Ok.ensures.types c.in-Ok.ensures.most c.in-Ok.ensures.stands told
     (record { base = c.in-Ok.ensures.base; left = c.in-Ok.ensures.unhashed })
     c.weave.ensures.ends reads (g.H.PairHash.pairs c.args.hasher.now) c.in-Ok.ensures.counts)
 
@@ -44,8 +44,8 @@ returns-in-Ok-clause-reached g c = λ held told.
     (g.S.Sink.pieces c.args.out.now) (g.S.Sink.ample c.args.out.now))
     (scene c.weave.new.self (g.H.PairHash.pairs c.weave.new.hasher)
     (g.F.Files.content c.weave.new.files) (g.F.Files.readable c.weave.new.files)
-    (g.S.Sink.pieces c.weave.new.out) (g.S.Sink.ample c.weave.new.out)) c.in-Ok.ensures.types c.in-Ok.ensures.most
-    c.in-Ok.ensures.stands told
+    (g.S.Sink.pieces c.weave.new.out) (g.S.Sink.ample c.weave.new.out))
+    c.in-Ok.ensures.types c.in-Ok.ensures.most c.in-Ok.ensures.stands told
     (record { base = c.in-Ok.ensures.base; left = c.in-Ok.ensures.unhashed })
     c.weave.ensures.ends)
 
@@ -63,13 +63,14 @@ returns-in-Ok-clause-pairs g c = λ held told.
     (g.S.Sink.pieces c.args.out.now) (g.S.Sink.ample c.args.out.now))
     (scene c.weave.new.self (g.H.PairHash.pairs c.weave.new.hasher)
     (g.F.Files.content c.weave.new.files) (g.F.Files.readable c.weave.new.files)
-    (g.S.Sink.pieces c.weave.new.out) (g.S.Sink.ample c.weave.new.out)) c.in-Ok.ensures.types c.in-Ok.ensures.most
-    c.in-Ok.ensures.stands told
+    (g.S.Sink.pieces c.weave.new.out) (g.S.Sink.ample c.weave.new.out))
+    c.in-Ok.ensures.types c.in-Ok.ensures.most c.in-Ok.ensures.stands told
     (record { base = c.in-Ok.ensures.base; left = c.in-Ok.ensures.unhashed })
     c.weave.ensures.ends (g.H.PairHash.pairs c.args.hasher.now) c.in-Ok.ensures.counts)
 
 pub returns-clause-ends : goal.returns-clause-ends
 returns-clause-ends g c = λ reads held told.
-    rw told (wants_memory_first (g.S.Sink.ample c.args.out.now) g.H.PairHash.pair_of held reads (weaving_view c.args.weaving)
+    rw told (wants_memory_first (g.S.Sink.ample c.args.out.now) g.H.PairHash.pair_of held reads
+    (weaving_view c.args.weaving)
     (g.H.PairHash.pairs c.args.hasher.now) _ (g.H.PairHash.pairs c.start.new.hasher)
     (g.S.Sink.pieces c.args.out.now) (zero_table (g.H.PairHash.pairs c.args.hasher.now)))

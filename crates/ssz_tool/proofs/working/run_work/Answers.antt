@@ -13,8 +13,8 @@ returns-in-Ok-clause-ends g c = λ reads held told.
     (g.S.Sink.pieces c.args.out.now) (g.S.Sink.ample c.args.out.now))
     (scene c.work.new.self (g.H.PairHash.pairs c.work.new.hasher)
     (g.F.Files.content c.work.new.files) (g.F.Files.readable c.work.new.files)
-    (g.S.Sink.pieces c.work.new.out) (g.S.Sink.ample c.work.new.out)) c.in-Ok.ensures.types c.in-Ok.ensures.most
-    c.in-Ok.ensures.stands told
+    (g.S.Sink.pieces c.work.new.out) (g.S.Sink.ample c.work.new.out))
+    c.in-Ok.ensures.types c.in-Ok.ensures.most c.in-Ok.ensures.stands told
     (record { base = c.in-Ok.ensures.base; left = c.in-Ok.ensures.unhashed })
     c.work.ensures.ends reads (g.H.PairHash.pairs c.args.hasher.now) c.in-Ok.ensures.counts
 
@@ -27,13 +27,14 @@ returns-in-Ok-clause-pairs g c = λ held told.
     (g.S.Sink.pieces c.args.out.now) (g.S.Sink.ample c.args.out.now))
     (scene c.work.new.self (g.H.PairHash.pairs c.work.new.hasher)
     (g.F.Files.content c.work.new.files) (g.F.Files.readable c.work.new.files)
-    (g.S.Sink.pieces c.work.new.out) (g.S.Sink.ample c.work.new.out)) c.in-Ok.ensures.types c.in-Ok.ensures.most
-    c.in-Ok.ensures.stands told
+    (g.S.Sink.pieces c.work.new.out) (g.S.Sink.ample c.work.new.out))
+    c.in-Ok.ensures.types c.in-Ok.ensures.most c.in-Ok.ensures.stands told
     (record { base = c.in-Ok.ensures.base; left = c.in-Ok.ensures.unhashed })
     c.work.ensures.ends (g.H.PairHash.pairs c.args.hasher.now) c.in-Ok.ensures.counts
 
 pub returns-clause-ends : goal.returns-clause-ends
 returns-clause-ends g c = λ reads held told.
-    rw told (wants_memory_first (g.S.Sink.ample c.args.out.now) g.H.PairHash.pair_of held reads (work_view c.args.work)
+    rw told (wants_memory_first (g.S.Sink.ample c.args.out.now) g.H.PairHash.pair_of held reads
+    (work_view c.args.work)
     (g.H.PairHash.pairs c.args.hasher.now) _ (g.H.PairHash.pairs c.start.new.hasher)
     (g.S.Sink.pieces c.args.out.now) (zero_table (g.H.PairHash.pairs c.args.hasher.now)))
