@@ -29,7 +29,7 @@ use Rattle.ssz_c.specs.Outcome.{Outcome, done, refused}
 
 -- files of which each name is absent
 abbrev pub no_files : Files
-no_files = record { named = map.empty; missing = absent }
+no_files = record { named = map.empty; missing = absent; steady = false }
 
 -- What a line finds: the engine, how many pairs were hashed, and the line's number.
 pub record Scene : Type 0 where

@@ -2,11 +2,11 @@
 use Rattle.std.proofs.Common.{Bor, Bool, true, false, inl, inr, is_some, IsSome, option_map, ◌≡◌, ◌≤◌, ◌<◌, ◌+◌, ◌*◌, ℕ, List, Option, Some, None, length, Ok, Err, refl, sym, ap, subst, ◌∙◌, arith}
 use Rattle.std.proofs.lemmas.Bool.{false≢true, lt-ltb, ltb-true}
 use Rattle.std.proofs.lemmas.List.{length-replicate}
-use Rattle.std.specs.Prelude.{nat_lt, replicate, unwrap_or, IfSome, IsSomeAnd, []}
+use Rattle.std.specs.Prelude.{nat_lt, not, ◌&&◌, is_none, replicate, unwrap_or, IfSome, IsSomeAnd, []}
 use Rattle.ssz_outside.specs.Content.{Content as Files, bytes_of, contents}
 use Rattle.ssz_script.specs.declared.reply.TheConstants.Reply.{NO_TYPE, NAME_TAKEN, TOO_LONG}
 use Rattle.ssz_schema.specs.Types.{SszType}
-use Rattle.ssz_schema.specs.Unfolding.{Types, type_of}
+use Rattle.ssz_schema.specs.Unfolding.{Types, known_in, number_of, type_of}
 use Rattle.ssz_value.specs.Values.{SszValue, Fits}
 use Rattle.ssz_value.specs.Faults.{why}
 use Rattle.ssz_value.specs.Reading.{value_in}
@@ -24,7 +24,7 @@ use Rattle.ssz_versions.specs.Keys.{key_cmp}
 use Rattle.ssz_versions.specs.Content.{Entries, Held, held_at}
 use Rattle.ssz_machine.specs.State.{Name, Version, Versions, has_version}
 use Rattle.ssz_machine.specs.Rules.{Rules, Row, ◌>>=◌, ◌>>◌, coded, bad_json, need, refuse, faultless, well_spelled, makes}
-use Rattle.ssz_machine.specs.Machine.{charge_in}
+use Rattle.ssz_machine.specs.Machine.{can_load, charge_in}
 use Rattle.ssz_machine.specs.Changes.{Touch, puts}
 use Rattle.ssz_engine.specs.Content.{Content, rules_of}
 use Rattle.ssz_engine.specs.Decisions.{AnswersAnew, AnswersWith, Comes, IsPaid, MakesFew, IsFree, IsTaken, LoadsWith, ReadsAs, brought, brought_as, load_row}
@@ -192,6 +192,35 @@ module _ (pair_of : PairOf) (engine : Content) (writer : ℕ) (v t : Name)
       taken None b h e = absurd (false≢true h)
       taken (Some n) true h e = refl
       taken (Some n) false h e = absurd (false≢true e)
+
+  -- and then no file is read
+  pub taken-blocks : (code : ℕ) → IsTaken engine writer v t code
+      → can_load (rules_of pair_of engine) versions v t ≡ true → ⊥
+  taken-blocks code (inl (is, unknown)) can =
+      no-type (number_of engine.types t) (has_version v versions) unknown can
+    where
+      no-type : (n : Option ℕ) (taken? : Bool) → n ≡ None
+          → (is_some (option_map (type_of engine.types) n) && not taken?) ≡ true → ⊥
+      no-type None taken? none can = false≢true can
+      no-type (Some n) taken? none can = let different : Some n ≡ None = none in cc
+  taken-blocks code (inr (is, known, held)) can =
+      taken (known_in engine.types t) _ _ held (stand.each v) can
+    where
+      taken : (type : Option SszType) (h : Option Held) (o : Option Version) → IsSome h
+          → Match engine.types engine.arena h o → (is_some type && not (is_some o)) ≡ true → ⊥
+      taken type None o h m can = false≢true h
+      taken type (Some x) None h m can = m
+      taken None (Some x) (Some y) h m can = false≢true can
+      taken (Some type) (Some x) (Some y) h m can = false≢true can
+
+-- a file that was read is there
+pub there-whole : (o : Option (List ℕ)) (bytes : List ℕ) → o ≡ Some bytes → is_none o ≡ false
+there-whole o bytes is = rw is refl
+
+pub there-longer : (o : Option (List ℕ)) (most : ℕ) → IsSomeAnd o (λ b. most < length b)
+    → is_none o ≡ false
+there-longer None most h = absurd h
+there-longer (Some b) most h = refl
 
 -- a row that is the same
 pub answers-same : (pair_of : PairOf) (row other : Rules → Versions → Row) (touch : Touch)

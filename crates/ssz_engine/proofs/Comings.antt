@@ -2,6 +2,7 @@
 use Rattle.std.proofs.Common.{ℕ, ◌+◌, ◌-◌, ◌≤◌, ◌≡◌, Bool, true, false, List, [], ◌∷◌, ◌++◌, length, replicate, take, Option, refl, sym, ap, ap₂, ◌∙◌, subst, arith, append_assoc}
 use Rattle.std.specs.Prelude.{◌||◌}
 use Rattle.std.specs.List.{list_any, AllByRecursion}
+use Rattle.std.proofs.lemmas.Bool.{or_parts}
 use Rattle.std.proofs.lemmas.List.{map-append}
 use Rattle.ssz_arena.specs.Content.{unhashed}
 use Rattle.ssz_outside.specs.Content.{Content as Files}
@@ -13,8 +14,8 @@ use Rattle.ssz_proof.specs.Calculation.{PairOf}
 use Rattle.ssz_schema.specs.Unfolding.{Types}
 use Rattle.ssz_script.specs.Texts.{reply_line}
 use Rattle.ssz_machine.specs.declared.place.Place.{Place}
-use Rattle.ssz_machine.specs.Machine.{Line, Turn, step, reply_of, state_of, is_refused}
-use Rattle.ssz_machine.specs.Plays.{Event, charges, says, front, play, shown, shown_all}
+use Rattle.ssz_machine.specs.Machine.{Line, Turn, step, reply_of, state_of, is_refused, misses}
+use Rattle.ssz_machine.specs.Plays.{Event, says, front, play, shown, shown_all, charges}
 use Rattle.ssz_machine.specs.Runs.{IsUnderWay}
 use Rattle.ssz_machine.proofs.UnderWay.{line_follows, under_way_line}
 use Rattle.ssz_machine.proofs.Endings.{ends_without_memory, ends_unread, ends_torn_file, ends_torn_line, ends_ahead, steps_without_memory, steps_unread, steps_torn_file, steps_torn_line, steps_ahead}
@@ -59,6 +60,13 @@ any-append done turn before was old new = rw (old, new) (sides done)
     sides [] = refl
     sides (first ∷ done) =
         under (is_refused first) (is_refused turn) (list_any is_refused done) _ (sides done)
+
+none-append : (p : Turn → Bool) (done : List Turn) (turn : Turn) → list_any p done ≡ false
+    → p turn ≡ false → list_any p (done ++ turn ∷ []) ≡ false
+none-append p [] turn none last = rw last refl
+none-append p (first ∷ done) turn none last =
+    let parts = or_parts (p first) (list_any p done) none in
+    rw parts.0 (none-append p done turn parts.1 last)
 
 -- What is so of a line that was not done: no pair was hashed beyond those that were to be hashed,
 -- and what was stood for is stood for.
@@ -190,7 +198,7 @@ module _ (pair_of : PairOf) (place : Place) (course : Course) where
           numbers = numbers_before;
           ends = ends_unread course.rules place course.events course.first c.at.front c.done
               c.state writer line left number c.at.all c.at.under (last before left) course.ample
-              course.pieces after.pieces after.told missed.reads printed held;
+              course.pieces after.pieces after.told c.at.found missed.stops printed held;
           now = before.hashed;
           rest = unhashed before.engine.arena;
           pays = pays_before;
@@ -205,7 +213,7 @@ module _ (pair_of : PairOf) (place : Place) (course : Course) where
           stopped = stopped_before after passes _
               (steps_unread course.rules place course.events course.first c.at.front c.done
               c.state writer line left number c.at.all c.at.under (last before left) course.ample
-              course.pieces after.pieces after.told missed.reads printed held);
+              course.pieces after.pieces after.told c.at.found missed.stops printed held);
         }
 
     pub line_unwritten : SavesPart turn before.told after.told → after.pieces ≡ before.pieces
@@ -238,7 +246,7 @@ module _ (pair_of : PairOf) (place : Place) (course : Course) where
         no_memory (says writer line ∷ left) was before after c told pieces passes
 
     module _ (made : Outcome) (text piece : List ℕ)
-        (makes : Makes course.base turn made before after text piece)
+        (makes : Makes course.rules course.base turn made before after text piece)
         (fronted : text ≡ front place writer) where
       is_shown : piece ≡ shown place turn
       is_shown = makes.line ∙ ap (λ t. t ++ reply_line (reply_of turn)) fronted
@@ -275,6 +283,7 @@ module _ (pair_of : PairOf) (place : Place) (course : Course) where
               ∙ ap (told_append course.pieces) (sym more_lines);
           ample = ample ∙ c.at.ample;
           answer = any-append c.done turn was (is_refusal made) c.at.answer makes.outcome;
+          found = none-append (misses course.rules) c.done turn c.at.found makes.found;
           pays = pays_after;
         };
       }

@@ -1,9 +1,9 @@
 -- What a step of the engine does, as a line of a run.
 use Rattle.std.proofs.Common.{ℕ, ◌+◌, ◌-◌, ◌≤◌, ◌≡◌, Bool, true, false, List, [], Option, Some, None, refl, sym, ap, ◌∙◌, subst}
-use Rattle.std.specs.Prelude.{Result, Ok, Err, IfOk, IfErr, OnErr, is_some, ◌≢◌}
+use Rattle.std.specs.Prelude.{Result, Ok, Err, IfOk, IfErr, OnOk, OnErr, is_some, ◌≢◌, ◌&&◌}
 use Rattle.std.specs.List.{AllByRecursion}
 use Rattle.ssz_arena.specs.Content.{Content as Nodes, unhashed}
-use Rattle.ssz_outside.specs.Content.{Content as Files}
+use Rattle.ssz_outside.specs.Content.{CanRead, Content as Files, may_fail}
 use Rattle.ssz_proof.specs.Calculation.{PairOf}
 use Rattle.ssz_script.specs.declared.statement.Statement.{Statement}
 use Rattle.ssz_script.specs.declared.statement.Statement.TheVariants.{Load, LoadJson}
@@ -12,13 +12,13 @@ use Rattle.ssz_versions.specs.Compacted.{IsCompacted}
 use Rattle.ssz_machine.specs.declared.place.Place.{Place}
 use Rattle.ssz_machine.specs.State.{Name, State, Versions}
 use Rattle.ssz_machine.specs.Rules.{Row, Rules}
-use Rattle.ssz_machine.specs.Machine.{Turn, step, state_of, charge_of, is_refused_row, reads}
+use Rattle.ssz_machine.specs.Machine.{Turn, step, state_of, charge_of, is_refused_row, may_miss, names_absent, reads, reads_file}
 use Rattle.ssz_machine.specs.Changes.{Touch, nothing, puts, takes}
 use Rattle.ssz_machine.specs.Counts.{asks_root, hashes_row}
 use Rattle.ssz_engine.specs.Compacting.{compacted, is_compact}
-use Rattle.ssz_engine.specs.Content.{rules_of}
+use Rattle.ssz_engine.specs.Content.{Content, rules_of}
 use Rattle.ssz_engine.specs.Outside.{Holds}
-use Rattle.ssz_engine.specs.Steps.{DoesStep, Leaves, SavesPart, Stops, TouchesWhere, file_read, is_refusal, turn_at}
+use Rattle.ssz_engine.specs.Steps.{DoesStep, Finds, Leaves, SavesPart, Stops, TouchesWhere, file_read, is_refusal, turn_at}
 use Rattle.ssz_engine.specs.Scripts.{Scene, file_named, name_before}
 use Rattle.ssz_engine.specs.Lines.{DoesLine, LeavesOthers, type_held}
 use Rattle.ssz_engine.specs.declared.outcome.Outcome.{Outcome}
@@ -55,12 +55,32 @@ quiet P (Err refusal) asks Refused same none still refused = refused refl
 record Names (statement : Statement) : Type 0 where
   name : Name
   named : file_named (Some statement) ≡ Some name
+  missed : (files : Files) → may_miss files (Some statement) ≡ may_fail files name
 
 names : (rules : Rules) (versions : Versions) (statement : Statement)
     → reads rules versions (Some statement) ≡ true → Names statement
-names rules versions (Load v t file) is = record { name = file; named = refl }
-names rules versions (LoadJson v t file) is = record { name = file; named = refl }
+names rules versions (Load v t file) is =
+    record { name = file; named = refl; missed = λ files. refl }
+names rules versions (LoadJson v t file) is =
+    record { name = file; named = refl; missed = λ files. refl }
 names rules versions other is = absurd (not-both is)
+
+-- where it is told that no read of a name fails, none does
+missed-where : (told : Option Files) (files : Files) (name : Name) → told ≡ Some files
+    → (CanRead told name → ⊥) → may_fail files name ≡ true
+missed-where told files name is none =
+    by (may_fail files name) (λ sure. none (subst (λ t. CanRead t name) (sym is) sure))
+  where
+    by : (b : Bool) → (b ≡ false → ⊥) → b ≡ true
+    by true none = refl
+    by false none = absurd (none refl)
+
+not-both-true : (a b : Bool) → (a ≡ true → b ≡ false) → (a && b) ≡ false
+not-both-true true b is = is refl
+not-both-true false b is = refl
+
+both-true : (a b : Bool) → a ≡ true → b ≡ true → (a && b) ≡ true
+both-true a b one two = rw (one, two) refl
 
 module _ (pair_of : PairOf) (place : Place) (writer line : ℕ) (statement : Statement)
     (before after : Scene) (text more : List ℕ) where
@@ -87,8 +107,9 @@ module _ (pair_of : PairOf) (place : Place) (writer line : ℕ) (statement : Sta
       → is_some after.told ≡ is_some before.told → before.hashed ≤ after.hashed
       → (asks_root (Some statement) ≡ false → after.hashed ≡ before.hashed)
       → (made ≡ Refused → after.hashed ≡ before.hashed)
+      → Finds pair_of before.engine writer statement before.told
       → DoesLine pair_of place writer (line, Some statement) (Ok made) before after text more
-  step_makes made does same rises still refused state stands told =
+  step_makes made does same rises still refused finds state stands told =
       let leaves : Leaves (turn_of state) made after.engine after.told text more =
       at_files (λ turn. Leaves turn made after.engine after.told text more) state does.files told
       does.tells (does.leaves state.versions stands) in
@@ -99,6 +120,10 @@ module _ (pair_of : PairOf) (place : Place) (writer line : ℕ) (statement : Sta
       does.tells (does.spends state.versions stands) in
       record {
         outcome = leaves.outcome;
+        found = not-both-true
+            (reads (rules_of pair_of before.engine) (state.versions writer) (Some statement))
+            (names_absent state.files (Some statement))
+            (finds state.files told (state.versions writer) (stands.each writer));
         line = leaves.text;
         versions = leaves.versions;
         files = stays_told before.told after.told state.files (state_of (turn_of state)).files same
@@ -117,21 +142,28 @@ module _ (pair_of : PairOf) (place : Place) (writer line : ℕ) (statement : Sta
   step_stops : (fault : EngineFault)
       → Stops fault pair_of place writer line number statement before.engine before.told after.told
       → ((name : Name) → file_read statement ≡ Some name → before.readable name → fault ≢ Read)
+      → ((name : Name) → file_read statement ≡ Some name → CanRead before.told name
+      → fault ≢ Read)
       → DoesLine pair_of place writer (line, Some statement) (Err fault) before after text more
-  step_stops Read stops fails state stands told =
+  step_stops Read stops fails present state stands told =
       let asks = stops.1 (state.versions writer) (stands.each writer) in
       let file = names (rules_of pair_of before.engine) (state.versions writer) statement asks in
       record {
         reads = asks;
+        stops = both-true (reads_file (rules_of pair_of before.engine) (turn_of state))
+            (may_miss state.files (Some statement)) asks
+            (file.missed state.files
+            ∙ missed-where before.told state.files file.name told
+            (λ sure. present file.name file.named sure refl));
         files = stops.0;
         name = file.name;
         named = file.named;
         unread = λ readable. fails file.name file.named readable refl;
       }
-  step_stops Write stops fails state stands told =
+  step_stops Write stops fails present state stands told =
       at_files (λ turn. SavesPart turn before.told after.told) state stops.files told stops.tells
       (stops.part state.versions stands)
-  step_stops Memory stops fails state stands told = stops
+  step_stops Memory stops fails present state stands told = stops
 
   -- a step is a line
   pub step_does : (result : Result Outcome EngineFault)
@@ -144,11 +176,15 @@ module _ (pair_of : PairOf) (place : Place) (writer line : ℕ) (statement : Sta
       → IfOk result (λ made. made ≡ Refused → after.hashed ≡ before.hashed)
       → ((name : Name) → file_read statement ≡ Some name → before.readable name
       → result ≢ Err Read)
+      → ((name : Name) → file_read statement ≡ Some name → CanRead before.told name
+      → result ≢ Err Read)
+      → OnOk result (Finds pair_of before.engine writer statement before.told)
       → DoesLine pair_of place writer (line, Some statement) result before after text more
-  step_does (Ok made) does stops same rises still refused fails =
-      step_makes made does same rises still refused
-  step_does (Err fault) does stops same rises still refused fails =
+  step_does (Ok made) does stops same rises still refused fails present finds =
+      step_makes made does same rises still refused finds
+  step_does (Err fault) does stops same rises still refused fails present finds =
       step_stops fault stops (λ name named readable e. fails name named readable (ap Err e))
+      (λ name named sure e. present name named sure (ap Err e))
 
 -- what is so of two hashers that are the same is so of their counts
 pub same_counts : {X : Type 0} (pairs : X → ℕ) (old new : X) (result : Result Outcome EngineFault)
@@ -212,6 +248,25 @@ pub stays_uncompacted : (statement : Statement) (result : Result Outcome EngineF
 stays_uncompacted statement (Ok Accepted) none = none
 stays_uncompacted statement (Ok Refused) none = refl
 stays_uncompacted statement (Err fault) none = refl
+
+-- what is so whatever is answered
+pub on_ok : {T : Type 0} {P : Type 0} (result : Result T EngineFault) → P → OnOk result P
+on_ok (Ok made) is = is
+on_ok (Err fault) is = tt
+
+-- a statement that reads no file finds each that it reads
+pub finds_alone : (pair_of : PairOf) (engine : Content) (writer : ℕ) (statement : Statement)
+    (told : Option Files)
+    → ((v t file : Name) → statement ≡ Load v t file → ⊥)
+    → ((v t file : Name) → statement ≡ LoadJson v t file → ⊥)
+    → Finds pair_of engine writer statement told
+finds_alone pair_of engine writer statement told no_load no_json held is versions stands asks =
+    by statement refl
+  where
+    by : (s : Statement) → statement ≡ s → names_absent held (Some s) ≡ false
+    by (Load v t file) same = absurd (no_load v t file same)
+    by (LoadJson v t file) same = absurd (no_json v t file same)
+    by other same = refl
 
 -- nor does one that was not done
 pub err-kept : (statement : Statement) (result : Result Outcome EngineFault) (P : Type 0)

@@ -79,6 +79,7 @@ module _ (pair_of : PairOf) (place : Place) (events : List Event) (before after 
           printed = told_append-none before.pieces;
           ample = refl;
           answer = refl;
+          found = refl;
           pays = (refl, refl);
         };
       })

@@ -214,6 +214,7 @@ comes_adopted pair_of course scripts left refused old new hashed told readable p
         printed = c.at.printed;
         ample = c.at.ample;
         answer = c.at.answer;
+        found = c.at.found;
         pays = subst (λ (arena : Nodes). Pays course.base c.done
             course.hashed course.left hashed (unhashed arena)) (sym nodes.arena) c.at.pays;
       };

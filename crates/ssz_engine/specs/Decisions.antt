@@ -1,6 +1,6 @@
 -- What a statement is found to come to, before anything but nodes is changed.
-use Rattle.std.specs.Prelude.{◌≡◌, ◌≤◌, ◌<◌, ◌+◌, ◌*◌, ◌⊎◌, IsTrue, length, ℕ, List, Option, Some, None, IsSome, Ok, Err}
-use Rattle.ssz_outside.specs.Content.{Content as Files, contents}
+use Rattle.std.specs.Prelude.{◌≡◌, ◌≤◌, ◌<◌, ◌+◌, ◌*◌, ◌⊎◌, IsTrue, true, false, length, ℕ, List, Option, Some, None, IsSome, Ok, Err}
+use Rattle.ssz_outside.specs.Content.{Content as Files, contents, is_absent}
 use Rattle.ssz_schema.specs.Types.{SszType}
 use Rattle.ssz_schema.specs.Unfolding.{number_of}
 use Rattle.ssz_value.specs.Pairs.{pairs}
@@ -205,3 +205,10 @@ abbrev pub CanLoad : PairOf → Content → ℕ → Name → Name → Type 0
 CanLoad pair_of engine writer v t =
     (versions : Versions) → StandsForWriter engine writer versions
     → IsTrue (can_load (rules_of pair_of engine) versions v t)
+
+-- it is there, where the files tell what they hold
+abbrev pub FindsFile : PairOf → Content → ℕ → Name → Name → Name → Option Files → Type 0
+FindsFile pair_of engine writer v t file told =
+    (held : Files) → told ≡ Some held → (versions : Versions)
+    → StandsForWriter engine writer versions
+    → can_load (rules_of pair_of engine) versions v t ≡ true → is_absent held file ≡ false

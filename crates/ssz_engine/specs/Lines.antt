@@ -1,5 +1,5 @@
 -- What a line of a script does, as the plain machine does it.
-use Rattle.std.specs.Prelude.{◌≡◌, ◌≢◌, ℕ, ◌-◌, true, List, [], ◌∷◌, ◌++◌, take, Option, Some, None, Result, Ok, Err}
+use Rattle.std.specs.Prelude.{◌≡◌, ◌≢◌, ℕ, ◌-◌, true, false, List, [], ◌∷◌, ◌++◌, take, Option, Some, None, Result, Ok, Err}
 use Rattle.ssz_arena.specs.Content.{unhashed}
 use Rattle.ssz_outside.specs.Outcome.{RoseOnce}
 use Rattle.ssz_outside.specs.Pieces.{Told, told_append}
@@ -11,7 +11,7 @@ use Rattle.ssz_versions.specs.Content.{Entries, Held, held_at}
 use Rattle.ssz_machine.specs.declared.place.Place.{Place}
 use Rattle.ssz_machine.specs.State.{Name, State}
 use Rattle.ssz_machine.specs.Rules.{Rules}
-use Rattle.ssz_machine.specs.Machine.{Line, Turn, step, reply_of, state_of, is_refused, reads_file}
+use Rattle.ssz_machine.specs.Machine.{Line, Turn, step, reply_of, state_of, is_refused, may_stop, misses, reads_file}
 use Rattle.ssz_engine.specs.Content.{rules_of}
 use Rattle.ssz_engine.specs.Standing.{StandsFor}
 use Rattle.ssz_engine.specs.Steps.{SavesPart, is_refusal}
@@ -23,9 +23,10 @@ use Rattle.ssz_engine.specs.declared.fault.EngineFault.TheVariants.{Read, Write,
 
 -- The turn was made and paid for: its line is appended, and what is there stands for the state
 -- after it.
-pub record Makes (base : ℕ) (turn : Turn) (made : Outcome) (before after : Scene)
+pub record Makes (rules : Rules) (base : ℕ) (turn : Turn) (made : Outcome) (before after : Scene)
     (text more : List ℕ) : Type 0 where
   pub outcome : is_refusal made ≡ is_refused turn
+  pub found : misses rules turn ≡ false
   pub line : more ≡ text ++ reply_line (reply_of turn)
   pub versions : StandsFor after.engine (state_of turn).versions
   pub files : after.told ≡ Some (state_of turn).files
@@ -35,6 +36,7 @@ pub record Makes (base : ℕ) (turn : Turn) (made : Outcome) (before after : Sce
 -- a file that was to be read was not, and the files stay
 pub record Missed (rules : Rules) (turn : Turn) (before after : Scene) : Type 0 where
   pub reads : reads_file rules turn ≡ true
+  pub stops : may_stop rules turn ≡ true
   pub files : after.told ≡ before.told
   pub name : Name
   pub named : file_named turn.line.1 ≡ Some name
@@ -43,7 +45,8 @@ pub record Missed (rules : Rules) (turn : Turn) (before after : Scene) : Type 0 
 -- What a line comes to at a turn of the machine, by an engine with this base.
 abbrev pub Does : Rules → ℕ → Turn → Result Outcome EngineFault → Scene → Scene → List ℕ → List ℕ
     → Type 0
-Does rules base turn (Ok made) before after text more = Makes base turn made before after text more
+Does rules base turn (Ok made) before after text more =
+    Makes rules base turn made before after text more
 Does rules base turn (Err Read) before after text more = Missed rules turn before after
 Does rules base turn (Err Write) before after text more = SavesPart turn before.told after.told
 Does rules base turn (Err Memory) before after text more = after.told ≡ before.told

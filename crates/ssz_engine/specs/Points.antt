@@ -10,7 +10,7 @@ use Rattle.ssz_proof.specs.Calculation.{PairOf}
 use Rattle.ssz_machine.specs.declared.place.Place.{Place}
 use Rattle.ssz_machine.specs.State.{State}
 use Rattle.ssz_machine.specs.Rules.{Rules}
-use Rattle.ssz_machine.specs.Machine.{Turn, reply_of, charge_of, is_refused}
+use Rattle.ssz_machine.specs.Machine.{Turn, reply_of, charge_of, is_refused, misses}
 use Rattle.ssz_machine.specs.Plays.{Event, play, shown_all}
 use Rattle.ssz_machine.specs.Counts.{may_hash, number_said}
 use Rattle.ssz_machine.specs.Runs.{IsUnderWay, job_from, steps_done}
@@ -50,8 +50,8 @@ pub record Course : Type 0 where
 abbrev pub turns_of : Place → Course → List ℕ → List Turn
 turns_of place course numbers = play course.rules place numbers course.first course.events
 
--- A run has come to a point: these steps were made, printed and paid for, and these events are
--- left.
+-- A run has come to a point: these steps were made, printed and paid for, each file that they read
+-- was there, and these events are left.
 pub record IsAt (pair_of : PairOf) (place : Place) (course : Course) (done : List Turn)
     (state : State) (events : List Event) (refused : Bool) (scene : Scene) : Type 0 where
   pub front : List Event
@@ -64,6 +64,7 @@ pub record IsAt (pair_of : PairOf) (place : Place) (course : Course) (done : Lis
   pub printed : scene.pieces ≡ told_append course.pieces (shown_all place done)
   pub ample : scene.ample ≡ course.ample
   pub answer : refused ≡ list_any is_refused done
+  pub found : list_any (misses course.rules) done ≡ false
   pub pays : Pays course.base done course.hashed course.left scene.hashed
       (unhashed scene.engine.arena)
 

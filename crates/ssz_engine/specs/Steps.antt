@@ -18,7 +18,7 @@ use Rattle.ssz_versions.specs.Content.{Entries, Held, held_at, with_held, withou
 use Rattle.ssz_machine.specs.declared.place.Place.{Place}
 use Rattle.ssz_machine.specs.State.{Name, Versions}
 use Rattle.ssz_machine.specs.Rules.{Rules, Row}
-use Rattle.ssz_machine.specs.Machine.{Turn, step, effect, reads, reply_of, state_of, save_of, charge_of, is_refused}
+use Rattle.ssz_machine.specs.Machine.{Turn, step, effect, names_absent, reads, reply_of, state_of, save_of, charge_of, is_refused}
 use Rattle.ssz_machine.specs.Changes.{Touch, nothing, puts, takes, touch}
 use Rattle.ssz_engine.specs.Compacting.{is_compact}
 use Rattle.ssz_engine.specs.Content.{Content, rules_of}
@@ -223,6 +223,14 @@ abbrev pub CanAsk : PairOf → Content → ℕ → Statement → Type 0
 CanAsk pair_of engine writer statement =
     (versions : Versions) → StandsForWriter engine writer versions
     → IsTrue (reads (rules_of pair_of engine) versions (Some statement))
+
+-- the file is there where one is read, where the files tell what they hold
+abbrev pub Finds : PairOf → Content → ℕ → Statement → Option Files → Type 0
+Finds pair_of engine writer statement told =
+    (held : Files) → told ≡ Some held → (versions : Versions)
+    → StandsForWriter engine writer versions
+    → reads (rules_of pair_of engine) versions (Some statement) ≡ true
+    → names_absent held (Some statement) ≡ false
 
 -- How many nodes a statement adds: where it is accepted and puts a version under a name, at most
 -- two for each pair of its charge, and one; else none.

@@ -1,11 +1,12 @@
-ghost use Rattle.std.specs.Prelude.{◌≡◌, ◌≢◌, ◌+◌, ◌-◌, ◌≤◌, ℕ, List, Some, None, Err, false, IfOk, IfErr, OnErr};
-ghost use Rattle.ssz_arena.specs.Content.{node_count, unhashed};
+ghost use Rattle.std.specs.Prelude.{◌≡◌, ◌≢◌, ◌+◌, ◌-◌, ◌≤◌, ℕ, List, Some, None, Err, false, IfOk, IfErr, OnOk, OnErr};
+ghost use Rattle.ssz_arena.specs.Content.{unhashed, node_count};
+ghost use Rattle.ssz_outside.specs.Content.{CanRead};
 ghost use Rattle.ssz_machine.specs.Counts.{asks_root};
 ghost use Rattle.ssz_engine.specs.Compacting.{is_compact};
 ghost use Rattle.ssz_engine.specs.Content.{Grows};
 ghost use Rattle.ssz_engine.specs.Outside.{CountsReads};
 ghost use Rattle.ssz_engine.specs.Dues.{HashesDue};
-ghost use Rattle.ssz_engine.specs.Steps.{CanAsk, Decides, DecidesAlone, IsShort, LeavesHashed, MakesFork, MakesUpgrade, file_read, outcome_of};
+ghost use Rattle.ssz_engine.specs.Steps.{CanAsk, Decides, DecidesAlone, Finds, IsShort, LeavesHashed, MakesFork, MakesUpgrade, file_read, outcome_of};
 ghost use Rattle.ssz_engine.specs.declared.outcome.Outcome.TheVariants.{Refused};
 
 use super::asking::{gindex, hashes, root};
@@ -58,6 +59,10 @@ pub(crate) fn decide<'a, F: Files, H: PairHash>(
     ensures content { F.content files.new ≡ F.content files.old }
     ensures fails { (name : List ℕ) → file_read statement.now ≡ Some name
         → F.readable files.old name → result ≢ Err EngineFault.Read }
+    ensures present { (name : List ℕ) → file_read statement.now ≡ Some name
+        → CanRead (F.content files.old) name → result ≢ Err EngineFault.Read }
+    ensures found { OnOk result (Finds H.pair_of engine.old writer.0 statement.now
+        (F.content files.old)) }
     ensures asks { file_read statement.now ≡ None → result ≢ Err EngineFault.Read }
     ensures readable { (other : List ℕ) → F.readable files.old other → F.readable files.new other }
     ensures gets { CountsReads result (F.get_faults files.old) (F.get_faults files.new) }

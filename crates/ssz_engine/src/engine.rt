@@ -2,7 +2,8 @@ ghost use Rattle.std.specs.Prelude.{◌≡◌, ◌≢◌, ◌+◌, ◌-◌, ◌�
 ghost use Rattle.std.specs.FinMap as finite;
 ghost use Rattle.ssz_chunk.specs.declared.TheConstants.{LEVELS};
 ghost use Rattle.ssz_chunk.specs.Chunk.{CountsUp};
-ghost use Rattle.ssz_arena.specs.Content.{KeepsNodes, node_count, unhashed};
+ghost use Rattle.ssz_arena.specs.Content.{KeepsNodes, unhashed, node_count};
+ghost use Rattle.ssz_outside.specs.Content.{CanRead};
 ghost use Rattle.ssz_versions.specs.Compacted.{IsCompacted};
 ghost use Rattle.ssz_machine.specs.Changes.{touch};
 ghost use Rattle.ssz_machine.specs.Counts.{asks_root};
@@ -11,7 +12,7 @@ ghost use Rattle.ssz_engine.specs.Laws.{StandsForSome};
 ghost use Rattle.ssz_engine.specs.Outside.{CountsReads, CountsWrites};
 ghost use Rattle.ssz_engine.specs.Standing.{StandsFor};
 ghost use Rattle.ssz_engine.specs.Dues.{HashesDue};
-ghost use Rattle.ssz_engine.specs.Steps.{DoesStep, ForksWhere, IsShort, Keeps, LeavesHashed, Stops, TouchesWhere, UpgradesWhere, file_read};
+ghost use Rattle.ssz_engine.specs.Steps.{DoesStep, Finds, ForksWhere, IsShort, Keeps, LeavesHashed, Stops, TouchesWhere, UpgradesWhere, file_read};
 ghost use Rattle.ssz_engine.specs.Weaves.{HoldsNone};
 
 use super::carrying::carry_out;
@@ -161,6 +162,12 @@ impl<H: PairHash> Engine<H> {
         ensures still { asks_root (Some statement.now) ≡ false → hasher.new ≡ hasher.old }
         ensures fails { (name : List ℕ) → file_read statement.now ≡ Some name
             → F.readable files.old name → result ≢ Err EngineFault.Read }
+        // Where reads fail of absent names alone, it is of one that is absent in the files; and of
+        // such a one it does.
+        ensures present { (name : List ℕ) → file_read statement.now ≡ Some name
+            → CanRead (F.content files.old) name → result ≢ Err EngineFault.Read }
+        ensures found { OnOk result (Finds H.pair_of self.old writer.0 statement.now
+            (F.content files.old)) }
         ensures asks { file_read statement.now ≡ None → result ≢ Err EngineFault.Read }
         ensures readable { (other : List ℕ) → F.readable files.old other
             → F.readable files.new other }

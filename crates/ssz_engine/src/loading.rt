@@ -1,11 +1,12 @@
 //! Statements that make a version of the value that a file has.
-ghost use Rattle.std.specs.Prelude.{◌≡◌, ◌≢◌, ◌<◌, ◌^◌, ℕ, List, None, Err, length, IfOk, IfErr, OnErr};
+ghost use Rattle.std.specs.Prelude.{◌≡◌, ◌≢◌, ◌<◌, ◌^◌, ℕ, List, None, Err, length, IfOk, IfErr, OnOk, OnErr};
+ghost use Rattle.ssz_outside.specs.Content.{CanRead};
 ghost use Rattle.ssz_schema.specs.Unfolding.{type_of};
 ghost use Rattle.ssz_arena.specs.Content.{node_count};
 ghost use Rattle.ssz_versions.specs.Content.{held_at};
 ghost use Rattle.ssz_machine.specs.Changes.{puts};
 ghost use Rattle.ssz_engine.specs.Content.{Grows};
-ghost use Rattle.ssz_engine.specs.Decisions.{AnswersAnew, CanLoad, LoadsWith, brought_as, load_row};
+ghost use Rattle.ssz_engine.specs.Decisions.{AnswersAnew, CanLoad, FindsFile, LoadsWith, brought_as, load_row};
 ghost use Rattle.ssz_engine.specs.Outside.{CountsReads};
 
 use super::decision::Decision;
@@ -95,6 +96,9 @@ pub(crate) fn load<'a, F: Files, H: PairHash>(
     ensures whole { OnErr result (node_count engine.new.arena ≡ node_count engine.old.arena) }
     ensures content { F.content files.new ≡ F.content files.old }
     ensures fails { F.readable files.old file.now → result ≢ Err EngineFault.Read }
+    ensures present { CanRead (F.content files.old) file.now → result ≢ Err EngineFault.Read }
+    ensures found { OnOk result (FindsFile H.pair_of engine.old writer.0 v.now t.now file.now
+        (F.content files.old)) }
     ensures readable { (other : List ℕ) → F.readable files.old other → F.readable files.new other }
     ensures gets { CountsReads result (F.get_faults files.old) (F.get_faults files.new) }
     ensures puts { F.put_faults files.new ≡ F.put_faults files.old }

@@ -1,7 +1,7 @@
 -- How runs that are under way end, as the job of all their events: for the numbers that were
 -- printed, and whatever numbers are still to come.
 use Rattle.std.proofs.Common.{ℕ, ◌+◌, ◌<◌, ◌≤◌, ◌≡◌, ◌==◌, cond, inl, inr, Bool, true, false, List, [], ◌∷◌, ◌++◌, length, take, Option, Some, refl, sym, ap, ◌∙◌, subst, arith, length-append, append_assoc}
-use Rattle.std.specs.Prelude.{slice_get, ◌&&◌}
+use Rattle.std.specs.Prelude.{slice_get, not, ◌&&◌}
 use Rattle.std.specs.List.{list_any}
 use Rattle.std.proofs.lemmas.Bool.{or_right}
 use Rattle.std.proofs.lemmas.List.{append-nil, map-append}
@@ -15,7 +15,7 @@ use Rattle.ssz_outside.specs.declared.status.Status.TheVariants as status
 use Rattle.ssz_machine.specs.declared.place.Place.{Place}
 use Rattle.ssz_machine.specs.State.{State}
 use Rattle.ssz_machine.specs.Rules.{Rules}
-use Rattle.ssz_machine.specs.Machine.{Line, Turn, step, state_of, save_of, reads_file, is_refused}
+use Rattle.ssz_machine.specs.Machine.{Line, Turn, step, state_of, save_of, may_stop, misses, is_refused}
 use Rattle.ssz_machine.specs.Plays.{Event, says, play, shown, shown_all}
 use Rattle.ssz_machine.specs.Jobs.{files_after, is_reading, saved_by, status_after, after_reading}
 use Rattle.ssz_machine.specs.Runs.{IsUnderWay, job_from, steps_done}
@@ -82,6 +82,9 @@ module _ (rules : Rules) (place : Place) (events : List Event) (first : State)
   unfolding ends_without_memory
   steps_without_memory ample old new held printed are = refl
 
+stops_there : (missed may : Bool) → missed ≡ false → may ≡ true → (not missed && may) ≡ true
+stops_there missed may found stops = rw (found, stops) refl
+
 -- what a run looks like in which one line more was done, or was begun
 module _ (rules : Rules) (place : Place) (events : List Event) (first : State)
     (front : List Event) (done : List Turn) (state : State) (writer : ℕ) (line : Line)
@@ -145,13 +148,16 @@ module _ (rules : Rules) (place : Place) (events : List Event) (first : State)
       omega arith
 
   -- the line's file was not read
-  pub ends_unread : (ample : Bool) (old new : Told) (held : Option Content) → reads_file rules turn ≡ true
+  pub ends_unread : (ample : Bool) (old new : Told) (held : Option Content)
+      → list_any (misses rules) done ≡ false → may_stop rules turn ≡ true
       → new ≡ told_append old (shown_all place done) → held ≡ Some state.files
       → Ends ample status.ReadFault whole old new held
-  ends_unread ample old new held reads printed are = (
+  ends_unread ample old new held found stops printed are = (
     length done,
     let few = below in omega arith,
-    ap (is_reading rules) here ∙ reads,
+    stops_there (list_any (misses rules) (take (length done) all))
+        (is_reading rules (slice_get all (length done)))
+        (ap (list_any (misses rules)) front_before ∙ found) (ap (is_reading rules) here ∙ stops),
     record {
       printed = printed ∙ ap (told_append old) (sym lines_before);
       held = are ∙ ap Some (sym files_before);
@@ -159,12 +165,12 @@ module _ (rules : Rules) (place : Place) (events : List Event) (first : State)
   )
 
   pub steps_unread : (ample : Bool) (old new : Told) (held : Option Content)
-      (reads : reads_file rules turn ≡ true)
+      (found : list_any (misses rules) done ≡ false) (stops : may_stop rules turn ≡ true)
       (printed : new ≡ told_append old (shown_all place done)) (are : held ≡ Some state.files)
       → steps_done ample status.ReadFault whole old new held
-      (ends_unread ample old new held reads printed are) ≡ length done
+      (ends_unread ample old new held found stops printed are) ≡ length done
   unfolding ends_unread
-  steps_unread ample old new held reads printed are = refl
+  steps_unread ample old new held found stops printed are = refl
 
   -- the line's file was not written whole
   pub ends_torn_file : (ample : Bool) (old new : Told) (held : Option Content) (save : Save)

@@ -1,5 +1,5 @@
 -- Scripts and what they print, from text to text, by computing.
-use Rattle.std.specs.Prelude.{ℕ, ◌≡◌, ◌++◌, true, false, List, [], ◌∷◌, map, replicate, refl, codes, Some, None}
+use Rattle.std.specs.Prelude.{ℕ, ◌≡◌, ◌++◌, false, List, [], ◌∷◌, map, replicate, refl, codes, Some, None}
 use Rattle.std.specs.List.{concat}
 use Rattle.std.specs.Fmt.{digits as decimal_digits}
 use Rattle.hex.specs.Hex.{encode_with, decode_pairs}
@@ -8,7 +8,7 @@ use Rattle.ssz_chunk.specs.Tree.{full, grow}
 use Rattle.ssz_chunk.specs.Index.{levels_within, digits}
 use Rattle.ssz_gindex.specs.Helpers.{descending}
 use Rattle.ssz_line.specs.Single.{literal}
-use Rattle.ssz_outside.specs.Content.{Content, contents, with_bytes}
+use Rattle.ssz_outside.specs.Content.{Content, contents, may_fail, with_bytes}
 use Rattle.ssz_outside.specs.Job.{Job}
 use Rattle.ssz_schema.specs.declared.width.Width.TheVariants.{W8, W16, W64}
 use Rattle.ssz_schema.specs.Types.{SszType, uint, container, list, bitlist, union, no_fields, field, no_options, none_option, option}
@@ -375,7 +375,8 @@ saving held =
     script_job (rules types_P) [] (fresh held) (codes "new V P\nsave V f\nroot V\nload W P g\n")
 
 pub saving_reads : (held : Content) → map (saving held).reads (0 ∷ 1 ∷ 2 ∷ 3 ∷ [])
-    ≡ false ∷ false ∷ false ∷ true ∷ []
+    ≡ false ∷ false ∷ false
+    ∷ may_fail (with_bytes (codes "f") (replicate 16 0) held) (codes "g") ∷ []
 unfolding computes
 saving_reads held = refl
 

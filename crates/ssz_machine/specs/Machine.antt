@@ -1,6 +1,6 @@
 -- The plain machine: the table of statements, and a step.
 use Rattle.std.specs.Prelude.{ℕ, not, ◌&&◌, is_some, Bool, true, false, Option, Some, None, Ok, Err}
-use Rattle.ssz_outside.specs.Content.{Content, contents, with_bytes}
+use Rattle.ssz_outside.specs.Content.{Content, contents, is_absent, may_fail, with_bytes}
 use Rattle.ssz_outside.specs.Job.{Save}
 use Rattle.ssz_script.specs.declared.statement.Statement.{Statement}
 use Rattle.ssz_script.specs.declared.statement.Statement.TheVariants.{New, Lit, Load, Fork, Drop, List as ListNames, Set, Append, Pop, Choose, Root, Bytes, Len, Save as SaveInto, Gindex, Prove, Hashes, Upgrade, Json, LoadJson, Compact}
@@ -121,3 +121,23 @@ reads rules versions other = false
 
 abbrev pub reads_file : Rules → Turn → Bool
 reads_file rules turn = reads rules (turn.before.versions turn.writer) turn.line.1
+
+-- whether a read of the file that a statement names may fail
+abbrev pub may_miss : Content → Option Statement → Bool
+may_miss files (Some (Load v t file)) = may_fail files file
+may_miss files (Some (LoadJson v t file)) = may_fail files file
+may_miss files other = false
+
+-- whether a step reads a file of which the read may fail, as the files stand before the step
+abbrev pub may_stop : Rules → Turn → Bool
+may_stop rules turn = reads_file rules turn && may_miss turn.before.files turn.line.1
+
+-- whether the file that a statement names is absent
+abbrev pub names_absent : Content → Option Statement → Bool
+names_absent files (Some (Load v t file)) = is_absent files file
+names_absent files (Some (LoadJson v t file)) = is_absent files file
+names_absent files other = false
+
+-- whether a step reads a file that is absent in the files before the step
+abbrev pub misses : Rules → Turn → Bool
+misses rules turn = reads_file rules turn && names_absent turn.before.files turn.line.1

@@ -18,8 +18,9 @@ pub record Save : Type 0 where
   pub name : List ℕ
   pub bytes : List ℕ
 
--- The moment after the first k steps, and what the job then goes on to do: whether it reads files,
--- and what it saves; how many steps there are, and the status after the last.
+-- The moment after the first k steps, and what the job then goes on to do: whether it reads a file
+-- of which the read may fail, and what it saves; how many steps there are, and the status after the
+-- last.
 pub record Job : Type 0 where
   pub at : ℕ → Moment
   pub reads : ℕ → Bool
@@ -65,9 +66,10 @@ pub record Finishes (job : Job) (ended : Status) (old new : Told)
   pub status : ended ≡ job.status
   pub last : StandsAt (job.at job.steps) old new left
 
--- What a job leaves that ended with this status. A failed read ends it at a moment at which it
--- reads files; a failed put ends it within a step, at its save or its line; want of memory ends it
--- between two steps, or after a step and before its line: the latter only where the sink may lack it.
+-- What a job leaves that ended with this status. A failed read ends it at a moment at which a read
+-- of it may fail; a failed put ends it within a step, at its save or its line; want of memory ends
+-- it between two steps, or after a step and before its line: the latter only where the sink may
+-- lack it.
 abbrev pub Ends : Bool → Status → Job → Told → Told → Option Content → Type 0
 Ends ample status.Accepted job old new left = Finishes job status.Accepted old new left
 Ends ample status.Refused job old new left = Finishes job status.Refused old new left

@@ -1,10 +1,10 @@
 -- What files and sinks in memory are seen as.
-use Rattle.std.specs.Prelude.{◌≡◌, ℕ, ◌/◌, ◌==◌, Bool, IsTrue, IsSome, Ok, Err, refl}
+use Rattle.std.specs.Prelude.{◌≡◌, ℕ, ◌/◌, ◌==◌, Bool, true, false, IsTrue, IsSome, Ok, Err, refl}
 use Rattle.std.specs.Prelude.{List, [], ◌∷◌, ◌++◌, length, take, drop}
 use Rattle.std.specs.declared.result.Result.{Result}
 use Rattle.ssz_outside.specs.declared.outside.PutFault.{PutFault}
 use Rattle.ssz_outside.specs.declared.outside.PutFault.TheVariants.{Failed, Memory}
-use Rattle.ssz_outside.specs.Content.{Named}
+use Rattle.ssz_outside.specs.Content.{Content, Named, absent}
 use Rattle.ssz_outside.specs.Outcome.{next_count}
 use Rattle.std.specs.List.{list_any}
 use Rattle.std.specs.FinMap as map
@@ -30,6 +30,16 @@ pub record FilesState : Type 0 where
 -- the next call is one that is to fail
 abbrev pub IsListed : FilesState → Type 0
 IsListed files = IsTrue (is_listed files.failing (next_count files.calls))
+
+-- whether no call is to fail
+abbrev pub is_quiet : List ℕ → Bool
+is_quiet [] = true
+is_quiet (n ∷ failing) = false
+
+-- what they tell: where no call is to fail, a read fails of an absent name alone
+abbrev pub content_of : FilesState → Content
+content_of files =
+    record { named = files.named; missing = absent; steady = is_quiet files.failing }
 
 -- no call is to fail, and the name is there
 pub record IsReadable (files : FilesState) (name : List ℕ) : Type 0 where

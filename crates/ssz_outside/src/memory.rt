@@ -1,6 +1,6 @@
 // Files and a sink in memory, which fail at the calls that they are told.
-ghost use Rattle.std.specs.Prelude.{◌≡◌, ◌≤◌, ◌⊎◌, List, ℕ, [], vec_len};
-ghost use Rattle.std.specs.Prelude.{Some, IfOk, OnOk, OnErr, IsErrOf, IsNone, option_map};
+ghost use Rattle.std.specs.Prelude.{◌≡◌, ◌≢◌, ◌≤◌, ◌⊎◌, List, ℕ, [], vec_len};
+ghost use Rattle.std.specs.Prelude.{Some, Err, IfOk, OnOk, OnErr, IsErrOf, IsNone, option_map};
 ghost use Rattle.std.specs.FinMap as map;
 ghost use Rattle.ssz_outside.specs.Memory.{is_listed};
 ghost use Rattle.ssz_outside.specs.Outcome.{next_count, Gets, CountsGet, CountsPut};
@@ -88,10 +88,10 @@ fn next_fails(failing: &[u64], calls: &mut u64) -> bool
 
 impl Files for MemFiles {
     ghost use Rattle.std.specs.Prelude.{Some};
-    ghost use Rattle.ssz_outside.specs.Content.{absent};
-    ghost use Rattle.ssz_outside.specs.Memory.{IsListed, IsReadable, PutsHalf};
+    ghost use Rattle.ssz_outside.specs.Content.{CanRead};
+    ghost use Rattle.ssz_outside.specs.Memory.{IsListed, IsReadable, PutsHalf, content_of};
 
-    ghost content = { λ f. Some (record { named = f.named; missing = absent }) };
+    ghost content = { λ f. Some (content_of f) };
 
     ghost readable = { IsReadable };
 
@@ -105,6 +105,8 @@ impl Files for MemFiles {
         ensures failed { IsErrOf result GetFault.Failed
             → IsListed self.old ⊎ IsNone (map.get self.old.named name.now) }
         ensures listed { IsListed self.old → IsErrOf result GetFault.Failed }
+        ensures present { CanRead (Some (content_of self.old)) name.now
+            → result ≢ Err GetFault.Failed }
         ensures readable { (other : List ℕ)
             → IsReadable self.old other → IsReadable self.new other }
         ensures absent { IsNone (map.get self.old.named name.now) → IsErrOf result GetFault.Failed }

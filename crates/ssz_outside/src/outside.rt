@@ -1,7 +1,7 @@
 // Files and a sink as a program sees them: what each answer says, and what is counted.
 ghost use Rattle.std.specs.Prelude.{◌≡◌, ◌≢◌, ℕ, ◌≤◌, List, [], Bool, false, vec_len, Ok, Err, IfSome};
 ghost use Rattle.std.specs.declared.option.Option.{Option};
-ghost use Rattle.ssz_outside.specs.Content.{Content, bytes_of};
+ghost use Rattle.ssz_outside.specs.Content.{CanRead, Content, bytes_of};
 ghost use Rattle.ssz_outside.specs.Outcome.{Gets, CountsGet, Puts, CountsPut, Takes};
 ghost use Rattle.ssz_outside.specs.declared.outside.PutFault.TheVariants as put_fault;
 
@@ -52,7 +52,8 @@ impl<T: Drop> From<AllocFailed<T>> for PutFault {
 
 /// Files by name, with a count of the `get`s and one of the `put`s that failed. A count never falls
 /// and stands still at `u64::MAX`. What the files hold is told to contracts, or not; no call
-/// changes whether it is told, nor what an absent name reads as.
+/// changes whether it is told, nor what an absent name reads as, nor whether it is told that a
+/// `get` fails of an absent name alone.
 pub trait Files {
     // What the files hold, where they tell it.
     ghost content: { Self → Option Content };
@@ -75,6 +76,7 @@ pub trait Files {
         ensures bound { result ≡ Ok Got.Whole → vec_len into.new ≤ max }
         ensures content { content self.new ≡ content self.old }
         ensures fails { readable self.old name.now → result ≢ Err GetFault.Failed }
+        ensures present { CanRead (content self.old) name.now → result ≢ Err GetFault.Failed }
         ensures readable { (other : List ℕ) → readable self.old other → readable self.new other }
         ensures get_faults { CountsGet result (get_faults self.old) (get_faults self.new) }
         ensures put_faults { put_faults self.new ≡ put_faults self.old };

@@ -191,7 +191,8 @@ pub fn run<F: Files, S: Sink, H: PairHash>(
         (F.content files.new))) }
 
     // Where the files of the words can be read, a read fails only at a step that reads: the lines
-    // before it are printed, and the files are those after them.
+    // before it are printed, and the files are those after them. Where it is told that reads fail
+    // of absent names alone, it is the first step whose file is absent as the files then stand.
     ensures in_turn { ForSome (F.content files.old) (λ held.
         AllByRecursion (F.readable files.old) (reached_first held (texts words.now))
         → Does (job_once_read H.pair_of (texts words.now) held)

@@ -1,7 +1,10 @@
 use Rattle.std.proofs.Common.{◌≡◌, ◌-◌, refl, sym, subst}
 use Rattle.ssz_machine.specs.Making.{load, loadjson}
 use Rattle.ssz_machine.specs.Changes.{puts}
-use Rattle.ssz_engine.specs.Steps.{CanAsk}
+use Rattle.std.specs.Prelude.{OnOk}
+use Rattle.ssz_script.specs.declared.statement.Statement.{Statement}
+use Rattle.ssz_engine.specs.Steps.{CanAsk, Finds}
+use Rattle.ssz_engine.proofs.EngineSteps.{finds_alone, on_ok}
 use Rattle.ssz_engine.specs.declared.fault.EngineFault.TheVariants.{Read, Write, Memory}
 use Rattle.ssz_engine.proofs.Found.{counts-none, decides-ok, loads-ok, memory-alone}
 use Rattle.ssz_engine.proofs.deciding.decide.Goals as goal
@@ -32,6 +35,10 @@ pub returns-in_default-clause-fails : goal.returns-in_default-clause-fails
 returns-in_default-clause-fails g c = λ name is readable e.
     no-read (memory-alone c.decide_alone.result Read c.decide_alone.ensures.memory e)
 
+pub returns-in_default-clause-present : goal.returns-in_default-clause-present
+returns-in_default-clause-present g c = λ name is readable e.
+    no-read (memory-alone c.decide_alone.result Read c.decide_alone.ensures.memory e)
+
 pub returns-in_default-clause-asks : goal.returns-in_default-clause-asks
 returns-in_default-clause-asks g c = λ none e.
     no-read (memory-alone c.decide_alone.result Read c.decide_alone.ensures.memory e)
@@ -49,6 +56,25 @@ returns-in-Load-clause-decides g c =
     (λ bytes rules versions. load rules versions c.in-Load.v c.in-Load.t bytes)
     (puts c.in-Load.v) c.args.statement.now _ c.load.result c.in-Load.is (λ files. refl) refl refl
     c.load.ensures.answers
+
+pub returns-in_default-clause-found : goal.returns-in_default-clause-found
+returns-in_default-clause-found g c =
+    on_ok c.decide_alone.result (finds_alone g.H.PairHash.pair_of c.args.engine.now
+    c.args.writer.0 c.args.statement.now (g.F.Files.content c.args.files.now)
+    (λ v t file is. c.in_default.not-Load v t file is)
+    (λ v t file is. c.in_default.not-LoadJson v t file is))
+
+pub returns-in-Load-clause-found : goal.returns-in-Load-clause-found
+returns-in-Load-clause-found g c =
+    subst (λ (s : Statement). OnOk c.load.result (Finds g.H.PairHash.pair_of c.args.engine.now
+    c.args.writer.0 s (g.F.Files.content c.args.files.now))) (sym c.in-Load.is)
+    c.load.ensures.found
+
+pub returns-in-LoadJson-clause-found : goal.returns-in-LoadJson-clause-found
+returns-in-LoadJson-clause-found g c =
+    subst (λ (s : Statement). OnOk c.load-in-LoadJson.result (Finds g.H.PairHash.pair_of
+    c.args.engine.now c.args.writer.0 s (g.F.Files.content c.args.files.now)))
+    (sym c.in-LoadJson.is) c.load-in-LoadJson.ensures.found
 
 pub returns-in-Load-clause-asked : goal.returns-in-Load-clause-asked
 returns-in-Load-clause-asked g c = λ e.

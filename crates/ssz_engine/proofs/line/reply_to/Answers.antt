@@ -36,7 +36,8 @@ returns-clause-does g c = λ was is had has.
     c.in-Some.statement before after
     c.args.out.now.items c.step.new.out.items c.step.result step.ok step.stops step.told step.rises
     (λ asks. ap pairs (step.still asks))
-    (same_counts pairs c.args.hasher.now c.step.new.hasher c.step.result step.refused) step.fails)
+    (same_counts pairs c.args.hasher.now c.step.new.hasher c.step.result step.refused) step.fails
+    step.present step.found)
 
 pub returns-clause-others : goal.returns-clause-others
 returns-clause-others g c =

@@ -8,7 +8,8 @@ use Rattle.ssz_machine.specs.Changes.{puts}
 use Rattle.ssz_engine.specs.Content.{Content, rules_of}
 use Rattle.ssz_engine.specs.Decisions.{AnswersAnew, LoadsWith, brought_as, load_row}
 use Rattle.std.specs.Prelude.{nat_lt}
-use Rattle.ssz_engine.proofs.Brought.{IsLong, anew-same, free-row, load-is, loads-any, not-below, refused-anew, taken-row, too-long, whole}
+use Rattle.ssz_engine.proofs.Brought.{IsLong, anew-same, free-row, load-is, loads-any, not-below, refused-anew, taken-blocks, taken-row, there-longer, there-whole, too-long, whole}
+use Rattle.ssz_engine.proofs.EngineSteps.{on_ok}
 use Rattle.ssz_engine.proofs.Stepping.{ok-of}
 use Rattle.ssz_engine.proofs.loading.load.Goals as goal
 
@@ -103,3 +104,19 @@ returns-in-Ok-Whole-clause-answers g c =
           (not-below engine.most (length bytes) few)) answers;
     })
     c.bring_as.ensures.answers
+
+pub returns-in-Err-clause-found : goal.returns-in-Err-clause-found
+returns-in-Err-clause-found g c = λ held told versions stand can.
+    absurd (taken-blocks g.H.PairHash.pair_of c.args.engine.now c.args.writer.0 c.args.v.now
+    c.args.t.now versions stand c.in-Err.code c.in-Err.ensures.err can)
+
+pub returns-in-Ok-TooLong-clause-found : goal.returns-in-Ok-TooLong-clause-found
+returns-in-Ok-TooLong-clause-found g c = λ held told versions stand can.
+    there-longer (bytes_of held c.args.file.now) _
+    (rw (c.in-Ok-TooLong.field-0-is, c.as_str.ensures.text, told) at c.in-Ok-TooLong.ensures.read)
+
+pub returns-in-Ok-Whole-clause-found : goal.returns-in-Ok-Whole-clause-found
+returns-in-Ok-Whole-clause-found g c =
+    on_ok c.bring_as.result (λ held told versions stand can.
+    there-whole (bytes_of held c.args.file.now) _
+    (rw (c.in-Ok-Whole.field-0-is, c.as_str.ensures.text, told) at c.in-Ok-Whole.ensures.read))

@@ -1,8 +1,9 @@
-use Rattle.std.proofs.Common.{◌-◌, ℕ, List, Option, IfOk, IfErr, sym, subst}
+use Rattle.std.proofs.Common.{◌-◌, Option, IfOk, IfErr, refl, sym, subst, ℕ, List}
 use Rattle.ssz_outside.specs.Content.{Content as Files}
 use Rattle.ssz_script.specs.declared.statement.Statement.{Statement}
-use Rattle.ssz_engine.specs.Steps.{Decides, DoesStep, Fails, ForksWhere, IsCarriedOut, LeavesHashed, Stops, UpgradesWhere}
+use Rattle.ssz_engine.specs.Steps.{Decides, DoesStep, Fails, Finds, ForksWhere, IsCarriedOut, LeavesHashed, Stops, UpgradesWhere}
 use Rattle.ssz_engine.specs.declared.outcome.Outcome.TheVariants.{Accepted}
+use Rattle.ssz_engine.proofs.EngineSteps.{on_ok}
 use Rattle.ssz_engine.proofs.Forking.{forks}
 use Rattle.ssz_engine.proofs.Moving.{compact-step}
 use Rattle.ssz_engine.proofs.Rooting.{roots}
@@ -156,3 +157,12 @@ returns-clause-roots g c =
     out_old out_new out statement c.in_ok-decision.ensures.decides.answers.of
     c.in_ok-decision.ensures.roots)
     c.carry_out.ensures.ok
+
+pub returns-in-Compact-clause-found : goal.returns-in-Compact-clause-found
+returns-in-Compact-clause-found g c =
+    subst (λ (s : Statement). Finds g.H.PairHash.pair_of c.args.self.now c.args.writer.0 s
+    (g.F.Files.content c.args.files.now)) (sym c.in-Compact.is)
+    (λ held told versions stands asks. refl)
+
+pub returns-clause-found : goal.returns-clause-found
+returns-clause-found g c = on_ok c.carry_out.result c.in_ok-decision.ensures.found
