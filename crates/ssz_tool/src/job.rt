@@ -89,9 +89,18 @@ pub fn load<F: Files>(alloc: Global, files: &mut F, name: &str, max: u64) -> Res
     let mut bytes = Vec::new(alloc);
     match files.get(name, &mut bytes, max) {
         Ok(Got::Whole) => Ok(Loaded::Whole(bytes)),
-        Ok(Got::TooLong) => Ok(Loaded::TooLong),
-        Err(GetFault::Failed) => Err(Stop::Read),
-        Err(GetFault::Memory) => Err(Stop::Memory),
+        Ok(Got::TooLong) => {
+            drop(bytes);
+            Ok(Loaded::TooLong)
+        }
+        Err(GetFault::Failed) => {
+            drop(bytes);
+            Err(Stop::Read)
+        }
+        Err(GetFault::Memory) => {
+            drop(bytes);
+            Err(Stop::Memory)
+        }
     }
 }
 

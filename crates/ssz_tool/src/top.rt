@@ -68,7 +68,9 @@ fn print_line<S: Sink>(alloc: Global, line: &Line, out: &mut S) -> Status
     let Ok(text) = line_text(alloc, line) else {
         return Status::Memory;
     };
-    say_line(text.as_str(), status_of(line), out)
+    let ended = say_line(text.as_str(), status_of(line), out);
+    drop(text);
+    ended
 }
 
 /// Does what is left to do once the files of the words are read.

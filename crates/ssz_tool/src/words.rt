@@ -31,8 +31,14 @@ fn part_asked(alloc: Global, args: PartArgs) -> Result<Option<Asked>, AllocError
 {
     match read_path(alloc, args.path.as_str().as_bytes()) {
         Ok(path) => Ok(Some(Asked::Part(args, path))),
-        Err(LineFault::Syntax) => Ok(None),
-        Err(LineFault::Memory) => Err(AllocError),
+        Err(LineFault::Syntax) => {
+            drop(args);
+            Ok(None)
+        }
+        Err(LineFault::Memory) => {
+            drop(args);
+            Err(AllocError)
+        }
     }
 }
 
