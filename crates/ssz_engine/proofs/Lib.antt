@@ -24,6 +24,7 @@ pub mod UpgradeSteps
 pub mod Stepping
 pub mod Wholes
 pub mod Moving
+pub mod AnswerSteps
 pub mod Paying
 pub mod Replies
 pub mod Settling

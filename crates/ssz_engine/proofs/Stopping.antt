@@ -1,9 +1,9 @@
 -- What a run leaves that a fault or want of memory ended.
-use Rattle.std.proofs.Common.{◌≡◌, ◌≤◌, ◌+◌, ◌∙◌, ℕ, List, ◌++◌, Result, Ok, Err, length, sym, ap, subst, arith}
+use Rattle.std.proofs.Common.{◌≡◌, ◌≤◌, ◌+◌, ◌∙◌, ℕ, List, ◌++◌, Result, Ok, Err, length, sym, ap, subst}
 use Rattle.std.specs.Prelude.{OnErr}
 use Rattle.ssz_arena.specs.Content.{KeepsNodes}
 use Rattle.ssz_machine.specs.declared.place.Place.{Place}
-use Rattle.ssz_machine.specs.State.{State, Versions}
+use Rattle.ssz_machine.specs.State.{State}
 use Rattle.ssz_machine.specs.Rules.{Rules}
 use Rattle.ssz_machine.specs.Machine.{Turn}
 use Rattle.ssz_machine.specs.Plays.{Event, charges}

@@ -52,7 +52,7 @@ fn say(reply: Reply, outcome: Outcome, out: &mut Vec<u8>) -> Result<Outcome, Eng
 }
 
 // A name that is free gets a version.
-fn make<H: PairHash>(
+pub(crate) fn make<H: PairHash>(
     engine: &mut Engine<H>,
     writer: Writer,
     name: &Identifier,
@@ -69,7 +69,12 @@ fn make<H: PairHash>(
 }
 
 // A version gets another node.
-fn edit<H: PairHash>(engine: &mut Engine<H>, writer: Writer, name: &Identifier, node: NodeId)
+pub(crate) fn edit<H: PairHash>(
+    engine: &mut Engine<H>,
+    writer: Writer,
+    name: &Identifier,
+    node: NodeId,
+)
     requires { CanEdit engine.old writer.0 name.now node }
     ensures nodes { SameNodes engine.old engine.new }
     ensures entries { Edits engine.old.entries engine.new.entries writer.0 name.now node }
@@ -81,7 +86,7 @@ fn edit<H: PairHash>(engine: &mut Engine<H>, writer: Writer, name: &Identifier, 
 }
 
 // A name is given up.
-fn give_up<H: PairHash>(engine: &mut Engine<H>, writer: Writer, name: &Identifier)
+pub(crate) fn give_up<H: PairHash>(engine: &mut Engine<H>, writer: Writer, name: &Identifier)
     requires { IsSome (held_at engine.old.entries writer.0 name.now) }
     ensures nodes { SameNodes engine.old engine.new }
     ensures entries { engine.new.entries
@@ -94,7 +99,11 @@ fn give_up<H: PairHash>(engine: &mut Engine<H>, writer: Writer, name: &Identifie
 }
 
 // A file gets these bytes.
-fn save<F: Files>(files: &mut F, name: &FileName, bytes: &[u8]) -> Result<(), EngineFault>
+pub(crate) fn save<F: Files>(
+    files: &mut F,
+    name: &FileName,
+    bytes: &[u8],
+) -> Result<(), EngineFault>
     ensures content { PutsFile result name.now bytes.now (F.content files.old)
         (F.content files.new) }
     ensures told { is_some (F.content files.new) ≡ is_some (F.content files.old) }

@@ -15,6 +15,7 @@
 #![tactic(auto)]
 
 mod adopting;
+mod answering;
 mod asking;
 mod carrying;
 mod compaction;

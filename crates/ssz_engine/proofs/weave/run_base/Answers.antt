@@ -1,4 +1,4 @@
-use Rattle.std.proofs.Common.{◌++◌, ℕ, List, refl, sym, subst, arith}
+use Rattle.std.proofs.Common.{◌++◌, ℕ, List, sym, subst, arith}
 use Rattle.std.specs.Prelude.{Result, Ok, Err}
 use Rattle.std.proofs.lemmas.Result.{err_from_is_err_and}
 use Rattle.ssz_arena.specs.Content.{Content as Nodes, KeepsNodes}

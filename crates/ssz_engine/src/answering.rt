@@ -1,0 +1,137 @@
+//! Statements whose reply is answered as a value, with no line made of it.
+ghost use Rattle.std.specs.Prelude.{◌≡◌, ◌≢◌, ◌+◌, ◌-◌, ◌≤◌, ℕ, List, is_some, Some, None, Err, true, false, IfOk, IfErr, OnOk, OnErr};
+ghost use Rattle.ssz_arena.specs.Content.{KeepsNodes, node_count, unhashed};
+ghost use Rattle.ssz_machine.specs.Counts.{asks_root};
+ghost use Rattle.ssz_versions.specs.Compacted.{IsCompacted};
+ghost use Rattle.ssz_engine.specs.Answered.{DoesAnswer, IsAnswered};
+ghost use Rattle.ssz_engine.specs.Compacting.{is_compact};
+ghost use Rattle.ssz_engine.specs.Content.{SameNodes};
+ghost use Rattle.ssz_engine.specs.Decisions.{CanDo};
+ghost use Rattle.ssz_engine.specs.Dues.{HashesDue};
+ghost use Rattle.ssz_engine.specs.Outside.{CountsReads, CountsWrites};
+ghost use Rattle.ssz_engine.specs.Steps.{Fails, IsShort, Keeps, Stops, file_read};
+
+use super::carrying::{edit, give_up, make, save};
+use super::compaction::compact;
+use super::deciding::decide;
+use super::decision::Decision;
+use super::engine::Engine;
+use super::fault::EngineFault;
+use ssz_chunk::PairHash;
+use ssz_machine::Place;
+use ssz_outside::Files;
+use ssz_script::{Reply, Statement};
+use ssz_versions::Writer;
+
+// Carries out a decision, and answers the reply.
+fn carry<F: Files, H: PairHash>(
+    engine: &mut Engine<H>,
+    writer: Writer,
+    line: u64,
+    decision: Decision<'_>,
+    files: &mut F,
+) -> Result<Reply, EngineFault>
+    requires { CanDo engine.old writer.0 decision }
+    ensures nodes { SameNodes engine.old engine.new }
+    ensures ok { IfOk result (IsAnswered decision.entry writer.0 line engine.old.entries
+        engine.new.entries (F.content files.old) (F.content files.new)) }
+    ensures err { OnErr result (engine.new.entries ≡ engine.old.entries) }
+    ensures fails { IfErr result (λ fault. Fails fault decision.entry (F.content files.old)
+        (F.content files.new)) }
+    ensures told { is_some (F.content files.new) ≡ is_some (F.content files.old) }
+    ensures readable { (other : List ℕ) → F.readable files.old other → F.readable files.new other }
+    ensures gets { F.get_faults files.new ≡ F.get_faults files.old }
+    ensures puts { CountsWrites result (F.put_faults files.old) (F.put_faults files.new) }
+{
+    match decision {
+        Decision::Refused(code) => {
+            let fault = None;
+            Ok(Reply::Refused { line, code, fault })
+        }
+        Decision::BadBytes(fault) => {
+            let (code, fault) = (Reply::BAD_LITERAL, Some(fault));
+            Ok(Reply::Refused { line, code, fault })
+        }
+        Decision::BadJson(fault) => {
+            let (code, number) = (fault.code, fault.number);
+            Ok(Reply::BadJson { line, code, number })
+        }
+        Decision::Said(reply) => Ok(reply),
+        Decision::Made(name, id, node, room) => {
+            make(engine, writer, name, (id, node), room);
+            Ok(Reply::Done)
+        }
+        Decision::Edited(name, node) => {
+            edit(engine, writer, name, node);
+            Ok(Reply::Done)
+        }
+        Decision::Dropped(name) => {
+            give_up(engine, writer, name);
+            Ok(Reply::Done)
+        }
+        Decision::Saved(name, bytes) => {
+            save(files, name, bytes.as_slice())?;
+            Ok(Reply::Done)
+        }
+    }
+}
+
+impl<H: PairHash> Engine<H> {
+    /// How many nodes there are, the zero trees among them.
+    pub fn node_count(&self) -> usize
+        ensures { result ≡ node_count self.now.arena }
+    {
+        self.arena.len()
+    }
+
+    /// Does a statement as `step` does, and answers the reply itself: a root, an encoding or a
+    /// refusal's code is had without a text. All memory is taken before a version or a file
+    /// changes.
+    pub fn answer<F: Files>(
+        &mut self,
+        writer: Writer,
+        place: Place,
+        line: u64,
+        statement: &Statement,
+        files: &mut F,
+        hasher: &mut H,
+    ) -> Result<Reply, EngineFault>
+        requires { IsShort statement.now }
+        ensures keeps { Keeps self.old self.new }
+        // Each node is there, with the same tree and no more to be hashed; but `compact` gives up
+        // what no version reaches, and leaves all as it was where there was no memory for it.
+        ensures nodes { is_compact statement.now ≡ false
+            → KeepsNodes self.old.arena self.new.arena }
+        ensures compacted { is_compact statement.now ≡ true → OnOk result
+            (IsCompacted self.old.entries self.new.entries self.old.arena self.new.arena) }
+        ensures whole { is_compact statement.now ≡ true → OnErr result (self.new ≡ self.old) }
+        ensures ok { IfOk result (DoesAnswer H.pair_of place writer.0 line statement.now self.old
+            self.new (H.pairs hasher.old) (H.pairs hasher.new) (F.content files.old)
+            (F.content files.new)) }
+        ensures err { OnErr result (self.new.entries ≡ self.old.entries) }
+        ensures stops { IfErr result (λ fault. Stops fault H.pair_of place writer.0 line
+            (H.pairs hasher.old - self.old.base) statement.now self.old (F.content files.old)
+            (F.content files.new)) }
+        ensures told { is_some (F.content files.new) ≡ is_some (F.content files.old) }
+        ensures rises { H.pairs hasher.old ≤ H.pairs hasher.new }
+        ensures hashed { H.pairs hasher.new ≤ H.pairs hasher.old + unhashed self.old.arena }
+        ensures due { HashesDue statement.now writer.0 self.old (H.pairs hasher.old)
+            (H.pairs hasher.new) }
+        ensures still { asks_root (Some statement.now) ≡ false → hasher.new ≡ hasher.old }
+        ensures fails { (name : List ℕ) → file_read statement.now ≡ Some name
+            → F.readable files.old name → result ≢ Err EngineFault.Read }
+        ensures asks { file_read statement.now ≡ None → result ≢ Err EngineFault.Read }
+        ensures readable { (other : List ℕ) → F.readable files.old other
+            → F.readable files.new other }
+        ensures gets { CountsReads result (F.get_faults files.old) (F.get_faults files.new) }
+        ensures puts { CountsWrites result (F.put_faults files.old) (F.put_faults files.new) }
+    {
+        if let Statement::Compact = statement {
+            let mut out = Vec::new(self.alloc);
+            compact(self, &mut out)?;
+            return Ok(Reply::Done);
+        }
+        let decision = decide(self, writer, place, statement, files, hasher)?;
+        carry(self, writer, line, decision, files)
+    }
+}
