@@ -273,11 +273,16 @@ def head(crate):
 
 
 def laws(item, origin, known):
-    """Of a call whose clauses are laws, names of definitions alone: these, as they stand in specs/."""
+    """Of a call whose clauses are laws, names of definitions alone: these, as they stand in specs/, with the records
+    of the same file that they are of."""
+    shown = []
     for clause in item.clauses if " fn " in f" {item.source}" else ():
         name = origin.get(clause.strip().strip("◌"))
         if name in known:
-            yield known[name]
+            beside = [(*name[:2], word) for word in re.findall(r"[^\s(){},;]+", known[name].source)]
+            records = [one for one in beside if one in known and known[one].source.startswith("pub record")]
+            shown += [one for one in [*records, name] if one not in shown]
+    return [known[one] for one in shown]
 
 
 def contents(shown):
