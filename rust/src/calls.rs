@@ -1,0 +1,49 @@
+//! The calls of include/ssz.h.
+
+#[repr(C)]
+#[derive(Default)]
+pub struct Fault {
+    pub status: u32,
+    pub code: u32,
+    pub position: u64,
+}
+
+#[repr(C)]
+pub struct Handle {
+    live: u64,
+    held: *mut u8,
+}
+
+impl Handle {
+    pub fn none() -> Box<Handle> {
+        Box::new(Handle { live: 0, held: std::ptr::null_mut() })
+    }
+}
+
+#[repr(C)]
+#[derive(Default)]
+pub struct Index {
+    pub low: u64,
+    pub high: u64,
+}
+
+type Bytes = *const u8;
+type Room = *mut u8;
+
+extern "C" {
+    pub fn ssz_schema_read(schema: *mut Handle, text: Bytes, len: usize, fault: *mut Fault) -> u32;
+    pub fn ssz_schema_free(schema: *mut Handle) -> u32;
+    pub fn ssz_type(schema: *mut Handle, name: Bytes, len: usize, number: *mut u64, fault: *mut Fault) -> u32;
+    pub fn ssz_check(schema: *mut Handle, number: u64, data: Bytes, len: usize, fault: *mut Fault) -> u32;
+    pub fn ssz_root(schema: *mut Handle, number: u64, data: Bytes, len: usize, root: *mut [u8; 32], fault: *mut Fault) -> u32;
+    pub fn ssz_gindex(schema: *mut Handle, number: u64, path: Bytes, len: usize, index: *mut Index, fault: *mut Fault) -> u32;
+    pub fn ssz_part(
+        schema: *mut Handle, number: u64, data: Bytes, len: usize, path: Bytes, path_len: usize, room: Room, room_len: usize,
+        part_len: *mut u64, fault: *mut Fault,
+    ) -> u32;
+    pub fn ssz_verify(root: *const [u8; 32], proof: Bytes, len: usize) -> u32;
+    pub fn ssz_session_start(session: *mut Handle, schema: Bytes, len: usize, fault: *mut Fault) -> u32;
+    pub fn ssz_session_end(session: *mut Handle) -> u32;
+    pub fn ssz_session_run(session: *mut Handle, line: Bytes, len: usize, reply_len: *mut u64, fault: *mut Fault) -> u32;
+    pub fn ssz_session_reply(session: *mut Handle, room: Room, room_len: usize, reply_len: *mut u64, fault: *mut Fault) -> u32;
+}

@@ -1,0 +1,120 @@
+use std::sync::{Mutex, PoisonError};
+
+use crate::calls::*;
+use crate::error::{ended, Result, NO_ROOM};
+
+/// What a handle holds; boxed, so that it does not move.
+pub(crate) struct Held {
+    handle: Box<Handle>,
+    end: unsafe extern "C" fn(*mut Handle) -> u32,
+}
+
+// A handle is used by one thread at a time, and may be by any: ssz.h.
+unsafe impl Send for Held {}
+
+impl Held {
+    pub fn begun(
+        text: &[u8],
+        begin: unsafe extern "C" fn(*mut Handle, *const u8, usize, *mut Fault) -> u32,
+        end: unsafe extern "C" fn(*mut Handle) -> u32,
+    ) -> Result<Held> {
+        let mut handle = Handle::none();
+        let mut fault = Fault::default();
+        let status = unsafe { begin(&mut *handle, text.as_ptr(), text.len(), &mut fault) };
+        ended(status, &fault)?;
+        Ok(Held { handle, end })
+    }
+
+    pub fn call(&mut self, call: impl FnOnce(*mut Handle, *mut Fault) -> u32) -> Result<()> {
+        let mut fault = Fault::default();
+        let status = call(&mut *self.handle, &mut fault);
+        ended(status, &fault)
+    }
+
+    /// The bytes that a call copies to room, with more room where it is too little.
+    pub fn filled(&mut self, room: usize, call: impl Fn(*mut Handle, *mut u8, usize, *mut u64, *mut Fault) -> u32) -> Result<Vec<u8>> {
+        let mut fault = Fault::default();
+        let (mut space, mut len) = (vec![0; room.max(1)], 0);
+        let mut status = call(&mut *self.handle, space.as_mut_ptr(), space.len(), &mut len, &mut fault);
+        if status == NO_ROOM {
+            space = vec![0; len as usize];
+            status = call(&mut *self.handle, space.as_mut_ptr(), space.len(), &mut len, &mut fault);
+        }
+        ended(status, &fault)?;
+        space.truncate(len as usize);
+        Ok(space)
+    }
+}
+
+impl Drop for Held {
+    fn drop(&mut self) {
+        unsafe { (self.end)(&mut *self.handle) };
+    }
+}
+
+/// The types that a schema file defines. Threads may share one: calls wait for one another.
+pub struct Schema {
+    held: Mutex<Held>,
+    text: Vec<u8>,
+}
+
+impl Schema {
+    /// The schema that the bytes of a schema file define.
+    pub fn read(text: &[u8]) -> Result<Schema> {
+        let held = Held::begun(text, ssz_schema_read, ssz_schema_free)?;
+        Ok(Schema { held: Mutex::new(held), text: text.to_vec() })
+    }
+
+    /// The bytes that it was read from.
+    pub fn text(&self) -> &[u8] {
+        &self.text
+    }
+
+    /// The type of a name.
+    pub fn find(&self, name: &str) -> Result<Type<'_>> {
+        let mut number = 0;
+        self.call(|handle, fault| unsafe { ssz_type(handle, name.as_ptr(), name.len(), &mut number, fault) })?;
+        Ok(Type { schema: self, number })
+    }
+
+    fn call(&self, call: impl FnOnce(*mut Handle, *mut Fault) -> u32) -> Result<()> {
+        self.held.lock().unwrap_or_else(PoisonError::into_inner).call(call)
+    }
+}
+
+/// A type of a schema: what holds of the bytes of its values.
+#[derive(Clone, Copy)]
+pub struct Type<'s> {
+    schema: &'s Schema,
+    number: u64,
+}
+
+impl Type<'_> {
+    /// Whether the bytes encode a value: the first fault where they do not.
+    pub fn check(&self, data: &[u8]) -> Result<()> {
+        self.schema.call(|handle, fault| unsafe { ssz_check(handle, self.number, data.as_ptr(), data.len(), fault) })
+    }
+
+    /// The hash_tree_root of the value that the bytes encode.
+    pub fn root(&self, data: &[u8]) -> Result<[u8; 32]> {
+        let mut root = [0; 32];
+        self.schema.call(|handle, fault| unsafe { ssz_root(handle, self.number, data.as_ptr(), data.len(), &mut root, fault) })?;
+        Ok(root)
+    }
+
+    /// The generalized index of the part at a path.
+    pub fn gindex(&self, path: &str) -> Result<u128> {
+        let mut index = Index::default();
+        self.schema.call(|handle, fault| unsafe { ssz_gindex(handle, self.number, path.as_ptr(), path.len(), &mut index, fault) })?;
+        Ok(u128::from(index.high) << 64 | u128::from(index.low))
+    }
+
+    /// The encoding of the part at a path of the value that the bytes encode, all of which are checked. A bit is one byte, a
+    /// length (`/list/#len`) eight.
+    pub fn part(&self, data: &[u8], path: &str) -> Result<Vec<u8>> {
+        let mut held = self.schema.held.lock().unwrap_or_else(PoisonError::into_inner);
+        held.filled(data.len().max(8), |handle, room, room_len, len, fault| unsafe {
+            ssz_part(handle, self.number, data.as_ptr(), data.len(), path.as_ptr(), path.len(), room, room_len, len, fault)
+        })
+    }
+}

@@ -1,0 +1,153 @@
+use crate::calls::*;
+use crate::error::{Error, Result};
+use crate::proof::Proof;
+use crate::schema::{Held, Schema};
+
+/// Versions of values under names, which are edited in place and share what is equal.
+///
+/// A name has letters, digits and `_`, and no digit first. A path leads to a part: `/` is the whole, `/validators/7/slashed` a
+/// field of an element. What is refused is an error, and no version has changed.
+///
+/// ```
+/// # fn main() -> ssz::Result<()> {
+/// let schema = ssz::Schema::read(br#"{"ssz":1,"types":[["P",{"container":[["a","uint64"],["b","boolean"]]}]]}"#)?;
+/// let mut session = ssz::Session::start(&schema)?;
+/// session.load("V", "P", &[7, 0, 0, 0, 0, 0, 0, 0, 1])?;
+/// session.fork("V", "W")?;
+/// session.set("W", "/a", &9u64.to_le_bytes())?;
+/// assert_eq!(session.get("V", "/a")?, 7u64.to_le_bytes());
+/// let root = session.root("W")?;
+/// assert!(session.prove("W", &["/a"])?.verify(&root)?);
+/// # Ok(())
+/// # }
+/// ```
+pub struct Session {
+    held: Held,
+}
+
+impl Session {
+    /// A session over a schema, with no version.
+    pub fn start(schema: &Schema) -> Result<Session> {
+        Ok(Session { held: Held::begun(schema.text(), ssz_session_start, ssz_session_end)? })
+    }
+
+    /// Makes a version: the default of a type.
+    pub fn new_default(&mut self, name: &str, kind: &str) -> Result<()> {
+        self.run(&format!("new {name} {kind}")).map(drop)
+    }
+
+    /// Makes a version of a type: the value that the bytes encode.
+    pub fn load(&mut self, name: &str, kind: &str, data: &[u8]) -> Result<()> {
+        self.run(&format!("lit {name} {kind} {}", hex(data))).map(drop)
+    }
+
+    /// The encoding of the part at a path.
+    pub fn get(&mut self, name: &str, path: &str) -> Result<Vec<u8>> {
+        let reply = self.run(&format!("bytes {name} {path}"))?;
+        unhex(reply.trim_end().strip_prefix("bytes 0x").ok_or(Error::Syntax)?).ok_or(Error::Syntax)
+    }
+
+    /// Makes the part at a path the value that the bytes encode; also a whole list, which is far cheaper than element by element
+    /// where many change.
+    pub fn set(&mut self, name: &str, path: &str, data: &[u8]) -> Result<()> {
+        self.run(&format!("set {name} {path} {}", hex(data))).map(drop)
+    }
+
+    /// Puts an element behind the last one of the list at a path.
+    pub fn append(&mut self, name: &str, path: &str, data: &[u8]) -> Result<()> {
+        self.run(&format!("append {name} {path} {}", hex(data))).map(drop)
+    }
+
+    /// Takes the last element of the list at a path away.
+    pub fn pop(&mut self, name: &str, path: &str) -> Result<()> {
+        self.run(&format!("pop {name} {path}")).map(drop)
+    }
+
+    /// Gives the union at a path the option of this selector, with the value that the bytes encode.
+    pub fn choose(&mut self, name: &str, path: &str, selector: u8, data: &[u8]) -> Result<()> {
+        self.run(&format!("choose {name} {path} {selector} {}", hex(data))).map(drop)
+    }
+
+    /// Gives another name the value of a version: the same nodes, at no cost.
+    pub fn fork(&mut self, name: &str, other: &str) -> Result<()> {
+        self.run(&format!("fork {name} {other}")).map(drop)
+    }
+
+    /// Gives another name a value of a container type, with the fields that a version has too and the defaults of the others.
+    pub fn upgrade(&mut self, name: &str, other: &str, kind: &str) -> Result<()> {
+        self.run(&format!("upgrade {name} {other} {kind}")).map(drop)
+    }
+
+    /// Gives a version up.
+    pub fn forget(&mut self, name: &str) -> Result<()> {
+        self.run(&format!("drop {name}")).map(drop)
+    }
+
+    /// Gives up the nodes that no version needs.
+    pub fn compact(&mut self) -> Result<()> {
+        self.run("compact").map(drop)
+    }
+
+    /// The hash_tree_root of a version. What is hashed is kept.
+    pub fn root(&mut self, name: &str) -> Result<[u8; 32]> {
+        let reply = self.run(&format!("root {name}"))?;
+        let root = reply.trim_end().strip_prefix("root 0x").and_then(unhex);
+        root.and_then(|root| root.try_into().ok()).ok_or(Error::Syntax)
+    }
+
+    /// How many elements or bits the part at a path has.
+    pub fn len(&mut self, name: &str, path: &str) -> Result<u64> {
+        let reply = self.run(&format!("len {name} {path}"))?;
+        reply.trim_end().strip_prefix("len ").and_then(|count| count.parse().ok()).ok_or(Error::Syntax)
+    }
+
+    /// The multiproof of the parts at paths, or at generalized indices as decimal numbers.
+    pub fn prove(&mut self, name: &str, paths: &[&str]) -> Result<Proof> {
+        self.run(&format!("prove {name} {}", paths.join(" ")))?.parse()
+    }
+
+    /// Does the statement that a line says (docs/formats.md), and returns the reply that `ssz run` prints, with its line feed. A
+    /// refusal is an error.
+    pub fn run(&mut self, line: &str) -> Result<String> {
+        let mut len = 0;
+        let ended = self.held.call(|handle, fault| unsafe { ssz_session_run(handle, line.as_ptr(), line.len(), &mut len, fault) });
+        match ended {
+            Err(Error::Refused { .. }) => Err(refusal(&self.reply(len as usize)?)),
+            Err(why) => Err(why),
+            Ok(()) => self.reply(len as usize),
+        }
+    }
+
+    fn reply(&mut self, len: usize) -> Result<String> {
+        let reply = self.held.filled(len, |handle, room, room_len, len, fault| unsafe {
+            ssz_session_reply(handle, room, room_len, len, fault)
+        })?;
+        Ok(String::from_utf8_lossy(&reply).into_owned())
+    }
+}
+
+/// The error that a refusal says: `refused LINE CODE NAME`, of bytes with their first fault.
+fn refusal(reply: &str) -> Error {
+    let words: Vec<&str> = reply.split_whitespace().collect();
+    let number = |word: usize| words.get(word).and_then(|word| word.trim_start_matches('F').parse().ok());
+    match (number(4), number(5)) {
+        (Some(code), Some(position)) if words.get(3) == Some(&"BadLiteral") => Error::Invalid { code: code as u32, position },
+        _ => Error::Refused { code: number(2).unwrap_or(0) as u32 },
+    }
+}
+
+fn hex(data: &[u8]) -> String {
+    let mut digits = String::with_capacity(2 + 2 * data.len());
+    digits.push_str("0x");
+    for byte in data {
+        for half in [byte >> 4, byte & 15] {
+            digits.push(char::from_digit(half.into(), 16).unwrap_or('0'));
+        }
+    }
+    digits
+}
+
+fn unhex(digits: &str) -> Option<Vec<u8>> {
+    let half = |digit: &u8| char::from(*digit).to_digit(16);
+    digits.as_bytes().chunks(2).map(|pair| Some((half(pair.first()?)? << 4 | half(pair.get(1)?)?) as u8)).collect()
+}

@@ -1,0 +1,117 @@
+//! Each call, and each error that it has.
+
+use std::thread;
+
+use ssz::{Error, Proof, Schema, Session};
+
+const TYPES: &[u8] = br#"{"ssz":1,"types":[
+    ["Pair",{"container":[["a","uint16"],["b",{"list":["uint8",4]}]]}],
+    ["Choice",{"union":[null,"uint64"]}]]}"#;
+
+fn schema() -> Schema {
+    Schema::read(TYPES).expect("a schema")
+}
+
+fn session() -> Session {
+    let mut session = Session::start(&schema()).expect("a session");
+    session.load("V", "Pair", &[0xaa, 0xbb, 6, 0, 0, 0, 1, 2]).expect("a value");
+    session
+}
+
+#[test]
+fn a_schema_says_what_is_wrong() {
+    assert_eq!(Schema::read(b"{").err(), Some(Error::BadSchema { code: 1, definition: 0 }));
+    let slip = br#"{"ssz":1,"types":[["A","uint8"],["B","unit64"]]}"#;
+    assert_eq!(Schema::read(slip).err(), Some(Error::BadSchema { code: 5, definition: 1 }));
+    assert_eq!(schema().find("pair").err(), Some(Error::NoType));
+}
+
+#[test]
+fn bytes_are_checked() {
+    let schema = schema();
+    let pair = schema.find("Pair").unwrap();
+    assert_eq!(pair.check(&[0xaa, 0xbb, 6, 0, 0, 0, 1, 2]), Ok(()));
+    let error = pair.check(&[0xaa]).unwrap_err();
+    assert_eq!((error, error.name()), (Error::Invalid { code: 1, position: 0 }, "Short"));
+    assert!(error.to_string().contains("F1 Short, at byte 0"));
+}
+
+#[test]
+fn parts_have_indices_and_bytes() {
+    let schema = schema();
+    let pair = schema.find("Pair").unwrap();
+    let data = [0xaa, 0xbb, 6, 0, 0, 0, 1, 2];
+    assert_eq!(pair.gindex("/b/#len"), Ok(7));
+    assert_eq!(pair.part(&data, "/b").unwrap(), [1, 2]);
+    assert_eq!(pair.part(&data, "/b/#len").unwrap(), 2u64.to_le_bytes());
+    assert_eq!(pair.gindex("/c"), Err(Error::BadPath));
+    assert_eq!(pair.gindex("b"), Err(Error::Syntax));
+    assert_eq!(pair.part(&data, "/b/2").unwrap_err(), Error::Absent);
+}
+
+#[test]
+fn sessions_edit_versions() {
+    let mut session = session();
+    session.fork("V", "W").unwrap();
+    session.set("W", "/a", &[1, 0]).unwrap();
+    session.append("W", "/b", &[3]).unwrap();
+    assert_eq!(session.get("W", "/").unwrap(), [1, 0, 6, 0, 0, 0, 1, 2, 3]);
+    session.pop("W", "/b").unwrap();
+    assert_eq!(session.get("W", "/b").unwrap(), [1, 2]);
+    assert_eq!(session.get("V", "/a").unwrap(), [0xaa, 0xbb]);
+    session.forget("V").unwrap();
+    session.compact().unwrap();
+    assert_eq!(session.len("W", "/b"), Ok(2));
+    assert_eq!(session.root("V").unwrap_err().name(), "NoVersion");
+    assert_eq!(session.run("list").unwrap(), "list W\n");
+}
+
+#[test]
+fn sessions_choose_options() {
+    let mut session = session();
+    session.new_default("U", "Choice").unwrap();
+    session.choose("U", "/", 1, &7u64.to_le_bytes()).unwrap();
+    assert_eq!(session.get("U", "/").unwrap(), [1, 7, 0, 0, 0, 0, 0, 0, 0]);
+    assert_eq!(session.choose("U", "/", 2, &[]).unwrap_err(), Error::Refused { code: 10 });
+}
+
+#[test]
+fn refusals_change_nothing() {
+    let mut session = session();
+    let root = session.root("V").unwrap();
+    assert_eq!(session.load("V", "Pair", &[]).unwrap_err(), Error::Refused { code: 4 });
+    assert_eq!(session.load("W", "Pair", &[]).unwrap_err(), Error::Invalid { code: 1, position: 0 });
+    assert_eq!(session.set("V", "/c", &[]).unwrap_err(), Error::Refused { code: 5 });
+    assert_eq!(session.run("load W Pair file").unwrap_err(), Error::NoFile);
+    assert_eq!(session.root("V").unwrap(), root);
+}
+
+#[test]
+fn proofs_lead_to_roots() {
+    let mut session = session();
+    let root = session.root("V").unwrap();
+    let proof = session.prove("V", &["/a", "/b/#len"]).unwrap();
+    assert_eq!(proof.verify(&root), Ok(true));
+    assert_eq!(proof.verify(&[0; 32]), Ok(false));
+    assert_eq!(proof.to_string().parse::<Proof>().unwrap(), proof);
+    assert_eq!(proof.branch(), None);
+    assert_eq!("hello".parse::<Proof>().unwrap_err(), Error::BadProof);
+    let one = session.prove("V", &["/a"]).unwrap();
+    let (index, leaf, nodes) = one.branch().unwrap();
+    assert_eq!((index, nodes.len()), (2, 1));
+    assert_eq!(Proof::of_branch(index, leaf, &nodes), Some(one));
+    assert_eq!(Proof::of_branch(4, leaf, &nodes), None);
+}
+
+#[test]
+fn threads_share_a_schema() {
+    let schema = schema();
+    let wanted = schema.find("Pair").unwrap().root(&[0, 0, 6, 0, 0, 0]);
+    thread::scope(|scope| {
+        for _ in 0..4 {
+            scope.spawn(|| (0..100).for_each(|_| assert_eq!(schema.find("Pair").unwrap().root(&[0, 0, 6, 0, 0, 0]), wanted)));
+        }
+    });
+    let moved = session();
+    thread::spawn(move || drop(moved)).join().expect("the session ends there");
+}
