@@ -1,0 +1,44 @@
+"""SimpleSerialize (SSZ), the encoding and the hash tree of Ethereum's consensus layer, over a library each function of which is proved.
+
+    from ssz.ethereum import deneb
+
+    state = deneb.BeaconState.decode_bytes(data)
+    state.validators[7].effective_balance = 32 * 10**9
+    root = state.hash_tree_root()
+    assert state.prove("/validators/7/effective_balance").verify(root)
+
+`Schema` reads the types of a schema file, `Type` tells what holds of bytes, `Session` has the calls below the values' classes,
+and `Proof` is a multiproof.
+"""
+
+from __future__ import annotations
+
+from typing import Any
+
+from ._library import LibraryMissing
+from .errors import (BadPath, BadProof, BadSchema, BadValue, InvalidBytes, NoSuchPart, NoSuchType, Refused, Status, SszError)
+from .proof import Branch, Proof, verify
+from .schema import Schema, Type
+from .session import Session
+from .values import View
+
+__version__ = "0.1.0"
+__all__ = [
+    "BadPath", "BadProof", "BadSchema", "BadValue", "Branch", "InvalidBytes", "LibraryMissing", "NoSuchPart", "NoSuchType", "Proof",
+    "Refused", "Schema", "Session", "Status", "SszError", "Type", "View", "decode", "encode", "get_hash_tree_root", "verify",
+]
+
+
+def encode(value: View) -> bytes:
+    """The encoding of a value."""
+    return value.encode_bytes()
+
+
+def decode(data: bytes, kind: Any) -> Any:
+    """The value of a class, as `deneb.BeaconState`, that the bytes encode."""
+    return kind.decode_bytes(data)
+
+
+def get_hash_tree_root(value: View) -> bytes:
+    """The root of a value."""
+    return value.hash_tree_root()

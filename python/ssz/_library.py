@@ -1,0 +1,98 @@
+"""The shared library libssz.so.0, and what its calls take (include/ssz.h)."""
+
+from __future__ import annotations
+
+import ctypes
+import functools
+import os
+from pathlib import Path
+
+SONAME = "libssz.so.0"
+V3 = "glibc-hwcaps/x86-64-v3"
+OWN_FOLDER = Path(__file__).resolve().parent / "lib"
+
+
+class Fault(ctypes.Structure):
+    """How a call ended."""
+
+    _fields_ = [("status", ctypes.c_uint32), ("code", ctypes.c_uint32), ("position", ctypes.c_uint64)]
+
+
+class Handle(ctypes.Structure):
+    """A schema or a session of the library."""
+
+    _fields_ = [("live", ctypes.c_uint64), ("held", ctypes.c_void_p)]
+
+
+class Index(ctypes.Structure):
+    """A generalized index."""
+
+    _fields_ = [("low", ctypes.c_uint64), ("high", ctypes.c_uint64)]
+
+
+_BYTES = [ctypes.c_char_p, ctypes.c_size_t]
+_ROOM = [ctypes.c_void_p, ctypes.c_size_t, ctypes.POINTER(ctypes.c_uint64)]
+_HANDLE = [ctypes.POINTER(Handle)]
+_FAULT = [ctypes.POINTER(Fault)]
+_NUMBER = [ctypes.c_uint64]
+_LENGTH = [ctypes.POINTER(ctypes.c_uint64)]
+_CHUNK = [ctypes.c_void_p]
+
+_CALLS = {
+    "ssz_schema_read": _HANDLE + _BYTES + _FAULT,
+    "ssz_schema_free": _HANDLE,
+    "ssz_type": _HANDLE + _BYTES + _LENGTH + _FAULT,
+    "ssz_check": _HANDLE + _NUMBER + _BYTES + _FAULT,
+    "ssz_root": _HANDLE + _NUMBER + _BYTES + _CHUNK + _FAULT,
+    "ssz_gindex": _HANDLE + _NUMBER + _BYTES + [ctypes.POINTER(Index)] + _FAULT,
+    "ssz_part": _HANDLE + _NUMBER + _BYTES * 2 + _ROOM + _FAULT,
+    "ssz_verify": [ctypes.c_char_p] + _BYTES,
+    "ssz_session_start": _HANDLE + _BYTES + _FAULT,
+    "ssz_session_end": _HANDLE,
+    "ssz_session_run": _HANDLE + _BYTES + _LENGTH + _FAULT,
+    "ssz_session_reply": _HANDLE + _ROOM + _FAULT,
+}
+
+
+class LibraryMissing(ImportError):
+    """The shared library was not found."""
+
+
+def _is_v3() -> bool:
+    """Whether the processor is an x86-64-v3, for which there may be a faster library."""
+    try:
+        lines = Path("/proc/cpuinfo").read_text().splitlines()
+    except OSError:
+        return False
+    flags = next((line for line in lines if line.startswith("flags")), "").split()
+    return {"avx2", "bmi1", "bmi2", "f16c", "fma", "abm", "movbe"} <= set(flags)
+
+
+def _places() -> list[str]:
+    """Where the library is looked for: the folder that SSZ_LIB_DIR names and no other, or the package's own and the system's."""
+    named = os.environ.get("SSZ_LIB_DIR")
+    folder = Path(named) if named else OWN_FOLDER
+    files = [*([folder / V3 / SONAME] if _is_v3() else []), folder / SONAME]
+    return [str(file) for file in files if file.exists()] or [str(folder / SONAME) if named else SONAME]
+
+
+@functools.lru_cache(maxsize=None)
+def library() -> ctypes.CDLL:
+    """The library, loaded once."""
+    places = _places()
+    for place in places:
+        try:
+            calls = ctypes.CDLL(place)
+            break
+        except OSError as error:
+            why = str(error)
+    else:
+        raise LibraryMissing(
+            f"{SONAME} could not be loaded from {' or '.join(places)} ({why}). Run ./install PREFIX in the repository, "
+            f"and set SSZ_LIB_DIR=PREFIX/lib or build the wheel with it."
+        )
+    for name, words in _CALLS.items():
+        call = getattr(calls, name)
+        call.argtypes = words
+        call.restype = ctypes.c_uint32
+    return calls

@@ -1,0 +1,155 @@
+"""Schemas: which types there are, and what holds of bytes."""
+
+from __future__ import annotations
+
+import ctypes
+import json
+from pathlib import Path
+from typing import Any, Iterator
+
+from . import values
+from ._library import Index
+from .errors import NoSuchType, Status, SszError, error_of
+from .forms import BUILT_IN, Form, form_at, forms_of, like, place_of
+from .session import Held, Session, _word
+
+
+class Type:
+    """A type of a schema: what holds of the bytes of its values."""
+
+    def __init__(self, schema: Schema, name: str, form: Form, number: int) -> None:
+        self.schema, self.name, self.form, self._number = schema, name, form, number
+
+    def __repr__(self) -> str:
+        return f"<type {self.name}>"
+
+    @property
+    def size(self) -> int | None:
+        """The length of all encodings, or None where they differ."""
+        return self.form.size
+
+    @property
+    def fields(self) -> list[str]:
+        """The names of a container's fields."""
+        return list(getattr(self.form, "fields", ()))
+
+    def _call(self, name: str, data: bytes, *words: Any, path: str = "") -> None:
+        status, fault = self.schema._status(name, self._number, data, len(data), *words)
+        if status:
+            raise self.error(status, fault.code, fault.position, data, path)
+
+    def error(self, status: int, code: int, position: int, data: bytes, path: str = "") -> SszError:
+        """The error of a call on bytes, with the part that they are at fault in."""
+        part = place_of(self.form, data, position, code) if status == Status.INVALID else ""
+        said = error_of(status, code, position, type=self.name, path=path, part=part)
+        if code in (1, 2) and status == Status.INVALID and self.size is not None and part == "/":
+            said.args = (f"{said.args[0]} {self.name} has {self.size} bytes, and {len(data)} were given.",)
+        return said
+
+    def check(self, data: bytes) -> None:
+        """Raises InvalidBytes with the first fault of bytes that encode no value."""
+        self._call("ssz_check", data)
+
+    def hash_tree_root(self, data: bytes) -> bytes:
+        """The root of the value that the bytes encode."""
+        root = ctypes.create_string_buffer(32)
+        self._call("ssz_root", data, root)
+        return root.raw
+
+    def gindex(self, path: str) -> int:
+        """The generalized index of the part at a path."""
+        index, word = Index(), _word(path)
+        status, fault = self.schema._status("ssz_gindex", self._number, *word, ctypes.byref(index))
+        if status:
+            raise error_of(status, fault.code, fault.position, type=self.name, path=path)
+        return index.low | index.high << 64
+
+    def part(self, data: bytes, path: str) -> bytes:
+        """The encoding of a part of the value that the bytes encode, all of which are checked."""
+        room, count = ctypes.create_string_buffer(max(8, len(data))), ctypes.c_uint64()
+        self._call("ssz_part", data, *_word(path), room, len(room), ctypes.byref(count), path=path)
+        return ctypes.string_at(room, count.value)
+
+    def decode_bytes(self, data: bytes) -> Any:
+        """The plain Python object that the bytes encode: numbers, bytes, lists and dicts."""
+        data = bytes(data)
+        self.check(data)
+        return self.form.decode(data)
+
+    def encode_bytes(self, value: Any) -> bytes:
+        """The bytes of an object."""
+        data = self.form.encode(value)
+        self.check(data)
+        return data
+
+    def form_at(self, path: str) -> Form:
+        """The type of the part at a path."""
+        self.gindex(path)
+        found = form_at(self.form, path)
+        assert found is not None
+        return found
+
+    def __call__(self, value: Any) -> Any:
+        """The value, if it is one of this type: `Slot(7)` is 7."""
+        return self.form.decode(self.encode_bytes(value))
+
+
+class Schema(Held):
+    """The types that a schema file defines. `schema.Checkpoint` is the class of values of that type.
+
+    Any thread may use it: calls wait for one another.
+    """
+
+    _begin, _end = "ssz_schema_read", "ssz_schema_free"
+
+    def __init__(self, text: bytes | str | dict[str, Any]) -> None:
+        if isinstance(text, dict):
+            text = json.dumps(text)
+        self.text = text.encode() if isinstance(text, str) else bytes(text)
+        super().__init__(self.text)
+        self._forms = forms_of(json.loads(self.text)["types"])
+        self._types: dict[str, Type] = {}
+        self._values = values.Store(self)
+
+    @classmethod
+    def read(cls, file: str | Path) -> Schema:
+        """The schema that a file defines."""
+        return cls(Path(file).read_bytes())
+
+    @property
+    def names(self) -> list[str]:
+        """The names of the types, in order."""
+        return list(self._forms)
+
+    def __iter__(self) -> Iterator[str]:
+        return iter(self._forms)
+
+    def type(self, name: str) -> Type:
+        """The type of a name."""
+        if name not in self._types:
+            number = ctypes.c_uint64()
+            form = self._forms.get(name) or BUILT_IN.get(name)
+            if form is None:
+                raise NoSuchType("the schema has no such type", like(name, self.names), status=Status.NO_TYPE, type=name)
+            self._call("ssz_type", *_word(name), ctypes.byref(number), type=name)
+            self._types[name] = Type(self, name, form, number.value)
+        return self._types[name]
+
+    def session(self) -> Session:
+        """A session over this schema, with no version."""
+        return Session(self.text)
+
+    def __getitem__(self, name: str) -> Any:
+        """The class of the values of a type; of numbers, booleans and bytes the type, whose values are Python's own."""
+        return self._values.class_of(self.type(name).form, name)
+
+    def __getattr__(self, name: str) -> Any:
+        if name.startswith("_"):
+            raise AttributeError(name)
+        try:
+            return self[name]
+        except NoSuchType as error:
+            raise AttributeError(str(error)) from None
+
+    def __dir__(self) -> list[str]:
+        return [*super().__dir__(), *self._forms]
