@@ -1,0 +1,121 @@
+#!/usr/bin/env python3
+"""Tests of the packages for C, Python and Rust, over what ./install puts in place.
+
+  tests/packages.py           installs into an empty folder, and tests what is there
+  tests/packages.py PREFIX    tests what ./install PREFIX put in place
+
+What they need is installed by apt-get where that may be; what is left out for want of a tool is said, and fails unless it
+is one that the repository does not need. The last line is 'N passed, M failed'.
+"""
+
+import os
+import re
+import shutil
+import subprocess
+import sys
+import tempfile
+from pathlib import Path
+
+TOP = Path(__file__).resolve().parent.parent
+#: The tools of the packages: the package of Debian that has each, and whether the tests fail without it.
+TOOLS = {"cc": ("gcc", True), "ld": ("binutils", True), "pkg-config": ("pkg-config", True), "cargo": ("cargo", True),
+         "valgrind": ("valgrind", False)}
+
+
+class Tally:
+    """How many tests passed, and how many did not."""
+
+    def __init__(self):
+        self.passed, self.failed = 0, 0
+
+    def add(self, name, passed, failed):
+        """Counts a part, and says what it came to."""
+        self.passed, self.failed = self.passed + passed, self.failed + failed
+        print(f"{name}: {passed} passed, {failed} failed", flush=True)
+
+
+def ran(*words, where=TOP, **variables):
+    """Runs a command, shows what it prints, and returns that and the status."""
+    print("$ " + " ".join(map(str, words)), flush=True)
+    lines = []
+    with subprocess.Popen([str(word) for word in words], cwd=where, env={**os.environ, **variables}, stdin=subprocess.DEVNULL,
+                          stdout=subprocess.PIPE, stderr=subprocess.STDOUT, text=True, errors="replace") as process:
+        for line in process.stdout:
+            lines.append(line)
+            print(line, end="", flush=True)
+    return "".join(lines), process.returncode
+
+
+def tools(tally):
+    """Installs what is missing, where that may be, and counts what is missing still."""
+    lacking = [tool for tool in TOOLS if not shutil.which(tool)]
+    if lacking and os.geteuid() == 0 and shutil.which("apt-get"):
+        ran("apt-get", "install", "-y", "--no-install-recommends", *(TOOLS[tool][0] for tool in lacking), DEBIAN_FRONTEND="noninteractive")
+    for tool in [tool for tool in lacking if not shutil.which(tool)]:
+        print(f"left out: what needs {tool} (Debian's {TOOLS[tool][0]}), which is not here and could not be installed")
+        if TOOLS[tool][1]:
+            tally.add(f"the tool {tool}", 0, 1)
+
+
+def python(tally, libraries):
+    """The tests of the package for Python, those that compare all languages among them."""
+    said, status = ran(sys.executable, "-m", "unittest", "discover", "-s", "python/tests", "-t", "python", SSZ_LIB_DIR=libraries)
+    count = int((re.findall(r"(?m)^Ran (\d+) tests?", said) or [0])[-1])
+    bad = sum(map(int, re.findall(r"(?:failures|errors|skipped)=(\d+)", said)))
+    tally.add("python", count - bad, bad or int(status != 0 or not count))
+
+
+def rust(tally, libraries, room):
+    """The tests of the crate for Rust."""
+    if not shutil.which("cargo"):
+        return
+    said, status = ran("cargo", "test", "--offline", "--target-dir", room / "target", where=TOP / "rust", SSZ_LIB_DIR=libraries)
+    found = [tuple(map(int, pair)) for pair in re.findall(r"(?m)^test result: \w+\. (\d+) passed; (\d+) failed", said)]
+    passed, failed = (sum(column) for column in zip(*found)) if found else (0, 0)
+    tally.add("rust", passed, failed or int(status != 0 or not passed))
+
+
+def c(tally, prefix, room):
+    """The example of C, by the shared library and with the archive in it, and under valgrind."""
+    if not shutil.which("cc") or not shutil.which("pkg-config"):
+        return
+    flags, _ = ran("pkg-config", "--cflags", "--libs", "ssz", PKG_CONFIG_PATH=f"{prefix}/lib/pkgconfig")
+    ways = [flags.split(), [f"-I{prefix}/include", f"{prefix}/lib/libssz.a"]]
+    wanted = re.search(r"prints\n\n((?:    .*\n)+)", (TOP / "c" / "README.md").read_text())[1].replace("    ", "")
+    passed = failed = 0
+    for number, way in enumerate(ways):
+        made = room / f"example{number}"
+        ran("cc", "-std=c11", "-Wall", "-Wextra", "-Werror", "-g", "-o", made, "c/example.c", *way)
+        runs = [[made]] + [["valgrind", "-q", "--leak-check=full", "--error-exitcode=9", made]] * bool(shutil.which("valgrind"))
+        right = [made.exists() and ran(*words) == (wanted, 0) for words in runs]
+        passed, failed = passed + sum(right), failed + len(right) - sum(right)
+    tally.add("c", passed, failed)
+
+
+def packages(tally, prefix, room):
+    """An installation, where there is none yet, and the tests of what it has."""
+    tools(tally)
+    if prefix is None:
+        prefix = room / "installed"
+        _, status = ran("./install", prefix)
+        tally.add("install", int(status == 0), int(status != 0))
+        if status:
+            return
+    libraries = str(prefix / "lib")
+    python(tally, libraries)
+    rust(tally, libraries, room)
+    c(tally, prefix, room)
+
+
+def main(words):
+    if len(words) > 1:
+        sys.exit(__doc__)
+    tally = Tally()
+    with tempfile.TemporaryDirectory() as room:
+        packages(tally, Path(words[0]).absolute() if words else None, Path(room))
+    print(f"{tally.passed} passed, {tally.failed} failed")
+    return int(tally.failed > 0 or tally.passed == 0)
+
+
+if __name__ == "__main__":
+    sys.exit(main(sys.argv[1:]))
