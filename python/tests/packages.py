@@ -1,11 +1,11 @@
 #!/usr/bin/env python3
-"""Tests of the packages for C, Python and Rust, over what ./install puts in place.
+"""Runs the tests of the packages, over an installation.
 
-  tests/packages.py           installs into an empty folder, and tests what is there
-  tests/packages.py PREFIX    tests what ./install PREFIX put in place
+  packages.py            installs into a folder of its own, and tests that
+  packages.py PREFIX     tests what ./install PREFIX put in place
 
 What they need is installed by apt-get where that may be; what is left out for want of a tool is said, and fails unless it
-is one that the repository does not need. The last line is 'N passed, M failed'.
+is one that the packages do not need. The last line is 'N passed, M failed'.
 """
 
 import os
@@ -16,7 +16,7 @@ import sys
 import tempfile
 from pathlib import Path
 
-TOP = Path(__file__).resolve().parent.parent
+TOP = Path(__file__).resolve().parents[2]
 #: The tools of the packages: the package of Debian that has each, and whether the tests fail without it.
 TOOLS = {"cc": ("gcc", True), "ld": ("binutils", True), "pkg-config": ("pkg-config", True), "cargo": ("cargo", True),
          "valgrind": ("valgrind", False)}
@@ -108,7 +108,7 @@ def packages(tally, prefix, room):
 
 
 def main(words):
-    if len(words) > 1:
+    if len(words) > 1 or words and words[0].startswith("-"):
         sys.exit(__doc__)
     tally = Tally()
     with tempfile.TemporaryDirectory() as room:
