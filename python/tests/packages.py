@@ -85,7 +85,7 @@ def c(tally, prefix, room):
     passed = failed = 0
     for number, way in enumerate(ways):
         made = room / f"example{number}"
-        ran("cc", "-std=c11", "-Wall", "-Wextra", "-Werror", "-g", "-o", made, "c/example.c", *way)
+        ran("cc", "-std=c11", "-Wall", "-Wextra", "-Werror", "-g", "-o", made, "examples/c/session.c", *way)
         runs = [[made]] + [["valgrind", "-q", "--leak-check=full", "--error-exitcode=9", made]] * bool(shutil.which("valgrind"))
         right = [made.exists() and ran(*words) == (wanted, 0) for words in runs]
         passed, failed = passed + sum(right), failed + len(right) - sum(right)
