@@ -1,6 +1,7 @@
 //! Statements whose reply is answered as a value, with no line made of it.
 ghost use Rattle.std.specs.Prelude.{◌≡◌, ◌≢◌, ◌+◌, ◌-◌, ◌≤◌, ℕ, List, is_some, Some, None, Err, true, false, IfOk, IfErr, OnOk, OnErr};
 ghost use Rattle.ssz_arena.specs.Content.{KeepsNodes, node_count, unhashed};
+ghost use Rattle.ssz_outside.specs.Content.{CanRead};
 ghost use Rattle.ssz_machine.specs.Counts.{asks_root};
 ghost use Rattle.ssz_versions.specs.Compacted.{IsCompacted};
 ghost use Rattle.ssz_engine.specs.Answered.{DoesAnswer, IsAnswered};
@@ -9,7 +10,7 @@ ghost use Rattle.ssz_engine.specs.Content.{SameNodes};
 ghost use Rattle.ssz_engine.specs.Decisions.{CanDo};
 ghost use Rattle.ssz_engine.specs.Dues.{HashesDue};
 ghost use Rattle.ssz_engine.specs.Outside.{CountsReads, CountsWrites};
-ghost use Rattle.ssz_engine.specs.Steps.{Fails, IsShort, Keeps, Stops, file_read};
+ghost use Rattle.ssz_engine.specs.Steps.{CanLack, Fails, Finds, IsShort, Keeps, Stops, file_read};
 
 use super::carrying::{edit, give_up, make, save};
 use super::compaction::compact;
@@ -38,6 +39,7 @@ fn carry<F: Files, H: PairHash>(
     ensures err { OnErr result (engine.new.entries ≡ engine.old.entries) }
     ensures fails { IfErr result (λ fault. Fails fault decision.entry (F.content files.old)
         (F.content files.new)) }
+    ensures sure { OnErr result (CanLack decision.entry) }
     ensures told { is_some (F.content files.new) ≡ is_some (F.content files.old) }
     ensures readable { (other : List ℕ) → F.readable files.old other → F.readable files.new other }
     ensures gets { F.get_faults files.new ≡ F.get_faults files.old }
@@ -99,12 +101,14 @@ impl<H: PairHash> Engine<H> {
         requires { IsShort statement.now }
         ensures keeps { Keeps self.old self.new }
         // Each node is there, with the same tree and no more to be hashed; but `compact` gives up
-        // what no version reaches, and leaves all as it was where there was no memory for it.
+        // what no version reaches.
         ensures nodes { is_compact statement.now ≡ false
             → KeepsNodes self.old.arena self.new.arena }
         ensures compacted { is_compact statement.now ≡ true → OnOk result
             (IsCompacted self.old.entries self.new.entries self.old.arena self.new.arena) }
-        ensures whole { is_compact statement.now ≡ true → OnErr result (self.new ≡ self.old) }
+        // A statement that was not done adds no node, and `compact` then leaves all as it was.
+        ensures whole { OnErr result (node_count self.new.arena ≡ node_count self.old.arena) }
+        ensures intact { is_compact statement.now ≡ true → OnErr result (self.new ≡ self.old) }
         ensures ok { IfOk result (DoesAnswer H.pair_of place writer.0 line statement.now self.old
             self.new (H.pairs hasher.old) (H.pairs hasher.new) (F.content files.old)
             (F.content files.new)) }
@@ -120,6 +124,12 @@ impl<H: PairHash> Engine<H> {
         ensures still { asks_root (Some statement.now) ≡ false → hasher.new ≡ hasher.old }
         ensures fails { (name : List ℕ) → file_read statement.now ≡ Some name
             → F.readable files.old name → result ≢ Err EngineFault.Read }
+        // Where reads fail of absent names alone, it is of one that is absent in the files; and of
+        // such a one it does.
+        ensures present { (name : List ℕ) → file_read statement.now ≡ Some name
+            → CanRead (F.content files.old) name → result ≢ Err EngineFault.Read }
+        ensures found { OnOk result (Finds H.pair_of self.old writer.0 statement.now
+            (F.content files.old)) }
         ensures asks { file_read statement.now ≡ None → result ≢ Err EngineFault.Read }
         ensures readable { (other : List ℕ) → F.readable files.old other
             → F.readable files.new other }
@@ -131,6 +141,8 @@ impl<H: PairHash> Engine<H> {
             compact(self, &mut out)?;
             return Ok(Reply::Done);
         }
+        // So what its clauses say of all versions for which it stands is said of some.
+        self.stands();
         let decision = decide(self, writer, place, statement, files, hasher)?;
         carry(self, writer, line, decision, files)
     }

@@ -21,14 +21,22 @@ fn push_line(out: &mut Vec<u8>, front: &[u8], text: &[u8]) -> Result<(), AllocEr
     Ok(())
 }
 
-// Appends the bytes in hexadecimal with what stands in front of them and a line feed, or nothing.
+// Appends the bytes in hexadecimal with what stands in front of them and a line feed, or nothing. Room
+// for all is taken once, and no text is made beside it.
 fn push_hexadecimal(out: &mut Vec<u8>, front: &[u8], bytes: &[u8]) -> Result<(), AllocError>
     ensures ok { OnOk result
         (out.new.items ≡ out.old.items ++ (front.now ++ (encode_lower bytes.now ++ 10 ∷ []))) }
     ensures err { OnErr result (out.new.items ≡ out.old.items) }
 {
-    let digits = hex::encode(*out.allocator(), bytes)?;
-    push_line(out, front, digits.as_bytes())
+    let digits = 2 * bytes.len();
+    let room = digits.checked_add(front.len() + 1).ok_or(AllocError)?;
+    out.reserve(room)?;
+    out.extend_from_slice(front)?;
+    let begin = out.len();
+    out.resize(begin + digits, 0)?;
+    let _ = hex::encode_to_slice(bytes, &mut out.as_mut_slice()[begin..]);
+    out.push(b'\n')?;
+    Ok(())
 }
 
 // The names, a space before each.
