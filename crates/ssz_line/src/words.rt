@@ -1,6 +1,7 @@
 ghost use Rattle.std.specs.Prelude.{◌≡◌, ℕ, ◌<◌, ◌≤◌, ◌∷◌, [], length, slice_index, true, false, MatchOption};
 ghost use Rattle.ssz_line.specs.Words.{is_blank, words_of};
 
+use memchr::memchr2;
 use std::marker::Model;
 
 fn is_blank(byte: u8) -> bool
@@ -29,12 +30,7 @@ fn word_end(line: &[u8]) -> usize
     ensures before { (k : ℕ) → k < result → is_blank (slice_index line.now k) ≡ false }
     ensures at { result < length line.now → is_blank (slice_index line.now result) ≡ true }
 {
-    for (i, byte) in line.iter().enumerate() {
-        if is_blank(*byte) {
-            return i;
-        }
-    }
-    line.len()
+    memchr2(b' ', b'\t', line).unwrap_or(line.len())
 }
 
 // The line from its first word on.

@@ -1,6 +1,7 @@
 ghost use Rattle.std.specs.Prelude.{◌≡◌, ℕ, ◌<◌, ◌≤◌, ◌∷◌, ◌==◌, [], true, false, length, slice_index, MatchOption};
 ghost use Rattle.std.specs.Str.Lines.{lines, strip_carriage_return};
 
+use memchr::memchr;
 use std::marker::Model;
 
 // Where the first line feed lies, or the text's length.
@@ -9,12 +10,7 @@ fn line_end(text: &[u8]) -> usize
     ensures before { (k : ℕ) → k < result → (slice_index text.now k == 10) ≡ false }
     ensures at { result < length text.now → (slice_index text.now result == 10) ≡ true }
 {
-    for (i, byte) in text.iter().enumerate() {
-        if *byte == b'\n' {
-            return i;
-        }
-    }
-    text.len()
+    memchr(b'\n', text).unwrap_or(text.len())
 }
 
 fn strip_carriage_return(line: &[u8]) -> &[u8]
