@@ -19,8 +19,8 @@ pub fn compact<H: PairHash>(versions: &mut Versions, arena: &mut Arena<H>) -> Re
     ensures err_versions { OnErr result (versions.new ≡ versions.old) }
     ensures err_arena { OnErr result (arena.new ≡ arena.old) }
 {
-    let mut nodes = Vec::new(arena.allocator());
-    versions.held.nodes(&mut nodes)?;
+    let mut nodes = Vec::with_capacity(arena.allocator(), versions.held.count(0)?)?;
+    versions.held.nodes(&mut nodes);
     let made = arena.compact(&nodes)?;
     let held = mem::replace(&mut versions.held, Tree::empty());
     let (held, _) = held.with_nodes(&made.ids, 0);

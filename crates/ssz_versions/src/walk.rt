@@ -1,4 +1,4 @@
-ghost use Rattle.std.specs.Prelude.{◌≡◌, ◌+◌, ◌≤◌, ◌++◌, T, map, length, drop, OnOk};
+ghost use Rattle.std.specs.Prelude.{◌≡◌, ◌+◌, ◌≤◌, ◌++◌, T, map, length, drop, vec_len, vec_capacity, IfOk, OnOk};
 ghost use Rattle.std.specs.FinMap.Entries.{is_sorted};
 ghost use Rattle.ssz_versions.specs.Keys.{key_cmp};
 ghost use Rattle.ssz_versions.specs.Lists.{moved, relabelled};
@@ -38,20 +38,38 @@ impl Tree {
         }
     }
 
-    /// The nodes of all entries, in order.
-    pub(crate) fn nodes(&self, nodes: &mut Vec<NodeId>) -> Result<(), AllocError>
-        ensures { OnOk result
-            (nodes.new.items ≡ nodes.old.items ++ map (λ entry. entry.1.1) self.now) }
+    /// How many entries there are, added to a number. Fails where the sum is none of a usize.
+    pub(crate) fn count(&self, before: usize) -> Result<usize, AllocError>
+        ensures { IfOk result (λ count. count ≡ before + length self.now) }
     {
         let Top::Held(cell) = &self.top else {
-            return Ok(());
+            return Ok(before);
         };
         let Cell::Full(fork) = &**cell else {
-            return Ok(());
+            return Ok(before);
         };
-        fork.left.nodes(nodes)?;
-        nodes.push(fork.entry.1.1)?;
-        fork.right.nodes(nodes)
+        let left = fork.left.count(before)?;
+        let Some(own) = left.checked_add(1) else {
+            return Err(AllocError);
+        };
+        fork.right.count(own)
+    }
+
+    /// The nodes of all entries, in order, for which there is room.
+    pub(crate) fn nodes(&self, nodes: &mut Vec<NodeId>)
+        requires { vec_len nodes.old + length self.now ≤ vec_capacity nodes.old }
+        ensures nodes { nodes.new.items ≡ nodes.old.items ++ map (λ entry. entry.1.1) self.now }
+        ensures capacity { vec_capacity nodes.new ≡ vec_capacity nodes.old }
+    {
+        let Top::Held(cell) = &self.top else {
+            return;
+        };
+        let Cell::Full(fork) = &**cell else {
+            return;
+        };
+        fork.left.nodes(nodes);
+        nodes.push_reserved(fork.entry.1.1);
+        fork.right.nodes(nodes);
     }
 
     /// The same entries with other nodes, those from a place on, and the place behind them.

@@ -9,8 +9,8 @@ use Rattle.ssz_versions.proofs.compaction.compact.Goals as goal
 pub compact-requires : goal.compact-requires
 compact-requires g c =
     subst (All (IsNodeOf c.args.arena.now))
-    (sym (c.deref.ensures.value ∙ c.in_ok-nodes.ensures
-    ∙ ap (λ ids. ids ++ roots_of c.versions.inside.held) c.new-nodes.ensures.items))
+    (sym (c.deref.ensures.value ∙ c.nodes.ensures.nodes
+    ∙ ap (λ ids. ids ++ roots_of c.versions.inside.held) c.in_ok-nodes.ensures.items))
     (roots_are_nodes c.versions.inside.held c.args.versions.now.entries c.args.arena.now
     c.versions.invariant (ap (λ versions. versions.entries) c.versions.view_is) c.requires)
 
@@ -20,8 +20,8 @@ with_nodes-held-requires g c = omega (
   ap length c.replace-held.ensures.value,
   ap length c.deref-2.ensures.value,
   as_many c.versions.inside.held c.deref.result.now c.in_ok-made.made.ids.items _ _
-      (c.deref.ensures.value ∙ c.in_ok-nodes.ensures
-      ∙ ap (λ ids. ids ++ roots_of c.versions.inside.held) c.new-nodes.ensures.items)
+      (c.deref.ensures.value ∙ c.nodes.ensures.nodes
+      ∙ ap (λ ids. ids ++ roots_of c.versions.inside.held) c.in_ok-nodes.ensures.items)
       c.in_ok-made.ensures,
 )
 
@@ -39,8 +39,8 @@ returns-clause-ok g c =
     compacted held c.with_nodes-held.result.0 c.args.versions.now.entries c.deref.result.now
     c.in_ok-made.made.ids.items _ _ c.versions.invariant
     (ap (λ versions. versions.entries) c.versions.view_is)
-    (c.deref.ensures.value ∙ c.in_ok-nodes.ensures
-    ∙ ap (λ ids. ids ++ roots_of held) c.new-nodes.ensures.items)
+    (c.deref.ensures.value ∙ c.nodes.ensures.nodes
+    ∙ ap (λ ids. ids ++ roots_of held) c.in_ok-nodes.ensures.items)
     c.in_ok-made.ensures
     (c.with_nodes-held.ensures.tree
     ∙ ap (λ row. moved row c.deref-2.result.now) c.replace-held.ensures.value
