@@ -12,7 +12,7 @@ ghost use Rattle.ssz_value.specs.Edits.{choose_at};
 ghost use Rattle.ssz_value.specs.Suiting.{IsInner, inner_of};
 ghost use Rattle.ssz_places.specs.PlaceLaws.{IsTreeOf};
 ghost use Rattle.ssz_places.specs.Charges.{choose_charge};
-ghost use Rattle.ssz_arena.specs.Content.{IsNodeOf, KeepsNodes, KeepsTodo, tree_of};
+ghost use Rattle.ssz_arena.specs.Content.{IsNodeOf, KeepsNodes, KeepsTodo, todo, tree_of};
 ghost use Rattle.ssz_tree.specs.Added.{Adds, IsPart, joined};
 ghost use Rattle.ssz_tree.specs.Built.{none_part};
 ghost use Rattle.ssz_edit.specs.Chosen.{HasNoOptions, IsOfOption, option_part};
@@ -54,6 +54,8 @@ pub fn choose<H: PairHash>(
     ensures keeps { KeepsNodes arena.old arena.new }
     ensures same { KeepsTodo arena.old arena.new }
     ensures refused { OnErr result (arena.new.nodes ≡ arena.old.nodes) }
+    // The pair at the top is new.
+    ensures fresh { IfOk result (λ made. 0 < todo arena.new made) }
 {
     // By the type it is known where the tree of a value has its parts.
     let _legal = schema.ty(id);
@@ -104,6 +106,7 @@ fn put_choice<H: PairHash>(
         (option_map value_of (inner_of inner.entry)) in
         IfOk result (IsPut arena.old arena.new node place.now.index
         (joined part (number_chunk selector))) }
+    ensures fresh { IfOk result (λ made. 0 < todo arena.new made) }
     ensures adds { let part = option_part schema.now option
         (option_map value_of (inner_of inner.entry)) in
         let more = levels place.now.index in

@@ -8,7 +8,7 @@ ghost use Rattle.ssz_value.specs.Edits.{append_at, pop_at};
 ghost use Rattle.ssz_value.specs.Suiting.{IsElement};
 ghost use Rattle.ssz_places.specs.PlaceLaws.{IsTreeOf};
 ghost use Rattle.ssz_places.specs.Charges.{append_charge, pop_charge};
-ghost use Rattle.ssz_arena.specs.Content.{IsNodeOf, KeepsNodes, KeepsTodo, tree_of};
+ghost use Rattle.ssz_arena.specs.Content.{IsNodeOf, KeepsNodes, KeepsTodo, todo, tree_of};
 ghost use Rattle.ssz_edit.specs.Edited.{Answers};
 
 use super::lists::{empty_slot, limit_of, put_element, slot_at};
@@ -42,6 +42,8 @@ pub fn append<H: PairHash>(
     ensures keeps { KeepsNodes arena.old arena.new }
     ensures same { KeepsTodo arena.old arena.new }
     ensures refused { OnErr result (arena.new.nodes ≡ arena.old.nodes) }
+    // The pair at the top is new.
+    ensures fresh { IfOk result (λ made. 0 < todo arena.new made) }
 {
     // By the type it is known where the tree of a value has its parts.
     let _legal = schema.ty(id);
@@ -84,6 +86,8 @@ pub fn pop<H: PairHash>(
     ensures keeps { KeepsNodes arena.old arena.new }
     ensures same { KeepsTodo arena.old arena.new }
     ensures refused { OnErr result (arena.new.nodes ≡ arena.old.nodes) }
+    // The pair at the top is new.
+    ensures fresh { IfOk result (λ made. 0 < todo arena.new made) }
 {
     // By the type it is known where the tree of a value has its parts.
     let _legal = schema.ty(id);

@@ -7,7 +7,7 @@ ghost use Rattle.ssz_value.specs.Pairs.{pairs};
 ghost use Rattle.ssz_value.specs.Standing.{value_of, IsValue};
 ghost use Rattle.ssz_places.specs.Spots.{CanHold, LiesWithin};
 ghost use Rattle.ssz_places.specs.EditLaws.{IsCounted};
-ghost use Rattle.ssz_arena.specs.Content.{IsNodeOf, tree_of};
+ghost use Rattle.ssz_arena.specs.Content.{IsNodeOf, todo, tree_of};
 ghost use Rattle.ssz_tree.specs.Added.{Adds, IsPart, Part};
 ghost use Rattle.ssz_walk.specs.Found.{LeadsNowhere, spot_of};
 ghost use Rattle.ssz_walk.specs.Mixed.{HasContentNode};
@@ -88,6 +88,7 @@ pub fn put_list<H: PairHash>(
     ensures node { IsNodeOf arena.new result }
     ensures grown { (part : Part) → IsPart arena.old part element
         → IsGrown arena.old arena.new node list.now below part count result }
+    ensures fresh { 0 < todo arena.new result }
     ensures adds { let more = levels list.now.index in
         Adds (levels below + 2 + more) (levels below + 1 + more) arena.old arena.new }
 {
@@ -128,6 +129,7 @@ pub fn put_element<H: PairHash>(
         let spot = spot_of slot.now.element.spot in CanHold spot tree
         → IfOk result (IsGrown arena.old arena.new node list.now slot.now.below
         (part_with spot u (value_of value.now) tree) count) }
+    ensures fresh { IfOk result (λ made. 0 < todo arena.new made) }
     ensures adds { let cost = pairs (type_of schema.now slot.now.element.id) (value_of value.now)
         in let more = levels slot.now.below + levels list.now.index in
         Adds (2 * cost + 3 + more) (cost + 1 + more) arena.old arena.new }
@@ -168,6 +170,7 @@ pub fn empty_slot<H: PairHash>(
         let spot = spot_of slot.now.element.spot in CanHold spot tree
         → IfOk result (IsGrown arena.old arena.new node list.now slot.now.below
         (part_without spot u tree) count) }
+    ensures fresh { IfOk result (λ made. 0 < todo arena.new made) }
     ensures adds { let more = levels slot.now.below + levels list.now.index in
         Adds (3 + more) (1 + more) arena.old arena.new }
     ensures err { OnErr result (arena.new.nodes ≡ arena.old.nodes) }

@@ -42,6 +42,7 @@ pub fn put_part<H: PairHash>(
     ensures due { let cost = pairs (type_of schema.now place.now.id) (value_of value.now) in
         IfOk result (λ made. todo arena.new made
         ≤ todo arena.old node + levels place.now.index + cost) }
+    ensures least { IfOk result (λ made. levels place.now.index ≤ todo arena.new made) }
     ensures adds { let cost = pairs (type_of schema.now place.now.id) (value_of value.now) in
         let more = levels place.now.index in
         Adds (2 * cost + 1 + more) (cost + more) arena.old arena.new }

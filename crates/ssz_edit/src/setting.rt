@@ -58,6 +58,9 @@ pub fn set<H: PairHash>(
     ensures due { let t = type_of schema.now id in IfSome (path_type t path.now) (λ u.
         IsSome (basic_size u) → IfOk result (λ made.
         todo arena.new made ≤ todo arena.old node + index_levels t path.now)) }
+    // And these pairs at least: each is new.
+    ensures least { IfOk result (λ made.
+        index_levels (type_of schema.now id) path.now ≤ todo arena.new made) }
 {
     // By the type it is known where the tree of a value has its parts.
     let _legal = schema.ty(id);
