@@ -21,6 +21,8 @@ pub mod Chosen
 pub mod Edited
 pub mod UpgradeRows
 pub mod UpgradeSteps
+pub mod TopSteps
+pub mod WorkLeast
 pub mod Stepping
 pub mod Wholes
 pub mod Moving

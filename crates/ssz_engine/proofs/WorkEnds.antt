@@ -19,6 +19,7 @@ use Rattle.ssz_engine.specs.Content.{rules_of}
 use Rattle.ssz_engine.specs.Lines.{Prints, ended_by}
 use Rattle.ssz_engine.specs.Outside.{CountsWrites}
 use Rattle.ssz_engine.specs.Scripts.{Scene}
+use Rattle.ssz_engine.specs.Tops.{RisesBy}
 use Rattle.ssz_engine.specs.Works.{AreBroken, AreDone, EndsWorkFrom, Point, Replies, point, two_lines_job, whole_work}
 use Rattle.ssz_engine.specs.declared.fault.EngineFault.{EngineFault}
 use Rattle.ssz_engine.specs.declared.fault.EngineFault.TheVariants.{Read, Write, Memory}
@@ -136,6 +137,7 @@ module _ (pair_of : PairOf) (type_name : Name) (seed count : ℕ) (before after 
     paid = broken_paid whole.turns Memory old new broken;
     through = λ other. absurd (other refl);
     roots = λ other. absurd (other refl);
+    least = λ other. absurd (other refl);
     stopped = λ same. record {
       done = broken.done;
       left = broken.next ∷ broken.left;
@@ -152,12 +154,14 @@ module _ (pair_of : PairOf) (type_name : Name) (seed count : ℕ) (before after 
       → Ends before.ample ended (two_lines_job first.files
       (line (codes "work" ∷ decimal count ∷ decimal made ∷ [])) reply) before.pieces after.pieces
       (Some first.files)
+      → RisesBy whole.tops before.hashed after.hashed
       → EndsWorkFrom rules type_name seed count first ended before after
-  work_done ended made reply all edits replies ends = record {
+  work_done ended made reply all edits replies ends least = record {
     ends = rw (all.told ∙ told, sym edits, sym replies) ends;
     paid = let paid = all.paid in omega (arith, paid);
     through = λ other. record { paid = all.paid; stands = all.at.versions };
     roots = λ other. all.roots;
+    least = λ other. least;
     stopped = λ same. record {
       done = whole.turns;
       left = [];

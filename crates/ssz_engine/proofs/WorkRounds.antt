@@ -8,8 +8,10 @@ use Rattle.ssz_machine.specs.Drawing.{Walk, worked}
 use Rattle.ssz_machine.specs.Runs.{IsWorking}
 use Rattle.ssz_machine.specs.Work.{Worked, joined, round, walk_from, worked_on}
 use Rattle.ssz_machine.proofs.Working.{works_ends, works_on}
+use Rattle.ssz_engine.specs.Tops.{RisesBy}
 use Rattle.ssz_engine.specs.Works.{AreBroken, AreDone, IsAtState, Point}
 use Rattle.ssz_engine.specs.declared.fault.EngineFault.{EngineFault}
+use Rattle.ssz_engine.proofs.WorkLeast.{rises-then}
 use Rattle.ssz_engine.proofs.WorkSteps.{broken_early, broken_then, done_then}
 
 module _ (rules : Rules) (count seed : ℕ) (state : State) where
@@ -22,14 +24,16 @@ module _ (rules : Rules) (count seed : ℕ) (state : State) where
     pub working : IsWorking rules whole so_far left x
     pub done : AreDone so_far.turns so_far.state before here
     pub drawn : edits ≡ so_far.edits
+    pub least : RisesBy so_far.tops before.hashed here.hashed
 
   abbrev none : Worked
-  none = record { turns = []; edits = 0; state = state }
+  none = record { turns = []; edits = 0; tops = 0; state = state }
 
   nothing_before : whole ≡ joined none whole
   nothing_before i =
       let same : whole.edits ≡ 0 + whole.edits = omega arith in
-      record { turns = whole.turns; edits = same i; state = whole.state }
+      let tops : whole.tops ≡ 0 + whole.tops = omega arith in
+      record { turns = whole.turns; edits = same i; tops = tops i; state = whole.state }
 
   -- none yet
   pub rounds_begin : (here : Point) → IsAtState state here → AreRounds count seed 0 here here
@@ -44,6 +48,7 @@ module _ (rules : Rules) (count seed : ℕ) (state : State) where
       paid = omega arith;
     };
     drawn = refl;
+    least = λ few. omega arith;
   }
 
   module _ (left x made : ℕ) (before mid after : Point)
@@ -56,14 +61,17 @@ module _ (rules : Rules) (count seed : ℕ) (state : State) where
 
     -- one more was made
     pub rounds_on : (more y : ℕ) → AreDone next.turns next.state mid after → more ≡ next.edits
-        → y ≡ way.seed → AreRounds left y (made + more) before after
-    rounds_on more y done edits seed_is = record {
+        → y ≡ way.seed → RisesBy next.tops mid.hashed after.hashed
+        → AreRounds left y (made + more) before after
+    rounds_on more y done edits seed_is rise = record {
       so_far = joined rounds.so_far next;
       working = subst (IsWorking rules whole (joined rounds.so_far next) left) (sym seed_is)
           (works_on rules whole rounds.so_far left x rounds.working);
       done = done_then rounds.so_far.turns next.turns rounds.so_far.state next.state before mid
           after rounds.done done;
       drawn = omega (arith, rounds.drawn, edits);
+      least = rises-then rounds.so_far.tops next.tops before.hashed mid.hashed after.hashed
+          rounds.least rise;
     }
 
     -- or there was no memory for it
@@ -86,3 +94,10 @@ module _ (rules : Rules) (count seed : ℕ) (state : State) where
             rounds.done,
         rounds.drawn ∙ ap (λ (work : Worked). work.edits) (sym same),
       )
+
+  -- and hashed so many pairs at least
+  pub rounds_least : (x made : ℕ) (before here : Point) → AreRounds 0 x made before here
+      → RisesBy whole.tops before.hashed here.hashed
+  rounds_least x made before here rounds =
+      subst (λ (work : Worked). RisesBy work.tops before.hashed here.hashed)
+      (sym (works_ends rules whole rounds.so_far x rounds.working)) rounds.least

@@ -12,7 +12,7 @@ use Rattle.ssz_script.specs.declared.statement.Statement.TheVariants.{New, Set, 
 use Rattle.ssz_machine.specs.declared.place.Place.TheVariants.{Run}
 use Rattle.ssz_machine.specs.State.{Name, State, view_of}
 use Rattle.ssz_machine.specs.Rules.{Row, Rules}
-use Rattle.ssz_machine.specs.Machine.{Turn, charge_of, effect, save_in, save_of, saved, state_in, state_of, step}
+use Rattle.ssz_machine.specs.Machine.{Turn, charge_of, effect, is_refused, save_in, save_of, saved, state_in, state_of, step}
 use Rattle.ssz_machine.specs.Changes.{IsChange, SavesInto}
 use Rattle.ssz_machine.specs.Plays.{charges}
 use Rattle.ssz_machine.specs.Work.{done}
@@ -23,7 +23,7 @@ use Rattle.ssz_engine.specs.Lines.{Does, DoesLine}
 use Rattle.ssz_engine.specs.Outside.{CountsReads}
 use Rattle.ssz_engine.specs.Scripts.{Scene, name_before}
 use Rattle.ssz_engine.specs.Standing.{StandsFor, StaysFor}
-use Rattle.ssz_engine.specs.Steps.{LeavesHashed, file_read}
+use Rattle.ssz_engine.specs.Steps.{LeavesHashed, file_read, is_refusal}
 use Rattle.ssz_engine.specs.Works.{AreBroken, AreDone, IsAtState, IsOfWork, Point, Replies, Works, one_step, point}
 use Rattle.ssz_engine.specs.declared.outcome.Outcome.{Outcome}
 use Rattle.ssz_engine.specs.declared.fault.EngineFault.{EngineFault}
@@ -174,6 +174,13 @@ module _ (pair_of : PairOf) (statement : Statement) (is : IsOfWork statement)
       statement_done made line at nodes roots
   statement_works (Err fault) line at most nodes roots stays =
       statement_broken fault line at most stays
+
+  -- it is refused where the machine refuses it
+  pub statement_outcome : (result : Result Outcome EngineFault)
+      → DoesLine pair_of Run 0 (0, Some statement) result before after [] reply
+      → IsAtState state old → IfOk result (λ made. is_refusal made ≡ is_refused turn)
+  statement_outcome (Ok made) line at = (does (Ok made) line at).outcome
+  statement_outcome (Err fault) line at = tt
 
 -- no file is named
 pub none_named : (readable : Name → Type 0) (statement : Statement) → IsOfWork statement

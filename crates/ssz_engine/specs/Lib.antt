@@ -9,6 +9,7 @@ pub mod EditTests
 pub mod Finished
 pub mod Steps
 pub mod Dues
+pub mod Tops
 pub mod Answered
 pub mod Compacting
 pub mod Outside

@@ -21,6 +21,7 @@ use Rattle.ssz_machine.specs.Work.{Worked, done, joined, walk_from, work_job, wo
 use Rattle.ssz_engine.specs.Content.{Content, rules_of}
 use Rattle.ssz_engine.specs.Standing.{StandsFor}
 use Rattle.ssz_engine.specs.Scripts.{IsThrough, Scene}
+use Rattle.ssz_engine.specs.Tops.{RisesBy}
 use Rattle.ssz_engine.specs.declared.fault.EngineFault.{EngineFault}
 use Rattle.ssz_engine.specs.declared.fault.EngineFault.TheVariants.{Memory}
 
@@ -36,7 +37,7 @@ IsOfWork other = ⊥
 
 -- one step
 abbrev pub one_step : Turn → Worked
-one_step turn = record { turns = turn ∷ []; edits = 0; state = state_of turn }
+one_step turn = record { turns = turn ∷ []; edits = 0; tops = 0; state = state_of turn }
 
 -- the whole work, and the step that gives the second line
 abbrev pub whole_work : Rules → State → Name → ℕ → ℕ → Worked
@@ -152,6 +153,10 @@ pub record EndsWorkFrom (rules : Rules) (type_name : Name) (seed count : ℕ) (f
   -- the root behind each edit was made, and is kept
   pub roots : ended ≢ status.Memory → AllByRecursion (MakesRoot after.engine.arena)
       (whole_work rules first type_name seed count).turns
+  -- so each edit of something below the top had its pair there hashed: the roots between the edits
+  -- were made, and not the last alone
+  pub least : ended ≢ status.Memory
+      → RisesBy (whole_work rules first type_name seed count).tops before.hashed after.hashed
   -- where memory was wanting, some were done
   pub stopped : ended ≡ status.Memory → StopsAmong
       (whole_work rules first type_name seed count).turns

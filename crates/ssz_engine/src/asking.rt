@@ -7,6 +7,7 @@ ghost use Rattle.ssz_engine.specs.Content.{Grows};
 ghost use Rattle.ssz_engine.specs.Decisions.{Answers, AnswersOf};
 ghost use Rattle.ssz_engine.specs.Dues.{HashesFor};
 ghost use Rattle.ssz_engine.specs.Steps.{LeavesHashed, outcome_of};
+ghost use Rattle.ssz_engine.specs.Tops.{HashesSome};
 ghost use Rattle.ssz_engine.specs.declared.outcome.Outcome.TheVariants.{Refused};
 
 use super::decision::Decision;
@@ -32,6 +33,8 @@ pub(crate) fn root<'a, H: PairHash>(
     ensures rises { H.pairs hasher.old ≤ H.pairs hasher.new }
     ensures hashed { H.pairs hasher.new ≤ H.pairs hasher.old + unhashed engine.old.arena }
     ensures due { HashesFor v.now writer.0 engine.old (H.pairs hasher.old) (H.pairs hasher.new) }
+    ensures some { HashesSome (Root v.now) writer.0 engine.old (H.pairs hasher.old)
+        (H.pairs hasher.new) }
     ensures refused { outcome_of result ≡ Refused → hasher.new ≡ hasher.old }
     ensures roots { LeavesHashed (Root v.now) writer.0 engine.new }
 {

@@ -7,6 +7,7 @@ ghost use Rattle.ssz_engine.specs.Content.{Grows};
 ghost use Rattle.ssz_engine.specs.Outside.{CountsReads};
 ghost use Rattle.ssz_engine.specs.Dues.{HashesDue};
 ghost use Rattle.ssz_engine.specs.Steps.{CanAsk, Decides, DecidesAlone, Finds, IsShort, LeavesHashed, MakesFork, MakesUpgrade, file_read, outcome_of};
+ghost use Rattle.ssz_engine.specs.Tops.{HashesSome, MakesTop};
 ghost use Rattle.ssz_engine.specs.declared.outcome.Outcome.TheVariants.{Refused};
 
 use super::asking::{gindex, hashes, root};
@@ -51,6 +52,9 @@ pub(crate) fn decide<'a, F: Files, H: PairHash>(
     ensures hashed { H.pairs hasher.new ≤ H.pairs hasher.old + unhashed engine.old.arena }
     ensures due { HashesDue statement.now writer.0 engine.old (H.pairs hasher.old)
         (H.pairs hasher.new) }
+    ensures tops { IfOk result (MakesTop statement.now writer.0 engine.old engine.new) }
+    ensures some { OnOk result (HashesSome statement.now writer.0 engine.old
+        (H.pairs hasher.old) (H.pairs hasher.new)) }
     ensures refused { IfOk result (λ made. outcome_of made ≡ Refused → hasher.new ≡ hasher.old) }
     ensures still { asks_root (Some statement.now) ≡ false → hasher.new ≡ hasher.old }
     ensures forks { IfOk result (MakesFork statement.now writer.0 engine.old.entries) }
@@ -96,6 +100,9 @@ fn decide_alone<'a, H: PairHash>(
     ensures hashed { H.pairs hasher.new ≤ H.pairs hasher.old + unhashed engine.old.arena }
     ensures due { HashesDue statement.now writer.0 engine.old (H.pairs hasher.old)
         (H.pairs hasher.new) }
+    ensures tops { IfOk result (MakesTop statement.now writer.0 engine.old engine.new) }
+    ensures some { OnOk result (HashesSome statement.now writer.0 engine.old
+        (H.pairs hasher.old) (H.pairs hasher.new)) }
     ensures refused { IfOk result (λ made. outcome_of made ≡ Refused → hasher.new ≡ hasher.old) }
     ensures still { asks_root (Some statement.now) ≡ false → hasher.new ≡ hasher.old }
     ensures forks { IfOk result (MakesFork statement.now writer.0 engine.old.entries) }

@@ -9,6 +9,7 @@ ghost use Rattle.ssz_machine.specs.Changes.{puts};
 ghost use Rattle.ssz_engine.specs.Content.{Grows};
 ghost use Rattle.ssz_engine.specs.Decisions.{AnswersWith};
 ghost use Rattle.ssz_engine.specs.Finished.{Finishes, unread};
+ghost use Rattle.ssz_engine.specs.Tops.{IsDue, SetsTop};
 
 use super::decision::Decision;
 use super::editable::{appendable, choosable, settable};
@@ -63,6 +64,7 @@ pub(crate) fn set<'a, H: PairHash>(
     ensures answers { IfOk result (AnswersWith H.pair_of
         (λ rules versions. set versions v.now path.now literal.now) (puts v.now) writer.0
         engine.old engine.new) }
+    ensures tops { IfOk result (SetsTop v.now path.now writer.0 engine.old engine.new) }
     ensures memory { IfErr result (λ fault. fault ≡ EngineFault.Memory) }
     ensures whole { OnErr result (node_count engine.new.arena ≡ node_count engine.old.arena) }
 {
@@ -105,6 +107,7 @@ pub(crate) fn append<'a, H: PairHash>(
     ensures answers { IfOk result (AnswersWith H.pair_of
         (λ rules versions. append versions v.now path.now literal.now) (puts v.now) writer.0
         engine.old engine.new) }
+    ensures tops { IfOk result (IsDue engine.new.arena) }
     ensures memory { IfErr result (λ fault. fault ≡ EngineFault.Memory) }
     ensures whole { OnErr result (node_count engine.new.arena ≡ node_count engine.old.arena) }
 {
@@ -145,6 +148,7 @@ pub(crate) fn pop<'a, H: PairHash>(
     ensures answers { IfOk result (AnswersWith H.pair_of
         (λ rules versions. pop versions v.now path.now) (puts v.now) writer.0
         engine.old engine.new) }
+    ensures tops { IfOk result (IsDue engine.new.arena) }
     ensures memory { IfErr result (λ fault. fault ≡ EngineFault.Memory) }
     ensures whole { OnErr result (node_count engine.new.arena ≡ node_count engine.old.arena) }
 {
@@ -173,6 +177,7 @@ pub(crate) fn choose<'a, H: PairHash>(
     ensures answers { IfOk result (AnswersWith H.pair_of
         (λ rules versions. choose versions v.now path.now selector literal.now) (puts v.now)
         writer.0 engine.old engine.new) }
+    ensures tops { IfOk result (IsDue engine.new.arena) }
     ensures memory { IfErr result (λ fault. fault ≡ EngineFault.Memory) }
     ensures whole { OnErr result (node_count engine.new.arena ≡ node_count engine.old.arena) }
 {

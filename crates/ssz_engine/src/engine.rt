@@ -13,6 +13,7 @@ ghost use Rattle.ssz_engine.specs.Outside.{CountsReads, CountsWrites};
 ghost use Rattle.ssz_engine.specs.Standing.{StandsFor};
 ghost use Rattle.ssz_engine.specs.Dues.{HashesDue};
 ghost use Rattle.ssz_engine.specs.Steps.{DoesStep, Finds, ForksWhere, IsShort, Keeps, LeavesHashed, Stops, TouchesWhere, UpgradesWhere, file_read};
+ghost use Rattle.ssz_engine.specs.Tops.{HashesSome, TopsWhere};
 ghost use Rattle.ssz_engine.specs.Weaves.{HoldsNone};
 
 use super::carrying::carry_out;
@@ -157,6 +158,11 @@ impl<H: PairHash> Engine<H> {
         // A root, or a proof, hashes only what was to be hashed for the version that it is of.
         ensures due { HashesDue statement.now writer.0 self.old (H.pairs hasher.old)
             (H.pairs hasher.new) }
+        // What is edited below its top has a new pair there, and a root then hashes that at least.
+        ensures tops { IfOk result (λ outcome. TopsWhere outcome statement.now writer.0 self.old
+            self.new) }
+        ensures some { OnOk result (HashesSome statement.now writer.0 self.old
+            (H.pairs hasher.old) (H.pairs hasher.new)) }
         ensures refused { IfOk result (λ outcome. outcome ≡ Outcome.Refused
             → hasher.new ≡ hasher.old) }
         ensures still { asks_root (Some statement.now) ≡ false → hasher.new ≡ hasher.old }

@@ -14,6 +14,7 @@ ghost use Rattle.ssz_engine.specs.Points.{Counts, Goes};
 ghost use Rattle.ssz_engine.specs.Scripts.{files_named};
 ghost use Rattle.ssz_engine.specs.Standing.{StaysFor};
 ghost use Rattle.ssz_engine.specs.Steps.{IsShort, Keeps, LeavesHashed, is_refusal};
+ghost use Rattle.ssz_engine.specs.Tops.{HashesSome, TopsWhere};
 
 use super::engine::Engine;
 use super::fault::EngineFault;
@@ -125,6 +126,10 @@ pub(crate) fn reply_to<F: Files, H: PairHash>(
     ensures stays { OnErr result (StaysFor engine.old engine.new) }
     ensures roots { IfOk result (λ made. IfSome line.now.statement (λ statement.
         LeavesHashed statement writer.0 engine.new)) }
+    ensures tops { IfOk result (λ made. IfSome line.now.statement (λ statement.
+        TopsWhere made statement writer.0 engine.old engine.new)) }
+    ensures some { OnOk result (IfSome line.now.statement (λ statement.
+        HashesSome statement writer.0 engine.old (H.pairs hasher.old) (H.pairs hasher.new))) }
     ensures fails { AllByRecursion (F.readable files.old)
         (files_named ((line.now.line, line.now.statement) ∷ [])) → result ≢ Err EngineFault.Read }
     ensures readable { (other : List ℕ) → F.readable files.old other → F.readable files.new other }

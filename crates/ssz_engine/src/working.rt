@@ -1,15 +1,17 @@
 // The statements of a work, one after another.
-ghost use Rattle.std.specs.Prelude.{◌≡◌, ◌≢◌, ◌≤◌, ◌∷◌, [], ℕ, List, Err, IfOk, IfSome};
+ghost use Rattle.std.specs.Prelude.{◌≡◌, ◌≢◌, ◌≤◌, ◌∷◌, [], ℕ, List, Err, IfOk, IfSome, OnOk};
 ghost use Rattle.ssz_arena.specs.Content.{KeepsNodes};
 ghost use Rattle.ssz_machine.specs.Drawing.{worked};
-ghost use Rattle.ssz_machine.specs.Machine.{reply_of};
+ghost use Rattle.ssz_draws.specs.Walked.{IsEdit};
+ghost use Rattle.ssz_machine.specs.Machine.{is_refused, reply_of};
 ghost use Rattle.ssz_machine.specs.State.{State, Versions, version_of};
-ghost use Rattle.ssz_machine.specs.Work.{done, round, walk_from, work_of, worked_on};
+ghost use Rattle.ssz_machine.specs.Work.{done, round, tops_of, walk_from, work_of, worked_on};
 ghost use Rattle.ssz_script.specs.declared.statement.Statement.TheVariants.{New, Root};
 ghost use Rattle.ssz_engine.specs.Content.{rules_of};
 ghost use Rattle.ssz_engine.specs.Outside.{CountsWrites};
 ghost use Rattle.ssz_engine.specs.Standing.{StandsForWriter};
-ghost use Rattle.ssz_engine.specs.Steps.{Keeps};
+ghost use Rattle.ssz_engine.specs.Steps.{Keeps, is_refusal};
+ghost use Rattle.ssz_engine.specs.Tops.{HashesSome, RisesBy, TopsWhere};
 ghost use Rattle.ssz_engine.specs.Works.{Draws, IsAtState, IsOfWork, Replies, Works, one_step, point, whole_work};
 
 use super::engine::Engine;
@@ -57,6 +59,13 @@ fn answer<F: Files, H: PairHash>(
         let turn = done (rules_of H.pair_of engine.old) state statement in IsAtState state before
         → Works result (one_step turn) (λ made. Replies turn reply.new.items) before
         (point engine.new (H.pairs hasher.new) (F.content files.new)) }
+    ensures outcome { (state : State)
+        → IsAtState state (point engine.old (H.pairs hasher.old) (F.content files.old))
+        → IfOk result (λ made. is_refusal made
+        ≡ is_refused (done (rules_of H.pair_of engine.old) state statement)) }
+    ensures tops { IfOk result (λ made. TopsWhere made statement 0 engine.old engine.new) }
+    ensures some { OnOk result (HashesSome statement 0 engine.old (H.pairs hasher.old)
+        (H.pairs hasher.new)) }
     ensures read { result ≢ Err EngineFault.Read }
     ensures gets { F.get_faults files.new ≡ F.get_faults files.old }
     ensures puts { CountsWrites result (F.put_faults files.old) (F.put_faults files.new) }
@@ -89,6 +98,8 @@ fn answer_root<F: Files, H: PairHash>(
         IsAtState state before
         → Works result (one_step turn) (λ made. Replies turn reply.new.items) before
         (point engine.new (H.pairs hasher.new) (F.content files.new)) }
+    ensures some { OnOk result (HashesSome (Root worked) 0 engine.old (H.pairs hasher.old)
+        (H.pairs hasher.new)) }
     ensures read { result ≢ Err EngineFault.Read }
     ensures gets { F.get_faults files.new ≡ F.get_faults files.old }
     ensures puts { CountsWrites result (F.put_faults files.old) (F.put_faults files.new) }
@@ -108,6 +119,7 @@ fn draw_edit<H: PairHash>(
     ensures drawn { (versions : Versions) → StandsForWriter engine.now 0 versions → IfOk result
         (Draws (version_of worked versions) generator.old generator.new) }
     ensures edits { IfOk result (λ edit. IfSome edit IsOfWork) }
+    ensures named { IfOk result (λ edit. IfSome edit IsEdit) }
 {
     let name = worked(engine.alloc)?;
     let Some(held) = engine.versions.get(Writer(0), name.as_name()) else {
@@ -133,6 +145,11 @@ fn work_round<F: Files, H: PairHash>(
         let whole = round (rules_of H.pair_of engine.old) state way.edit in IsAtState state before
         → Works result whole (λ edits. (edits ≡ whole.edits) × (generator.new ≡ way.seed)) before
         (point engine.new (H.pairs hasher.new) (F.content files.new)) }
+    ensures least { (state : State)
+        → IsAtState state (point engine.old (H.pairs hasher.old) (F.content files.old))
+        → let way = walk_from (version_of worked (state.versions 0)) generator.old in
+        OnOk result (RisesBy (tops_of (rules_of H.pair_of engine.old) state way.edit)
+        (H.pairs hasher.old) (H.pairs hasher.new)) }
     ensures few { IfOk result (λ edits. edits ≤ 1) }
     ensures read { result ≢ Err EngineFault.Read }
     ensures gets { F.get_faults files.new ≡ F.get_faults files.old }
@@ -170,6 +187,10 @@ fn work_rounds<F: Files, H: PairHash>(
         let whole = worked_on (rules_of H.pair_of engine.old) count seed state in
         IsAtState state before → Works result whole (λ edits. edits ≡ whole.edits) before
         (point engine.new (H.pairs hasher.new) (F.content files.new)) }
+    ensures least { (state : State)
+        → IsAtState state (point engine.old (H.pairs hasher.old) (F.content files.old))
+        → OnOk result (RisesBy (worked_on (rules_of H.pair_of engine.old) count seed state).tops
+        (H.pairs hasher.old) (H.pairs hasher.new)) }
     ensures read { result ≢ Err EngineFault.Read }
     ensures gets { F.get_faults files.new ≡ F.get_faults files.old }
     ensures puts { CountsWrites result (F.put_faults files.old) (F.put_faults files.new) }
@@ -205,6 +226,10 @@ pub(crate) fn work_through<F: Files, H: PairHash>(
         (λ edits. (edits ≡ work.edits)
         × Replies (done rules work.state (Root worked)) reply.new.items) before
         (point engine.new (H.pairs hasher.new) (F.content files.new)) }
+    ensures least { (state : State)
+        → IsAtState state (point engine.old (H.pairs hasher.old) (F.content files.old))
+        → OnOk result (RisesBy (whole_work (rules_of H.pair_of engine.old) state type_name.now seed
+        count).tops (H.pairs hasher.old) (H.pairs hasher.new)) }
     ensures read { result ≢ Err EngineFault.Read }
     ensures gets { F.get_faults files.new ≡ F.get_faults files.old }
     ensures puts { CountsWrites result (F.put_faults files.old) (F.put_faults files.new) }

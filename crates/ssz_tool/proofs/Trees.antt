@@ -67,6 +67,7 @@ script-given t lists proof script is = by (is_too_long script) refl
           ap (after_reading reads) ((scripts_alike pair_of t lists proof script is).jobs held);
       turns = λ pair_of numbers held. refl;
       reached = λ pair_of held. refl;
+      least = λ pair_of held. refl;
       pairs = λ pair_of held. (scripts_alike pair_of t lists proof script is).charged;
     })
 

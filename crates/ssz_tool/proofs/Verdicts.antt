@@ -17,6 +17,7 @@ DoesSame-equal meant made same = rw same (record {
   jobs = λ pair_of numbers held reads. refl;
   turns = λ pair_of numbers held. refl;
   reached = λ pair_of held. refl;
+  least = λ pair_of held. refl;
   pairs = λ pair_of held. refl;
 })
 
@@ -54,6 +55,7 @@ verifies-given root lists proof is = record {
       (calculated-given pair_of lists proof is 1);
   turns = λ pair_of numbers held. refl;
   reached = λ pair_of held. refl;
+  least = λ pair_of held. refl;
   pairs = λ pair_of held. sym (levels-given lists proof is);
 }
 
@@ -66,6 +68,7 @@ compares-given lists one others other is also = record {
       (compared-given pair_of lists one others other is also);
   turns = λ pair_of numbers held. refl;
   reached = λ pair_of held. refl;
+  least = λ pair_of held. refl;
   pairs = λ pair_of held. ap (λ n. 2 * n) (sym (levels-given lists one is));
 }
 

@@ -1,11 +1,12 @@
 -- The work that the words ask for, and how it was done.
 use Rattle.std.proofs.Common.{◌≡◌, ℕ, ◌+◌, ◌-◌, ◌≤◌, Bool, true, false, List, [], Option, Some, None, refl, sym, ap, ◌∙◌, subst, arith}
-use Rattle.std.specs.Prelude.{option_and_then}
+use Rattle.std.specs.Prelude.{◌≢◌, option_and_then}
 use Rattle.std.proofs.Math.Path.{fun_ext}
 use Rattle.ssz_chunk.specs.Chunk.{CountsUp}
 use Rattle.ssz_outside.specs.Content.{Content}
 use Rattle.ssz_outside.specs.Job.{Ends}
 use Rattle.ssz_outside.specs.declared.status.Status.{Status}
+use Rattle.ssz_outside.specs.declared.status.Status.TheVariants as status
 use Rattle.ssz_line.specs.Single.{name, word_if}
 use Rattle.ssz_proof.specs.Calculation.{PairOf}
 use Rattle.ssz_schema.specs.Names.{is_name}
@@ -22,7 +23,7 @@ use Rattle.ssz_engine.specs.Scripts.{IsFresh, Scene}
 use Rattle.ssz_engine.specs.Works.{EndsWork, EndsWorkFrom}
 use Rattle.ssz_words.specs.declared.commands.WorkArgs.{WorkArgs}
 use Rattle.ssz_tool.specs.Readings.{Reading, accepted}
-use Rattle.ssz_tool.specs.Runs.{Does, job_of_task, pairs_of_task, rules_of_work, turns_of_task}
+use Rattle.ssz_tool.specs.Runs.{Does, RisesWhere, job_of_task, least_of_task, pairs_of_task, rules_of_work, turns_of_task}
 use Rattle.ssz_tool.specs.ToDo.{works}
 use Rattle.ssz_tool.specs.WorkTasks.{task_of_reading, task_of_type, type_of_word}
 use Rattle.ssz_tool.proofs.Quiet.{no_counts}
@@ -89,3 +90,12 @@ module _ (pair_of : PairOf) (schema : Types) (held : Content) (type_name : Name)
   pub work_pairs : (first : ℕ) → CountsUp 126 first before.hashed → after.hashed ≤ first
       + pairs_of_task pair_of held (works (known_in schema) type_name seed count)
   work_pairs first zeros = omega (arith, run.paid, new.left, zeros.at_most)
+
+  -- and no less than the zero table and a pair for each edit below the top
+  pub work_least : (first : ℕ) → CountsUp 126 first before.hashed → ended ≢ status.Memory
+      → RisesWhere (least_of_task pair_of held (works (known_in schema) type_name seed count)) first
+      after.hashed
+  work_least first zeros through = λ few.
+      let rise = run.least through few in
+      let table = zeros.exact (omega (arith, rise, few)) in
+      omega (arith, rise, table)

@@ -1,5 +1,5 @@
 -- The job of the program's words, and the pairs that it may hash.
-use Rattle.std.specs.Prelude.{ℕ, ◌+◌, ◌-◌, List, [], Bool, false, is_some, Option}
+use Rattle.std.specs.Prelude.{ℕ, ◌+◌, ◌-◌, List, [], Bool, false, is_some, Option, Some, None}
 use Rattle.ssz_chunk.specs.Chunk.{CountsUp}
 use Rattle.ssz_outside.specs.Content.{Content}
 use Rattle.ssz_outside.specs.Job.{Job, line_job}
@@ -13,6 +13,7 @@ use Rattle.ssz_machine.specs.Plays.{charges}
 use Rattle.ssz_machine.specs.Jobs.{after_reading, script_job, turns_of_script, turns_of_weave, weave_job}
 use Rattle.ssz_machine.specs.Work.{work_job}
 use Rattle.ssz_engine.specs.Scripts.{HasCounts}
+use Rattle.ssz_engine.specs.Tops.{RisesBy}
 use Rattle.ssz_engine.specs.Works.{whole_work}
 use Rattle.ssz_partial_script.specs.Plays.{charges as tree_charges, script_job as tree_job, turns_of_script as tree_turns}
 use Rattle.ssz_tool.specs.Jobs.{task_of}
@@ -91,6 +92,27 @@ pairs_of_task pair_of held (works type_named type_name seed count) =
     126 + charges work.turns
 pairs_of_task pair_of held (plays_tree t lists script) =
     tree_charges (tree_turns pair_of t lists script)
+
+-- How many pairs a task hashes at least, where that is said: a work those of the zero table, and
+-- one for each edit of something below the top of its value. Such an edit makes the pair at the top
+-- anew, and the root behind it hashes that, before the next edit.
+abbrev pub least_of_task : PairOf → Content → Task → Option ℕ
+least_of_task pair_of held (says line) = None
+least_of_task pair_of held (prints made most) = None
+least_of_task pair_of held (plays type_named most script) = None
+least_of_task pair_of held (weaves type_named most base order scripts) = None
+least_of_task pair_of held (works type_named type_name seed count) =
+    let work = whole_work (rules_of_work pair_of type_named) (fresh held) type_name seed count in
+    Some (126 + work.tops)
+least_of_task pair_of held (plays_tree t lists script) = None
+
+abbrev pub least_asked : PairOf → List (List ℕ) → Content → Option ℕ
+least_asked pair_of words held = least_of_task pair_of held (task_of held words)
+
+-- a count of pairs rose by as many at least, or came to the greatest u64
+abbrev pub RisesWhere : Option ℕ → ℕ → ℕ → Type 0
+RisesWhere None before after = Unit {0}
+RisesWhere (Some n) before after = RisesBy n before after
 
 abbrev pub pairs_allowed : PairOf → List (List ℕ) → Content → ℕ
 pairs_allowed pair_of words held = pairs_of_task pair_of held (task_of held words)

@@ -12,7 +12,7 @@ use Rattle.ssz_bytes.specs.declared.fault.Fault.{Fault}
 use Rattle.ssz_value.specs.Faults.{why}
 use Rattle.ssz_tool.specs.Reached.{reached_of_task}
 use Rattle.ssz_tool.specs.Readings as given
-use Rattle.ssz_tool.specs.Runs.{job_of_task, pairs_of_task, turns_of_task}
+use Rattle.ssz_tool.specs.Runs.{job_of_task, least_of_task, pairs_of_task, turns_of_task}
 use Rattle.ssz_tool.specs.ToDo as job
 use Rattle.ssz_tool.specs.Weavings.{IsReadyWeaving, weaving_view}
 use Rattle.ssz_tool.specs.declared.job.Loaded.{Loaded}
@@ -79,7 +79,7 @@ task_view (task.Partial schema partial script) =
     job.plays_tree (type_of schema partial.id) partial.proof script.items
 
 -- Two tasks that do the same, whatever hasher there is: their jobs, their steps, the files that
--- these read, and the pairs that they may hash.
+-- these read, and the pairs that they may hash and hash at least.
 pub record DoesSame (meant made : job.Task) : Type 0 where
   pub jobs : (pair_of : PairOf) (numbers : List ℕ) (held : Content) (reads : Bool)
       → job_of_task pair_of numbers held reads meant ≡ job_of_task pair_of numbers held reads made
@@ -89,6 +89,8 @@ pub record DoesSame (meant made : job.Task) : Type 0 where
       → reached_of_task pair_of held meant ≡ reached_of_task pair_of held made
   pub pairs : (pair_of : PairOf) (held : Content)
       → pairs_of_task pair_of held meant ≡ pairs_of_task pair_of held made
+  pub least : (pair_of : PairOf) (held : Content)
+      → least_of_task pair_of held meant ≡ least_of_task pair_of held made
 
 -- the bytes of a value are few enough, of a type of the schema, and have no fault
 pub record IsFaultless (trees : ℕ) (id : ℕ) (fault : Option Fault) (count : ℕ) : Type 0 where

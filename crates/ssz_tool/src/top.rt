@@ -10,7 +10,7 @@ ghost use Rattle.ssz_proof.specs.Calculation.{indices_of};
 ghost use Rattle.ssz_schema.specs.Unfolding.{type_of};
 ghost use Rattle.ssz_tool.specs.Lines.{is_usage, status_of};
 ghost use Rattle.ssz_tool.specs.Reached.{reached, reached_first, reached_of_task};
-ghost use Rattle.ssz_tool.specs.Runs.{Does, job_of, job_of_line, job_of_task, job_once_read, pairs_allowed, pairs_of_task, turns_of, turns_of_task};
+ghost use Rattle.ssz_tool.specs.Runs.{Does, RisesWhere, job_of, job_of_line, job_of_task, job_once_read, least_asked, least_of_task, pairs_allowed, pairs_of_task, turns_of, turns_of_task};
 ghost use Rattle.ssz_tool.specs.Tasks.{IsFaultless, IsReady, task_view};
 ghost use Rattle.ssz_tool.specs.ToDo.{is_script, is_usage_task, line_of_proof, line_of_value};
 ghost use Rattle.ssz_tool.specs.Words.{AreReadable, taken, texts};
@@ -99,6 +99,9 @@ fn do_task<F: Files, S: Sink, H: PairHash>(
         (reached_of_task H.pair_of held (task_view task)) → result ≢ Status.ReadFault) }
     ensures pairs { ForSome (F.content files.old) (λ held. H.pairs hasher.new
         ≤ H.pairs hasher.old + pairs_of_task H.pair_of held (task_view task)) }
+    ensures least { ForSome (F.content files.old) (λ held. result ≢ Status.Memory
+        → RisesWhere (least_of_task H.pair_of held (task_view task)) (H.pairs hasher.old)
+        (H.pairs hasher.new)) }
 {
     match task {
         Task::Says(line) => print_line(alloc, &line, out),
@@ -156,6 +159,10 @@ fn run_words<F: Files, S: Sink, H: PairHash>(
         (reached H.pair_of held (texts words.now)) → result ≢ Status.ReadFault) }
     ensures pairs { ForSome (F.content files.old) (λ held. H.pairs hasher.new
         ≤ H.pairs hasher.old + pairs_allowed H.pair_of (texts words.now) held) }
+    ensures least { ForSome (F.content files.old) (λ held. result ≢ Status.Memory
+        → result ≢ Status.ReadFault
+        → RisesWhere (least_asked H.pair_of (texts words.now) held) (H.pairs hasher.old)
+        (H.pairs hasher.new)) }
 {
     match task_of(alloc, files, words) {
         Ok(task) => do_task(alloc, task, files, out, hasher),
@@ -224,6 +231,13 @@ pub fn run<F: Files, S: Sink, H: PairHash>(
     // many as its leaves have levels, for each root that is taken of it.
     ensures pairs { ForSome (F.content files.old) (λ held. H.pairs hasher.new
         ≤ H.pairs hasher.old + pairs_allowed H.pair_of (texts words.now) held) }
+
+    // And no fewer: of a work one for each edit of something below the top, since such an edit
+    // makes the pair at the top anew, and its root is made before the next edit.
+    ensures least { ForSome (F.content files.old) (λ held. result ≢ Status.Memory
+        → result ≢ Status.ReadFault
+        → RisesWhere (least_asked H.pair_of (texts words.now) held) (H.pairs hasher.old)
+        (H.pairs hasher.new)) }
 {
     run_words(alloc, words, files, out, hasher)
 }

@@ -4,7 +4,7 @@ ghost use Rattle.std.specs.List.{AllByRecursion};
 ghost use Rattle.std.specs.Option.{ForSome};
 ghost use Rattle.ssz_outside.specs.Job.{Ends, CountsRun};
 ghost use Rattle.ssz_schema.specs.Unfolding.{known_in};
-ghost use Rattle.ssz_tool.specs.Runs.{Does, job_of_task, pairs_of_task, turns_of_task};
+ghost use Rattle.ssz_tool.specs.Runs.{Does, RisesWhere, job_of_task, least_of_task, pairs_of_task, turns_of_task};
 ghost use Rattle.ssz_tool.specs.Tasks.{CountsStop, IsReady, task_view, work_view};
 ghost use Rattle.ssz_tool.specs.ToDo.{is_script, is_usage_task};
 ghost use Rattle.ssz_tool.specs.WorkTasks.{task_of_type, task_of_work, type_of_word};
@@ -105,6 +105,9 @@ pub fn run_work<F: Files, S: Sink, H: PairHash>(
     ensures read { result ≢ Status.ReadFault }
     ensures pairs { ForSome (F.content files.old) (λ held. H.pairs hasher.new ≤ H.pairs hasher.old
         + pairs_of_task H.pair_of held (work_view work)) }
+    ensures least { ForSome (F.content files.old) (λ held. result ≢ Status.Memory
+        → RisesWhere (least_of_task H.pair_of held (work_view work)) (H.pairs hasher.old)
+        (H.pairs hasher.new)) }
 {
     let Work {
         schema,

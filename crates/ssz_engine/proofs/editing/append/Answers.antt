@@ -21,6 +21,8 @@ use Rattle.ssz_value.specs.Faults.{why}
 use Rattle.ssz_engine.proofs.Brought.{are-kept, over}
 use Rattle.ssz_engine.proofs.EditRows.{append_read, append_refused}
 use Rattle.ssz_engine.proofs.Edited.{unread-answers, code-answers, finished-answers}
+use Rattle.ssz_engine.specs.Tops.{IsDue}
+use Rattle.ssz_engine.proofs.TopSteps.{finishes-due, unread-due}
 use Rattle.ssz_engine.proofs.Wholes.{edit-whole}
 use Rattle.ssz_engine.proofs.Straying.{append-astray}
 use Rattle.ssz_engine.proofs.editing.append.Goals as goal
@@ -141,3 +143,14 @@ returns-in-Ok-decode-clause-whole g c =
     c.finish.ensures
     (subst (λ (seen : Content). OnErr c.append-made.result
     (c.append-made.new.arena.nodes ≡ seen.arena.nodes)) c.engine.view_is c.append-made.ensures.refused)
+
+pub returns-in-Ok-decode-clause-tops : goal.returns-in-Ok-decode-clause-tops
+returns-in-Ok-decode-clause-tops g c =
+    finishes-due c.append-made.new.arena c.args.v.now c.append-made.result c.finish.result
+    c.append-made.ensures.fresh c.finish.ensures
+
+pub returns-clause-tops : goal.returns-clause-tops
+returns-clause-tops g c =
+    let arena = c.args.engine.now.arena in
+    subst (λ (r : Result Decision EngineFault). IfOk r (IsDue arena)) (sym c.unread.ensures)
+    (unread-due arena c.in-Err-decode.fault)

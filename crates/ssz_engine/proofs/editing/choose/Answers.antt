@@ -22,6 +22,8 @@ use Rattle.ssz_value.specs.Suiting.{inner_of}
 use Rattle.ssz_engine.proofs.Brought.{over}
 use Rattle.ssz_engine.proofs.EditRows.{choose_read, choose_refused}
 use Rattle.ssz_engine.proofs.Edited.{unread-answers, code-answers, finished-answers}
+use Rattle.ssz_engine.specs.Tops.{IsDue}
+use Rattle.ssz_engine.proofs.TopSteps.{finishes-due, unread-due}
 use Rattle.ssz_engine.proofs.Wholes.{edit-whole}
 use Rattle.ssz_engine.proofs.Straying.{choose-astray}
 use Rattle.ssz_engine.proofs.editing.choose.Goals as goal
@@ -142,3 +144,14 @@ returns-in-Ok-inner_value-clause-whole g c =
     c.finish.ensures
     (subst (λ (seen : Content). OnErr c.choose-made.result
     (c.choose-made.new.arena.nodes ≡ seen.arena.nodes)) c.engine.view_is c.choose-made.ensures.refused)
+
+pub returns-in-Ok-inner_value-clause-tops : goal.returns-in-Ok-inner_value-clause-tops
+returns-in-Ok-inner_value-clause-tops g c =
+    finishes-due c.choose-made.new.arena c.args.v.now c.choose-made.result c.finish.result
+    c.choose-made.ensures.fresh c.finish.ensures
+
+pub returns-clause-tops : goal.returns-clause-tops
+returns-clause-tops g c =
+    let arena = c.args.engine.now.arena in
+    subst (λ (r : Result Decision EngineFault). IfOk r (IsDue arena)) (sym c.unread.ensures)
+    (unread-due arena c.in-Err-inner_value.fault)

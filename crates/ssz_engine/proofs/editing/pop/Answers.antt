@@ -12,6 +12,7 @@ use Rattle.ssz_engine.specs.Decisions.{AnswersWith}
 use Rattle.ssz_engine.proofs.Brought.{over}
 use Rattle.ssz_engine.proofs.EditRows.{pop_row}
 use Rattle.ssz_engine.proofs.Edited.{finished-answers}
+use Rattle.ssz_engine.proofs.TopSteps.{finishes-due}
 use Rattle.ssz_engine.proofs.Wholes.{edit-whole}
 use Rattle.ssz_engine.proofs.Straying.{pop-astray}
 use Rattle.ssz_engine.proofs.editing.pop.Goals as goal
@@ -59,3 +60,8 @@ returns-clause-whole g c =
     c.finish.ensures
     (subst (λ (seen : Content). OnErr c.pop-made.result
     (c.pop-made.new.arena.nodes ≡ seen.arena.nodes)) c.engine.view_is c.pop-made.ensures.refused)
+
+pub returns-clause-tops : goal.returns-clause-tops
+returns-clause-tops g c =
+    finishes-due c.pop-made.new.arena c.args.v.now c.pop-made.result c.finish.result
+    c.pop-made.ensures.fresh c.finish.ensures

@@ -21,6 +21,8 @@ use Rattle.ssz_value.specs.Faults.{why}
 use Rattle.ssz_engine.proofs.Brought.{are-kept, over}
 use Rattle.ssz_engine.proofs.EditRows.{set_read, set_refused}
 use Rattle.ssz_engine.proofs.Edited.{unread-answers, code-answers, finished-answers}
+use Rattle.ssz_engine.specs.Tops.{SetsTop}
+use Rattle.ssz_engine.proofs.TopSteps.{finishes-set, unread-none}
 use Rattle.ssz_engine.proofs.Wholes.{edit-whole}
 use Rattle.ssz_engine.proofs.Straying.{set-astray}
 use Rattle.ssz_engine.proofs.editing.set.Goals as goal
@@ -139,3 +141,32 @@ returns-in-Ok-decode-clause-whole g c =
     c.finish.ensures
     (subst (λ (seen : Content). OnErr c.set-made.result
     (c.set-made.new.arena.nodes ≡ seen.arena.nodes)) c.engine.view_is c.set-made.ensures.refused)
+
+pub returns-in-Ok-decode-clause-tops : goal.returns-in-Ok-decode-clause-tops
+returns-in-Ok-decode-clause-tops g c =
+    let schema = c.engine.inside.schema in
+    let most = c.engine.inside.max in
+    let entries = c.engine.inside.versions.entries in
+    let base = c.engine.inside.base in
+    let v = c.args.v.now in
+    let w = c.args.writer.0 in
+    let way = rw c.in-Ok.is at c.in_ok-way.ensures.ok in
+    let path : Path = c.as_slice-steps.result.now in
+    let is : path ≡ c.args.path.now = c.as_slice-steps.ensures.value ∙ way.all in
+    let held : Held = (c.in-Ok.way.id, c.in-Ok.way.node) in
+    let there : held_at entries w v ≡ Some held
+    = subst (λ (s : Content). held_at s.entries w v ≡ Some held) (sym c.engine.view_is) way.there in
+    let new = c.set-made.new.arena in
+    subst (λ (p : Path). IfOk c.finish.result (SetsTop v p w c.args.engine.now
+    (over schema most entries base new))) is
+    (subst (λ (seen : Content). IfOk c.finish.result (SetsTop v path w seen
+    (over schema most entries base new))) c.engine.view_is
+    (finishes-set schema new entries w v path held there c.set-made.result c.finish.result
+    c.set-made.ensures.least c.finish.ensures))
+
+pub returns-clause-tops : goal.returns-clause-tops
+returns-clause-tops g c =
+    let P : Decision → Type 0 = SetsTop c.args.v.now c.args.path.now c.args.writer.0
+    c.args.engine.now c.args.engine.now in
+    subst (λ (r : Result Decision EngineFault). IfOk r P) (sym c.unread.ensures)
+    (unread-none P (λ fault was found below. tt) c.in-Err-decode.fault)

@@ -1,5 +1,7 @@
 use Rattle.std.proofs.Common.{◌≡◌, ◌∷◌, [], ℕ, Option, Some, subst, sym}
+use Rattle.std.specs.Prelude.{IfSome}
 use Rattle.std.proofs.lemmas.Result.{err_from_is_err_and}
+use Rattle.ssz_draws.specs.Walked.{IsEdit}
 use Rattle.ssz_script.specs.declared.statement.Statement.{Statement}
 use Rattle.ssz_script.specs.declared.statement.Statement.TheVariants.{Root}
 use Rattle.ssz_machine.specs.State.{State, version_of}
@@ -10,6 +12,7 @@ use Rattle.ssz_machine.specs.Work.{done, round, walk_from}
 use Rattle.ssz_engine.specs.Content.{rules_of}
 use Rattle.ssz_engine.specs.Works.{AreBroken, AreDone, Draws, Point, point}
 use Rattle.ssz_engine.specs.declared.fault.EngineFault.{EngineFault}
+use Rattle.ssz_engine.proofs.WorkLeast.{round-least}
 use Rattle.ssz_engine.proofs.WorkPoints.{by_first_rules, round_done, round_here, works_exit}
 use Rattle.ssz_engine.proofs.WorkSteps.{broken_early, broken_then}
 use Rattle.ssz_engine.proofs.working.work_round.Goals as goal
@@ -120,3 +123,22 @@ returns-in_err-answer-in-Ok-Some-clause-works g c = λ state at.
     (subst (λ (e : Option Statement). Draws (version_of worked (state.versions 0))
     c.args.generator.now c.draw_edit.new.generator e) c.in-Ok-Some.field-0-is drawn)
     (c.in_err-answer-in-Ok-Some.ensures.works state at))
+
+pub returns-in_ok-answer_root-in-Ok-Some-clause-least :
+    goal.returns-in_ok-answer_root-in-Ok-Some-clause-least
+returns-in_ok-answer_root-in-Ok-Some-clause-least g c = λ state at.
+    let pairs = g.H.PairHash.pairs in
+    let edit : Statement = c.in-Ok-Some.edit in
+    let drawn = c.in-Ok-Some.ensures.drawn (state.versions 0) (at.versions.each 0) in
+    round-least (rules_of g.H.PairHash.pair_of c.args.engine.now) state
+    (walk_from (version_of worked (state.versions 0)) c.args.generator.now) edit
+    c.draw_edit.new.generator c.args.engine.now c.answer.new.engine (pairs c.args.hasher.now)
+    (pairs c.answer.new.hasher) (pairs c.answer_root-in-Ok-Some.new.hasher)
+    c.in_ok-answer-in-Ok-Some.field-0
+    (subst (λ (e : Option Statement). Draws (version_of worked (state.versions 0))
+    c.args.generator.now c.draw_edit.new.generator e) c.in-Ok-Some.field-0-is drawn)
+    (subst (λ (e : Option Statement). IfSome e IsEdit) c.in-Ok-Some.field-0-is
+    c.in-Ok-Some.ensures.named)
+    ((at.versions.each 0).each worked) (c.in_ok-answer-in-Ok-Some.ensures.outcome state at)
+    c.in_ok-answer-in-Ok-Some.ensures.tops c.in_ok-answer-in-Ok-Some.ensures.rises
+    c.in_ok-answer_root-in-Ok-Some.ensures.rises c.in_ok-answer_root-in-Ok-Some.ensures.some

@@ -3,14 +3,15 @@ use Rattle.std.specs.Prelude.{Err, Ok}
 use Rattle.std.proofs.lemmas.Result.{err_from_is_err_and}
 use Rattle.ssz_arena.proofs.Keeping.{keeps_same, keeps_trans}
 use Rattle.ssz_machine.specs.Rules.{Rules}
-use Rattle.ssz_machine.specs.Work.{round, walk_from, worked_on}
+use Rattle.ssz_machine.specs.Work.{round, tops_of, walk_from, worked_on}
 use Rattle.ssz_machine.specs.State.{version_of}
 use Rattle.ssz_machine.specs.Drawing.{worked}
 use Rattle.ssz_engine.specs.Content.{rules_of}
+use Rattle.ssz_engine.specs.Tops.{RisesBy}
 use Rattle.ssz_engine.specs.Works.{Point, Works, point}
 use Rattle.ssz_engine.proofs.Leading.{keeps_on}
 use Rattle.ssz_engine.proofs.WorkPoints.{by_first_rules, works_exit}
-use Rattle.ssz_engine.proofs.WorkRounds.{AreRounds, rounds_begin, rounds_broken, rounds_end, rounds_on}
+use Rattle.ssz_engine.proofs.WorkRounds.{AreRounds, rounds_begin, rounds_broken, rounds_end, rounds_least, rounds_on}
 use Rattle.ssz_engine.proofs.working.work_rounds.Goals as goal
 
 pub returns-clause-works : goal.returns-clause-works
@@ -22,6 +23,19 @@ returns-clause-works g c = λ state at.
     let rules : Rules = rules_of g.H.PairHash.pair_of c.args.engine.now in
     let none : c.args.count - c.loop-round._round ≡ 0 = omega (arith, c.loop-round-test.false) in
     rounds_end rules c.args.count c.args.seed state c.loop-round.generator c.loop-round.edits
+    before here
+    (subst (λ left. AreRounds rules c.args.count c.args.seed state left c.loop-round.generator
+    c.loop-round.edits before here) none (c.loop-round.invariant.rounds state at))
+
+pub returns-clause-least : goal.returns-clause-least
+returns-clause-least g c = λ state at.
+    let before : Point = point c.args.engine.now (g.H.PairHash.pairs c.args.hasher.now)
+    (g.F.Files.content c.args.files.now) in
+    let here : Point = point c.loop-round.engine (g.H.PairHash.pairs c.loop-round.hasher)
+    (g.F.Files.content c.loop-round.files) in
+    let rules : Rules = rules_of g.H.PairHash.pair_of c.args.engine.now in
+    let none : c.args.count - c.loop-round._round ≡ 0 = omega (arith, c.loop-round-test.false) in
+    rounds_least rules c.args.count c.args.seed state c.loop-round.generator c.loop-round.edits
     before here
     (subst (λ left. AreRounds rules c.args.count c.args.seed state left c.loop-round.generator
     c.loop-round.edits before here) none (c.loop-round.invariant.rounds state at))
@@ -111,7 +125,11 @@ loop-round-preserved g c =
           (made.works here.state rounds.done.at) in
           rounds_on rules c.args.count c.args.seed state left c.loop-round.generator
           c.loop-round.edits before mid after rounds c.in_ok-edits.field-0
-          c.work_round.new.generator done.0 done.1.0 done.1.1;
+          c.work_round.new.generator done.0 done.1.0 done.1.1
+          (by_first_rules g.H.PairHash.pair_of c.args.engine.now c.loop-round.engine so_far.keeps
+          (λ r. RisesBy (tops_of r here.state way.edit) (g.H.PairHash.pairs c.loop-round.hasher)
+          (g.H.PairHash.pairs c.work_round.new.hasher))
+          (made.least here.state rounds.done.at));
       readable = λ other is. made.readable other (so_far.readable other is);
       gets = made.gets ∙ so_far.gets;
       puts = made.puts ∙ so_far.puts;

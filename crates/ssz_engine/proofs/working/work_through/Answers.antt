@@ -7,6 +7,7 @@ use Rattle.ssz_machine.specs.Machine.{Turn, state_of}
 use Rattle.ssz_machine.specs.Drawing.{worked}
 use Rattle.ssz_machine.specs.Work.{Worked, done, work_of, worked_on}
 use Rattle.ssz_engine.specs.Content.{Content, rules_of}
+use Rattle.ssz_engine.specs.Tops.{RisesBy}
 use Rattle.ssz_engine.specs.Works.{AreBroken, AreDone, Point, Replies, point, whole_work}
 use Rattle.ssz_engine.specs.declared.fault.EngineFault.{EngineFault}
 use Rattle.ssz_engine.proofs.Leading.{keeps_on}
@@ -49,6 +50,29 @@ returns-clause-works g c = λ state at.
           both last.0,
       (let edits = rounds.1 in omega (arith, edits), last.1),
     )
+
+pub returns-clause-least : goal.returns-clause-least
+returns-clause-least g c = λ state at.
+    let pair_of = g.H.PairHash.pair_of in
+    let first : Content = c.args.engine.now in
+    let before : Point = point first (g.H.PairHash.pairs c.args.hasher.now)
+    (g.F.Files.content c.args.files.now) in
+    let mid : Point = point c.answer.new.engine (g.H.PairHash.pairs c.answer.new.hasher)
+    (g.F.Files.content c.answer.new.files) in
+    let rules : Rules = rules_of pair_of first in
+    let made : Turn = done rules state (New worked c.args.type_name.now) in
+    let rest : Rules → Worked = λ r. worked_on r c.args.count c.args.seed (state_of made) in
+    let begun : AreDone (made ∷ []) (state_of made) before mid =
+    subst (λ (s : Statement). AreDone (done rules state s ∷ []) (state_of (done rules state s))
+    before mid) c.in-Ok.ensures (c.in_ok-answer.ensures.works state at).0 in
+    let rounds = by_first_rules pair_of first c.answer.new.engine c.in_ok-answer.ensures.keeps
+    (λ r. RisesBy (rest r).tops (g.H.PairHash.pairs c.answer.new.hasher)
+    (g.H.PairHash.pairs c.work_rounds.new.hasher))
+    (c.in_ok-edits.ensures.least (state_of made) begun.at) in
+    let first_rise = c.in_ok-answer.ensures.rises in
+    let last_rise = c.in_ok-answer_root.ensures.rises in
+    λ few. (let some = rounds (omega (arith, few, last_rise)) in
+    omega (arith, some, first_rise, last_rise))
 
 pub returns-in_default-clause-works : goal.returns-in_default-clause-works
 returns-in_default-clause-works g c = λ state at.

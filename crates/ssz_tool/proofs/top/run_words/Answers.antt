@@ -1,7 +1,8 @@
-use Rattle.std.proofs.Common.{Err, false, is_some, subst, ap, ◌∙◌}
+use Rattle.std.proofs.Common.{Err, false, is_some, subst, sym, ap, ◌∙◌}
 use Rattle.std.specs.List.{AllByRecursion}
 use Rattle.ssz_tool.specs.Jobs.{task_of}
 use Rattle.ssz_tool.specs.Reached.{reached_first}
+use Rattle.ssz_tool.specs.Runs.{RisesWhere}
 use Rattle.ssz_tool.specs.Words.{texts, taken}
 use Rattle.ssz_tool.proofs.Beginnings.{all_back, all_front, does_same, fails_first, wants_memory_first, zero_table}
 use Rattle.ssz_engine.proofs.Reaching.{all_names}
@@ -66,3 +67,10 @@ returns-in-Err-Memory-clause-in_turn g c = λ held told readable.
     g.H.PairHash.pair_of held false (task_of held (texts c.args.words.now))
     (g.H.PairHash.pairs c.args.hasher.now) _ (g.H.PairHash.pairs c.args.hasher.now)
     (g.S.Sink.pieces c.args.out.now) (zero_table (g.H.PairHash.pairs c.args.hasher.now)))
+
+pub returns-in-Ok-clause-least : goal.returns-in-Ok-clause-least
+returns-in-Ok-clause-least g c = λ held told memory read.
+    let same = (c.in-Ok.ensures.read held told).least g.H.PairHash.pair_of held in
+    subst (λ n. RisesWhere n (g.H.PairHash.pairs c.args.hasher.now)
+    (g.H.PairHash.pairs c.do_task.new.hasher)) (sym same)
+    (c.do_task.ensures.least held (c.in-Ok.ensures.content ∙ told) memory)

@@ -1,7 +1,7 @@
 use Rattle.ssz_engine.specs.Scripts.{scene}
 use Rattle.ssz_tool.specs.Tasks.{work_view}
 use Rattle.ssz_tool.proofs.Beginnings.{wants_memory_first, zero_table}
-use Rattle.ssz_tool.proofs.Worked.{work_does, work_pairs}
+use Rattle.ssz_tool.proofs.Worked.{work_does, work_least, work_pairs}
 use Rattle.ssz_tool.proofs.working.run_work.Goals as goal
 
 pub returns-in-Ok-clause-ends : goal.returns-in-Ok-clause-ends
@@ -31,6 +31,20 @@ returns-in-Ok-clause-pairs g c = λ held told.
     c.in-Ok.ensures.types c.in-Ok.ensures.most c.in-Ok.ensures.stands told
     (record { base = c.in-Ok.ensures.base; left = c.in-Ok.ensures.unhashed })
     c.work.ensures.ends (g.H.PairHash.pairs c.args.hasher.now) c.in-Ok.ensures.counts
+
+pub returns-in-Ok-clause-least : goal.returns-in-Ok-clause-least
+returns-in-Ok-clause-least g c = λ held told through.
+    work_least g.H.PairHash.pair_of c.args.work.schema held c.args.work.type_name c.args.work.seed
+    c.args.work.edits c.work.result
+    (scene c.in-Ok.engine (g.H.PairHash.pairs c.start.new.hasher)
+    (g.F.Files.content c.args.files.now) (g.F.Files.readable c.args.files.now)
+    (g.S.Sink.pieces c.args.out.now) (g.S.Sink.ample c.args.out.now))
+    (scene c.work.new.self (g.H.PairHash.pairs c.work.new.hasher)
+    (g.F.Files.content c.work.new.files) (g.F.Files.readable c.work.new.files)
+    (g.S.Sink.pieces c.work.new.out) (g.S.Sink.ample c.work.new.out))
+    c.in-Ok.ensures.types c.in-Ok.ensures.most c.in-Ok.ensures.stands told
+    (record { base = c.in-Ok.ensures.base; left = c.in-Ok.ensures.unhashed })
+    c.work.ensures.ends (g.H.PairHash.pairs c.args.hasher.now) c.in-Ok.ensures.counts through
 
 pub returns-clause-ends : goal.returns-clause-ends
 returns-clause-ends g c = λ reads held told.

@@ -2,11 +2,13 @@ use Rattle.std.proofs.Common.{◌-◌, Option, IfOk, IfErr, refl, sym, subst, �
 use Rattle.ssz_outside.specs.Content.{Content as Files}
 use Rattle.ssz_script.specs.declared.statement.Statement.{Statement}
 use Rattle.ssz_engine.specs.Steps.{Decides, DoesStep, Fails, Finds, ForksWhere, IsCarriedOut, LeavesHashed, Stops, UpgradesWhere}
+use Rattle.ssz_engine.specs.Tops.{TopsWhere}
 use Rattle.ssz_engine.specs.declared.outcome.Outcome.TheVariants.{Accepted}
 use Rattle.ssz_engine.proofs.EngineSteps.{on_ok}
 use Rattle.ssz_engine.proofs.Forking.{forks}
 use Rattle.ssz_engine.proofs.Moving.{compact-step}
 use Rattle.ssz_engine.proofs.Rooting.{roots}
+use Rattle.ssz_engine.proofs.TopSteps.{tops}
 use Rattle.ssz_engine.proofs.UpgradeSteps.{upgrades}
 use Rattle.ssz_engine.proofs.Stepping.{does-step, err-of, ok-of, stops}
 use Rattle.ssz_engine.proofs.Wholes.{whole}
@@ -138,6 +140,29 @@ returns-clause-upgrades g c =
     (λ done out. upgrades w c.args.line first mid new c.carry_out.ensures.nodes told_mid told_new
     out_old out_new made done statement c.in_ok-decision.ensures.upgrades out)
     c.carry_out.ensures.ok
+
+pub returns-clause-tops : goal.returns-clause-tops
+returns-clause-tops g c =
+    let first = c.args.self.now in
+    let mid = c.decide.new.engine in
+    let new = c.carry_out.new.engine in
+    let w = c.args.writer.0 in
+    let statement = c.args.statement.now in
+    let made = c.in_ok-decision.decision in
+    let told_mid = g.F.Files.content c.decide.new.files in
+    let told_new = g.F.Files.content c.carry_out.new.files in
+    let out_old = c.reserve.new.self.items in
+    let out_new = c.carry_out.new.out.items in
+    ok-of (λ done. IsCarriedOut made w c.args.line mid.entries new.entries done told_mid told_new
+    out_old out_new)
+    (λ done. TopsWhere done statement w first new) c.carry_out.result
+    (λ done out. tops w c.args.line first mid new c.carry_out.ensures.nodes told_mid told_new
+    out_old out_new made done statement c.in_ok-decision.ensures.decides.answers.of
+    c.in_ok-decision.ensures.tops out)
+    c.carry_out.ensures.ok
+
+pub returns-clause-some : goal.returns-clause-some
+returns-clause-some g c = on_ok c.carry_out.result c.in_ok-decision.ensures.some
 
 pub returns-clause-roots : goal.returns-clause-roots
 returns-clause-roots g c =

@@ -21,6 +21,7 @@ returns-in-Ok-clause-ends g c = λ first versions told.
     work_done g.H.PairHash.pair_of c.args.type_name.now c.args.seed c.args.edits before after first
     told c.print_work.result c.in-Ok.made c.as_slice.result.now done.0 done.1.0
     (c.as_slice.ensures.value ∙ done.1.1) (c.print_work.ensures.ends first.files)
+    (c.in-Ok.ensures.least first (record { versions = versions; files = told }))
 
 pub returns-in-Ok-clause-counts : goal.returns-in-Ok-clause-counts
 returns-in-Ok-clause-counts g c =
