@@ -1,5 +1,5 @@
 -- Decimal and hexadecimal digits of numbers and bytes.
-use Rattle.std.proofs.Common.{◌≡◌, ℕ, suc, ◌+◌, ◌/◌, ◌%◌, ◌^◌, ◌<◌, ◌≤◌, Bool, true, List, [], ◌∷◌, ◌++◌, length, get_or, refl, ◌∙◌, arith, rules, lit≤}
+use Rattle.std.proofs.Common.{◌≡◌, ℕ, suc, ◌+◌, ◌/◌, ◌%◌, ◌^◌, ◌<◌, ◌≤◌, Bool, true, List, [], ◌∷◌, ◌++◌, length, get_or, refl, sym, ap, ◌∙◌, append_assoc, arith, rules, lit≤}
 use Rattle.std.specs.Prelude.{decimal, slice_index}
 use Rattle.std.specs.List.{AllByRecursion, list_all}
 use Rattle.std.proofs.lemmas.Fmt.{decimal_is_IsNumeral_wide, decimal_by_steps_wide}
@@ -81,3 +81,20 @@ encode_more b bytes = refl
 pub encode_none : encode_lower [] ≡ []
 unfolding encode_with
 encode_none = refl
+
+-- the digits of some bytes, then those of others
+pub encode_append : (xs ys : List ℕ) → encode_lower xs ++ encode_lower ys ≡ encode_lower (xs ++ ys)
+encode_append [] ys = ap (λ s. s ++ encode_lower ys) encode_none
+encode_append (x ∷ xs) ys =
+    ap (λ s. s ++ encode_lower ys) (sym (encode_more x xs))
+    ∙ append_assoc (encode_lower (x ∷ [])) (encode_lower xs) (encode_lower ys)
+    ∙ ap (λ s. encode_lower (x ∷ []) ++ s) (encode_append xs ys) ∙ encode_more x (xs ++ ys)
+
+-- the digits of the first bytes are moved from what is left to what is there
+pub digits_moved : (out new digits block behind rest whole : List ℕ)
+    → new ≡ out ++ digits → digits ≡ encode_lower block → rest ≡ block ++ behind
+    → out ++ encode_lower rest ≡ whole → new ++ encode_lower behind ≡ whole
+digits_moved out new digits block behind rest whole text is split h =
+    ap (λ s. s ++ encode_lower behind) (text ∙ ap (λ s. out ++ s) is)
+    ∙ append_assoc out (encode_lower block) (encode_lower behind)
+    ∙ ap (λ s. out ++ s) (encode_append block behind ∙ ap encode_lower (sym split)) ∙ h

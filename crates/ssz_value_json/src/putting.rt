@@ -1,6 +1,6 @@
 //! Pieces of a text, each appended behind other bytes. Where memory runs out, what was there
 //! stays.
-ghost use Rattle.std.specs.Prelude.{◌≡◌, ◌∷◌, [], ◌++◌, ◌<◌, decimal, OnOk};
+ghost use Rattle.std.specs.Prelude.{◌≡◌, ◌∷◌, [], ◌++◌, ◌<◌, length, decimal, OnOk};
 ghost use Rattle.json.specs.Print.{quoted};
 ghost use Rattle.hex.specs.Hex.{encode_lower};
 ghost use Rattle.serde_json.specs.Written.{comma_if, compact_text};
@@ -16,6 +16,9 @@ ghost use Rattle.ssz_value_json.specs.Keeping.{Keeps};
 use itoa::Buffer;
 use ssz_value::{Value, wide_bytes};
 use std::alloc::AllocError;
+
+// How many bytes are written at a time.
+const BLOCK: usize = 32;
 
 /// Appends the bytes.
 #[tactic(auto, using(crate::proofs::Keeping::keeps_append, crate::proofs::Keeping::keeps_self))]
@@ -79,8 +82,23 @@ pub(crate) fn put_hex(bytes: &[u8], out: &mut Vec<u8>) -> Result<(), AllocError>
     put(b"\"", out)
 }
 
+// Block by block, and the bytes behind the last block one by one.
 #[tactic(auto, using(crate::proofs::Keeping::keeps_trans, crate::proofs::Keeping::keeps_self))]
 fn put_digits(bytes: &[u8], out: &mut Vec<u8>) -> Result<(), AllocError>
+    ensures text { OnOk result (out.new.items ≡ out.old.items ++ encode_lower bytes.now) }
+    ensures front { Keeps out.old.items out.new.items }
+{
+    let mut rest = bytes;
+    'blocks: while rest.len() >= BLOCK {
+        let (block, behind) = rest.split_at(BLOCK);
+        put(&digits_of_block(block), out)?;
+        rest = behind;
+    }
+    put_last_digits(rest, out)
+}
+
+#[tactic(auto, using(crate::proofs::Keeping::keeps_trans, crate::proofs::Keeping::keeps_self))]
+fn put_last_digits(bytes: &[u8], out: &mut Vec<u8>) -> Result<(), AllocError>
     ensures text { OnOk result (out.new.items ≡ out.old.items ++ encode_lower bytes.now) }
     ensures front { Keeps out.old.items out.new.items }
 {
@@ -88,6 +106,16 @@ fn put_digits(bytes: &[u8], out: &mut Vec<u8>) -> Result<(), AllocError>
         put(&digits_of(*byte), out)?;
     }
     Ok(())
+}
+
+// The digits of a block.
+fn digits_of_block(block: &[u8]) -> [u8; 2 * BLOCK]
+    requires { length block.now ≡ 32 }
+    ensures { result ≡ encode_lower block.now }
+{
+    let mut digits = [0; 2 * BLOCK];
+    let _ = hex::encode_to_slice(block, &mut digits);
+    digits
 }
 
 // The two digits of a byte.
