@@ -1,5 +1,6 @@
 -- The texts of arrays and objects, piece by piece.
-use Rattle.std.proofs.Common.{◌≡◌, ℕ, zero, suc, ◌+◌, ◌<◌, ◌≤◌, Bool, true, List, [], ◌∷◌, ◌++◌, length, map, drop, get_or, nat_lt, refl, sym, ap, ap₂, ◌∙◌, subst, arith, append_assoc}
+use Rattle.std.proofs.Common.{◌≡◌, Bor, ℕ, zero, suc, ◌+◌, ◌<◌, ◌≤◌, Bool, true, List, [], ◌∷◌, ◌++◌, length, map, drop, get_or, nat_lt, refl, sym, ap, ap₂, ◌∙◌, subst, arith, append_assoc}
+use Rattle.std.specs.List.{AllByRecursion}
 use Rattle.std.proofs.lemmas.Bool.Decides.{nat_tests}
 use Rattle.std.proofs.lemmas.List.{drop_all, length-map}
 use Rattle.json.specs.Print.{quoted}
@@ -14,7 +15,7 @@ use Rattle.ssz_value.specs.Standing.{value_of, IsValue}
 use Rattle.ssz_value.specs.Shapes.{AreFields}
 use Rattle.ssz_schema.proofs.WalkFields.{drop_at}
 use Rattle.ssz_value.proofs.PartLemmas.{Part}
-use Rattle.ssz_value_json.specs.Order.{members_from}
+use Rattle.ssz_value_json.specs.Order.{Entries, members_from, members_over}
 use Rattle.ssz_value_json.specs.Text.{json, json_of, members_json}
 use Rattle.ssz_value_json.proofs.Keeping.{moved}
 
@@ -23,7 +24,7 @@ abbrev pub elements_left : SszType → List Value → ℕ → List ℕ
 elements_left t parts i =
     items_text (nat_lt 0 i) (items_of (map (json_of t) (map value_of (drop i parts))))
 
-later : (i : ℕ) → nat_lt 0 (i + 1) ≡ true
+pub later : (i : ℕ) → nat_lt 0 (i + 1) ≡ true
 later i = grind (arith, nat_tests)
 
 pub elements_more : (t : SszType) (parts : List Value) (i : ℕ) (v : Value)
@@ -124,3 +125,31 @@ value_at_field trees (p ∷ fields) (w ∷ parts) zero f v all below within here
     (subst (IsValue (tree_at trees p.1)) (sym is) all.0)
 value_at_field trees (p ∷ fields) (w ∷ parts) (suc i) f v all below within here is =
     value_at_field trees fields parts i f v all.1 (omega arith) (omega arith) here is
+
+-- the member of the entry at i moves
+pub entries_more : (part : ℕ → Data) (es : Entries) (i : ℕ) (e : Bor (List ℕ) × ℕ)
+    (out one two new whole : List ℕ) → i < length es → e ≡ get_or es i e
+    → out ++ members_text (nat_lt 0 i) (members_over part (drop i es)) ≡ whole
+    → one ≡ out ++ comma_if (nat_lt 0 i) → two ≡ one ++ (quoted e.0.now ++ 58 ∷ [])
+    → new ≡ two ++ compact_text (part e.1)
+    → new ++ members_text (nat_lt 0 (i + 1)) (members_over part (drop (i + 1) es)) ≡ whole
+entries_more part es i e out one two new whole below here h comma key text =
+    ap (λ b. new ++ members_text b (members_over part (drop (i + 1) es))) (later i)
+    ∙ members_moved e.0.now (part e.1) (nat_lt 0 i) (members_over part (drop (i + 1) es))
+    out one two new whole
+    (ap (λ xs. out ++ members_text (nat_lt 0 i) (members_over part xs))
+    (sym (drop_at es i e below here)) ∙ h) comma key text
+
+pub entries_end : (part : ℕ → Data) (es : Entries) (i : ℕ) (out new whole : List ℕ)
+    → length es ≤ i → out ++ members_text (nat_lt 0 i) (members_over part (drop i es)) ≡ whole
+    → new ≡ out ++ 125 ∷ [] → new ≡ whole
+entries_end part es i out new whole all h is =
+    is ∙ ap (λ s. out ++ s) (sym (ap (λ xs. members_text (nat_lt 0 i) (members_over part xs))
+    (drop_all i es all))) ∙ h
+
+-- what holds of all holds of the one at i
+pub element_at : {A : Type 0} (P : A → Type 0) (xs : List A) (i : ℕ) (x : A) → i < length xs
+    → x ≡ get_or xs i x → AllByRecursion P xs → P x
+element_at P [] i x below here all = absurd (omega arith)
+element_at P (y ∷ xs) zero x below here all = subst P (sym here) all.0
+element_at P (y ∷ xs) (suc i) x below here all = element_at P xs i x (omega arith) here all.1

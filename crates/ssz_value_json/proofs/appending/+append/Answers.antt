@@ -1,4 +1,4 @@
-use Rattle.std.proofs.Common.{◌∙◌, ◌≡◌, ◌++◌, ap, ap₂, sym, subst, arith, rules, length, decimal, Some, None, slice_get, ◌<◌, [], ◌∷◌, append_assoc, refl, false}
+use Rattle.std.proofs.Common.{◌∙◌, ◌≡◌, ◌++◌, ap, ap₂, sym, subst, arith, rules, length, decimal, Some, None, slice_get, ◌<◌, ◌≤◌, [], ◌∷◌, append_assoc, refl, false}
 use Rattle.std.specs.List.{AllByRecursion}
 use Rattle.std.proofs.lemmas.List.Elements.{All-from_recursion}
 use Rattle.std.proofs.lemmas.Result.{on_ok_weaker}
@@ -17,11 +17,11 @@ use Rattle.ssz_value.proofs.FormLemmas.{seq_elements, seq_fields, chosen_fits, u
 use Rattle.ssz_value.proofs.OptionLemmas.{option_below}
 use Rattle.ssz_value_json.specs.Strings.{hex_text}
 use Rattle.ssz_value_json.specs.Text.{json}
-use Rattle.ssz_value_json.specs.Order.{members_over, IsFieldOf}
+use Rattle.ssz_schema.specs.Legal.{IsLegal}
 use Rattle.ssz_value_json.proofs.Keeping.{joined, keeps_trans}
 use Rattle.ssz_value_json.proofs.Names.{fields_are_named}
 use Rattle.ssz_value_json.proofs.Forms.{seq_json, bytes_json, container_json, chosen_text, none_text}
-use Rattle.ssz_value_json.proofs.Pieces.{elements_left, elements_more, elements_end, members_moved, members_of_fields, part_json, part_json_at, value_at_field}
+use Rattle.ssz_value_json.proofs.Pieces.{elements_left, elements_more, elements_end, element_at, entries_more, entries_end, members_of_fields, part_json, part_json_at, value_at_field}
 use Rattle.ssz_value_json.proofs.appending.+append.Goals as goal
 
 pub append_value-returns-in-Uint-clause-text : goal.append_value-returns-in-Uint-clause-text
@@ -31,8 +31,8 @@ append_value-returns-in-Uint-clause-text t c =
     (ap (tree_over c.args.schema.now.trees) (sym c.in-Uint.is) ∙ c.ty.ensures.form))
     (c.put_number.ensures.text c.in-Uint.field-0)
 
-pub append_sequence-append_elements-requires : goal.append_sequence-append_elements-requires
-append_sequence-append_elements-requires t c =
+pub append_sequence-append_parts-requires : goal.append_sequence-append_parts-requires
+append_sequence-append_parts-requires t c =
     let all = seq_elements (type_of c.args.schema.now c.args.elem) c.in-Seq.parts
     (subst (IsSequence (type_of c.args.schema.now c.args.elem)) c.in-Seq.is c.requires.value) in
     let parts : AllByRecursion
@@ -43,11 +43,11 @@ append_sequence-append_elements-requires t c =
 
 pub append_sequence-returns-in-Seq-clause-text : goal.append_sequence-returns-in-Seq-clause-text
 append_sequence-returns-in-Seq-clause-text t c =
-    on_ok_weaker c.append_elements.result
+    on_ok_weaker c.append_parts.result
     (λ e. e ∙ sym (ap (λ d. c.args.out.now.items ++ compact_text d)
     (seq_json (type_of c.args.schema.now c.args.elem) c.args.value.now c.in-Seq.parts
     c.as_slice.result.now c.in-Seq.is c.requires.value c.as_slice.ensures.value)))
-    c.append_elements.ensures.text
+    c.append_parts.ensures.text
 
 pub append_sequence-returns-in-Bytes-clause-text :
     goal.append_sequence-returns-in-Bytes-clause-text
@@ -143,103 +143,154 @@ append_chosen-returns-in-None-clause-text t c =
     ∙ ap (λ s. c.args.out.now.items ++ s) (sym text))
     c.put-in-None.ensures.text
 
-pub append_container-append_fields-requires : goal.append_container-append_fields-requires
-append_container-append_fields-requires t c =
-    let all = seq_fields (fields_over c.args.schema.now.trees c.args.fields.now) c.in-Seq.parts
-    (subst (IsValue (container (fields_over c.args.schema.now.trees c.args.fields.now)))
+pub append_row-append_fields-requires : goal.append_row-append_fields-requires
+append_row-append_fields-requires t c =
+    let all = seq_fields (fields_over c.args.schema.now.trees c.args.row.now.fields.now) c.in-Seq.parts
+    (subst (IsValue (container (fields_over c.args.schema.now.trees c.args.row.now.fields.now)))
     c.in-Seq.is c.requires.value) in
-    let parts : AreFields (fields_over c.args.schema.now.trees c.args.fields.now)
+    let parts : AreFields (fields_over c.args.schema.now.trees c.args.row.now.fields.now)
     c.as_slice.result.now = subst
-    (AreFields (fields_over c.args.schema.now.trees c.args.fields.now))
+    (AreFields (fields_over c.args.schema.now.trees c.args.row.now.fields.now))
     (sym c.as_slice.ensures.value) all in
     search rules
 
-pub append_container-returns-in-Seq-clause-text : goal.append_container-returns-in-Seq-clause-text
-append_container-returns-in-Seq-clause-text t c =
+pub append_row-returns-in-Seq-clause-text : goal.append_row-returns-in-Seq-clause-text
+append_row-returns-in-Seq-clause-text t c =
     on_ok_weaker c.append_fields.result
     (λ e. e ∙ sym (ap (λ d. c.args.out.now.items ++ compact_text d)
-    (container_json (fields_over c.args.schema.now.trees c.args.fields.now) c.args.value.now
+    (container_json (fields_over c.args.schema.now.trees c.args.row.now.fields.now) c.args.value.now
     c.in-Seq.parts c.as_slice.result.now c.in-Seq.is c.as_slice.ensures.value)))
     c.append_fields.ensures.text
 
-pub append_fields-loop-name-init : goal.append_fields-loop-name-init
-append_fields-loop-name-init t c =
-    let order = c.in_ok-order.ensures in
+pub append_fields-loop-i-init : goal.append_fields-loop-i-init
+append_fields-loop-i-init t c =
+    let order = c.requires.ordered in
     let trees = c.args.schema.now.trees in
-    let part = part_json trees c.args.fields.now c.args.parts.now in
-    let same = field_count_is trees c.args.fields.now c.args.parts.now c.requires.parts in
+    let fields = c.args.row.now.fields.now in
+    let part = part_json trees c.args.row.now.fields.now c.args.parts.now in
+    let same = field_count_is trees fields c.args.parts.now c.requires.parts in
     record {
       text = ap₂ (λ s ms. s ++ members_text false ms) c.in_ok-put.ensures.text
-          (order.members part ∙ members_of_fields trees c.args.fields.now c.args.parts.now same)
+          (order.members part ∙ members_of_fields trees fields c.args.parts.now same)
           ∙ append_assoc c.args.out.now.items (123 ∷ []) _;
-      each = order.each;
       front = c.in_ok-put.ensures.front;
     }
 
 pub append_fields-put_key-requires : goal.append_fields-put_key-requires
 append_fields-put_key-requires t c =
-    let fields = c.args.fields.now in
-    let each = subst (AllByRecursion (IsFieldOf c.args.fields.now)) c.in-Some.ensures.removal
-    c.loop-name.invariant.each in
-    subst IsName (sym each.0.1) (All-from_recursion (λ (part : Part). IsName part.0) fields
+    let fields = c.args.row.now.fields.now in
+    let field = c.member_at-number.ensures.field in
+    subst IsName (sym field.1) (All-from_recursion (λ (part : Part). IsName part.0) fields
     (fields_are_named c.args.schema.now.format c.args.schema.now.trees fields c.requires.legal.1)
-    c.in-Some.i ([], 0) each.0.0)
+    c.member_at-number.result.1 ([], 0) field.0)
 
-pub append_fields-bounds-parts-i : goal.append_fields-bounds-parts-i
-append_fields-bounds-parts-i t c =
-    let each = subst (AllByRecursion (IsFieldOf c.args.fields.now)) c.in-Some.ensures.removal
-    c.loop-name.invariant.each in
-    let below : c.in-Some.i < length c.args.fields.now = each.0.0 in
-    let same = field_count_is c.args.schema.now.trees c.args.fields.now c.args.parts.now
+pub append_fields-bounds-parts-number : goal.append_fields-bounds-parts-number
+append_fields-bounds-parts-number t c =
+    let below : c.member_at-number.result.1 < length c.args.row.now.fields.now =
+    c.member_at-number.ensures.field.0 in
+    let same = field_count_is c.args.schema.now.trees c.args.row.now.fields.now c.args.parts.now
     c.requires.parts in
     omega arith
 
 pub append_fields-append_value-requires : goal.append_fields-append_value-requires
 append_fields-append_value-requires t c =
-    let each = subst (AllByRecursion (IsFieldOf c.args.fields.now)) c.in-Some.ensures.removal
-    c.loop-name.invariant.each in
-    let within : c.in-Some.i < length c.args.fields.now = each.0.0 in
-    let same = field_count_is c.args.schema.now.trees c.args.fields.now c.args.parts.now
-    c.requires.parts in
-    let value : IsValue (tree_at c.args.schema.now.trees c.index-fields-i.result.1)
-    c.index-parts-i.result =
-    value_at_field c.args.schema.now.trees c.args.fields.now c.args.parts.now c.in-Some.i
-    c.index-fields-i.result c.index-parts-i.result c.requires.parts within (omega arith)
-    c.index-fields-i.is c.index-parts-i.is in
-    let below : c.index-fields-i.result.1 < c.args.id =
-    part_known c.args.id c.args.fields.now c.in-Some.i c.index-fields-i.result within
-    c.index-fields-i.is c.requires.before in
+    let fields = c.args.row.now.fields.now in
+    let within : c.member_at-number.result.1 < length c.args.row.now.fields.now =
+    c.member_at-number.ensures.field.0 in
+    let same = field_count_is c.args.schema.now.trees fields c.args.parts.now c.requires.parts in
+    let value : IsValue (tree_at c.args.schema.now.trees c.index-row-number.result.1)
+    c.index-parts-number.result =
+    value_at_field c.args.schema.now.trees fields c.args.parts.now c.member_at-number.result.1
+    c.index-row-number.result c.index-parts-number.result c.requires.parts within (omega arith)
+    c.index-row-number.is c.index-parts-number.is in
+    let below : c.index-row-number.result.1 < c.args.id =
+    part_known c.args.id fields c.member_at-number.result.1 c.index-row-number.result within
+    c.index-row-number.is c.requires.before in
     search rules
 
-pub append_fields-loop-name-preserved : goal.append_fields-loop-name-preserved
-append_fields-loop-name-preserved t c =
+pub append_fields-loop-i-preserved : goal.append_fields-loop-i-preserved
+append_fields-loop-i-preserved t c =
     let trees = c.args.schema.now.trees in
-    let part = part_json trees c.args.fields.now c.args.parts.now in
-    let each = subst (AllByRecursion (IsFieldOf c.args.fields.now)) c.in-Some.ensures.removal
-    c.loop-name.invariant.each in
-    let within : c.in-Some.i < length c.args.fields.now = each.0.0 in
-    let same = field_count_is c.args.schema.now.trees c.args.fields.now c.args.parts.now
-    c.requires.parts in
-    let json_is = part_json_at trees c.args.fields.now c.args.parts.now c.in-Some.i
-    c.index-fields-i.result c.index-parts-i.result within (omega arith)
-    c.index-fields-i.is c.index-parts-i.is in
+    let fields = c.args.row.now.fields.now in
+    let part = part_json trees fields c.args.parts.now in
+    let within : c.member_at-number.result.1 < length c.args.row.now.fields.now =
+    c.member_at-number.ensures.field.0 in
+    let same = field_count_is trees fields c.args.parts.now c.requires.parts in
+    let json_is = part_json_at trees fields c.args.parts.now c.member_at-number.result.1
+    c.index-row-number.result c.index-parts-number.result within (omega arith)
+    c.index-row-number.is c.index-parts-number.is in
+    let below : c.loop-i.i < length c.args.row.now.order.items =
+    omega (arith, c.loop-i-test.true, c.len-i-end.ensures) in
     record {
-      text = members_moved c.in-Some.name.now (part c.in-Some.i) c.loop-name.later
-          (members_over part c.pop_first.new.self.entries) c.loop-name.out.items
-          c.put_comma.new.out.items c.put_key.new.out.items c.append_value.new.out.items _
-          (ap (λ es. c.loop-name.out.items ++ members_text c.loop-name.later
-          (members_over part es)) (sym c.in-Some.ensures.removal) ∙ c.loop-name.invariant.text)
-          c.in_ok-put_comma.ensures.text c.in_ok-put_key.ensures.text
+      text = entries_more part c.args.row.now.order.items c.loop-i.i c.member_at-number.result
+          c.loop-i.out.items c.put_comma.new.out.items c.put_key.new.out.items
+          c.append_value.new.out.items _ below c.member_at-number.ensures.here
+          c.loop-i.invariant.text c.in_ok-put_comma.ensures.text c.in_ok-put_key.ensures.text
           (c.in_ok-append_value.ensures.text
           ∙ ap (λ (f : Part). c.put_key.new.out.items
-          ++ json (tree_at trees f.1) (value_of c.index-parts-i.result))
-          (sym c.index-fields-i.is)
+          ++ json (tree_at trees f.1) (value_of c.index-parts-number.result))
+          (sym c.index-row-number.is)
           ∙ ap (λ d. c.put_key.new.out.items ++ compact_text d) (sym json_is));
-      each = each.1;
-      front = keeps_trans (keeps_trans (keeps_trans c.loop-name.invariant.front
+      front = keeps_trans (keeps_trans (keeps_trans c.loop-i.invariant.front
           c.in_ok-put_comma.ensures.front) c.in_ok-put_key.ensures.front)
           c.in_ok-append_value.ensures.front;
     }
+
+pub append_rows-append_row-requires : goal.append_rows-append_row-requires
+append_rows-append_row-requires t c =
+    let trees = c.args.schema.now.trees in
+    let id = c.args.id in
+    let same = sym c.in_ok-row.ensures.fields in
+    let here : type_of c.args.schema.now c.args.id
+    ≡ container (fields_over c.args.schema.now.trees c.in_ok-row.row.fields.now) =
+    c.requires.form ∙ ap (λ fs. container (fields_over trees fs)) same in
+    let before : AllByRecursion (λ (part : Part). part.1 < c.args.id) c.in_ok-row.row.fields.now =
+    subst (AllByRecursion (λ (part : Part). part.1 < id)) same c.requires.before in
+    let legal : IsLegal c.args.schema.now.format
+    (container (fields_over c.args.schema.now.trees c.in_ok-row.row.fields.now)) =
+    subst (IsLegal c.args.schema.now.format) here c.requires.legal in
+    let value : IsValue
+    (container (fields_over c.args.schema.now.trees c.in_ok-row.row.fields.now))
+    c.index-parts-i.result =
+    subst (λ ty. IsValue ty c.index-parts-i.result) here
+    (element_at (IsValue (type_of c.args.schema.now id)) c.args.parts.now c.loop-i.i
+    c.index-parts-i.result c.loop-i-test.true c.index-parts-i.is c.requires.parts) in
+    search rules
+
+pub append_rows-loop-i-preserved : goal.append_rows-loop-i-preserved
+append_rows-loop-i-preserved t c =
+    let trees = c.args.schema.now.trees in
+    let v = c.index-parts-i.result in
+    let here : type_of c.args.schema.now c.args.id
+    ≡ container (fields_over c.args.schema.now.trees c.in_ok-row.row.fields.now) =
+    c.requires.form ∙ ap (λ fs. container (fields_over trees fs)) (sym c.in_ok-row.ensures.fields) in
+    record {
+      text = elements_more (type_of c.args.schema.now c.args.id) c.args.parts.now c.loop-i.i
+          c.index-parts-i.result c.loop-i.out.items c.put_comma.new.out.items
+          c.append_row.new.out.items _ c.loop-i-test.true c.index-parts-i.is
+          c.loop-i.invariant.text c.in_ok-put_comma.ensures.text
+          (c.in_ok-append_row.ensures.text
+          ∙ ap (λ ty. c.put_comma.new.out.items ++ json ty (value_of v)) (sym here));
+      front = keeps_trans (keeps_trans c.loop-i.invariant.front c.in_ok-put_comma.ensures.front)
+          c.in_ok-append_row.ensures.front;
+    }
+
+pub append_rows-returns-clause-text : goal.append_rows-returns-clause-text
+append_rows-returns-clause-text t c =
+    on_ok_weaker c.put-2.result
+    (λ e. elements_end (type_of c.args.schema.now c.args.id) c.args.parts.now c.loop-i.i
+    c.loop-i.out.items c.put-2.new.out.items _ c.loop-i-test.false c.loop-i.invariant.text e)
+    c.put-2.ensures.text
+
+pub append_fields-returns-clause-text : goal.append_fields-returns-clause-text
+append_fields-returns-clause-text t c =
+    let part = part_json c.args.schema.now.trees c.args.row.now.fields.now c.args.parts.now in
+    let all : length c.args.row.now.order.items ≤ c.loop-i.i =
+    omega (arith, c.loop-i-test.false, c.len-i-end.ensures) in
+    on_ok_weaker c.put-2.result
+    (λ e. entries_end part c.args.row.now.order.items c.loop-i.i
+    c.loop-i.out.items c.put-2.new.out.items _ all c.loop-i.invariant.text e)
+    c.put-2.ensures.text
 
 pub append_chosen-returns-in_err-put_decimal-in-Union-clause-front :
     goal.append_chosen-returns-in_err-put_decimal-in-Union-clause-front
@@ -285,27 +336,6 @@ append_elements-returns-in_err-append_value-clause-front t c =
 pub append_elements-returns-clause-front : goal.append_elements-returns-clause-front
 append_elements-returns-clause-front t c =
     keeps_trans c.loop-i.invariant.front c.put-2.ensures.front
-
-pub append_fields-returns-in_err-put_comma-clause-front :
-    goal.append_fields-returns-in_err-put_comma-clause-front
-append_fields-returns-in_err-put_comma-clause-front t c =
-    keeps_trans c.loop-name.invariant.front c.put_comma.ensures.front
-
-pub append_fields-returns-in_err-put_key-clause-front :
-    goal.append_fields-returns-in_err-put_key-clause-front
-append_fields-returns-in_err-put_key-clause-front t c =
-    keeps_trans (keeps_trans c.loop-name.invariant.front c.put_comma.ensures.front)
-    c.put_key.ensures.front
-
-pub append_fields-returns-in_err-append_value-clause-front :
-    goal.append_fields-returns-in_err-append_value-clause-front
-append_fields-returns-in_err-append_value-clause-front t c =
-    keeps_trans (keeps_trans (keeps_trans c.loop-name.invariant.front
-    c.put_comma.ensures.front) c.put_key.ensures.front) c.append_value.ensures.front
-
-pub append_fields-returns-clause-front : goal.append_fields-returns-clause-front
-append_fields-returns-clause-front t c =
-    keeps_trans c.loop-name.invariant.front c.put-2.ensures.front
 
 pub append_elements-loop-i-init : goal.append_elements-loop-i-init
 append_elements-loop-i-init t c = record {

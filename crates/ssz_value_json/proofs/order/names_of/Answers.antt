@@ -5,15 +5,15 @@ use Rattle.ssz_value.proofs.PartLemmas.{Part}
 use Rattle.serde_json.specs.Data.{Data}
 use Rattle.ssz_value_json.specs.Order.{members_from, members_over, IsFieldOf}
 use Rattle.ssz_value_json.proofs.NameOrder.{order_more, members_more}
-use Rattle.ssz_value_json.proofs.order.order_of.Goals as goal
+use Rattle.ssz_value_json.proofs.order.names_of.Goals as goal
 
 pub loop-number-init : goal.loop-number-init
 loop-number-init c =
     let fields = c.args.fields.now in
     record {
       within = omega arith;
-      fields = subst (AllByRecursion (IsFieldOf fields)) (sym c.new-order.ensures.empty) tt;
-      members = λ part. ap (members_over part) c.new-order.ensures.empty
+      fields = subst (AllByRecursion (IsFieldOf fields)) (sym c.new-names.ensures.empty) tt;
+      members = λ part. ap (members_over part) c.new-names.ensures.empty
           ∙ sym (ap (members_from part (length fields))
           (drop_all (length fields) fields (omega arith)));
     }
@@ -21,7 +21,7 @@ loop-number-init c =
 pub loop-number-preserved : goal.loop-number-preserved
 loop-number-preserved c =
     let fields = c.args.fields.now in
-    let es = c.loop-number.order.entries in
+    let es = c.loop-number.names.entries in
     let within = c.loop-number.invariant.within in
     let below : c.loop-number.number - 1 < length c.args.fields.now = omega arith in
     let next : c.loop-number.number ≡ c.loop-number.number - 1 + 1 = omega arith in
