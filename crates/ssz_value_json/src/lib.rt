@@ -1,16 +1,19 @@
 //! Values as JSON: one text for each value, both ways.
 //!
 //! `write_json` appends the text of a value, `read_json` gives the value whose text some bytes
-//! are, or their first fault. `serde_json` reads the bytes; what it reads is walked by the type to
-//! the first fault or a value, and a value is answered only where the bytes are its one text.
+//! are, or their first fault. `serde_json` reads the bytes; of what it reads a draft of the value
+//! is made. Where the bytes are not the draft's text, they are read anew and walked by the type to
+//! the first fault or a value. A value is answered only where the bytes are its one text.
 #![tactic(auto)]
 
 mod appending;
 mod count;
+mod draft;
 mod fault;
 mod law;
 mod measuring;
 mod order;
+mod piece;
 mod putting;
 mod reading;
 mod strings;

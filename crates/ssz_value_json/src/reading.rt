@@ -1,5 +1,5 @@
 //! From the bytes of a text to its value.
-ghost use Rattle.std.specs.Prelude.{◌≡◌, ◌<◌, length, map, Option, option_map, is_some, IfOk};
+ghost use Rattle.std.specs.Prelude.{◌≡◌, ◌<◌, length, map, Option, option_map, is_some, IfOk, IfSome};
 ghost use Rattle.std.specs.List.{AllByRecursion, list_all};
 ghost use Rattle.std.specs.Str.{bytes_eq};
 ghost use Rattle.serde_json.specs.Find.{get_member};
@@ -18,11 +18,13 @@ ghost use Rattle.ssz_value_json.specs.Answers.{Walks, ReadsTo, ReadsJson, IsFaul
 
 use super::appending::append_value;
 use super::count::{Count, allows};
+use super::draft::draft_of;
 use super::fault::{JsonFault, JsonRead};
+use super::piece::Piece;
 use super::strings::{bad, bits_in, bytes_in, flag_in, number_in};
 use serde_json::Value as Json;
 use ssz_schema::{Name, Schema, Ty, TypeId};
-use ssz_value::{Value, is_byte, option_at};
+use ssz_value::{Value, fits, is_byte, option_at};
 use std::alloc::{AllocError, Global};
 
 /// The one value of the type whose JSON text the bytes are.
@@ -36,6 +38,73 @@ pub fn read_json(
     id: TypeId,
     bytes: &[u8],
 ) -> Result<Value, JsonRead>
+    requires { id < length schema.now.trees }
+    ensures answer { ReadsTo (type_of schema.now id) bytes.now result }
+    ensures fits { IfOk result (IsValue (type_of schema.now id)) }
+{
+    if let Some(value) = value_spelled(alloc, schema, id, bytes)? {
+        let _legal = schema.ty(id);
+        return Ok(value);
+    }
+    read_whole(alloc, schema, id, bytes)
+}
+
+// The value whose text the bytes are, where the draft of it is that value. Else nothing is known of
+// the bytes.
+fn value_spelled(
+    alloc: Global,
+    schema: &Schema,
+    id: TypeId,
+    bytes: &[u8],
+) -> Result<Option<Value>, AllocError>
+    requires { id < length schema.now.trees }
+    ensures { let t = type_of schema.now id in IfOk result (λ found. IfSome found
+        (λ v. IsValue t v × (json t (value_of v) ≡ bytes.now))) }
+{
+    let Some(value) = drafted(alloc, schema, id, bytes)? else {
+        return Ok(None);
+    };
+    if !fits(schema, id, &value) {
+        return Ok(None);
+    }
+    if is_text_of(alloc, schema, id, &value, bytes)? {
+        Ok(Some(value))
+    } else {
+        Ok(None)
+    }
+}
+
+fn drafted(
+    alloc: Global,
+    schema: &Schema,
+    id: TypeId,
+    bytes: &[u8],
+) -> Result<Option<Value>, AllocError>
+    requires { id < length schema.now.trees }
+{
+    match draft_in(alloc, schema, id, bytes) {
+        Ok(draft) => Ok(Some(draft)),
+        Err(JsonRead::Bad(_)) => Ok(None),
+        Err(JsonRead::Memory) => Err(AllocError),
+    }
+}
+
+fn draft_in(alloc: Global, schema: &Schema, id: TypeId, bytes: &[u8]) -> Result<Value, JsonRead>
+    requires { id < length schema.now.trees }
+{
+    let piece = piece_of(alloc, bytes)?;
+    draft_of(alloc, schema, id, &piece)
+}
+
+fn piece_of(alloc: Global, bytes: &[u8]) -> Result<Piece<'_>, JsonRead> {
+    match serde_json::from_slice(alloc, bytes) {
+        Ok(piece) => Ok(piece),
+        Err(error) => Err(fault_of(&error)),
+    }
+}
+
+// The same as `read_json`, over the whole of the JSON that `serde_json` reads.
+fn read_whole(alloc: Global, schema: &Schema, id: TypeId, bytes: &[u8]) -> Result<Value, JsonRead>
     requires { id < length schema.now.trees }
     ensures answer { ReadsTo (type_of schema.now id) bytes.now result }
     ensures fits { IfOk result (IsValue (type_of schema.now id)) }

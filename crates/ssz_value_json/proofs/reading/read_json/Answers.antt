@@ -1,34 +1,19 @@
-use Rattle.std.proofs.Common.{◌∙◌, sym}
-use Rattle.std.proofs.lemmas.Slice.Eq.{bytes_eq-Decides}
-use Rattle.serde_json.specs.View.{view}
+use Rattle.std.proofs.Common.{◌≡◌, IfSome, subst}
 use Rattle.ssz_schema.specs.Unfolding.{type_of}
-use Rattle.ssz_value.specs.Standing.{value_of}
+use Rattle.ssz_value.specs.declared.value.Value.{Value}
+use Rattle.ssz_value.specs.Standing.{value_of, IsValue}
 use Rattle.ssz_value_json.specs.Text.{json}
-use Rattle.ssz_value_json.proofs.WalkFits.{fit_law}
-use Rattle.ssz_value_json.proofs.Exact.{read_same}
+use Rattle.ssz_value_json.proofs.Exact.{spelled_faultless}
 use Rattle.ssz_value_json.proofs.reading.read_json.Goals as goal
 
-pub is_text_of-requires-clause-value : goal.is_text_of-requires-clause-value
-is_text_of-requires-clause-value c = record {
-  fits = (fit_law (type_of c.args.schema.now c.args.id)).fits 0 c.value_in.new.number
-      (view c.in_ok-json.json) (value_of c.in_ok-value.value) c.in_ok-value.ensures.0;
-  formed = c.in_ok-value.ensures.1;
-}
-
-pub returns-clause-answer : goal.returns-clause-answer
-returns-clause-answer c =
+pub returns-in-Some-clause-answer : goal.returns-in-Some-clause-answer
+returns-in-Some-clause-answer c =
     let t = type_of c.args.schema.now c.args.id in
     let b = c.args.bytes.now in
-    let d = view c.in_ok-json.json in
-    let v = value_of c.in_ok-value.value in
-    let same = sym c.in_ok-is_text_of.ensures ∙ c.if-not-branch.false in (
-      read_same t b d v c.value_in.new.number c.in_ok-json.ensures c.in_ok-value.ensures.0 same,
-      (bytes_eq-Decides (json t v) b).0 same,
+    let v = c.in-Some.value in
+    let spelled = subst (λ found. IfSome found
+    (λ (w : Value). IsValue t w × (json t (value_of w) ≡ b))) c.in-Some.is c.in_ok-value.ensures in (
+      spelled_faultless c.args.schema.now.format t b (value_of v) c.ty-legal.ensures.legal
+          (record { fits = spelled.0.fits; text = spelled.1 }),
+      spelled.1,
     )
-
-pub returns-clause-fits : goal.returns-clause-fits
-returns-clause-fits c = record {
-  fits = (fit_law (type_of c.args.schema.now c.args.id)).fits 0 c.value_in.new.number
-      (view c.in_ok-json.json) (value_of c.in_ok-value.value) c.in_ok-value.ensures.0;
-  formed = c.in_ok-value.ensures.1;
-}
