@@ -10,15 +10,21 @@
  *  - During a call nothing else reads or writes what the call's pointers lead to, and what one
  *    pointer leads to that the call writes through overlaps nothing that another one leads to.
  *  - A handle is a variable of type ssz_schema or ssz_session. It begins as SSZ_SCHEMA_NONE or
- *    SSZ_SESSION_NONE and is changed by calls alone; it is neither copied nor moved while it holds
- *    something. One thread at a time uses it. Two handles know nothing of one another, and there is
- *    no state beside them.
+ *    SSZ_SESSION_NONE and is changed by calls alone; it is not copied while it holds something. One
+ *    thread at a time uses it. Two handles know nothing of one another, and there is no state
+ *    beside them. A handle has a mark of its kind while it holds something: one that was freed, a
+ *    handle of the other kind and one that was never set (short of a mark by chance) hold nothing.
  *  - malloc, realloc and free are those of one allocator; no call is made from a signal handler.
  *
  * What the library keeps: it frees all that it took at ssz_schema_free or ssz_session_end, it keeps
  * no pointer that it was given after the call has ended, and it never reads behind a length. Under
  * any status but SSZ_OK what stands behind a result's pointer is as it was; but SSZ_NO_ROOM comes
  * with a length, and so does each status of ssz_session_run but SSZ_NO_HANDLE and SSZ_NULL.
+ *
+ * What is looked at first, where more than one thing is wrong: the pointers, the handle, the number
+ * of the type, the length of the bytes, the names, the text of the path, whether it fits the type,
+ * the first fault of the bytes, whether the value has the part, and last the room. SSZ_NO_MEMORY
+ * may come in the place of any but the first four.
  */
 #ifndef SSZ_H
 #define SSZ_H
@@ -35,25 +41,33 @@ enum {
     SSZ_OK = 0,          /* it was done */
     SSZ_NO_HANDLE = 1,   /* the handle holds nothing: never read, or freed */
     SSZ_NO_TYPE = 2,     /* no type has this name, or this number */
-    SSZ_TOO_LONG = 3,    /* 2^32 bytes of a value or a line or more, or over 2^26 of a text */
+    SSZ_TOO_LONG = 3,    /* 2^32 bytes of a value, a line or JSON or more, or over 2^26 of a text */
     SSZ_INVALID = 4,     /* the bytes encode no value: code 1 to 11 for F1 to F11, and the byte */
     SSZ_BAD_SCHEMA = 5,  /* no schema: code 1 to 15 for S1 to S15, and the definition */
-    SSZ_SYNTAX = 6,      /* the text spells no path */
+    SSZ_SYNTAX = 6,      /* the text spells no path, no name or no index */
     SSZ_BAD_PATH = 7,    /* the path does not fit the type */
     SSZ_ABSENT = 8,      /* the path fits the type, and the value has no such part */
-    SSZ_BAD_PROOF = 9,   /* the text is no multiproof */
+    SSZ_BAD_PROOF = 9,   /* the text, or the chunks, are no proof */
     SSZ_UNLIKE = 10,     /* the proof leads to another root */
     SSZ_NO_MEMORY = 11,  /* want of memory */
     SSZ_NO_ROOM = 12,    /* too little room for what was found */
-    SSZ_REFUSED = 13,    /* a session refused the line: the reply says why */
+    SSZ_REFUSED = 13,    /* a session refused: the reply to a line says why, else the code */
     SSZ_NO_READ = 14,    /* the line's statement reads a file, and a session has none */
     SSZ_NO_WRITE = 15,   /* the line's statement writes a file, and a session has none */
-    SSZ_NULL = 16        /* a pointer is null */
+    SSZ_NULL = 16,       /* a pointer is null */
+    SSZ_NO_PLACE = 17,   /* the part is a bit or a length, which has no bytes of its own */
+    SSZ_BAD_JSON = 18    /* the JSON text of no value: code 1 to 8 for J1 to J8, and the part */
 };
 
+/* The version of this header; ssz_version answers that of the library, 65536 times the first number
+ * and 256 times the second and the third. */
+#define SSZ_VERSION "0.1.0"
+#define SSZ_VERSION_NUMBER 0x000100
+
 /* How a call ended, written by every call that takes one: the status that it answers, and of
- * SSZ_INVALID and SSZ_BAD_SCHEMA the code and where the fault lies; of what ssz_session_run did not
- * do, the position is the line's number; else two zeros. */
+ * SSZ_INVALID, SSZ_BAD_SCHEMA and SSZ_BAD_JSON the code and where the fault lies; of SSZ_REFUSED
+ * the number of the refusal's code (docs/formats.md), but of ssz_session_run, of which the position
+ * is the line's number where it was not done; else two zeros. */
 typedef struct {
     uint32_t status;
     uint32_t code;
@@ -82,6 +96,21 @@ typedef struct {
     uint64_t high;
 } ssz_index;
 
+/* A chunk of a proof, and where it stands in the tree. */
+typedef struct {
+    ssz_index index;
+    uint8_t chunk[32];
+} ssz_entry;
+
+/* Where the encoding of a part stands in that of the whole: its first byte, and how many. */
+typedef struct {
+    uint64_t start;
+    uint64_t len;
+} ssz_stretch;
+
+/* The version of the library. */
+uint32_t ssz_version(void);
+
 /* Reads the bytes of a schema file into the handle; what the handle held before is freed. Under any
  * status but SSZ_OK it then holds nothing. SSZ_BAD_SCHEMA, SSZ_NO_MEMORY. */
 uint32_t ssz_schema_read(ssz_schema *schema, const uint8_t *bytes, size_t len, ssz_fault *fault);
@@ -105,6 +134,23 @@ uint32_t ssz_check(ssz_schema *schema, uint64_t type, const uint8_t *bytes, size
 uint32_t ssz_root(ssz_schema *schema, uint64_t type, const uint8_t *bytes, size_t len,
                   uint8_t root[32], ssz_fault *fault);
 
+/* How many bytes each value of the type has; 0 where they differ. SSZ_NO_HANDLE, SSZ_NO_TYPE. */
+uint32_t ssz_size(ssz_schema *schema, uint64_t type, uint64_t *size, ssz_fault *fault);
+
+/* How many fields the type has; 0 where it is no container. SSZ_NO_HANDLE, SSZ_NO_TYPE. */
+uint32_t ssz_fields(ssz_schema *schema, uint64_t type, uint64_t *count, ssz_fault *fault);
+
+/* The name of the field at a place of the type, from 0: copied to room, which has room_len bytes,
+ * and its length in len. SSZ_ABSENT where there is none. SSZ_NO_HANDLE, SSZ_NO_TYPE,
+ * SSZ_NO_ROOM. */
+uint32_t ssz_field(ssz_schema *schema, uint64_t type, uint64_t place, uint8_t *room,
+                   size_t room_len, uint64_t *len, ssz_fault *fault);
+
+/* The encoding of the type's default, in room as for ssz_part. SSZ_NO_HANDLE, SSZ_NO_TYPE,
+ * SSZ_NO_MEMORY, SSZ_NO_ROOM. */
+uint32_t ssz_default(ssz_schema *schema, uint64_t type, uint8_t *room, size_t room_len,
+                     uint64_t *made_len, ssz_fault *fault);
+
 /* The generalized index of the part that a path leads to, as "/validators/7/slashed" or
  * "/list/#len". SSZ_NO_HANDLE, SSZ_NO_TYPE, SSZ_TOO_LONG, SSZ_SYNTAX, SSZ_BAD_PATH,
  * SSZ_NO_MEMORY. */
@@ -115,6 +161,19 @@ uint32_t ssz_gindex(ssz_schema *schema, uint64_t type, const uint8_t *path, size
  * SSZ_UNLIKE, SSZ_BAD_PROOF, SSZ_TOO_LONG, SSZ_NO_MEMORY. */
 uint32_t ssz_verify(const uint8_t root[32], const uint8_t *proof, size_t len);
 
+/* Whether a branch, chunks of 32 bytes from below, leads from the leaf to the root, as
+ * is_valid_merkle_branch does: index is the leaf's place in its level, counted from 0; the lower 64
+ * bits of its generalized index will do, since a level more of the branch takes a bit more of it.
+ * SSZ_OK or SSZ_UNLIKE; SSZ_BAD_PROOF where len is no multiple of 32. */
+uint32_t ssz_verify_branch(const uint8_t root[32], const uint8_t leaf[32], uint64_t index,
+                           const uint8_t *branch, size_t len);
+
+/* Whether the proof of these leaves, in any order, and these nodes, at the leaves' helper indices
+ * from the greatest down, leads to the root: SSZ_OK, or SSZ_UNLIKE, SSZ_BAD_PROOF,
+ * SSZ_NO_MEMORY. */
+uint32_t ssz_verify_all(const uint8_t root[32], const ssz_entry *leaves, size_t leaves_len,
+                        const ssz_entry *nodes, size_t nodes_len);
+
 /* The encoding of the part at a path, in bytes that encode a value of the type: copied to room,
  * which has room_len bytes, and its length in part_len. SSZ_NO_ROOM where there is too little room:
  * then only part_len is written, and says how much is wanted. A bit is one byte, a length
@@ -123,6 +182,24 @@ uint32_t ssz_verify(const uint8_t root[32], const uint8_t *proof, size_t len);
 uint32_t ssz_part(ssz_schema *schema, uint64_t type, const uint8_t *bytes, size_t len,
                   const uint8_t *path, size_t path_len, uint8_t *room, size_t room_len,
                   uint64_t *part_len, ssz_fault *fault);
+
+/* Where the part at a path stands in bytes that encode a value of the type; of a union's selector
+ * its one byte. SSZ_NO_PLACE of a bit and of a length. SSZ_NO_HANDLE, SSZ_NO_TYPE, SSZ_TOO_LONG,
+ * SSZ_SYNTAX, SSZ_INVALID, SSZ_BAD_PATH, SSZ_ABSENT, SSZ_NO_MEMORY. */
+uint32_t ssz_place(ssz_schema *schema, uint64_t type, const uint8_t *bytes, size_t len,
+                   const uint8_t *path, size_t path_len, ssz_stretch *place, ssz_fault *fault);
+
+/* The JSON text (docs/formats.md) of the value of the type that the bytes encode, in room as for
+ * ssz_part. SSZ_NO_HANDLE, SSZ_NO_TYPE, SSZ_TOO_LONG of the bytes or of the text, SSZ_INVALID,
+ * SSZ_NO_MEMORY, SSZ_NO_ROOM. */
+uint32_t ssz_to_json(ssz_schema *schema, uint64_t type, const uint8_t *bytes, size_t len,
+                     uint8_t *room, size_t room_len, uint64_t *text_len, ssz_fault *fault);
+
+/* The encoding of the value of the type whose JSON text the bytes are, in room as for ssz_part.
+ * SSZ_NO_HANDLE, SSZ_NO_TYPE, SSZ_TOO_LONG of the text or of the encoding, SSZ_BAD_JSON,
+ * SSZ_NO_MEMORY, SSZ_NO_ROOM. */
+uint32_t ssz_of_json(ssz_schema *schema, uint64_t type, const uint8_t *text, size_t len,
+                     uint8_t *room, size_t room_len, uint64_t *made_len, ssz_fault *fault);
 
 /* Begins a session over the schema that the bytes of a schema file define: an editor of values that
  * does the statements of scripts (docs/formats.md), one line at a time, and keeps the trees of all
@@ -149,6 +226,109 @@ uint32_t ssz_session_run(ssz_session *session, const uint8_t *line, size_t len,
 uint32_t ssz_session_reply(ssz_session *session, uint8_t *room, size_t room_len,
                            uint64_t *reply_len, ssz_fault *fault);
 
+/* The calls below do a statement of a script (docs/formats.md) each, without a line: names are
+ * those of versions and types, bytes are encodings, and paths are as for ssz_part. They count no
+ * line, and the last reply stays. Where a statement is refused, SSZ_REFUSED comes with the number
+ * of the refusal's code, or SSZ_INVALID with the first fault of the bytes. No version changed then,
+ * nor under any other status but SSZ_OK and SSZ_NO_ROOM, under which none does. Each has
+ * SSZ_NO_HANDLE and SSZ_NO_MEMORY, those with bytes or a path SSZ_TOO_LONG, and all but
+ * ssz_session_compact and ssz_session_nodes SSZ_SYNTAX, of what is no name, no path or no index.
+ * What they show has fewer than 2^32 bytes: more is SSZ_REFUSED, with 12. */
+
+/* `new`: the version has the default of the type. */
+uint32_t ssz_session_new(ssz_session *session, const uint8_t *name, size_t name_len,
+                         const uint8_t *type, size_t type_len, ssz_fault *fault);
+
+/* `lit`: the version has the value of the type that the bytes encode. */
+uint32_t ssz_session_load(ssz_session *session, const uint8_t *name, size_t name_len,
+                          const uint8_t *type, size_t type_len, const uint8_t *bytes, size_t len,
+                          ssz_fault *fault);
+
+/* `bytes`: the encoding of the part at a path, "/" of the whole, in room as for ssz_part. */
+uint32_t ssz_session_bytes(ssz_session *session, const uint8_t *name, size_t name_len,
+                           const uint8_t *path, size_t path_len, uint8_t *room, size_t room_len,
+                           uint64_t *part_len, ssz_fault *fault);
+
+/* `json`: the JSON text of the part at a path, in room as for ssz_part. */
+uint32_t ssz_session_json(ssz_session *session, const uint8_t *name, size_t name_len,
+                          const uint8_t *path, size_t path_len, uint8_t *room, size_t room_len,
+                          uint64_t *text_len, ssz_fault *fault);
+
+/* `len`: how many elements or bits the part at a path has. */
+uint32_t ssz_session_len(ssz_session *session, const uint8_t *name, size_t name_len,
+                         const uint8_t *path, size_t path_len, uint64_t *count, ssz_fault *fault);
+
+/* `set`: the part at a path becomes the value that the bytes encode. Where many elements of a list
+ * change, as all balances do in an epoch, one set of the whole list is cheaper than one of each. */
+uint32_t ssz_session_set(ssz_session *session, const uint8_t *name, size_t name_len,
+                         const uint8_t *path, size_t path_len, const uint8_t *bytes, size_t len,
+                         ssz_fault *fault);
+
+/* `append`: the list at a path gets the value that the bytes encode as its last. */
+uint32_t ssz_session_append(ssz_session *session, const uint8_t *name, size_t name_len,
+                            const uint8_t *path, size_t path_len, const uint8_t *bytes, size_t len,
+                            ssz_fault *fault);
+
+/* `pop`: the list at a path loses its last. */
+uint32_t ssz_session_pop(ssz_session *session, const uint8_t *name, size_t name_len,
+                         const uint8_t *path, size_t path_len, ssz_fault *fault);
+
+/* `choose`: the union at a path has the option of this number, with the value that the bytes
+ * encode, or with its default. */
+uint32_t ssz_session_choose(ssz_session *session, const uint8_t *name, size_t name_len,
+                            const uint8_t *path, size_t path_len, uint8_t selector,
+                            const uint8_t *bytes, size_t len, ssz_fault *fault);
+uint32_t ssz_session_choose_default(ssz_session *session, const uint8_t *name, size_t name_len,
+                                    const uint8_t *path, size_t path_len, uint8_t selector,
+                                    ssz_fault *fault);
+
+/* `fork`: the other name has the version's value, too. They share all nodes. */
+uint32_t ssz_session_fork(ssz_session *session, const uint8_t *name, size_t name_len,
+                          const uint8_t *other, size_t other_len, ssz_fault *fault);
+
+/* `drop`: the version is given up. Its nodes stay until ssz_session_compact. */
+uint32_t ssz_session_drop(ssz_session *session, const uint8_t *name, size_t name_len,
+                          ssz_fault *fault);
+
+/* `upgrade`: the other name has a container of the type, with the version's fields where both have
+ * them and defaults where not. */
+uint32_t ssz_session_upgrade(ssz_session *session, const uint8_t *name, size_t name_len,
+                             const uint8_t *other, size_t other_len, const uint8_t *type,
+                             size_t type_len, ssz_fault *fault);
+
+/* `root`: the hash_tree_root, in the 32 bytes at root. What was hashed is kept. */
+uint32_t ssz_session_root(ssz_session *session, const uint8_t *name, size_t name_len,
+                          uint8_t root[32], ssz_fault *fault);
+
+/* `gindex`: the generalized index of a path by the type. */
+uint32_t ssz_session_gindex(ssz_session *session, const uint8_t *type, size_t type_len,
+                            const uint8_t *path, size_t path_len, ssz_index *index,
+                            ssz_fault *fault);
+
+/* `prove` of one index, a path or a decimal number: the chunk there, and then those beside its way
+ * to the root, from below, in room as for ssz_part. What ssz_verify_branch takes: the first 32
+ * bytes are the leaf, those behind them the branch. */
+uint32_t ssz_session_prove(ssz_session *session, const uint8_t *name, size_t name_len,
+                           const uint8_t *index, size_t index_len, uint8_t *room, size_t room_len,
+                           uint64_t *proof_len, ssz_fault *fault);
+
+/* `prove` of one index or more: the leaves in ascending order of index, and behind them the nodes
+ * in descending order. Copied to room, which has room_len entries; how many leaves there are stands
+ * in leaves, and how many entries in all in proof_len, under SSZ_NO_ROOM, too. What ssz_verify_all
+ * takes: the first are its leaves, those behind them its nodes. SSZ_SYNTAX of no index at all. */
+uint32_t ssz_session_prove_all(ssz_session *session, const uint8_t *name, size_t name_len,
+                               const ssz_index *indices, size_t indices_len, ssz_entry *room,
+                               size_t room_len, uint64_t *leaves, uint64_t *proof_len,
+                               ssz_fault *fault);
+
+/* `compact`: nodes that no version needs are given up. It takes memory for those that are needed
+ * before it frees. */
+uint32_t ssz_session_compact(ssz_session *session, ssz_fault *fault);
+
+/* How many nodes there are, with those that no version needs any more and the 127 zero trees: a
+ * measure of when to compact. SSZ_NO_HANDLE. */
+uint32_t ssz_session_nodes(ssz_session *session, uint64_t *count, ssz_fault *fault);
+
 /* Ends the session and frees what it holds. SSZ_NO_HANDLE where there is none, as after a first
  * end. */
 uint32_t ssz_session_end(ssz_session *session);
@@ -156,6 +336,32 @@ uint32_t ssz_session_end(ssz_session *session);
 #ifdef __cplusplus
 }
 #endif
+
+/* What a status says. */
+static inline const char *ssz_status_text(uint32_t status) {
+    switch (status) {
+    case SSZ_OK: return "it was done";
+    case SSZ_NO_HANDLE: return "the handle holds nothing";
+    case SSZ_NO_TYPE: return "no type has this name or number";
+    case SSZ_TOO_LONG: return "too many bytes";
+    case SSZ_INVALID: return "the bytes encode no value";
+    case SSZ_BAD_SCHEMA: return "the bytes are no schema";
+    case SSZ_SYNTAX: return "the text spells no path, name or index";
+    case SSZ_BAD_PATH: return "the path does not fit the type";
+    case SSZ_ABSENT: return "the value has no such part";
+    case SSZ_BAD_PROOF: return "this is no proof";
+    case SSZ_UNLIKE: return "the proof leads to another root";
+    case SSZ_NO_MEMORY: return "out of memory";
+    case SSZ_NO_ROOM: return "too little room for what was found";
+    case SSZ_REFUSED: return "the session refused";
+    case SSZ_NO_READ: return "a session has no file to read";
+    case SSZ_NO_WRITE: return "a session has no file to write";
+    case SSZ_NULL: return "a pointer is null";
+    case SSZ_NO_PLACE: return "a bit or a length has no bytes of its own";
+    case SSZ_BAD_JSON: return "the JSON text of no value";
+    default: return "no status";
+    }
+}
 
 /* Null pointers. The library's calls above take none: each name stands from here on for a function
  * that answers SSZ_NULL where a pointer is null, and else makes the call. Other languages make the
@@ -252,5 +458,236 @@ static inline uint32_t ssz_session_end_given(ssz_session *session) {
     return ssz_session_end(session);
 }
 #define ssz_session_end ssz_session_end_given
+
+static inline uint32_t ssz_size_given(ssz_schema *schema, uint64_t type, uint64_t *size,
+                                      ssz_fault *fault) {
+    if (!schema || !size || !fault) return ssz_null(fault);
+    return ssz_size(schema, type, size, fault);
+}
+#define ssz_size ssz_size_given
+
+static inline uint32_t ssz_fields_given(ssz_schema *schema, uint64_t type, uint64_t *count,
+                                        ssz_fault *fault) {
+    if (!schema || !count || !fault) return ssz_null(fault);
+    return ssz_fields(schema, type, count, fault);
+}
+#define ssz_fields ssz_fields_given
+
+static inline uint32_t ssz_field_given(ssz_schema *schema, uint64_t type, uint64_t place,
+                                       uint8_t *room, size_t room_len, uint64_t *len,
+                                       ssz_fault *fault) {
+    if (!schema || !room || !len || !fault) return ssz_null(fault);
+    return ssz_field(schema, type, place, room, room_len, len, fault);
+}
+#define ssz_field ssz_field_given
+
+static inline uint32_t ssz_default_given(ssz_schema *schema, uint64_t type, uint8_t *room,
+                                         size_t room_len, uint64_t *made_len, ssz_fault *fault) {
+    if (!schema || !room || !made_len || !fault) return ssz_null(fault);
+    return ssz_default(schema, type, room, room_len, made_len, fault);
+}
+#define ssz_default ssz_default_given
+
+static inline uint32_t ssz_verify_branch_given(const uint8_t root[32], const uint8_t leaf[32],
+                                               uint64_t index, const uint8_t *branch, size_t len) {
+    if (!root || !leaf || !branch) return SSZ_NULL;
+    return ssz_verify_branch(root, leaf, index, branch, len);
+}
+#define ssz_verify_branch ssz_verify_branch_given
+
+static inline uint32_t ssz_verify_all_given(const uint8_t root[32], const ssz_entry *leaves,
+                                            size_t leaves_len, const ssz_entry *nodes,
+                                            size_t nodes_len) {
+    if (!root || !leaves || !nodes) return SSZ_NULL;
+    return ssz_verify_all(root, leaves, leaves_len, nodes, nodes_len);
+}
+#define ssz_verify_all ssz_verify_all_given
+
+static inline uint32_t ssz_place_given(ssz_schema *schema, uint64_t type, const uint8_t *bytes,
+                                       size_t len, const uint8_t *path, size_t path_len,
+                                       ssz_stretch *place, ssz_fault *fault) {
+    if (!schema || !bytes || !path || !place || !fault) return ssz_null(fault);
+    return ssz_place(schema, type, bytes, len, path, path_len, place, fault);
+}
+#define ssz_place ssz_place_given
+
+static inline uint32_t ssz_to_json_given(ssz_schema *schema, uint64_t type, const uint8_t *bytes,
+                                         size_t len, uint8_t *room, size_t room_len,
+                                         uint64_t *text_len, ssz_fault *fault) {
+    if (!schema || !bytes || !room || !text_len || !fault) return ssz_null(fault);
+    return ssz_to_json(schema, type, bytes, len, room, room_len, text_len, fault);
+}
+#define ssz_to_json ssz_to_json_given
+
+static inline uint32_t ssz_of_json_given(ssz_schema *schema, uint64_t type, const uint8_t *text,
+                                         size_t len, uint8_t *room, size_t room_len,
+                                         uint64_t *made_len, ssz_fault *fault) {
+    if (!schema || !text || !room || !made_len || !fault) return ssz_null(fault);
+    return ssz_of_json(schema, type, text, len, room, room_len, made_len, fault);
+}
+#define ssz_of_json ssz_of_json_given
+
+static inline uint32_t ssz_session_new_given(ssz_session *session, const uint8_t *name,
+                                             size_t name_len, const uint8_t *type, size_t type_len,
+                                             ssz_fault *fault) {
+    if (!session || !name || !type || !fault) return ssz_null(fault);
+    return ssz_session_new(session, name, name_len, type, type_len, fault);
+}
+#define ssz_session_new ssz_session_new_given
+
+static inline uint32_t ssz_session_load_given(ssz_session *session, const uint8_t *name,
+                                              size_t name_len, const uint8_t *type, size_t type_len,
+                                              const uint8_t *bytes, size_t len, ssz_fault *fault) {
+    if (!session || !name || !type || !bytes || !fault) return ssz_null(fault);
+    return ssz_session_load(session, name, name_len, type, type_len, bytes, len, fault);
+}
+#define ssz_session_load ssz_session_load_given
+
+static inline uint32_t ssz_session_bytes_given(ssz_session *session, const uint8_t *name,
+                                               size_t name_len, const uint8_t *path,
+                                               size_t path_len, uint8_t *room, size_t room_len,
+                                               uint64_t *part_len, ssz_fault *fault) {
+    if (!session || !name || !path || !room || !part_len || !fault) return ssz_null(fault);
+    return ssz_session_bytes(session, name, name_len, path, path_len, room, room_len, part_len,
+                             fault);
+}
+#define ssz_session_bytes ssz_session_bytes_given
+
+static inline uint32_t ssz_session_json_given(ssz_session *session, const uint8_t *name,
+                                              size_t name_len, const uint8_t *path, size_t path_len,
+                                              uint8_t *room, size_t room_len, uint64_t *text_len,
+                                              ssz_fault *fault) {
+    if (!session || !name || !path || !room || !text_len || !fault) return ssz_null(fault);
+    return ssz_session_json(session, name, name_len, path, path_len, room, room_len, text_len,
+                            fault);
+}
+#define ssz_session_json ssz_session_json_given
+
+static inline uint32_t ssz_session_len_given(ssz_session *session, const uint8_t *name,
+                                             size_t name_len, const uint8_t *path, size_t path_len,
+                                             uint64_t *count, ssz_fault *fault) {
+    if (!session || !name || !path || !count || !fault) return ssz_null(fault);
+    return ssz_session_len(session, name, name_len, path, path_len, count, fault);
+}
+#define ssz_session_len ssz_session_len_given
+
+static inline uint32_t ssz_session_set_given(ssz_session *session, const uint8_t *name,
+                                             size_t name_len, const uint8_t *path, size_t path_len,
+                                             const uint8_t *bytes, size_t len, ssz_fault *fault) {
+    if (!session || !name || !path || !bytes || !fault) return ssz_null(fault);
+    return ssz_session_set(session, name, name_len, path, path_len, bytes, len, fault);
+}
+#define ssz_session_set ssz_session_set_given
+
+static inline uint32_t ssz_session_append_given(ssz_session *session, const uint8_t *name,
+                                                size_t name_len, const uint8_t *path,
+                                                size_t path_len, const uint8_t *bytes, size_t len,
+                                                ssz_fault *fault) {
+    if (!session || !name || !path || !bytes || !fault) return ssz_null(fault);
+    return ssz_session_append(session, name, name_len, path, path_len, bytes, len, fault);
+}
+#define ssz_session_append ssz_session_append_given
+
+static inline uint32_t ssz_session_pop_given(ssz_session *session, const uint8_t *name,
+                                             size_t name_len, const uint8_t *path, size_t path_len,
+                                             ssz_fault *fault) {
+    if (!session || !name || !path || !fault) return ssz_null(fault);
+    return ssz_session_pop(session, name, name_len, path, path_len, fault);
+}
+#define ssz_session_pop ssz_session_pop_given
+
+static inline uint32_t ssz_session_choose_given(ssz_session *session, const uint8_t *name,
+                                                size_t name_len, const uint8_t *path,
+                                                size_t path_len, uint8_t selector,
+                                                const uint8_t *bytes, size_t len,
+                                                ssz_fault *fault) {
+    if (!session || !name || !path || !bytes || !fault) return ssz_null(fault);
+    return ssz_session_choose(session, name, name_len, path, path_len, selector, bytes, len, fault);
+}
+#define ssz_session_choose ssz_session_choose_given
+
+static inline uint32_t ssz_session_choose_default_given(ssz_session *session, const uint8_t *name,
+                                                        size_t name_len, const uint8_t *path,
+                                                        size_t path_len, uint8_t selector,
+                                                        ssz_fault *fault) {
+    if (!session || !name || !path || !fault) return ssz_null(fault);
+    return ssz_session_choose_default(session, name, name_len, path, path_len, selector, fault);
+}
+#define ssz_session_choose_default ssz_session_choose_default_given
+
+static inline uint32_t ssz_session_fork_given(ssz_session *session, const uint8_t *name,
+                                              size_t name_len, const uint8_t *other,
+                                              size_t other_len, ssz_fault *fault) {
+    if (!session || !name || !other || !fault) return ssz_null(fault);
+    return ssz_session_fork(session, name, name_len, other, other_len, fault);
+}
+#define ssz_session_fork ssz_session_fork_given
+
+static inline uint32_t ssz_session_drop_given(ssz_session *session, const uint8_t *name,
+                                              size_t name_len, ssz_fault *fault) {
+    if (!session || !name || !fault) return ssz_null(fault);
+    return ssz_session_drop(session, name, name_len, fault);
+}
+#define ssz_session_drop ssz_session_drop_given
+
+static inline uint32_t ssz_session_upgrade_given(ssz_session *session, const uint8_t *name,
+                                                 size_t name_len, const uint8_t *other,
+                                                 size_t other_len, const uint8_t *type,
+                                                 size_t type_len, ssz_fault *fault) {
+    if (!session || !name || !other || !type || !fault) return ssz_null(fault);
+    return ssz_session_upgrade(session, name, name_len, other, other_len, type, type_len, fault);
+}
+#define ssz_session_upgrade ssz_session_upgrade_given
+
+static inline uint32_t ssz_session_root_given(ssz_session *session, const uint8_t *name,
+                                              size_t name_len, uint8_t root[32], ssz_fault *fault) {
+    if (!session || !name || !root || !fault) return ssz_null(fault);
+    return ssz_session_root(session, name, name_len, root, fault);
+}
+#define ssz_session_root ssz_session_root_given
+
+static inline uint32_t ssz_session_gindex_given(ssz_session *session, const uint8_t *type,
+                                                size_t type_len, const uint8_t *path,
+                                                size_t path_len, ssz_index *index,
+                                                ssz_fault *fault) {
+    if (!session || !type || !path || !index || !fault) return ssz_null(fault);
+    return ssz_session_gindex(session, type, type_len, path, path_len, index, fault);
+}
+#define ssz_session_gindex ssz_session_gindex_given
+
+static inline uint32_t ssz_session_prove_given(ssz_session *session, const uint8_t *name,
+                                               size_t name_len, const uint8_t *index,
+                                               size_t index_len, uint8_t *room, size_t room_len,
+                                               uint64_t *proof_len, ssz_fault *fault) {
+    if (!session || !name || !index || !room || !proof_len || !fault) return ssz_null(fault);
+    return ssz_session_prove(session, name, name_len, index, index_len, room, room_len, proof_len,
+                             fault);
+}
+#define ssz_session_prove ssz_session_prove_given
+
+static inline uint32_t ssz_session_prove_all_given(ssz_session *session, const uint8_t *name,
+                                                   size_t name_len, const ssz_index *indices,
+                                                   size_t indices_len, ssz_entry *room,
+                                                   size_t room_len, uint64_t *leaves,
+                                                   uint64_t *proof_len, ssz_fault *fault) {
+    if (!session || !name || !indices || !room || !leaves || !proof_len || !fault)
+        return ssz_null(fault);
+    return ssz_session_prove_all(session, name, name_len, indices, indices_len, room, room_len,
+                                 leaves, proof_len, fault);
+}
+#define ssz_session_prove_all ssz_session_prove_all_given
+
+static inline uint32_t ssz_session_compact_given(ssz_session *session, ssz_fault *fault) {
+    if (!session || !fault) return ssz_null(fault);
+    return ssz_session_compact(session, fault);
+}
+#define ssz_session_compact ssz_session_compact_given
+
+static inline uint32_t ssz_session_nodes_given(ssz_session *session, uint64_t *count,
+                                               ssz_fault *fault) {
+    if (!session || !count || !fault) return ssz_null(fault);
+    return ssz_session_nodes(session, count, fault);
+}
+#define ssz_session_nodes ssz_session_nodes_given
 
 #endif

@@ -8,8 +8,8 @@ use Rattle.std_alloc.proofs.BoxSteps.Form.{Bx}
 use Rattle.std_heap.specs.contracts.Global as Heap
 use Rattle.std_heap.specs.contracts.GlobalAllocator.TheImpl.{ghosts, dict}
 use Rattle.std_heap.proofs.Global.TheLaws as heap
-use Rattle.ssz_c.specs.contracts.library.Library as Home
-use Rattle.ssz_c.proofs.library.Library.TheLaws as home
+use Rattle.ssz_typed.specs.contracts.library.Library as Home
+use Rattle.ssz_typed.proofs.library.Library.TheLaws as home
 use Rattle.ssz_c.specs.contracts.session.Session as Session
 use Rattle.ssz_c.proofs.session.Session.TheLaws as session
 use Rattle.ssz_c.specs.contracts.parts.Parts as Parts

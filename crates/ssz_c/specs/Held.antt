@@ -8,7 +8,7 @@ use Rattle.std.specs.Coded.{coded_option}
 use Rattle.std.specs.Global.{Global}
 use Rattle.std.specs.Prelude.{ℕ, Option, None, Some}
 use Rattle.std_heap.specs.contracts.GlobalAllocator.TheImpl.{ghosts}
-use Rattle.ssz_c.specs.contracts.library.Library as library
+use Rattle.ssz_typed.specs.contracts.library.Library as library
 use Rattle.ssz_c.specs.contracts.session.Session as session
 
 -- the box of what is held, at its place, or nothing
@@ -29,7 +29,7 @@ library_coded = coded_option library.the_row.coded
 abbrev pub session_coded : Coded (Option session.the_row.Denot)
 session_coded = coded_option session.the_row.coded
 
--- 1 where a handle holds something, else 0
-abbrev pub live_of : {A : Type 0} → Option A → ℕ
-live_of None = 0
-live_of (Some held) = 1
+-- the mark of its kind where a handle holds something, else 0
+abbrev pub live_of : {A : Type 0} → ℕ → Option A → ℕ
+live_of mark None = 0
+live_of mark (Some held) = mark

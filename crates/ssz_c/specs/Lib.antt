@@ -1,8 +1,4 @@
-pub mod Outcome
-pub mod Numbers
-pub mod Library
-pub mod Calls
-pub mod Verdict
 pub mod Held
 pub mod Reading
 pub mod Session
+pub mod Answering

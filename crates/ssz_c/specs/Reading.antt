@@ -1,10 +1,16 @@
--- What the calls say that read a schema or name a type.
+-- What the calls of a schema say, over what a handle holds.
 use Rattle.std.specs.Prelude.{◌≡◌, ℕ, List, Option, None, Some, Ok, Err}
-use Rattle.ssz_c.specs.declared.fault.SszFault.{SszFault}
-use Rattle.ssz_c.specs.declared.library.Library.{Library}
-use Rattle.ssz_c.specs.declared.status.TheConstants.{OK, NO_HANDLE}
-use Rattle.ssz_c.specs.Library.{ReadsLibrary, Names}
-use Rattle.ssz_c.specs.Outcome.{Outcome, IsGiven, done, refused}
+use Rattle.ssz_said.specs.declared.fault.SszFault.{SszFault}
+use Rattle.ssz_typed.specs.declared.library.Library.{Library}
+use Rattle.ssz_said.specs.declared.status.TheConstants.{OK, NO_HANDLE}
+use Rattle.ssz_typed.specs.Library.{ReadsLibrary, Names}
+use Rattle.ssz_typed.specs.Texts.{MakesIn}
+use Rattle.ssz_said.specs.Outcome.{Outcome, IsCopied, IsGiven, done, refused}
+
+-- of what a handle holds, or the status of one that holds nothing
+abbrev pub held_in : {A : Type 0} → (Library → Outcome A) → Option Library → Outcome A
+held_in call None = Err (refused NO_HANDLE)
+held_in call (Some library) = call library
 
 -- a handle that holds the schema of the bytes, or none and why
 abbrev pub IsRead : Option Library → SszFault → List ℕ → Type 0
@@ -24,3 +30,14 @@ IsNumbered name (Some old) None before number fault = ⊥
 IsNumbered name (Some old) (Some new) before number fault =
     (new.schema ≡ old.schema)
     × ((answer : Outcome ℕ) × Names name old new answer × IsGiven before number fault answer)
+
+-- the encoding of the value whose JSON text some bytes are, or why there is none
+abbrev pub MakesHeld : Option Library → ℕ → List ℕ → Outcome (List ℕ) → Type 0
+MakesHeld None number text answer = answer ≡ Err (refused NO_HANDLE)
+MakesHeld (Some library) number text answer = MakesIn library number text answer
+
+-- it was copied to a room
+abbrev pub IsMade : Option Library → ℕ → List ℕ → List ℕ → List ℕ → ℕ → ℕ → SszFault → Type 0
+IsMade held number text old new before len fault =
+    (answer : Outcome (List ℕ)) × MakesHeld held number text answer
+    × IsCopied old new before len fault answer

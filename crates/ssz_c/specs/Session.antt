@@ -19,13 +19,13 @@ use Rattle.ssz_engine.specs.declared.outcome.Outcome.{Outcome as Ended}
 use Rattle.ssz_engine.specs.declared.outcome.Outcome.TheVariants as outcome
 use Rattle.ssz_engine.specs.declared.fault.EngineFault.{EngineFault}
 use Rattle.ssz_engine.specs.declared.fault.EngineFault.TheVariants as stop
-use Rattle.ssz_c.specs.declared.fault.SszFault.{SszFault}
+use Rattle.ssz_said.specs.declared.fault.SszFault.{SszFault}
 use Rattle.ssz_c.specs.declared.ran.Ran.{Ran}
 use Rattle.ssz_c.specs.declared.ran.Ran.TheVariants.{Quiet, Done, Refused, Unread, Unwritten, TooLong, Memory}
 use Rattle.ssz_c.specs.declared.session.Session.{Session}
-use Rattle.ssz_c.specs.declared.status.TheConstants.{NO_HANDLE, REFUSED, NO_READ, NO_WRITE, TOO_LONG, NO_MEMORY, MOST_BYTES, MOST_SHOWN}
-use Rattle.ssz_c.specs.Library.{ReadsTypes}
-use Rattle.ssz_c.specs.Outcome.{Outcome, done, refused}
+use Rattle.ssz_said.specs.declared.status.TheConstants.{NO_HANDLE, REFUSED, NO_READ, NO_WRITE, TOO_LONG, NO_MEMORY, MOST_BYTES, MOST_SHOWN}
+use Rattle.ssz_typed.specs.Library.{ReadsTypes}
+use Rattle.ssz_said.specs.Outcome.{Outcome, done, refused}
 
 -- files of which each name is absent
 abbrev pub no_files : Files

@@ -1,9 +1,11 @@
 // A handle of C.
 ghost use Rattle.std.specs.Prelude.{◌≡◌, Some, None, option_map};
 ghost use Rattle.ssz_c.specs.Held.{live_of};
+ghost use Rattle.ssz_said.specs.declared.status.TheConstants.{SCHEMA_MARK};
 
 use super::held::Held;
-use super::library::Library;
+use ssz_said::status;
+use ssz_typed::Library;
 use std::alloc::Global;
 use std::mem::replace;
 
@@ -11,11 +13,11 @@ use std::mem::replace;
 #[repr(C)]
 #[derive(Drop)]
 pub struct SszSchema {
-    /// 1 where it holds one, else 0.
+    /// Its kind's mark where it holds one; whatever else stands here, it holds none.
     pub live: u64,
     /// The schema.
     pub held: Held,
-    pub ghost honest: { live ≡ live_of held.value },
+    pub ghost honest: { live ≡ live_of SCHEMA_MARK held.value },
 }
 
 impl SszSchema {
@@ -24,14 +26,14 @@ impl SszSchema {
         ensures value { option_map (λ library. library.value) result ≡ self.old.held.value }
         ensures empty { self.new.held.value ≡ None }
     {
+        if self.live != status::SCHEMA_MARK {
+            return None;
+        }
         let empty = SszSchema {
             live: 0,
             held: Held::empty(alloc),
         };
-        let SszSchema { live, held } = replace(self, empty);
-        if live == 0 {
-            return None;
-        }
+        let SszSchema { live: _, held } = replace(self, empty);
         Some(held.into_box())
     }
 
@@ -40,7 +42,7 @@ impl SszSchema {
         ensures { self.new.held.value ≡ Some library.value }
     {
         *self = SszSchema {
-            live: 1,
+            live: status::SCHEMA_MARK,
             held: Held::of(library),
         };
     }

@@ -1,10 +1,10 @@
 // A box behind a pointer that C keeps, and none where the pointer is null.
 ghost use Rattle.std.specs.Prelude.{◌≡◌, Option, Some, None, IsSome};
-ghost use Rattle.ssz_c.specs.declared.library.Library.{Library};
+ghost use Rattle.ssz_typed.specs.declared.library.Library.{Library};
 ghost use Rattle.ssz_c.specs.Held.{library_coded, schema_owns};
 
-use super::library::Library;
 use super::parts::Parts;
+use ssz_typed::Library;
 use std::alloc::Global;
 use std::marker::Model;
 use std::ptr::null_mut;

@@ -2,8 +2,7 @@
 ghost use Rattle.std.specs.Prelude.{◌≡◌};
 ghost use Rattle.ssz_c.specs.Session.{at_line, fault_of};
 
-use super::fault::SszFault;
-use super::status;
+use ssz_said::{SszFault, status};
 
 /// What a line came to.
 #[derive(Clone, Copy, Debug, PartialEq, Eq)]

@@ -2,21 +2,20 @@
 ghost use Rattle.std.specs.Prelude.{◌≡◌, ◌<◌, ◌^◌, [], true, false, length, IfOk, IfErr, None};
 ghost use Rattle.std.specs.Result.{result_map_both};
 ghost use Rattle.ssz_engine.specs.Steps.{IsShort, Keeps};
-ghost use Rattle.ssz_c.specs.declared.status.TheConstants.{NO_MEMORY};
-ghost use Rattle.ssz_c.specs.Outcome.{refused};
+ghost use Rattle.ssz_said.specs.declared.status.TheConstants.{NO_MEMORY};
+ghost use Rattle.ssz_said.specs.Outcome.{refused};
 ghost use Rattle.ssz_c.specs.Session.{Begins, Does, DoesLine, Refuses, Runs, Starts, ran_of};
 
-use super::fault::SszFault;
-use super::naming::read_types;
 use super::no_files::NoFiles;
 use super::ran::Ran;
 use super::session::Session;
-use super::status;
 use ssz_chunk::ShaPair;
 use ssz_engine::{Engine, EngineFault, Outcome};
 use ssz_machine::Place;
+use ssz_said::{SszFault, status};
 use ssz_schema::Schema;
 use ssz_script::{LineFault, Reply, Statement, read_line, reply_text};
+use ssz_typed::read_types;
 use ssz_versions::Writer;
 use std::alloc::Global;
 

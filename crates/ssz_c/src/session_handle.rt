@@ -1,9 +1,14 @@
 // A handle of C for a session.
-ghost use Rattle.std.specs.Prelude.{◌≡◌, Some, None, option_map};
+ghost use Rattle.std.specs.Prelude.{◌≡◌, Some, None, IfOk, option_map};
+ghost use Rattle.ssz_engine.specs.Steps.{IsShort};
+ghost use Rattle.ssz_c.specs.Answering.{DoesIn};
 ghost use Rattle.ssz_c.specs.Held.{live_of};
+ghost use Rattle.ssz_said.specs.declared.status.TheConstants.{SESSION_MARK};
 
 use super::held_session::HeldSession;
 use super::session::Session;
+use ssz_said::{SszFault, status};
+use ssz_script::{Reply, Statement};
 use std::alloc::Global;
 use std::mem::replace;
 
@@ -11,11 +16,11 @@ use std::mem::replace;
 #[repr(C)]
 #[derive(Drop)]
 pub struct SszSession {
-    /// 1 where it holds one, else 0.
+    /// Its kind's mark where it holds one; whatever else stands here, it holds none.
     pub live: u64,
     /// The session.
     pub held: HeldSession,
-    pub ghost honest: { live ≡ live_of held.value },
+    pub ghost honest: { live ≡ live_of SESSION_MARK held.value },
 }
 
 impl SszSession {
@@ -24,14 +29,14 @@ impl SszSession {
         ensures value { option_map (λ session. session.value) result ≡ self.old.held.value }
         ensures empty { self.new.held.value ≡ None }
     {
+        if self.live != status::SESSION_MARK {
+            return None;
+        }
         let empty = SszSession {
             live: 0,
             held: HeldSession::empty(alloc),
         };
-        let SszSession { live, held } = replace(self, empty);
-        if live == 0 {
-            return None;
-        }
+        let SszSession { live: _, held } = replace(self, empty);
         Some(held.into_box())
     }
 
@@ -40,8 +45,25 @@ impl SszSession {
         ensures { self.new.held.value ≡ Some session.value }
     {
         *self = SszSession {
-            live: 1,
+            live: status::SESSION_MARK,
             held: HeldSession::of(session),
         };
+    }
+
+    /// Does the statement that arguments say, where they say one, in the session that is held.
+    pub(crate) fn answer(
+        &mut self,
+        alloc: Global,
+        said: Result<Statement, SszFault>,
+    ) -> Result<Reply, SszFault>
+        requires { IfOk said IsShort }
+        ensures { DoesIn said self.old.held.value self.new.held.value result }
+    {
+        let Some(mut session) = self.take(alloc) else {
+            return Err(SszFault::of(status::NO_HANDLE));
+        };
+        let answer = session.answer(said);
+        self.put(session);
+        answer
     }
 }

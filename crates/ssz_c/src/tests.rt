@@ -1,15 +1,21 @@
 // Each call once, over memory that suffices. The root is that of two zero chunks, which stands in
 // the deposit contract.
-use super::calls::SszIndex;
-use super::fault::SszFault;
 use super::handle::SszSchema;
 use super::held::Held;
 use super::held_session::HeldSession;
 use super::session_handle::SszSession;
 use super::{
-    ssz_check, ssz_gindex, ssz_part, ssz_root, ssz_schema_free, ssz_schema_read, ssz_session_end,
-    ssz_session_reply, ssz_session_run, ssz_session_start, ssz_type, ssz_verify, status,
+    ssz_check, ssz_default, ssz_field, ssz_fields, ssz_gindex, ssz_of_json, ssz_part, ssz_place,
+    ssz_root, ssz_schema_free, ssz_schema_read, ssz_session_append, ssz_session_bytes,
+    ssz_session_choose, ssz_session_choose_default, ssz_session_compact, ssz_session_drop,
+    ssz_session_end, ssz_session_fork, ssz_session_gindex, ssz_session_json, ssz_session_len,
+    ssz_session_load, ssz_session_new, ssz_session_nodes, ssz_session_pop, ssz_session_prove,
+    ssz_session_prove_all, ssz_session_reply, ssz_session_root, ssz_session_run, ssz_session_set,
+    ssz_session_start, ssz_session_upgrade, ssz_size, ssz_to_json, ssz_type, ssz_verify,
+    ssz_verify_all, ssz_verify_branch, ssz_version,
 };
+use ssz_said::{SszEntry, SszFault, SszIndex, status};
+use ssz_typed::SszStretch;
 use std::alloc::Global;
 use std::test::Fail;
 
@@ -137,4 +143,225 @@ fn a_session_replies(rt: HostRuntime) {
     assert!(rt; replied(rt.alloc(), &mut session, b"list V\n"));
     assert!(rt; ssz_session_end(rt.alloc(), &mut session) == status::OK);
     assert!(rt; ssz_session_end(rt.alloc(), &mut session) == status::NO_HANDLE);
+}
+
+// How a load ends, and the code of its fault.
+fn loaded(alloc: Global, session: &mut SszSession, name: &[u8], bytes: &[u8]) -> (u32, u32) {
+    let mut fault = SszFault::none();
+    let status = ssz_session_load(alloc, session, name, b"P", bytes, &mut fault);
+    (status, fault.code)
+}
+
+// Whether a value is taken, once under a name, and bytes that encode none are not.
+fn loads(alloc: Global, session: &mut SszSession) -> bool {
+    loaded(alloc, session, b"V", &[0; 16]) == (status::OK, 0)
+        && loaded(alloc, session, b"V", &[0; 16]) == (status::REFUSED, 4)
+        && loaded(alloc, session, b"W", &[0; 15]) == (status::INVALID, 1)
+        && loaded(alloc, session, b"a b", &[0; 16]) == (status::SYNTAX, 0)
+}
+
+// The root of V; zeros where there is none.
+fn root_of_v(alloc: Global, session: &mut SszSession) -> [u8; 32] {
+    let mut root = [0; 32];
+    let _ended = ssz_session_root(alloc, session, b"V", &mut root, &mut SszFault::none());
+    root
+}
+
+// Whether b of V is set, and read where it stands in the whole.
+fn sets(alloc: Global, session: &mut SszSession) -> bool {
+    let mut fault = SszFault::none();
+    let (mut room, mut len) = ([1; 20], 0);
+    let set = ssz_session_set(alloc, session, b"V", b"/b", &[7; 8], &mut fault);
+    let read = ssz_session_bytes(alloc, session, b"V", b"/", &mut room, &mut len, &mut fault);
+    set == status::OK && read == status::OK && len == 16 && room[7] == 0 && room[8] == 7
+}
+
+// The leaf of b with eight sevens.
+const SEVENS: [u8; 32] = [
+    7, 7, 7, 7, 7, 7, 7, 7, 0, 0, 0, 0, 0, 0, 0, 0, 0, 0, 0, 0, 0, 0, 0, 0, 0, 0, 0, 0, 0, 0, 0, 0,
+];
+
+// Whether b of V is proved at its place, and at no other.
+fn proves(alloc: Global, session: &mut SszSession) -> bool {
+    let mut fault = SszFault::none();
+    let (mut room, mut len) = ([0; 64], 0);
+    let proved = ssz_session_prove(alloc, session, b"V", b"/b", &mut room, &mut len, &mut fault);
+    let root = root_of_v(alloc, session);
+    proved == status::OK
+        && len == 64
+        && ssz_verify_branch(&root, &SEVENS, 3, &room[32..]) == status::OK
+        && ssz_verify_branch(&root, &SEVENS, 2, &room[32..]) == status::UNLIKE
+}
+
+// How many nodes there are.
+fn nodes(alloc: Global, session: &mut SszSession) -> u64 {
+    let mut count = 0;
+    let _ended = ssz_session_nodes(alloc, session, &mut count, &mut SszFault::none());
+    count
+}
+
+// Whether nodes are given up that no version needs any more.
+fn gives_up(alloc: Global, session: &mut SszSession) -> bool {
+    let mut fault = SszFault::none();
+    let before = nodes(alloc, session);
+    let forked = ssz_session_fork(alloc, session, b"V", b"W", &mut fault);
+    let dropped = ssz_session_drop(alloc, session, b"V", &mut fault);
+    let compacted = ssz_session_compact(alloc, session, &mut fault);
+    forked == status::OK
+        && dropped == status::OK
+        && compacted == status::OK
+        && nodes(alloc, session) < before
+}
+
+#[test]
+fn a_session_takes_and_gives_bytes(rt: HostRuntime) {
+    let mut session = no_session(rt.alloc());
+    assert!(rt; is_started(rt.alloc(), &mut session));
+    assert!(rt; loads(rt.alloc(), &mut session));
+    assert!(rt; root_of_v(rt.alloc(), &mut session) == ZEROS);
+    assert!(rt; sets(rt.alloc(), &mut session));
+    assert!(rt; proves(rt.alloc(), &mut session));
+    assert!(rt; gives_up(rt.alloc(), &mut session));
+    assert!(rt; ssz_session_end(rt.alloc(), &mut session) == status::OK);
+}
+
+// Whether P has two fields, of which the second is b, and 16 bytes.
+fn is_shown(alloc: Global, schema: &mut SszSchema, number: u64) -> bool {
+    let mut fault = SszFault::none();
+    let (mut size, mut count, mut room, mut len) = (0, 0, [0; 4], 0);
+    let sized = ssz_size(alloc, schema, number, &mut size, &mut fault);
+    let counted = ssz_fields(alloc, schema, number, &mut count, &mut fault);
+    let named = ssz_field(alloc, schema, number, 1, &mut room, &mut len, &mut fault);
+    sized == status::OK
+        && counted == status::OK
+        && named == status::OK
+        && (size, count, len) == (16, 2, 1)
+        && room[0] == b'b'
+}
+
+#[test]
+fn a_type_is_shown(rt: HostRuntime) -> Result<(), Fail> {
+    let mut schema = no_schema(rt.alloc());
+    let number = number_of_p(rt.alloc(), &mut schema).ok_or("no P")?;
+    assert!(rt; is_shown(rt.alloc(), &mut schema, number));
+    assert!(rt; ssz_version() == 256);
+    Ok(())
+}
+
+// The text of P with a of 7.
+const TEXT: &[u8; 17] = b"{\"a\":\"7\",\"b\":\"0\"}";
+
+// Whether the text gives bytes, and these the text.
+fn is_spelled(alloc: Global, schema: &mut SszSchema, number: u64) -> bool {
+    let mut fault = SszFault::none();
+    let (mut bytes, mut text, mut len) = ([1; 16], [0; 17], 0);
+    let read = ssz_of_json(
+        alloc, schema, number, TEXT, &mut bytes, &mut len, &mut fault,
+    );
+    let written = ssz_to_json(
+        alloc, schema, number, &bytes, &mut text, &mut len, &mut fault,
+    );
+    read == status::OK && written == status::OK && bytes[0] == 7 && text == *TEXT
+}
+
+// Whether b stands in the last eight bytes of the default, which is all zeros.
+fn is_filled(alloc: Global, schema: &mut SszSchema, number: u64) -> bool {
+    let mut fault = SszFault::none();
+    let (mut bytes, mut len, mut place) = ([1; 16], 0, SszStretch { start: 0, len: 0 });
+    let made = ssz_default(alloc, schema, number, &mut bytes, &mut len, &mut fault);
+    let placed = ssz_place(alloc, schema, number, &bytes, b"/b", &mut place, &mut fault);
+    made == status::OK
+        && placed == status::OK
+        && bytes == [0; 16]
+        && place == SszStretch { start: 8, len: 8 }
+}
+
+#[test]
+fn texts_and_bytes_are_one(rt: HostRuntime) -> Result<(), Fail> {
+    let mut schema = no_schema(rt.alloc());
+    let number = number_of_p(rt.alloc(), &mut schema).ok_or("no P")?;
+    assert!(rt; is_spelled(rt.alloc(), &mut schema, number));
+    assert!(rt; is_filled(rt.alloc(), &mut schema, number));
+    Ok(())
+}
+
+const FORMS: &[u8] = b"{\"ssz\":1,\"types\":[[\"L\",{\"list\":[\"uint64\",4]}],\
+[\"U\",{\"union\":[null,\"uint8\"]}],[\"Q\",{\"container\":[[\"l\",\"L\"]]}],\
+[\"R\",{\"container\":[[\"l\",\"L\"],[\"u\",\"U\"]]}]]}";
+
+// A session with the default of R under V.
+fn begins(alloc: Global, session: &mut SszSession) -> bool {
+    let mut fault = SszFault::none();
+    ssz_session_start(alloc, session, FORMS, &mut fault) == status::OK
+        && ssz_session_new(alloc, session, b"V", b"R", &mut fault) == status::OK
+}
+
+// Whether the list of V has one element after two and one less.
+fn grows(alloc: Global, session: &mut SszSession) -> bool {
+    let mut fault = SszFault::none();
+    let mut count = 0;
+    let one = ssz_session_append(alloc, session, b"V", b"/l", &[1; 8], &mut fault);
+    let two = ssz_session_append(alloc, session, b"V", b"/l", &[2; 8], &mut fault);
+    let less = ssz_session_pop(alloc, session, b"V", b"/l", &mut fault);
+    let counted = ssz_session_len(alloc, session, b"V", b"/l", &mut count, &mut fault);
+    (one, two, less, counted, count) == (status::OK, status::OK, status::OK, status::OK, 1)
+}
+
+// Whether the union of V has its option's default, and then 9.
+fn chooses(alloc: Global, session: &mut SszSession) -> bool {
+    let mut fault = SszFault::none();
+    let (mut room, mut len) = ([0; 7], 0);
+    let first = ssz_session_choose_default(alloc, session, b"V", b"/u", 1, &mut fault);
+    let second = ssz_session_choose(alloc, session, b"V", b"/u", 1, &[9], &mut fault);
+    let shown = ssz_session_json(alloc, session, b"V", b"/u", &mut room, &mut len, &mut fault);
+    first == status::OK && second == status::OK && shown == status::OK && room == *b"[1,\"9\"]"
+}
+
+// Whether W of the type Q has the list of V.
+fn upgrades(alloc: Global, session: &mut SszSession) -> bool {
+    let mut fault = SszFault::none();
+    let mut count = 0;
+    let made = ssz_session_upgrade(alloc, session, b"V", b"W", b"Q", &mut fault);
+    let counted = ssz_session_len(alloc, session, b"W", b"/l", &mut count, &mut fault);
+    made == status::OK && counted == status::OK && count == 1
+}
+
+// Whether the list and the union of V are proved together.
+fn proves_both(alloc: Global, session: &mut SszSession) -> bool {
+    let mut fault = SszFault::none();
+    let mut list = SszIndex { low: 0, high: 0 };
+    let found = ssz_session_gindex(alloc, session, b"R", b"/l", &mut list, &mut fault);
+    let union = SszIndex { low: 3, high: 0 };
+    let mut room = [SszEntry {
+        index: union,
+        chunk: [0; 32],
+    }; 2];
+    let (mut leaves, mut len) = (0, 0);
+    let proved = ssz_session_prove_all(
+        alloc,
+        session,
+        b"V",
+        &[union, list],
+        &mut room,
+        &mut leaves,
+        &mut len,
+        &mut fault,
+    );
+    let root = root_of_v(alloc, session);
+    found == status::OK
+        && proved == status::OK
+        && (list.low, leaves, len) == (2, 2, 2)
+        && ssz_verify_all(alloc, &root, &room, &[]) == status::OK
+        && ssz_verify_all(alloc, &root, &room[..1], &[]) == status::BAD_PROOF
+        && ssz_verify_all(alloc, &[0; 32], &room, &[]) == status::UNLIKE
+}
+
+#[test]
+fn a_session_is_edited_and_proved(rt: HostRuntime) {
+    let mut session = no_session(rt.alloc());
+    assert!(rt; begins(rt.alloc(), &mut session));
+    assert!(rt; grows(rt.alloc(), &mut session));
+    assert!(rt; chooses(rt.alloc(), &mut session));
+    assert!(rt; upgrades(rt.alloc(), &mut session));
+    assert!(rt; proves_both(rt.alloc(), &mut session));
 }

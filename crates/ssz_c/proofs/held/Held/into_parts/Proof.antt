@@ -26,7 +26,7 @@ use Rattle.std_alloc.proofs.BoxSteps.Form.{D, B, word, box_typed}
 use Rattle.std.specs.Prelude.{Option, Some, None, IsSome}
 use contract.Monad.{Fun, fact}
 use Rattle.ssz_c.specs.contracts.held.Held as Held
-use Rattle.ssz_c.specs.contracts.library.Library as Kept
+use Rattle.ssz_typed.specs.contracts.library.Library as Kept
 use Rattle.std_alloc.proofs.BoxSteps.Steps.{box_out, box_in}
 use Rattle.ssz_c.proofs.AsBox.{E, FromHeld as From}
 use Rattle.ssz_c.specs.contracts.held.Held.into_parts as F

@@ -1,0 +1,15 @@
+use Rattle.std.proofs.Common.{sym, subst}
+use Rattle.ssz_schema.specs.Types.{SszType}
+use Rattle.ssz_schema.specs.Unfolding.{type_of}
+use Rattle.ssz_value.specs.Values.{SszValue, Fits}
+use Rattle.ssz_value.proofs.SizeLaw.{default_fits}
+use Rattle.ssz_said.proofs.json.default_bytes.Goals as goal
+
+pub encode-requires-clause-value : goal.encode-requires-clause-value
+encode-requires-clause-value c =
+    let t : SszType = type_of c.args.schema.now c.args.id in
+    record {
+      fits = subst (λ (v : SszValue). Fits t v) (sym c.in-Ok.ensures.value)
+          (default_fits c.args.schema.now.format t c.ty-legal.ensures.legal);
+      formed = c.in-Ok.ensures.formed;
+    }

@@ -1,0 +1,9 @@
+pub mod Outcome
+pub mod Texts
+pub mod Statements
+pub mod Replies
+pub mod Proving
+pub mod Branch
+pub mod Verdict
+pub mod Entries
+pub mod Json

@@ -1,0 +1,106 @@
+// What a reply says to C.
+ghost use Rattle.std.specs.Prelude.{◌≡◌};
+ghost use Rattle.ssz_said.specs.Replies.{coded, encoding_of, gindex_of, len_of, root_of, taken, text_of};
+
+use super::entries::{SszIndex, halves};
+use super::fault::SszFault;
+use super::status;
+use ssz_bytes::ByteRun;
+use ssz_script::Reply;
+
+// A refusal with the number of its code.
+fn coded(code: u8) -> SszFault
+    ensures { result ≡ coded code }
+{
+    SszFault {
+        status: status::REFUSED,
+        code: u32::from(code),
+        position: 0,
+    }
+}
+
+/// A reply, or the fault of a refusal.
+pub fn taken(reply: Reply) -> Result<Reply, SszFault>
+    ensures { result ≡ taken reply }
+{
+    match reply {
+        Reply::Refused {
+            line: _,
+            code,
+            fault,
+        } => match fault {
+            None => Err(coded(code)),
+            Some(fault) => Err(SszFault::invalid(fault)),
+        },
+        Reply::Blind { line: _, index: _ } => Err(coded(Reply::BLIND)),
+        Reply::BadJson {
+            line: _,
+            code: _,
+            number: _,
+        } => Err(coded(Reply::BAD_JSON)),
+        Reply::Done => Ok(Reply::Done),
+        Reply::List(names) => Ok(Reply::List(names)),
+        Reply::Root(chunk) => Ok(Reply::Root(chunk)),
+        Reply::Bytes(bytes) => Ok(Reply::Bytes(bytes)),
+        Reply::Len(len) => Ok(Reply::Len(len)),
+        Reply::Gindex(index) => Ok(Reply::Gindex(index)),
+        Reply::Proof(text) => Ok(Reply::Proof(text)),
+        Reply::Hashes(count) => Ok(Reply::Hashes(count)),
+        Reply::Json(text) => Ok(Reply::Json(text)),
+    }
+}
+
+/// The root that is answered.
+pub fn root_of(answer: Result<Reply, SszFault>) -> Result<[u8; 32], SszFault>
+    ensures { result ≡ root_of answer }
+{
+    match answer {
+        Err(why) => Err(why),
+        Ok(Reply::Root(chunk)) => Ok(chunk.0),
+        Ok(_) => Err(SszFault::of(status::REFUSED)),
+    }
+}
+
+/// The encoding that is answered.
+pub fn encoding_of(answer: Result<Reply, SszFault>) -> Result<ByteRun, SszFault>
+    ensures { result ≡ encoding_of answer }
+{
+    match answer {
+        Err(why) => Err(why),
+        Ok(Reply::Bytes(bytes)) => Ok(bytes),
+        Ok(_) => Err(SszFault::of(status::REFUSED)),
+    }
+}
+
+/// The length that is answered.
+pub fn len_of(answer: Result<Reply, SszFault>) -> Result<u64, SszFault>
+    ensures { result ≡ len_of answer }
+{
+    match answer {
+        Err(why) => Err(why),
+        Ok(Reply::Len(count)) => Ok(count),
+        Ok(_) => Err(SszFault::of(status::REFUSED)),
+    }
+}
+
+/// The index that is answered.
+pub fn gindex_of(answer: Result<Reply, SszFault>) -> Result<SszIndex, SszFault>
+    ensures { result ≡ gindex_of answer }
+{
+    match answer {
+        Err(why) => Err(why),
+        Ok(Reply::Gindex(index)) => Ok(halves(index)),
+        Ok(_) => Err(SszFault::of(status::REFUSED)),
+    }
+}
+
+/// The JSON text that is answered.
+pub fn text_of(answer: Result<Reply, SszFault>) -> Result<ByteRun, SszFault>
+    ensures { result ≡ text_of answer }
+{
+    match answer {
+        Err(why) => Err(why),
+        Ok(Reply::Json(text)) => Ok(text),
+        Ok(_) => Err(SszFault::of(status::REFUSED)),
+    }
+}

@@ -1,0 +1,6 @@
+pub mod Numbers
+pub mod Library
+pub mod Calls
+pub mod Fields
+pub mod Places
+pub mod Texts

@@ -1,0 +1,33 @@
+-- Where a part stands in the bytes of the whole.
+use Rattle.std.specs.Prelude.{ℕ, List, length, Option, option_map}
+use Rattle.ssz_schema.specs.Paths.{Path}
+use Rattle.ssz_schema.specs.Unfolding.{type_of}
+use Rattle.ssz_slices.specs.Part.{Part, opened, reached}
+use Rattle.ssz_value.specs.Encoding.{enc}
+use Rattle.ssz_said.specs.declared.status.TheConstants.{TOO_LONG, MOST_BYTES, NO_PLACE}
+use Rattle.ssz_said.specs.Outcome.{Outcome, ◌>>=◌, need, at_most}
+use Rattle.ssz_typed.specs.declared.calls.SszStretch.{SszStretch}
+use Rattle.ssz_typed.specs.declared.library.Library.{Library}
+use Rattle.ssz_typed.specs.Calls.{part_or, steps_in, valid}
+use Rattle.ssz_typed.specs.Library.{type_in}
+
+-- where the encoding of a part begins, and its length; a bit and a length stand nowhere
+abbrev pub stretch_of : Part → Option SszStretch
+stretch_of part =
+    option_map (λ span. record { start = span.0; len = length (enc part.form part.value) })
+    part.place
+
+-- where the part of a value at a path stands
+abbrev pub stretch_at : Part → Path → Outcome SszStretch
+stretch_at whole path = do
+  part ← part_or (reached whole path)
+  need NO_PLACE (stretch_of part)
+
+-- where the part that a path leads to stands, in bytes that encode a value of the type
+abbrev pub place_in : Library → ℕ → List ℕ → List ℕ → Outcome SszStretch
+place_in library number bytes text = do
+  id ← type_in library number
+  few ← at_most TOO_LONG MOST_BYTES bytes
+  steps ← steps_in (type_of library.schema id) text
+  whole ← valid (opened (type_of library.schema id) bytes)
+  stretch_at whole steps

@@ -1,0 +1,135 @@
+// A schema of C: read, and its types by name and by number.
+ghost use Rattle.std.specs.Prelude.{◌≡◌, [], ◌∷◌, ◌++◌, ◌<◌, length, IfOk, OnErr};
+ghost use Rattle.ssz_typed.specs.Numbers.{IsFound, IsNew};
+ghost use Rattle.ssz_typed.specs.Library.{Names, ReadsLibrary, ReadsTypes, fault_of_read, type_in};
+
+use super::library::Library;
+use ssz_chunk::{ShaPair, ZeroTable};
+use ssz_said::{SszFault, status};
+use ssz_schema::{Schema, TypeId};
+use ssz_schema_json::{SchemaRead, read_schema};
+use std::alloc::{AllocError, Global};
+
+/// The types that the bytes of a schema file define.
+pub fn read_types(alloc: Global, bytes: &[u8]) -> Result<Schema, SszFault>
+    ensures { ReadsTypes result bytes.now }
+{
+    if bytes.len() > status::MOST_TEXT {
+        return Err(SszFault {
+            status: status::BAD_SCHEMA,
+            code: 15,
+            position: 0,
+        });
+    }
+    match read_schema(alloc, bytes) {
+        Ok(schema) => Ok(schema),
+        Err(fault) => Err(schema_fault(fault)),
+    }
+}
+
+impl Library {
+    // With no type asked for yet.
+    fn of_schema(alloc: Global, schema: Schema) -> Library
+        ensures schema { result.schema ≡ schema }
+        ensures found { result.found.items ≡ [] }
+    {
+        let mut hasher = ShaPair::new();
+        Library {
+            schema,
+            found: Vec::new(alloc),
+            zeros: ZeroTable::new(&mut hasher),
+        }
+    }
+
+    /// The schema that the bytes of a schema file define, with no type asked for yet.
+    pub fn read(alloc: Global, bytes: &[u8]) -> Result<Library, SszFault>
+        ensures { ReadsLibrary result bytes.now }
+    {
+        match read_types(alloc, bytes) {
+            Ok(schema) => Ok(Library::of_schema(alloc, schema)),
+            Err(fault) => Err(fault),
+        }
+    }
+
+    /// The type of this number.
+    pub fn type_at(&self, number: u64) -> Result<TypeId, SszFault>
+        ensures exact { result ≡ type_in self.now number }
+        ensures known { IfOk result (λ id. id < length self.now.schema.trees) }
+    {
+        if number >= self.found.len() as u64 {
+            return Err(SszFault::of(status::NO_TYPE));
+        }
+        Ok(self.found[number as usize])
+    }
+
+    /// The number of the type of this name: its own number, if it has one, or the next.
+    pub fn number_of(&mut self, name: &[u8]) -> Result<u64, SszFault>
+        ensures names { Names name.now self.old self.new result }
+        ensures schema { self.new.schema ≡ self.old.schema }
+    {
+        let Ok(name) = std::str::from_utf8(name) else {
+            return Err(SszFault::of(status::NO_TYPE));
+        };
+        let Some(id) = self.schema.find(name) else {
+            return Err(SszFault::of(status::NO_TYPE));
+        };
+        if let Some(number) = place_of(self.found.as_slice(), id) {
+            return Ok(number);
+        }
+        match self.add(id) {
+            Ok(number) => Ok(number),
+            Err(_) => Err(SszFault::of(status::NO_MEMORY)),
+        }
+    }
+
+    // Gives a type the next number.
+    fn add(&mut self, id: TypeId) -> Result<u64, AllocError>
+        requires known { id < length self.old.schema.trees }
+        requires fresh { IsNew self.old.found.items id }
+        ensures added { IfOk result (λ number.
+            (number ≡ length self.old.found.items)
+            × (self.new.found.items ≡ self.old.found.items ++ id ∷ [])) }
+        ensures schema { self.new.schema ≡ self.old.schema }
+        ensures kept { OnErr result (self.new.found.items ≡ self.old.found.items) }
+    {
+        let number = self.found.len() as u64;
+        self.found.push(id)?;
+        Ok(number)
+    }
+}
+
+// The place of a type among those that have a number.
+fn place_of(found: &[TypeId], id: TypeId) -> Option<u64>
+    ensures { IsFound found.now id result }
+{
+    for k in 0..found.len() {
+        if found[k] == id {
+            return Some(k as u64);
+        }
+    }
+    None
+}
+
+// The fault of a schema as C reads it.
+fn schema_fault(fault: SchemaRead) -> SszFault
+    ensures { result ≡ fault_of_read fault }
+{
+    match fault {
+        SchemaRead::NotJson => SszFault {
+            status: status::BAD_SCHEMA,
+            code: 1,
+            position: 0,
+        },
+        SchemaRead::Shape => SszFault {
+            status: status::BAD_SCHEMA,
+            code: 2,
+            position: 0,
+        },
+        SchemaRead::Def { number, fault } => SszFault {
+            status: status::BAD_SCHEMA,
+            code: u32::from(fault.code()),
+            position: number as u64,
+        },
+        SchemaRead::Memory => SszFault::of(status::NO_MEMORY),
+    }
+}
