@@ -1,7 +1,8 @@
 #!/bin/sh
 # Builds the static library and the examples of C, Python and Rust, runs each over the same inputs as the
-# program `ssz`, and compares what they print, of sessions beside `ssz run` too; examples/c/statuses.c leads
-# each call to its statuses, under valgrind where that is there. It needs the kit that README names, and says
+# program `ssz`, and compares what they print, of sessions beside `ssz run` too; examples/c/statuses.c and
+# examples/c/typed.c lead each call to its statuses, under valgrind where that is there, and
+# examples/c/state.c edits a state, whose root and bytes are compared. It needs the kit that README names, and says
 # what it left out for want of a compiler, an interpreter or valgrind. The last line is 'N compared, M differ'.
 set -eu
 cd "$(dirname "$0")/.."
@@ -20,11 +21,15 @@ ways=
 if command -v cc >/dev/null; then
     cc -std=c11 -O2 -Wall -Wextra -Iinclude -o "$out/c" examples/c/example.c $library
     cc -std=c11 -O2 -Wall -Wextra -Iinclude -o "$out/statuses" examples/c/statuses.c $library
+    cc -std=c11 -O2 -Wall -Wextra -Iinclude -o "$out/typed" examples/c/typed.c $library
+    cc -std=c11 -O2 -Wall -Wextra -Iinclude -o "$out/state_c" examples/c/state.c $library
     if command -v valgrind >/dev/null; then
         valgrind -q --leak-check=full --error-exitcode=9 "$out/statuses"
+        valgrind -q --leak-check=full --error-exitcode=9 "$out/typed"
     else
         echo "left out: valgrind"
         "$out/statuses"
+        "$out/typed"
     fi
     ways="$ways c"
     if command -v python3 >/dev/null; then
@@ -132,6 +137,23 @@ compare "$deneb" BeaconState "$out/state" /finalized_checkpoint/root
 compare "$deneb" BeaconState "$out/state" '/validators/#len'
 compare "$deneb" BeaconState "$out/state" /validators/7/slashed
 compare "$deneb" BeaconState "$out/state" /justification_bits/1
+
+# A state of 5 balances, of which the bytes change as state.c says: what it writes has the root that it says.
+if [ -x "$out/state_c" ]; then
+    {
+        echo 'new S BeaconState'
+        for balance in 01 02 03 04 05; do echo "append S /balances 0x000000${balance}00000000"; done
+        echo "save S $out/before"
+        echo 'set S /balances 0x00000000000000000000000300000000000000020000000000000005000000000000000400000000'
+        echo "save S $out/after"
+        echo 'root S'
+    } >"$out/script"
+    "$ssz" run "$deneb" "$out/script" | sed -n 's/^root 0x//p' >"$out/wanted"
+    "$out/state_c" "$deneb" "$out/before" "$out/written" | tail -1 >"$out/said" || true
+    compared=$((compared + 2))
+    cmp -s "$out/wanted" "$out/said" || { differ=$((differ + 1)); echo "state.c says another root"; }
+    cmp -s "$out/after" "$out/written" || { differ=$((differ + 1)); echo "state.c writes other bytes"; }
+fi
 
 compare_lines "$out/m.json" <<'LINES'
 # a version, edits, and what is shown of it
