@@ -51,6 +51,20 @@ _CALLS = {
     "ssz_session_end": _HANDLE,
     "ssz_session_run": _HANDLE + _BYTES + _LENGTH + _FAULT,
     "ssz_session_reply": _HANDLE + _ROOM + _FAULT,
+    "ssz_session_new": _HANDLE + _BYTES * 2 + _FAULT,
+    "ssz_session_load": _HANDLE + _BYTES * 3 + _FAULT,
+    "ssz_session_bytes": _HANDLE + _BYTES * 2 + _ROOM + _FAULT,
+    "ssz_session_len": _HANDLE + _BYTES * 2 + _LENGTH + _FAULT,
+    "ssz_session_set": _HANDLE + _BYTES * 3 + _FAULT,
+    "ssz_session_append": _HANDLE + _BYTES * 3 + _FAULT,
+    "ssz_session_pop": _HANDLE + _BYTES * 2 + _FAULT,
+    "ssz_session_choose": _HANDLE + _BYTES * 2 + [ctypes.c_uint8] + _BYTES + _FAULT,
+    "ssz_session_fork": _HANDLE + _BYTES * 2 + _FAULT,
+    "ssz_session_upgrade": _HANDLE + _BYTES * 3 + _FAULT,
+    "ssz_session_drop": _HANDLE + _BYTES + _FAULT,
+    "ssz_session_root": _HANDLE + _BYTES + _CHUNK + _FAULT,
+    "ssz_session_compact": _HANDLE + _FAULT,
+    "ssz_session_nodes": _HANDLE + _LENGTH + _FAULT,
 }
 
 

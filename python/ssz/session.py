@@ -73,6 +73,11 @@ def _word(text: str) -> tuple[bytes, int]:
     return word, len(word)
 
 
+def _data(data: bytes) -> tuple[bytes, int]:
+    """Bytes, as calls take them."""
+    return bytes(data), len(data)
+
+
 class Session(Held):
     """Versions of values under names. What is refused raises an error, and no version has changed.
 
@@ -94,89 +99,104 @@ class Session(Held):
         """Gives a version up before the next call; also from a finalizer, which may run in the midst of one."""
         self._gone.append(name)
 
+    def _status(self, call: str, *words: Any) -> tuple[int, Fault]:
+        """Makes a call, after those that give up what was dropped."""
+        with self._lock:
+            while self._gone:
+                name = self._gone.popleft()
+                self._types.pop(name, None)
+                super()._status("ssz_session_drop", *_word(name))
+            return super()._status(call, *words)
+
+    def _do(self, call: str, *words: Any, type: str = "", path: str = "") -> None:
+        """Does a statement. The type and the path are what an error tells."""
+        self._call(f"ssz_session_{call}", *words, type=type, path=path)
+
     def run(self, line: str) -> str:
         """Does the statement that a line says (docs/formats.md), and returns the reply that `ssz run` prints."""
         return self._run(line, path=line if len(line) < 80 else line[:77] + "...", is_own=False)
 
     def _run(self, line: str, type: str = "", path: str = "", is_own: bool = True) -> str:
         """Does a statement. The type and the path are what an error tells; of a line of the caller's own it tells the line."""
-        with self._lock:
-            while self._gone:
-                name = self._gone.popleft()
-                self._types.pop(name, None)
-                self._status("ssz_session_run", *_word(f"drop {name}"), ctypes.byref(ctypes.c_uint64()))
-            return self._replied(line, type, path, is_own)
-
-    def _replied(self, line: str, type: str, path: str, is_own: bool) -> str:
-        """Does a statement, and takes its reply."""
         count = ctypes.c_uint64()
-        status, fault = self._status("ssz_session_run", *_word(line), ctypes.byref(count))
-        if status == Status.REFUSED:
-            words = self._filled("ssz_session_reply", room=count.value).decode().split()
-            if len(words) == 6 and words[3] == "BadLiteral":
-                raise error_of(Status.INVALID, int(words[4][1:]), int(words[5]), type=type, path=path)
-            is_path = is_own and words[3] == "Syntax"
-            raise error_of(Status.SYNTAX if is_path else status, int(words[2]), int(words[1]), type=type, path=path)
-        if status:
-            raise error_of(status, fault.code, fault.position, type=type, path=path)
-        return self._filled("ssz_session_reply", room=max(1, count.value)).decode().rstrip("\n")
+        with self._lock:
+            status, fault = self._status("ssz_session_run", *_word(line), ctypes.byref(count))
+            if status == Status.REFUSED:
+                words = self._filled("ssz_session_reply", room=count.value).decode().split()
+                if len(words) == 6 and words[3] == "BadLiteral":
+                    raise error_of(Status.INVALID, int(words[4][1:]), int(words[5]), type=type, path=path)
+                is_path = is_own and words[3] == "Syntax"
+                raise error_of(Status.SYNTAX if is_path else status, int(words[2]), int(words[1]), type=type, path=path)
+            if status:
+                raise error_of(status, fault.code, fault.position, type=type, path=path)
+            return self._filled("ssz_session_reply", room=max(1, count.value)).decode().rstrip("\n")
 
     def new(self, name: str, type: str) -> None:
         """Makes a version: the default of a type."""
-        self._run(f"new {name} {type}", type=type)
+        self._do("new", *_word(name), *_word(type), type=type)
         self._types[name] = type
 
     def load(self, name: str, type: str, data: bytes) -> None:
         """Makes a version: the value that the bytes encode."""
-        self._run(f"lit {name} {type} 0x{data.hex()}", type=type)
+        self._do("load", *_word(name), *_word(type), *_data(data), type=type)
         self._types[name] = type
 
     def get(self, name: str, path: str = "/") -> bytes:
         """The encoding of the part at a path."""
-        return bytes.fromhex(self._run(f"bytes {name} {path}", type=self._of(name), path=path)[len("bytes 0x"):])
+        return self._filled("ssz_session_bytes", *_word(name), *_word(path), type=self._of(name), path=path)
 
     def set(self, name: str, path: str, data: bytes) -> None:
         """Makes the part at a path the value that the bytes encode."""
-        self._run(f"set {name} {path} 0x{data.hex()}", type=self._of(name), path=path)
+        self._do("set", *_word(name), *_word(path), *_data(data), type=self._of(name), path=path)
 
     def append(self, name: str, path: str, data: bytes) -> None:
         """Puts an element behind the list's last one."""
-        self._run(f"append {name} {path} 0x{data.hex()}", type=self._of(name), path=path)
+        self._do("append", *_word(name), *_word(path), *_data(data), type=self._of(name), path=path)
 
     def pop(self, name: str, path: str) -> None:
         """Takes the list's last element away."""
-        self._run(f"pop {name} {path}", type=self._of(name), path=path)
+        self._do("pop", *_word(name), *_word(path), type=self._of(name), path=path)
 
     def choose(self, name: str, path: str, selector: int, data: bytes) -> None:
         """Gives the union at a path another option, with the value that the bytes encode."""
-        self._run(f"choose {name} {path} {selector} 0x{data.hex()}", type=self._of(name), path=path)
+        self._do("choose", *_word(name), *_word(path), selector, *_data(data), type=self._of(name), path=path)
 
     def length(self, name: str, path: str) -> int:
         """How many elements or bits the part has."""
-        return int(self._run(f"len {name} {path}", type=self._of(name), path=path).split()[1])
+        count = ctypes.c_uint64()
+        self._do("len", *_word(name), *_word(path), ctypes.byref(count), type=self._of(name), path=path)
+        return count.value
 
     def fork(self, name: str, other: str) -> None:
         """Gives another name the value of a version: the same nodes, at no cost."""
-        self._run(f"fork {name} {other}")
+        self._do("fork", *_word(name), *_word(other))
         self._types[other] = self._of(name)
 
     def upgrade(self, name: str, other: str, type: str) -> None:
         """Gives another name a value of a container, with the fields that a version has too and the defaults of the others."""
-        self._run(f"upgrade {name} {other} {type}", type=type)
+        self._do("upgrade", *_word(name), *_word(other), *_word(type), type=type)
         self._types[other] = type
 
     def drop(self, name: str) -> None:
         """Gives a version up."""
-        self._run(f"drop {name}")
+        self._do("drop", *_word(name))
         self._types.pop(name, None)
 
     def compact(self) -> None:
         """Gives the memory up that no version needs."""
-        self._run("compact")
+        self._do("compact")
+
+    def nodes(self) -> int:
+        """How many nodes there are, with those that no version needs any more: a measure of when to compact."""
+        count = ctypes.c_uint64()
+        self._do("nodes", ctypes.byref(count))
+        return count.value
 
     def root(self, name: str) -> bytes:
         """The hash_tree_root of a version."""
-        return bytes.fromhex(self._run(f"root {name}")[len("root 0x"):])
+        root = ctypes.create_string_buffer(32)
+        self._do("root", *_word(name), root)
+        return root.raw
 
     def prove(self, name: str, *paths: str | int) -> Proof:
         """The multiproof of the parts at these paths or generalized indices."""

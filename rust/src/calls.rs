@@ -46,4 +46,34 @@ extern "C" {
     pub fn ssz_session_end(session: *mut Handle) -> u32;
     pub fn ssz_session_run(session: *mut Handle, line: Bytes, len: usize, reply_len: *mut u64, fault: *mut Fault) -> u32;
     pub fn ssz_session_reply(session: *mut Handle, room: Room, room_len: usize, reply_len: *mut u64, fault: *mut Fault) -> u32;
+    pub fn ssz_session_new(session: *mut Handle, name: Bytes, len: usize, kind: Bytes, kind_len: usize, fault: *mut Fault) -> u32;
+    pub fn ssz_session_load(
+        session: *mut Handle, name: Bytes, len: usize, kind: Bytes, kind_len: usize, data: Bytes, data_len: usize, fault: *mut Fault,
+    ) -> u32;
+    pub fn ssz_session_bytes(
+        session: *mut Handle, name: Bytes, len: usize, path: Bytes, path_len: usize, room: Room, room_len: usize, part_len: *mut u64,
+        fault: *mut Fault,
+    ) -> u32;
+    pub fn ssz_session_len(
+        session: *mut Handle, name: Bytes, len: usize, path: Bytes, path_len: usize, count: *mut u64, fault: *mut Fault,
+    ) -> u32;
+    pub fn ssz_session_set(
+        session: *mut Handle, name: Bytes, len: usize, path: Bytes, path_len: usize, data: Bytes, data_len: usize, fault: *mut Fault,
+    ) -> u32;
+    pub fn ssz_session_append(
+        session: *mut Handle, name: Bytes, len: usize, path: Bytes, path_len: usize, data: Bytes, data_len: usize, fault: *mut Fault,
+    ) -> u32;
+    pub fn ssz_session_pop(session: *mut Handle, name: Bytes, len: usize, path: Bytes, path_len: usize, fault: *mut Fault) -> u32;
+    pub fn ssz_session_choose(
+        session: *mut Handle, name: Bytes, len: usize, path: Bytes, path_len: usize, selector: u8, data: Bytes, data_len: usize,
+        fault: *mut Fault,
+    ) -> u32;
+    pub fn ssz_session_fork(session: *mut Handle, name: Bytes, len: usize, other: Bytes, other_len: usize, fault: *mut Fault) -> u32;
+    pub fn ssz_session_upgrade(
+        session: *mut Handle, name: Bytes, len: usize, other: Bytes, other_len: usize, kind: Bytes, kind_len: usize, fault: *mut Fault,
+    ) -> u32;
+    pub fn ssz_session_drop(session: *mut Handle, name: Bytes, len: usize, fault: *mut Fault) -> u32;
+    pub fn ssz_session_root(session: *mut Handle, name: Bytes, len: usize, root: *mut [u8; 32], fault: *mut Fault) -> u32;
+    pub fn ssz_session_compact(session: *mut Handle, fault: *mut Fault) -> u32;
+    pub fn ssz_session_nodes(session: *mut Handle, count: *mut u64, fault: *mut Fault) -> u32;
 }

@@ -3,6 +3,9 @@ use crate::error::{Error, Result};
 use crate::proof::Proof;
 use crate::schema::{Held, Schema};
 
+/// Room for a part, where no more is known of it.
+const ROOM: usize = 4096;
+
 /// Versions of values under names, which are edited in place and share what is equal.
 ///
 /// A name has letters, digits and `_`, and no digit first. A path leads to a part: `/` is the whole, `/validators/7/slashed` a
@@ -33,72 +36,93 @@ impl Session {
 
     /// Makes a version: the default of a type.
     pub fn new_default(&mut self, name: &str, kind: &str) -> Result<()> {
-        self.run(&format!("new {name} {kind}")).map(drop)
+        self.held.call(|handle, fault| unsafe { ssz_session_new(handle, name.as_ptr(), name.len(), kind.as_ptr(), kind.len(), fault) })
     }
 
     /// Makes a version of a type: the value that the bytes encode.
     pub fn load(&mut self, name: &str, kind: &str, data: &[u8]) -> Result<()> {
-        self.run(&format!("lit {name} {kind} {}", hex(data))).map(drop)
+        self.held.call(|handle, fault| unsafe {
+            ssz_session_load(handle, name.as_ptr(), name.len(), kind.as_ptr(), kind.len(), data.as_ptr(), data.len(), fault)
+        })
     }
 
     /// The encoding of the part at a path.
     pub fn get(&mut self, name: &str, path: &str) -> Result<Vec<u8>> {
-        let reply = self.run(&format!("bytes {name} {path}"))?;
-        unhex(reply.trim_end().strip_prefix("bytes 0x").ok_or(Error::Syntax)?).ok_or(Error::Syntax)
+        self.held.filled(ROOM, |handle, room, room_len, len, fault| unsafe {
+            ssz_session_bytes(handle, name.as_ptr(), name.len(), path.as_ptr(), path.len(), room, room_len, len, fault)
+        })
     }
 
     /// Makes the part at a path the value that the bytes encode; also a whole list, which is far cheaper than element by element
     /// where many change.
     pub fn set(&mut self, name: &str, path: &str, data: &[u8]) -> Result<()> {
-        self.run(&format!("set {name} {path} {}", hex(data))).map(drop)
+        self.held.call(|handle, fault| unsafe {
+            ssz_session_set(handle, name.as_ptr(), name.len(), path.as_ptr(), path.len(), data.as_ptr(), data.len(), fault)
+        })
     }
 
     /// Puts an element behind the last one of the list at a path.
     pub fn append(&mut self, name: &str, path: &str, data: &[u8]) -> Result<()> {
-        self.run(&format!("append {name} {path} {}", hex(data))).map(drop)
+        self.held.call(|handle, fault| unsafe {
+            ssz_session_append(handle, name.as_ptr(), name.len(), path.as_ptr(), path.len(), data.as_ptr(), data.len(), fault)
+        })
     }
 
     /// Takes the last element of the list at a path away.
     pub fn pop(&mut self, name: &str, path: &str) -> Result<()> {
-        self.run(&format!("pop {name} {path}")).map(drop)
+        self.held.call(|handle, fault| unsafe { ssz_session_pop(handle, name.as_ptr(), name.len(), path.as_ptr(), path.len(), fault) })
     }
 
     /// Gives the union at a path the option of this selector, with the value that the bytes encode.
     pub fn choose(&mut self, name: &str, path: &str, selector: u8, data: &[u8]) -> Result<()> {
-        self.run(&format!("choose {name} {path} {selector} {}", hex(data))).map(drop)
+        self.held.call(|handle, fault| unsafe {
+            ssz_session_choose(handle, name.as_ptr(), name.len(), path.as_ptr(), path.len(), selector, data.as_ptr(), data.len(), fault)
+        })
     }
 
     /// Gives another name the value of a version: the same nodes, at no cost.
     pub fn fork(&mut self, name: &str, other: &str) -> Result<()> {
-        self.run(&format!("fork {name} {other}")).map(drop)
+        self.held.call(|handle, fault| unsafe { ssz_session_fork(handle, name.as_ptr(), name.len(), other.as_ptr(), other.len(), fault) })
     }
 
     /// Gives another name a value of a container type, with the fields that a version has too and the defaults of the others.
     pub fn upgrade(&mut self, name: &str, other: &str, kind: &str) -> Result<()> {
-        self.run(&format!("upgrade {name} {other} {kind}")).map(drop)
+        self.held.call(|handle, fault| unsafe {
+            ssz_session_upgrade(handle, name.as_ptr(), name.len(), other.as_ptr(), other.len(), kind.as_ptr(), kind.len(), fault)
+        })
     }
 
     /// Gives a version up.
     pub fn forget(&mut self, name: &str) -> Result<()> {
-        self.run(&format!("drop {name}")).map(drop)
+        self.held.call(|handle, fault| unsafe { ssz_session_drop(handle, name.as_ptr(), name.len(), fault) })
     }
 
     /// Gives up the nodes that no version needs.
     pub fn compact(&mut self) -> Result<()> {
-        self.run("compact").map(drop)
+        self.held.call(|handle, fault| unsafe { ssz_session_compact(handle, fault) })
+    }
+
+    /// How many nodes there are, with those that no version needs any more: a measure of when to compact.
+    pub fn nodes(&mut self) -> Result<u64> {
+        let mut count = 0;
+        self.held.call(|handle, fault| unsafe { ssz_session_nodes(handle, &mut count, fault) })?;
+        Ok(count)
     }
 
     /// The hash_tree_root of a version. What is hashed is kept.
     pub fn root(&mut self, name: &str) -> Result<[u8; 32]> {
-        let reply = self.run(&format!("root {name}"))?;
-        let root = reply.trim_end().strip_prefix("root 0x").and_then(unhex);
-        root.and_then(|root| root.try_into().ok()).ok_or(Error::Syntax)
+        let mut root = [0; 32];
+        self.held.call(|handle, fault| unsafe { ssz_session_root(handle, name.as_ptr(), name.len(), &mut root, fault) })?;
+        Ok(root)
     }
 
     /// How many elements or bits the part at a path has.
     pub fn len(&mut self, name: &str, path: &str) -> Result<u64> {
-        let reply = self.run(&format!("len {name} {path}"))?;
-        reply.trim_end().strip_prefix("len ").and_then(|count| count.parse().ok()).ok_or(Error::Syntax)
+        let mut count = 0;
+        self.held.call(|handle, fault| unsafe {
+            ssz_session_len(handle, name.as_ptr(), name.len(), path.as_ptr(), path.len(), &mut count, fault)
+        })?;
+        Ok(count)
     }
 
     /// The multiproof of the parts at paths, or at generalized indices as decimal numbers.
@@ -134,20 +158,4 @@ fn refusal(reply: &str) -> Error {
         (Some(code), Some(position)) if words.get(3) == Some(&"BadLiteral") => Error::Invalid { code: code as u32, position },
         _ => Error::Refused { code: number(2).unwrap_or(0) as u32 },
     }
-}
-
-fn hex(data: &[u8]) -> String {
-    let mut digits = String::with_capacity(2 + 2 * data.len());
-    digits.push_str("0x");
-    for byte in data {
-        for half in [byte >> 4, byte & 15] {
-            digits.push(char::from_digit(half.into(), 16).unwrap_or('0'));
-        }
-    }
-    digits
-}
-
-fn unhex(digits: &str) -> Option<Vec<u8>> {
-    let half = |digit: &u8| char::from(*digit).to_digit(16);
-    digits.as_bytes().chunks(2).map(|pair| Some((half(pair.first()?)? << 4 | half(pair.get(1)?)?) as u8)).collect()
 }
