@@ -4,7 +4,7 @@ use Rattle.ssz_typed.specs.declared.library.Library.{Library}
 use Rattle.ssz_said.specs.declared.status.TheConstants.{NO_HANDLE}
 use Rattle.ssz_c.specs.Reading.{IsMade, MakesHeld}
 use Rattle.ssz_said.specs.Outcome.{IsCopied, Outcome, refused}
-use Rattle.ssz_c.proofs.ssz_of_json.Goals as goal
+use Rattle.ssz_c.proofs.schemas.ssz_of_json.Goals as goal
 
 -- a handle that holds nothing
 made-none : (held : Option Library) (number : ℕ) (text old : List ℕ) (len : ℕ) (fault : SszFault)
