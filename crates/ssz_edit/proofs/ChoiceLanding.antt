@@ -34,8 +34,8 @@ use Rattle.ssz_places.specs.Charges.{pairs_at, choice_pairs, choose_charge}
 use Rattle.ssz_places.proofs.Charging.{law_of_charges}
 use Rattle.ssz_gindex.proofs.HelperNodes.{some_from}
 use Rattle.ssz_places.proofs.Theorems.{law_of_choice}
-use Rattle.ssz_tree.specs.Added.{Adds, Makes, Part, joined}
-use Rattle.ssz_tree.specs.Built.{part_of, none_part}
+use Rattle.ssz_tree.specs.Added.{Adds, Makes}
+use Rattle.ssz_making.specs.Parts.{Part, joined, part_of, none_part}
 use Rattle.ssz_tree.proofs.Adding.{MakesLeaf, MakesPair, Makes-joined}
 use Rattle.ssz_tree.proofs.FewNodes.{few_nodes}
 use Rattle.ssz_walk.specs.declared.place.Place.{Place}

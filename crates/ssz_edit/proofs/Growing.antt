@@ -9,7 +9,8 @@ use Rattle.ssz_arena.specs.declared.node.NodeId.{NodeId}
 use Rattle.ssz_arena.specs.Content.{Content, tree_of, todo, node_at, IsNodeOf, KeepsNodes, KeepsTodo}
 use Rattle.ssz_arena.specs.Shown.{HasChildren}
 use Rattle.ssz_arena.proofs.Keeping.{keeps_trans}
-use Rattle.ssz_tree.specs.Added.{Adds, Part, IsPart}
+use Rattle.ssz_tree.specs.Added.{Adds, IsPart}
+use Rattle.ssz_making.specs.Parts.{Part}
 use Rattle.ssz_tree.proofs.Adding.{Adds-then, Adds-within}
 use Rattle.ssz_walk.specs.declared.place.Place.{Place}
 use Rattle.ssz_edit.specs.Slots.{HasList, IsGrown}

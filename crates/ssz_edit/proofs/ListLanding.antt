@@ -34,7 +34,8 @@ use Rattle.ssz_places.proofs.ListEdits.{law_of_append, law_of_pop, law_of_conten
 use Rattle.ssz_gindex.proofs.HelperNodes.{some_from}
 use Rattle.ssz_places.proofs.Lying.{law_of_spots}
 use Rattle.ssz_places.proofs.Theorems.{law_of_places, law_of_faults}
-use Rattle.ssz_tree.specs.Added.{Part, Adds}
+use Rattle.ssz_making.specs.Parts.{Part}
+use Rattle.ssz_tree.specs.Added.{Adds}
 use Rattle.ssz_walk.specs.declared.place.Place.{Place}
 use Rattle.ssz_walk.specs.Found.{spot_of, IsFound, LeadsNowhere}
 use Rattle.ssz_walk.specs.Mixed.{HasContentNode}

@@ -10,7 +10,8 @@ use Rattle.ssz_arena.specs.declared.node.NodeId.{NodeId}
 use Rattle.ssz_arena.specs.declared.node.Node.{Node}
 use Rattle.ssz_arena.specs.Content.{Content, tree_of, todo, todos, is_unhashed, IsNodeOf, KeepsNodes}
 use Rattle.ssz_arena.proofs.Keeping.{keeps_same}
-use Rattle.ssz_tree.specs.Added.{Adds, Part, IsPart}
+use Rattle.ssz_tree.specs.Added.{Adds, IsPart}
+use Rattle.ssz_making.specs.Parts.{Part}
 use Rattle.ssz_edit.specs.Edited.{IsPut}
 
 -- an error is no answer

@@ -5,8 +5,7 @@ use Rattle.ssz_schema.specs.Unfolding.{Types, type_of}
 use Rattle.ssz_value.specs.declared.value.Value.{Value}
 use Rattle.ssz_value.specs.Values.{SszValue}
 use Rattle.ssz_value.specs.Standing.{IsValue}
-use Rattle.ssz_tree.specs.Added.{Part}
-use Rattle.ssz_tree.specs.Built.{part_of, none_part}
+use Rattle.ssz_making.specs.Parts.{Part, part_of, none_part}
 
 -- the type has no options
 abbrev pub HasNoOptions : SszType → Type 0

@@ -13,8 +13,8 @@ use Rattle.ssz_value.specs.Edits.{Edited}
 use Rattle.ssz_places.specs.Spots.{with_part, without_part}
 use Rattle.ssz_arena.specs.declared.node.NodeId.{NodeId}
 use Rattle.ssz_arena.specs.Content.{Content, tree_of, todo, unhashed, node_count, IsNodeOf}
-use Rattle.ssz_tree.specs.Added.{Part}
-use Rattle.ssz_tree.specs.Nodes.{new_nodes}
+use Rattle.ssz_making.specs.Parts.{Part}
+use Rattle.ssz_making.specs.Nodes.{new_nodes}
 
 -- a node's tree with a value at a spot, for the value's pairs and nodes
 abbrev pub part_with : Spot → SszType → SszValue → Tree → Part

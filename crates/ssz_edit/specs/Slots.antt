@@ -9,7 +9,7 @@ use Rattle.ssz_value.specs.Trees.{mixed_in}
 use Rattle.ssz_places.specs.EditLaws.{content_index}
 use Rattle.ssz_arena.specs.declared.node.NodeId.{NodeId}
 use Rattle.ssz_arena.specs.Content.{Content, tree_of, todo, node_at, IsNodeOf}
-use Rattle.ssz_tree.specs.Added.{Part}
+use Rattle.ssz_making.specs.Parts.{Part}
 use Rattle.ssz_walk.specs.declared.place.Place.{Place}
 use Rattle.ssz_walk.specs.Found.{IsLed}
 use Rattle.ssz_edit.specs.declared.lists.Slot.{Slot}

@@ -13,8 +13,8 @@ ghost use Rattle.ssz_value.specs.Suiting.{IsInner, inner_of};
 ghost use Rattle.ssz_places.specs.PlaceLaws.{IsTreeOf};
 ghost use Rattle.ssz_places.specs.Charges.{choose_charge};
 ghost use Rattle.ssz_arena.specs.Content.{IsNodeOf, KeepsNodes, KeepsTodo, todo, tree_of};
-ghost use Rattle.ssz_tree.specs.Added.{Adds, IsPart, joined};
-ghost use Rattle.ssz_tree.specs.Built.{none_part};
+ghost use Rattle.ssz_tree.specs.Added.{Adds, IsPart};
+ghost use Rattle.ssz_making.specs.Parts.{joined, none_part};
 ghost use Rattle.ssz_edit.specs.Chosen.{HasNoOptions, IsOfOption, option_part};
 ghost use Rattle.ssz_edit.specs.Edited.{Answers, IsPut};
 

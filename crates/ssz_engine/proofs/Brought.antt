@@ -16,7 +16,7 @@ use Rattle.ssz_value_json.specs.Faults.{why_json, value_spelled}
 use Rattle.ssz_arena.specs.declared.node.NodeId.{NodeId}
 use Rattle.ssz_arena.specs.Content.{Content as Nodes, node_count, todo, unhashed, KeepsNodes}
 use Rattle.ssz_tree.specs.Added.{Adds, IsPart}
-use Rattle.ssz_tree.specs.Built.{part_of}
+use Rattle.ssz_making.specs.Parts.{part_of}
 use Rattle.ssz_proof.specs.Calculation.{PairOf}
 use Rattle.std.specs.FinMap as finite
 use Rattle.std.specs.FinMap.{get-empty}

@@ -22,8 +22,7 @@ use Rattle.ssz_parts.specs.PartValues.{element_values}
 use Rattle.ssz_parts.proofs.ElementLemmas.{part_fixed_first, take-map-more, length-elements_in}
 use Rattle.ssz_parts.proofs.ElementValues.{length-element_values}
 use Rattle.ssz_roots.specs.Eights.{eight}
-use Rattle.ssz_roots.proofs.Gathering.{FirstElements}
-use Rattle.ssz_roots.proofs.ValueGathering.{length-first}
+use Rattle.ssz_roots.proofs.Gathering.{FirstElements, length-first}
 use Rattle.ssz_roots.proofs.RowChunks.{whole_pairs-rise}
 
 -- a lane is an element

@@ -6,10 +6,7 @@ pub mod Cutting
 pub mod Alike
 pub mod Lanes
 pub mod Rooted
-pub mod ValueGathering
-pub mod ValueFields
 pub mod Gathering
 pub mod ElementRows
-pub mod Unions
-pub mod FieldGathering
 pub mod Arms
+mod PushedRoots

@@ -8,8 +8,8 @@ use Rattle.ssz_chunk.proofs.Trees.{full-zero, full-suc}
 use Rattle.ssz_arena.specs.declared.node.NodeId.{NodeId}
 use Rattle.ssz_arena.specs.Content.{Content, tree_of, todo, unhashed, node_count, IsNodeOf, KeepsNodes, KeepsTodo}
 use Rattle.ssz_arena.proofs.Keeping.{keeps_same, keeps_trans}
-use Rattle.ssz_tree.specs.Added.{Adds, Part, IsPart, Makes, part_trees, costs, whole, joined}
-use Rattle.ssz_tree.specs.Built.{chunk_part, none_part}
+use Rattle.ssz_tree.specs.Added.{Adds, IsPart, Makes}
+use Rattle.ssz_making.specs.Parts.{Part, part_trees, costs, whole, joined, chunk_part, none_part}
 use Rattle.ssz_tree.specs.Stack.{AreNodes}
 
 -- as much is to be hashed as before, over two calls

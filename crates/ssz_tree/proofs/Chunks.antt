@@ -1,39 +1,16 @@
--- Chunks, made as leaves one after another.
-use Rattle.std.proofs.Common.{◌≡◌, ℕ, zero, suc, ◌+◌, ◌^◌, ◌<◌, ◌≤◌, List, [], ◌∷◌, ◌++◌, length, map, take, drop, refl, sym, ap, ◌∙◌, arith}
-use Rattle.std.proofs.lemmas.List.{length-map}
-use Rattle.ssz_chunk.specs.Tree.{full, grow}
+-- Room for chunks, and their tally.
+use Rattle.std.proofs.Common.{ℕ, ◌+◌, ◌^◌, ◌≤◌, List, map, sym, ap, arith}
+use Rattle.ssz_chunk.specs.Tree.{grow}
 use Rattle.ssz_arena.specs.Content.{Content}
-use Rattle.ssz_merkle.specs.Packing.{chunk_of}
-use Rattle.ssz_value.specs.Trees.{chunks, padded}
-use Rattle.ssz_packing.proofs.Chunks.{length-chunks, chunks-suc}
-use Rattle.ssz_tree.specs.Added.{whole}
-use Rattle.ssz_tree.specs.Built.{chunk_part}
-use Rattle.ssz_tree.proofs.Forms.{costs-chunks, nodes-chunks}
-use Rattle.ssz_tree.proofs.Gathering.{IsAt, IsAt-map, HasRoom}
+use Rattle.ssz_value.specs.Trees.{chunks}
+use Rattle.ssz_packing.proofs.Chunks.{length-chunks}
+use Rattle.ssz_making.specs.Parts.{whole, chunk_part}
+use Rattle.ssz_making.proofs.Chunks.{length-parts, cost-chunks, nodes-of_chunks}
+use Rattle.ssz_making.proofs.Forms.{nodes-chunks}
+use Rattle.ssz_tree.proofs.Gathering.{HasRoom}
 use Rattle.ssz_tree.proofs.Sums.{Tallies-same}
 use Rattle.ssz_tree.specs.declared.tally.Tally.{Tally}
 use Rattle.ssz_tree.specs.Tallies.{IsTallyOf, Tallies}
-
--- the first of the chunks
-take-chunks : (i count : ℕ) (b : List ℕ) → i ≤ count → take i (chunks count b) ≡ chunks i b
-take-chunks zero count b within = refl
-take-chunks (suc i) zero b within = absurd (omega arith)
-take-chunks (suc i) (suc count) b within =
-    ap (λ cs. padded b ∷ cs) (take-chunks i count (drop 32 b) (omega arith))
-
--- chunk i
-pub chunk-at : (count i : ℕ) (b chunk : List ℕ) → i < count → chunk ≡ chunk_of b i
-    → IsAt (map chunk_part (chunks count b)) i (chunk_part chunk)
-chunk-at count i b chunk below is =
-    let next : suc i ≡ i + 1 = omega arith in
-    IsAt-map chunk_part (chunks count b) i chunk (omega (arith, length-chunks count b))
-    (take-chunks (i + 1) count b (omega arith) ∙ ap (λ n. chunks n b) (sym next)
-    ∙ chunks-suc i b ∙ ap (λ c. chunks i b ++ c ∷ []) (sym is)
-    ∙ ap (λ cs. cs ++ chunk ∷ []) (sym (take-chunks i count b (omega arith))))
-
--- so many leaves
-pub length-parts : (count : ℕ) (b : List ℕ) → length (map chunk_part (chunks count b)) ≡ count
-length-parts count b = length-map (chunks count b) chunk_part ∙ length-chunks count b
 
 pub chunks-room : (arena : Content) (depth count : ℕ) (b : List ℕ) → count ≤ 2 ^ depth
     → grow depth count + count ≤ arena.spare
@@ -49,31 +26,8 @@ chunks-room arena depth count b few room = record {
   );
 }
 
--- and so many pairs above them, and nodes in all
-pub cost-chunks : (d count : ℕ) (b : List ℕ)
-    → (whole d (map chunk_part (chunks count b))).cost ≡ grow d count
-cost-chunks d count b = omega (
-  arith,
-  costs-chunks (chunks count b),
-  ap (grow d) (length-parts count b),
-)
-
-pub nodes-of_chunks : (d count : ℕ) (b : List ℕ)
-    → (whole d (map chunk_part (chunks count b))).nodes ≡ grow d count + count
-nodes-of_chunks d count b = omega (
-  arith,
-  nodes-chunks (chunks count b),
-  length-chunks count b,
-  ap (grow d) (length-parts count b),
-)
-
 pub tally-chunks : (d count : ℕ) (b : List ℕ) (tally : Tally)
     → Tallies (grow d count) (grow d count + count) tally
     → IsTallyOf (whole d (map chunk_part (chunks count b))) tally
 tally-chunks d count b tally counted = Tallies-same _ _ _ _ tally counted
     (sym (cost-chunks d count b)) (sym (nodes-of_chunks d count b))
-
--- one chunk is its own full tree
-pub one-chunk : (chunk : List ℕ) → whole 0 (chunk_part chunk ∷ []) ≡ chunk_part chunk
-unfolding full grow
-one-chunk chunk = refl

@@ -10,7 +10,8 @@ use Rattle.ssz_arena.specs.declared.node.NodeId.{NodeId}
 use Rattle.ssz_arena.specs.Content.{Content, IsNodeOf}
 use Rattle.ssz_merkle.specs.Frontier.{whole_pairs}
 use Rattle.ssz_merkle.proofs.Blocks.{start, start-right, start-within}
-use Rattle.ssz_tree.specs.Added.{Adds, Part, IsPart, whole}
+use Rattle.ssz_tree.specs.Added.{Adds, IsPart}
+use Rattle.ssz_making.specs.Parts.{Part, whole}
 use Rattle.ssz_tree.specs.Stack.{Stack, AreNodes, Holds, block, node_at}
 use Rattle.ssz_tree.proofs.Adding.{IsPart-one, IsPart-join, IsPart-kept, AreNodes-kept, Adds-none, Adds-then, Adds-within, MakesPair}
 use Rattle.ssz_tree.proofs.Holding.{AreNodes-set, AreNodes-one}

@@ -20,14 +20,14 @@ use Rattle.ssz_value.specs.Trees.{tree, pack, padded, element_leaves, number_chu
 use Rattle.ssz_value.proofs.DefaultLemmas.{union_default}
 use Rattle.ssz_value.proofs.PartLemmas.{Part as FieldPart}
 use Rattle.ssz_packing.proofs.BasicTrees.{basic_tree}
-use Rattle.ssz_tree.specs.Added.{Adds, Part, IsPart, whole, joined, costs}
-use Rattle.ssz_tree.specs.Built.{part_of, elements_part, field_parts}
-use Rattle.ssz_tree.specs.Nodes.{element_nodes}
+use Rattle.ssz_tree.specs.Added.{Adds, IsPart}
+use Rattle.ssz_making.specs.Parts.{Part, whole, joined, costs, part_of, elements_part, field_parts}
+use Rattle.ssz_making.specs.Nodes.{element_nodes}
 use Rattle.ssz_tree.specs.Shared.{shared, shared_fields, shared_vector, default_part, empty_part, MakesWith}
 use Rattle.ssz_tree.proofs.Adding.{Adds-none, Adds-then, Adds-within, MakesPair}
 use Rattle.ssz_tree.proofs.Copies.{grow-few}
-use Rattle.ssz_tree.proofs.Forms.{part, parts_equal, elements-composite, vector-part, container-part}
-use Rattle.ssz_tree.proofs.ValueForms.{chosen_value, none_value}
+use Rattle.ssz_making.proofs.Forms.{part, parts_equal, elements-composite, vector-part, container-part}
+use Rattle.ssz_making.proofs.ValueForms.{chosen_value, none_value}
 use Rattle.ssz_tree.proofs.Zeros.{padded-zeros, pack-zeros, pack_bits-zeros, enc-zeros, concat-zeros, map-replicate}
 
 -- a zero tree of the arena, for which nothing is made

@@ -10,7 +10,7 @@ use Rattle.ssz_schema.specs.Sizes.{depth, basic_size, element_chunks, field_coun
 use Rattle.ssz_schema.proofs.DepthLemmas.{depth_of-holds}
 use Rattle.ssz_value.specs.Values.{SszValue, sequence, bits, chosen, chosen_none, items, Fits, FitFields, FitsOption}
 use Rattle.ssz_value.specs.Pairs.{pairs, field_pairs, option_pairs}
-use Rattle.ssz_tree.specs.Nodes.{new_nodes, field_nodes, option_nodes, element_nodes}
+use Rattle.ssz_making.specs.Nodes.{new_nodes, field_nodes, option_nodes, element_nodes}
 
 -- n places have at least n - 1 pairs above them
 few_places : (d n : ℕ) → n ≤ 2 ^ d → n ≤ grow d n + 1

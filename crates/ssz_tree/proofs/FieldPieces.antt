@@ -11,7 +11,7 @@ use Rattle.ssz_schema.specs.Unfolding.{tree_at, fields_over}
 use Rattle.ssz_arena.specs.declared.node.NodeId.{NodeId}
 use Rattle.ssz_arena.specs.Content.{Content, KeepsNodes}
 use Rattle.ssz_value.proofs.PartLemmas.{Part as FieldPart}
-use Rattle.ssz_tree.specs.Added.{Part, costs}
+use Rattle.ssz_making.specs.Parts.{Part, costs}
 use Rattle.ssz_tree.specs.Shared.{shared_fields, default_part, MakesWith}
 use Rattle.ssz_tree.specs.Given.{IsGiven, part_at, made_at, parts_with, left_fields, default_parts}
 use Rattle.ssz_tree.proofs.Adding.{Adds-none, Adds-within}

@@ -1,62 +1,21 @@
 -- What a caller's loop keeps that makes the nodes of parts one after another and pushes them, and
 -- what it has at the end.
-use Rattle.std.proofs.Common.{◌≡◌, ℕ, zero, suc, ◌+◌, ◌-◌, ◌^◌, ◌<◌, ◌≤◌, List, [], ◌∷◌, ◌++◌, length, map, take, drop, sym, ap, subst, ◌∙◌, arith, zero-add}
+use Rattle.std.proofs.Common.{◌≡◌, ℕ, ◌+◌, ◌-◌, ◌^◌, ◌<◌, ◌≤◌, List, [], ◌∷◌, ◌++◌, length, take, drop, sym, ap, subst, ◌∙◌, arith, zero-add}
 use Rattle.std.specs.List.{sum_by}
-use Rattle.std.proofs.lemmas.List.{map-append, take-map, take_all, take-append-drop, length-take-le, length-map}
+use Rattle.std.proofs.lemmas.List.{take_all, take-append-drop, length-take-le}
 use Rattle.std.proofs.lemmas.List.Sums.{sum_by-append}
 use Rattle.ssz_chunk.specs.Tree.{grow}
 use Rattle.ssz_arena.specs.declared.node.NodeId.{NodeId}
 use Rattle.ssz_arena.specs.Content.{Content}
 use Rattle.ssz_merkle.specs.Frontier.{whole_pairs}
 use Rattle.ssz_merkle.proofs.WholePairs.{whole_pairs-rises, whole_pairs-le-grow}
-use Rattle.ssz_tree.specs.Added.{Adds, Part, IsPart, Makes, costs, part_nodes, whole}
+use Rattle.ssz_tree.specs.Added.{Adds, IsPart, Makes}
+use Rattle.ssz_making.specs.Parts.{Part, costs, part_nodes, whole}
+use Rattle.ssz_making.proofs.Placing.{IsAt}
+use Rattle.ssz_tree.specs.RoomLaws.{whole_pairs-mono}
 use Rattle.ssz_tree.specs.Stack.{Stack, AreNodes, Holds}
 use Rattle.ssz_tree.proofs.Adding.{Adds-none, Adds-then, Adds-within, AreNodes-kept}
 use Rattle.ssz_tree.proofs.Holding.{Holds-kept}
-
--- whole pairs above more places
-pub whole_pairs-mono : (d n k : ℕ) → whole_pairs d n ≤ whole_pairs d (n + k)
-whole_pairs-mono d n zero = let same : n ≡ n + 0 = omega arith in
-    subst (λ m. whole_pairs d n ≤ whole_pairs d m) same (omega arith)
-whole_pairs-mono d n (suc k) = let more : n + k + 1 ≡ n + suc k = omega arith in
-    omega (
-      arith,
-      whole_pairs-mono d n k,
-      whole_pairs-rises d (n + k),
-      ap (whole_pairs d) more,
-    )
-
--- the part stands at place i
-pub record IsAt (all : List Part) (i : ℕ) (part : Part) : Type 0 where
-  pub below : i < length all
-  pub more : take (i + 1) all ≡ take i all ++ part ∷ []
-
-pub IsAt-map : {X : Type 0} (f : X → Part) (xs : List X) (i : ℕ) (x : X) → i < length xs
-    → take (i + 1) xs ≡ take i xs ++ x ∷ [] → IsAt (map f xs) i (f x)
-IsAt-map f xs i x below more = record {
-  below = omega (arith, length-map xs f);
-  more = take-map f (i + 1) xs ∙ ap (map f) more ∙ map-append f (take i xs) (x ∷ [])
-      ∙ ap (λ ps. ps ++ f x ∷ []) (sym (take-map f i xs));
-}
-
--- and from there on stand the others
-pub IsAt-drop : (all : List Part) (i : ℕ) (part : Part) (rest : List Part)
-    → drop i all ≡ part ∷ rest → IsAt all i part × (drop (i + 1) all ≡ rest)
-IsAt-drop [] zero part rest e = cc
-IsAt-drop [] (suc i) part rest e = cc
-IsAt-drop (p ∷ all) zero part rest e =
-    let first : p ≡ part = cc in
-    let others : all ≡ rest = cc in
-    (record { below = omega arith; more = ap (λ q. q ∷ []) first }, others)
-IsAt-drop (p ∷ all) (suc i) part rest e =
-    let next = IsAt-drop all i part rest e in
-    let up : suc (i + 1) ≡ suc i + 1 = omega arith in (
-      record {
-        below = omega (arith, next.0.below);
-        more = ap (λ n. take n (p ∷ all)) (sym up) ∙ ap (λ ps. p ∷ ps) next.0.more;
-      },
-      ap (λ n. drop n (p ∷ all)) (sym up) ∙ next.1,
-    )
 
 -- a sum over the first parts, with one more, and at most over all
 sum-more : (f : Part → ℕ) (all : List Part) (i : ℕ) (part : Part) → IsAt all i part

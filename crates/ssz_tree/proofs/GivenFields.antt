@@ -9,7 +9,8 @@ use Rattle.ssz_arena.specs.declared.node.Node.{Node}
 use Rattle.ssz_arena.specs.declared.node.NodeId.{NodeId}
 use Rattle.ssz_arena.specs.Content.{Content}
 use Rattle.ssz_value.proofs.PartLemmas.{Part as FieldPart}
-use Rattle.ssz_tree.specs.Added.{Part, IsPart, whole}
+use Rattle.ssz_making.specs.Parts.{Part, whole}
+use Rattle.ssz_tree.specs.Added.{IsPart}
 use Rattle.ssz_tree.specs.Shared.{shared_fields, default_part}
 use Rattle.ssz_tree.specs.Given.{IsGiven, MakesFields, part_at, parts_with, part_with, shared_with, left_fields}
 use Rattle.ssz_tree.proofs.DefaultForms.{count-fields}

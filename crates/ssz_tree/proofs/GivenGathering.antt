@@ -12,14 +12,17 @@ use Rattle.ssz_arena.specs.Content.{Content}
 use Rattle.ssz_merkle.specs.Frontier.{whole_pairs}
 use Rattle.ssz_merkle.proofs.WholePairs.{whole_pairs-rises, whole_pairs-le-grow}
 use Rattle.ssz_value.proofs.PartLemmas.{Part as FieldPart}
-use Rattle.ssz_tree.specs.Added.{Adds, Part, IsPart, whole, costs}
+use Rattle.ssz_tree.specs.Added.{Adds, IsPart}
+use Rattle.ssz_making.specs.Parts.{Part, whole, costs}
 use Rattle.ssz_tree.specs.Stack.{Stack, Holds}
 use Rattle.ssz_tree.specs.Shared.{MakesWith, shared_fields}
 use Rattle.ssz_tree.specs.Given.{MakesFields, left_fields, default_parts}
 use Rattle.ssz_tree.proofs.Adding.{Adds-none, Adds-then, Adds-within, AreNodes-kept}
 use Rattle.ssz_tree.proofs.DefaultForms.{count-fields}
 use Rattle.ssz_tree.proofs.FieldPieces.{Piece, due, part_in, made_in, pieces, StandsAt, sum-more, pieces-parts, pieces-many, pieces-made, pieces-few, pieces-due, all_defaults, nothing_given, count-parts}
-use Rattle.ssz_tree.proofs.Gathering.{IsAt, IsAt-map, CanPush, CanFinish, whole_pairs-mono}
+use Rattle.ssz_making.proofs.Placing.{IsAt, IsAt-map}
+use Rattle.ssz_tree.specs.RoomLaws.{whole_pairs-mono}
+use Rattle.ssz_tree.proofs.Gathering.{CanPush, CanFinish}
 use Rattle.ssz_tree.proofs.Holding.{Holds-kept}
 
 -- the nodes of the first i pieces were made or taken, and pushed

@@ -8,7 +8,8 @@ use Rattle.ssz_arena.specs.declared.node.NodeId.{NodeId}
 use Rattle.ssz_arena.specs.Content.{Content, IsNodeOf, KeepsNodes}
 use Rattle.ssz_merkle.proofs.Binary.{IsFollowed, shr-above, digit-low, digit-below, digit-at}
 use Rattle.ssz_merkle.proofs.Blocks.{start, start-left, start-right, start-within, start-near}
-use Rattle.ssz_tree.specs.Added.{Part, IsPart, whole}
+use Rattle.ssz_making.specs.Parts.{Part, whole}
+use Rattle.ssz_tree.specs.Added.{IsPart}
 use Rattle.ssz_tree.specs.Stack.{Stack, AreNodes, Holds, block, node_at}
 use Rattle.ssz_tree.proofs.Adding.{IsPart-kept, AreNodes-kept}
 use Rattle.ssz_tree.proofs.Blocks.{IsTop, IsTop-right, Joins}

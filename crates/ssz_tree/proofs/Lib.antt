@@ -4,18 +4,14 @@ pub mod Holding
 pub mod Carrying
 pub mod Gathering
 pub mod GivenGathering
-pub mod NodeCounts
 pub mod FewNodes
-pub mod Alike
-pub mod Forms
-pub mod BytesForms
-pub mod ValueForms
 pub mod Chunks
-pub mod Counting
+pub mod Saturating
 pub mod Sums
-pub mod FieldGathering
 pub mod Copies
 pub mod Zeros
 pub mod DefaultForms
 pub mod FieldPieces
 pub mod GivenFields
+mod Rooms
+mod Summing

@@ -7,8 +7,8 @@ use Rattle.ssz_value.specs.Defaults.{default_of, default_fields}
 use Rattle.ssz_value.specs.Pairs.{pairs}
 use Rattle.ssz_arena.specs.declared.node.NodeId.{NodeId}
 use Rattle.ssz_arena.specs.Content.{Content, tree_of, todo, IsNodeOf}
-use Rattle.ssz_tree.specs.Added.{Adds, Part, IsPart, whole, costs}
-use Rattle.ssz_tree.specs.Built.{field_parts}
+use Rattle.ssz_tree.specs.Added.{Adds, IsPart}
+use Rattle.ssz_making.specs.Parts.{Part, whole, costs, field_parts}
 use Rattle.ssz_tree.specs.Shared.{shared, shared_fields, default_part}
 
 -- the tree of a node that is there, for which nothing is made

@@ -7,8 +7,8 @@ use Rattle.ssz_schema.specs.Sizes.{depth, basic_size, field_count}
 use Rattle.ssz_value.specs.Defaults.{default_of}
 use Rattle.ssz_arena.specs.declared.node.NodeId.{NodeId}
 use Rattle.ssz_arena.specs.Content.{Content}
-use Rattle.ssz_tree.specs.Added.{Adds, Part, IsPart, whole, joined}
-use Rattle.ssz_tree.specs.Built.{part_of}
+use Rattle.ssz_tree.specs.Added.{Adds, IsPart}
+use Rattle.ssz_making.specs.Parts.{Part, whole, joined, part_of}
 
 -- of a vector: none where it is packed; else those of one element, and on each level at most one
 -- whole subtree and one that is not whole

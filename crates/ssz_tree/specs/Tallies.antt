@@ -1,7 +1,7 @@
 -- Pairs and nodes as a u64 counts them.
 use Rattle.std.specs.Prelude.{◌≡◌, ℕ, ◌-◌, ◌^◌, min}
 use Rattle.ssz_tree.specs.declared.tally.Tally.{Tally}
-use Rattle.ssz_tree.specs.Added.{Part}
+use Rattle.ssz_making.specs.Parts.{Part}
 
 -- so many pairs and nodes; the greatest u64 stands for all numbers from there on
 pub record Tallies (p n : ℕ) (tally : Tally) : Type 0 where

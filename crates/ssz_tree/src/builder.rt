@@ -3,7 +3,8 @@ ghost use Rattle.ssz_chunk.specs.declared.TheConstants.{LEVELS};
 ghost use Rattle.ssz_chunk.specs.Tree.{grow};
 ghost use Rattle.ssz_merkle.specs.Frontier.{whole_pairs};
 ghost use Rattle.ssz_arena.specs.Content.{IsNodeOf};
-ghost use Rattle.ssz_tree.specs.Added.{Adds, IsPart, Part, whole};
+ghost use Rattle.ssz_tree.specs.Added.{Adds, IsPart};
+ghost use Rattle.ssz_making.specs.Parts.{Part, whole};
 ghost use Rattle.ssz_tree.specs.Stack.{AreNodes, Holds};
 
 use ssz_arena::{Arena, NodeId};

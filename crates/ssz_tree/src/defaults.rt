@@ -8,7 +8,7 @@ ghost use Rattle.ssz_schema.specs.Unfolding.{type_of, fields_over, options_over,
 ghost use Rattle.ssz_value.specs.Defaults.{default_of};
 ghost use Rattle.ssz_value.specs.Pairs.{pairs};
 ghost use Rattle.ssz_tree.specs.Added.{Adds, IsPart};
-ghost use Rattle.ssz_tree.specs.Built.{elements_part};
+ghost use Rattle.ssz_making.specs.Parts.{elements_part};
 ghost use Rattle.ssz_tree.specs.Given.{IsGiven, MakesFields, left_fields, made_at, part_at};
 ghost use Rattle.ssz_tree.specs.Shared.{MakesWith, default_part, empty_part, shared, shared_fields, shared_vector};
 

@@ -6,11 +6,11 @@
 //! (`specs/Given.antt`). No call hashes: the roots are asked of the arena.
 //!
 //! Each call first counts how many nodes it makes at most, takes room for them at once, and then
-//! makes them without taking memory: after want of memory the arena is as it was. What a call adds
-//! to an arena is defined in `specs/Added.antt`, how many nodes are made for a value in
-//! `specs/Nodes.antt`, and what is counted for a default in `specs/Shared.antt`. One builder takes
-//! nodes one after another and finishes at a depth; a zero part of a full tree is the arena's own
-//! zero tree.
+//! makes them without taking memory: after want of memory the arena is as it was. Both are the walk
+//! of `ssz_making`, with the makers `Counting` and `Growing`. What a call adds to an arena is
+//! defined in `specs/Added.antt`, how many nodes are made for a value in `ssz_making`, and what is
+//! counted for a default in `specs/Shared.antt`. One builder takes nodes one after another and
+//! finishes at a depth; a zero part of a full tree is the arena's own zero tree.
 //!
 //! A caller that makes more than a value, as an edit does, takes the room for all first
 //! (`nodes_needed`, `reserve_nodes`), and then makes the value's node in it (`value_node`).
@@ -18,21 +18,20 @@
 
 mod builder;
 mod bytes;
+mod counting;
 mod defaults;
 mod fields;
 mod given;
+mod growing;
 mod packed;
 mod packed_values;
 mod room;
 mod shared_nodes;
 mod tally;
-mod tally_bytes;
-mod tally_values;
 mod values;
 
 pub use bytes::build_bytes;
 pub use defaults::build_default;
 pub use fields::build_fields;
 pub use room::reserve_nodes;
-pub use tally_values::nodes_needed;
-pub use values::{build, value_node};
+pub use values::{build, nodes_needed, value_node};

@@ -4,8 +4,8 @@ ghost use Rattle.ssz_chunk.specs.Tree.{grow};
 ghost use Rattle.ssz_bytes.specs.Faults.{last_byte};
 ghost use Rattle.ssz_value.specs.Trees.{chunks, pack};
 ghost use Rattle.ssz_packing.specs.Bits.{undelimited};
-ghost use Rattle.ssz_tree.specs.Added.{Makes, whole};
-ghost use Rattle.ssz_tree.specs.Built.{chunk_part};
+ghost use Rattle.ssz_tree.specs.Added.{Makes};
+ghost use Rattle.ssz_making.specs.Parts.{whole, chunk_part};
 
 use super::builder::Builder;
 use ssz_arena::{Arena, NodeId};
@@ -28,7 +28,8 @@ pub fn packed_node<H: PairHash>(arena: &mut Arena<H>, depth: u32, bytes: &[u8]) 
     chunks_node(arena, depth, bytes)
 }
 
-// The same, chunk by chunk.
+// The same, chunk by chunk. Inlined into a maker's call its loop has a register too few.
+#[inline(never)]
 fn chunks_node<H: PairHash>(arena: &mut Arena<H>, depth: u32, bytes: &[u8]) -> NodeId
     requires depth { depth ≤ LEVELS }
     requires few { (length bytes.now + 31) / 32 ≤ 2 ^ depth }

@@ -8,11 +8,11 @@ ghost use Rattle.ssz_value.specs.Values.{Fits};
 ghost use Rattle.ssz_value.specs.Standing.{value_of};
 ghost use Rattle.ssz_value.specs.Trees.{pack, pack_bits};
 ghost use Rattle.ssz_packing.specs.Elements.{encodings_of};
-ghost use Rattle.ssz_tree.specs.Added.{Makes, whole};
-ghost use Rattle.ssz_tree.specs.Built.{chunk_part, AreBasic};
+ghost use Rattle.ssz_tree.specs.Added.{Makes};
+ghost use Rattle.ssz_making.specs.Parts.{whole, chunk_part, AreBasic};
 
 use super::builder::Builder;
-use super::tally_values::chunk_count;
+use super::counting::chunk_count;
 use ssz_arena::{Arena, NodeId};
 use ssz_chunk::PairHash;
 use ssz_packing::{bits_chunk, values_chunk};

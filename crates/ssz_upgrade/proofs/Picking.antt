@@ -17,7 +17,7 @@ use Rattle.ssz_value.proofs.SizeLaw.{default_fits}
 use Rattle.ssz_forms.specs.SameType.{same_type}
 use Rattle.ssz_forms.specs.Upgrades.{taken, all_taken, field_value, upgraded_fields, brought, brought_fields}
 use Rattle.ssz_forms.proofs.TypesAlike.{type_alike}
-use Rattle.ssz_tree.specs.Added.{Part, part_trees, costs}
+use Rattle.ssz_making.specs.Parts.{Part, part_trees, costs}
 use Rattle.ssz_tree.specs.Shared.{default_part}
 use Rattle.ssz_tree.specs.Given.{part_at, parts_with, left_fields, default_parts, IsGiven}
 use Rattle.ssz_upgrade.specs.Fields.{pick}

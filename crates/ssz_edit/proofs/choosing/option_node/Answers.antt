@@ -3,8 +3,8 @@ use Rattle.std.specs.Prelude.{IfOk}
 use Rattle.ssz_schema.specs.Unfolding.{type_of}
 use Rattle.ssz_value.specs.Standing.{value_of}
 use Rattle.ssz_value.specs.Suiting.{inner_of}
-use Rattle.ssz_tree.specs.Added.{Adds, IsPart, Part}
-use Rattle.ssz_tree.specs.Built.{part_of}
+use Rattle.ssz_tree.specs.Added.{Adds, IsPart}
+use Rattle.ssz_making.specs.Parts.{Part, part_of}
 use Rattle.ssz_tree.proofs.Adding.{Adds-then, Adds-within}
 use Rattle.ssz_edit.proofs.Replacing.{adds_room}
 use Rattle.ssz_tree.proofs.FewNodes.{few_nodes}

@@ -3,7 +3,8 @@ use Rattle.ssz_chunk.specs.Index.{levels}
 use Rattle.ssz_value.specs.Standing.{value_of}
 use Rattle.ssz_value.specs.Suiting.{inner_of}
 use Rattle.ssz_value.specs.Trees.{number_chunk}
-use Rattle.ssz_tree.specs.Added.{Makes, joined}
+use Rattle.ssz_tree.specs.Added.{Makes}
+use Rattle.ssz_making.specs.Parts.{joined}
 use Rattle.ssz_tree.proofs.Adding.{Adds-then, Adds-within, makes_leaf, makes_pair}
 use Rattle.ssz_edit.specs.Chosen.{option_part}
 use Rattle.ssz_edit.proofs.Replacing.{index_there, put_made}

@@ -13,8 +13,8 @@ use Rattle.ssz_value.proofs.PartLemmas.{part_known}
 use Rattle.ssz_packing.proofs.Arms.{container_room}
 use Rattle.ssz_packing.proofs.Bounds.{vector_room}
 use Rattle.ssz_packing.proofs.Options.{below_at}
-use Rattle.ssz_tree.specs.Added.{Adds, IsPart, whole}
-use Rattle.ssz_tree.specs.Built.{elements_part}
+use Rattle.ssz_tree.specs.Added.{Adds, IsPart}
+use Rattle.ssz_making.specs.Parts.{whole, elements_part}
 use Rattle.ssz_tree.specs.Shared.{shared, shared_fields, shared_vector, default_part}
 use Rattle.ssz_tree.specs.Given.{IsGiven, made_at, left_fields}
 use Rattle.ssz_tree.proofs.Adding.{makes_pair}

@@ -1,5 +1,5 @@
 use Rattle.std.proofs.Common.{[], refl}
-use Rattle.ssz_tree.specs.Added.{whole}
+use Rattle.ssz_making.specs.Parts.{whole}
 use Rattle.ssz_tree.proofs.Adding.{makes_pair}
 use Rattle.ssz_tree.proofs.DefaultForms.{MakesWith-zero, MakesWith-joined, zero-leaf}
 use Rattle.ssz_tree.proofs.defaults.empty_node.Goals as goal

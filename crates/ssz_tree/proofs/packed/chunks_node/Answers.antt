@@ -1,8 +1,9 @@
 use Rattle.std.proofs.Common.{◌≡◌, ℕ, ◌+◌, ◌/◌, length, map, arith}
 use Rattle.ssz_value.specs.Trees.{chunks}
-use Rattle.ssz_tree.specs.Built.{chunk_part}
+use Rattle.ssz_making.specs.Parts.{chunk_part}
 use Rattle.ssz_tree.proofs.Adding.{makes_leaf, Makes-chunk}
-use Rattle.ssz_tree.proofs.Chunks.{chunk-at, chunks-room, length-parts}
+use Rattle.ssz_making.proofs.Chunks.{chunk-at, length-parts}
+use Rattle.ssz_tree.proofs.Chunks.{chunks-room}
 use Rattle.ssz_tree.proofs.Gathering.{First-start, First-room, First-push, First-more, First-finish, First-done}
 use Rattle.ssz_tree.proofs.packed.chunks_node.Goals as goal
 

@@ -1,10 +1,9 @@
 use Rattle.std.proofs.Common.{◌≡◌, ◌+◌, ◌/◌, ◌^◌, ◌<◌, length, map, sym, ap, ap₂, ◌∙◌, arith}
 use Rattle.ssz_value.specs.Trees.{chunks, padded}
 use Rattle.ssz_parts.proofs.UnionLemmas.{some_byte}
-use Rattle.ssz_tree.specs.Added.{whole}
-use Rattle.ssz_tree.specs.Built.{chunk_part}
+use Rattle.ssz_making.specs.Parts.{whole, chunk_part}
 use Rattle.ssz_tree.proofs.Adding.{makes_leaf, Makes-chunk, Makes-same}
-use Rattle.ssz_tree.proofs.Chunks.{one-chunk}
+use Rattle.ssz_making.proofs.Chunks.{one-chunk}
 use Rattle.ssz_tree.proofs.packed.packed_node.Goals as goal
 
 pub returns-then-not-is_empty : goal.returns-then-not-is_empty

@@ -1,10 +1,10 @@
 use Rattle.std.proofs.Common.{◌≡◌, ◌∙◌, ℕ, ◌<◌, refl, ◌+◌, ◌*◌, ◌/◌, List, length, map, ap, arith}
 use Rattle.ssz_value.specs.Trees.{chunks}
 use Rattle.ssz_packing.proofs.BitValues.{bytes_of_bits, bits_chunk_is, pack_bits-chunks}
-use Rattle.ssz_tree.specs.Added.{whole}
-use Rattle.ssz_tree.specs.Built.{chunk_part}
+use Rattle.ssz_making.specs.Parts.{whole, chunk_part}
 use Rattle.ssz_tree.proofs.Adding.{makes_leaf, Makes-chunk, Makes-same}
-use Rattle.ssz_tree.proofs.Chunks.{chunk-at, chunks-room, length-parts}
+use Rattle.ssz_making.proofs.Chunks.{chunk-at, length-parts}
+use Rattle.ssz_tree.proofs.Chunks.{chunks-room}
 use Rattle.ssz_tree.proofs.Gathering.{First-start, First-room, First-push, First-more, First-finish, First-done}
 use Rattle.ssz_tree.proofs.packed_values.bit_values_node.Goals as goal
 

@@ -1,7 +1,7 @@
 use Rattle.std.proofs.Common.{◌+◌, ◌/◌, length, map}
 use Rattle.ssz_value.specs.Trees.{chunks}
 use Rattle.ssz_packing.proofs.BitValues.{bytes_of_bits}
-use Rattle.ssz_tree.specs.Built.{chunk_part}
+use Rattle.ssz_making.specs.Parts.{chunk_part}
 use Rattle.ssz_tree.proofs.Gathering.{First}
 use Rattle.ssz_tree.proofs.packed_values.bit_values_node.Given as goal
 

@@ -6,7 +6,7 @@ use Rattle.ssz_value.specs.Values.{Fits}
 use Rattle.ssz_value.specs.Standing.{value_of}
 use Rattle.ssz_value.specs.Trees.{chunks}
 use Rattle.ssz_packing.specs.Elements.{encodings_of}
-use Rattle.ssz_tree.specs.Built.{chunk_part}
+use Rattle.ssz_making.specs.Parts.{chunk_part}
 use Rattle.ssz_tree.proofs.Gathering.{First}
 use Rattle.ssz_tree.proofs.packed_values.packed_values_node.Given as goal
 

@@ -4,7 +4,8 @@ use Rattle.ssz_chunk.specs.Tree.{grow}
 use Rattle.ssz_arena.specs.Content.{Content, IsNodeOf}
 use Rattle.ssz_merkle.specs.Frontier.{whole_pairs}
 use Rattle.ssz_merkle.proofs.Carrying.{Carries, Carries-finish}
-use Rattle.ssz_tree.specs.Added.{Adds, IsPart, whole}
+use Rattle.ssz_tree.specs.Added.{Adds, IsPart}
+use Rattle.ssz_making.specs.Parts.{whole}
 use Rattle.ssz_tree.specs.Stack.{Stack, AreNodes, Holds, node_at}
 use Rattle.ssz_tree.proofs.Adding.{Adds-none, Adds-then, Adds-pair, Adds-within}
 use Rattle.ssz_tree.proofs.Blocks.{IsTop, IsTop-left, IsTop-whole, Joins}

@@ -1,4 +1,4 @@
-use Rattle.ssz_tree.proofs.Counting.{counted_times}
+use Rattle.ssz_tree.proofs.Saturating.{counted_times}
 use Rattle.ssz_tree.proofs.tally.Tally.times.Goals as goal
 
 pub returns : goal.returns

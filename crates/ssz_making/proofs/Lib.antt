@@ -1,0 +1,8 @@
+pub mod Placing
+pub mod NodeCounts
+pub mod Forms
+pub mod BytesForms
+pub mod FieldGathering
+pub mod Alike
+pub mod Chunks
+pub mod ValueForms

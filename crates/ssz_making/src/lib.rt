@@ -1,0 +1,20 @@
+//! What a value's tree is made into, and the walks that make it (simple-serialize.md,
+//! Merkleization: hash_tree_root).
+//!
+//! `bytes_part` goes over the bytes of a value, which have no fault, in one pass, and `value_part`
+//! over a value. What they make says a `Maker`: a root, a node, or a count of nodes. Part by part
+//! they ask it for leaves, for rows of parts, and for what is packed, and never what became of them.
+//!
+//! A part is a tree with its pairs and the nodes that are made for it (`specs/Parts.antt`). A maker
+//! says by ghost members what it made of one since a moment, so that what follows one another
+//! composes; what it is asked for is in `specs/Making.antt`. No call takes memory of its own.
+#![tactic(auto)]
+
+mod bytes;
+mod maker;
+mod repeats;
+mod values;
+
+pub use bytes::bytes_part;
+pub use maker::Maker;
+pub use values::value_part;

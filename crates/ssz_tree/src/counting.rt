@@ -1,0 +1,104 @@
+// Tallies as what a value's tree is made into: nothing is made but a count.
+ghost use Rattle.std.specs.Prelude.{◌≡◌, ◌+◌, ◌*◌, ◌/◌, ◌<◌, ◌^◌};
+
+use super::tally::Tally;
+use ssz_chunk::Chunk;
+use ssz_making::Maker;
+use ssz_schema::{Schema, TypeId};
+use ssz_value::Value;
+
+/// Counts the pairs and the nodes of parts.
+#[derive(Drop)]
+pub(crate) struct Counting;
+
+/// How many chunks so many values of a basic type of this size take.
+pub(crate) fn chunk_count(size: usize, len: usize) -> usize
+    requires size { size * (32 / size) ≡ 32 }
+    requires len { len < 2 ^ 63 }
+    ensures { result ≡ (len * size + 31) / 32 }
+{
+    let per = 32 / size;
+    (len + (per - 1)) / per
+}
+
+impl Maker for Counting {
+    ghost use Rattle.ssz_chunk.specs.Tree.{grow};
+    ghost use Rattle.std.specs.Prelude.{◌+◌};
+    ghost use Rattle.ssz_making.specs.Parts.{costs, part_nodes};
+    ghost use Rattle.ssz_tree.specs.Tallies.{IsTallyOf, Tallies};
+
+    type Out = Tally;
+
+    type Rows = Tally;
+
+    ghost room = { λ now nodes. Unit {0} };
+
+    ghost made = { λ start now part out. IsTallyOf part out };
+
+    ghost gathered = { λ start now d count parts rows.
+        Tallies (grow d count + costs parts) (grow d count + part_nodes parts) rows };
+
+    ghost room_less = { λ now n m less room. tt };
+
+    ghost room_next = { λ start now d n before rest one rows pushed room. tt };
+
+    fn leaf(&mut self, _chunk: &Chunk) -> Tally {
+        Tally::leaf()
+    }
+
+    fn none(&mut self) -> Tally {
+        Tally::none()
+    }
+
+    fn join(&mut self, out: Tally, _chunk: &Chunk) -> Tally {
+        out.joined()
+    }
+
+    fn start(&self, depth: u32, count: u64) -> Tally {
+        Tally::above(depth, count)
+    }
+
+    fn push(&mut self, rows: &mut Tally, out: &Tally) {
+        *rows = rows.plus(*out);
+    }
+
+    // As many as there are.
+    fn repeat(&mut self, rows: &mut Tally, out: &Tally, more: u64) -> u64 {
+        if more == 0 {
+            return 0;
+        }
+        *rows = rows.plus(out.times(more));
+        more
+    }
+
+    fn finish(&mut self, rows: Tally) -> Tally {
+        rows
+    }
+
+    fn packed(&mut self, depth: u32, bytes: &[u8]) -> Tally {
+        Tally::chunks(depth, (bytes.len() as u64 + 31) / 32)
+    }
+
+    fn bits(&mut self, depth: u32, len: u64, _bytes: &[u8]) -> Tally {
+        Tally::chunks(depth, (len + 255) / 256)
+    }
+
+    fn packed_values(&mut self, size: usize, depth: u32, parts: &[Value]) -> Tally {
+        Tally::chunks(depth, chunk_count(size, parts.len()) as u64)
+    }
+
+    fn bit_values(&mut self, depth: u32, bits: &[bool]) -> Tally {
+        Tally::chunks(depth, ((bits.len() + 255) / 256) as u64)
+    }
+
+    fn ahead(
+        &mut self,
+        _rows: &mut Tally,
+        _schema: &Schema,
+        _elem: TypeId,
+        _count: u64,
+        _bytes: &[u8],
+    ) -> u64 {
+        0
+    }
+}
