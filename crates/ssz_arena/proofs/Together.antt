@@ -1,16 +1,16 @@
 -- Nodes that are hashed together: which of them are due, their children, and their roots.
-use Rattle.std.proofs.Common.{◌≡◌, ℕ, zero, suc, ◌+◌, ◌-◌, ◌*◌, ◌<◌, ◌≤◌, List, [], ◌∷◌, ◌++◌, length, min, take, drop, refl, sym, ap, ap₂, ◌∙◌, subst, slice_get, Bool, true, false, not, cond, Option, Some, None, inl, inr, arith, length-take, length-drop}
+use Rattle.std.proofs.Common.{◌≡◌, ℕ, zero, suc, ◌+◌, ◌-◌, ◌*◌, ◌<◌, ◌≤◌, List, [], ◌∷◌, length, min, take, drop, refl, sym, ap, ap₂, ◌∙◌, subst, slice_get, Bool, true, false, not, cond, Option, Some, None, inl, inr, arith, length-take, length-drop}
 use Rattle.std.specs.Option.{option_and_then}
 use Rattle.std.specs.List.{All, filter, sum_by}
 use Rattle.std.proofs.lemmas.Bool.{cases_lt}
-use Rattle.std.proofs.lemmas.List.{get_or-take, get_or-drop, get_or_append_left, take-take, drop-take}
+use Rattle.std.proofs.lemmas.List.{get_or-take, get_or-drop, take-take, drop-take}
 use Rattle.std.proofs.lemmas.List.Elements.{All-filter, filter_passes, All-from_get_or}
 use Rattle.std.proofs.lemmas.List.Filters.{sum_by-filter_both}
 use Rattle.std.proofs.lemmas.List.Sums.{sum_by-append}
 use Rattle.std.proofs.lemmas.Option.{slice_get-get_or, same_Some}
 use Rattle.ssz_chunk.specs.Chunk.{CountsUp}
 use Rattle.ssz_chunk.proofs.Counting.{CountsUp-add}
-use Rattle.ssz_chunk.specs.Rows.{IsHalved, chunk_at, pair_at}
+use Rattle.ssz_chunk.specs.Rows.{chunk_at, pair_at}
 use Rattle.ssz_chunk.specs.Tree.{root}
 use Rattle.ssz_chunk.specs.declared.Chunk.{Chunk}
 use Rattle.ssz_arena.specs.declared.node.NodeId.{NodeId}
@@ -298,21 +298,6 @@ pub counts_then : (one two three start middle end : ℕ) → two ≤ one → thr
 counts_then one two three start middle end first second by_first by_second =
     let sum : one - two + (two - three) ≡ one - three = omega arith in
     subst (λ n. CountsUp n start end) sum (CountsUp-add _ _ start middle end by_first by_second)
-
--- the pairs of a row, which stand before what is left of it
-pub halved_row : (p : List ℕ → List ℕ → List ℕ) (row half rest : List Chunk) (n : ℕ)
-    → 2 * n ≤ length row → IsHalved p (take (2 * n) row) half
-    → length half ≡ length (take (2 * n) row)
-    → (j : ℕ) → j < n → chunk_at (half ++ rest) j ≡ pair_at p row j
-halved_row p row half rest n fits is long j below =
-    let count : length (take (2 * n) row) ≡ 2 * n = omega (arith, length-take (2 * n) row) in
-    let d : Chunk = record { 0 = [] } in
-    let left : chunk_at (take (2 * n) row) (2 * j) ≡ chunk_at row (2 * j) =
-    ap (λ (c : Chunk). c.0) (get_or-take (2 * n) row (2 * j) d (omega arith)) in
-    let right : chunk_at (take (2 * n) row) (2 * j + 1) ≡ chunk_at row (2 * j + 1) =
-    ap (λ (c : Chunk). c.0) (get_or-take (2 * n) row (2 * j + 1) d (omega arith)) in
-    ap (λ (c : Chunk). c.0) (get_or_append_left half rest d j (omega arith))
-    ∙ is.made j (omega arith) ∙ ap₂ p left right
 
 -- some more of these
 pub hashed_on : (nodes : List Node) (ids : List NodeId) (from end : ℕ) → end ≤ length ids

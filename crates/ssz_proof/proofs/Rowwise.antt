@@ -8,7 +8,7 @@ use Rattle.std.proofs.lemmas.List.{append-nil, get_or-take, get_or-drop, get_or_
 use Rattle.std.proofs.lemmas.List.Elements.{All-filter, All-take, All-drop, filter_more, filter_passes, All-from_get_or}
 use Rattle.std.proofs.lemmas.List.Filters.{sum_by-filter_both}
 use Rattle.std.proofs.lemmas.List.Sums.{sum_by-cons}
-use Rattle.ssz_chunk.specs.Rows.{IsHalved, chunk_at as row_at, pair_at}
+use Rattle.ssz_chunk.specs.Rows.{chunk_at as row_at, pair_at}
 use Rattle.ssz_chunk.specs.declared.Chunk.{Chunk}
 use Rattle.ssz_proof.specs.Calculation.{Known, PairOf, indices_of, chunk_at, deepest, calculated}
 use Rattle.ssz_proof.proofs.Calculating.{within-known}
@@ -305,21 +305,6 @@ joined_row pair_of known indices front back n first second is_front is_back few 
           ∙ ap (calculated pair_of known) (get_or-drop n indices (j - n) 0
           ∙ ap (λ k. get_or indices k 0) back_place))
     ]
-
--- the pairs of a row, which stand before what is left of it
-pub halved_row : (p : PairOf) (row half rest : List Chunk) (n : ℕ)
-    → 2 * n ≤ length row → IsHalved p (take (2 * n) row) half
-    → length half ≡ length (take (2 * n) row)
-    → (j : ℕ) → j < n → row_at (half ++ rest) j ≡ pair_at p row j
-halved_row p row half rest n fits is long j below =
-    let count : length (take (2 * n) row) ≡ 2 * n = omega (arith, length-take (2 * n) row) in
-    let d : Chunk = record { 0 = [] } in
-    let left : row_at (take (2 * n) row) (2 * j) ≡ row_at row (2 * j) =
-    ap (λ (c : Chunk). c.0) (get_or-take (2 * n) row (2 * j) d (omega arith)) in
-    let right : row_at (take (2 * n) row) (2 * j + 1) ≡ row_at row (2 * j + 1) =
-    ap (λ (c : Chunk). c.0) (get_or-take (2 * n) row (2 * j + 1) d (omega arith)) in
-    ap (λ (c : Chunk). c.0) (get_or_append_left half rest d j (omega arith))
-    ∙ is.made j (omega arith) ∙ ap₂ p left right
 
 -- a row in which the chunks that were made stand at their places
 pub placed_row : (pair_of : PairOf) (known : Known) (indices unknown places : List ℕ) (count : ℕ)

@@ -7,7 +7,8 @@ use Rattle.ssz_proof.specs.Calculation.{chunk_at}
 use Rattle.ssz_proof.specs.Descent.{IsReached}
 use Rattle.ssz_proof.specs.Rows.{AreCalculated, AreReached, AreUnknown, children, is_unknown, levels_left}
 use Rattle.ssz_proof.proofs.Descending.{goes_down}
-use Rattle.ssz_proof.proofs.Rowwise.{alone, back_part, both, children_fit, children_reached, children_sum, filtered, front_part, front_row, halved_row, joined_row, left_children, none_found, pairs_calculated, placed_row, sum_of_two}
+use Rattle.ssz_chunk.proofs.Halving.{halved_row}
+use Rattle.ssz_proof.proofs.Rowwise.{alone, back_part, both, children_fit, children_reached, children_sum, filtered, front_part, front_row, joined_row, left_children, none_found, pairs_calculated, placed_row, sum_of_two}
 use Rattle.ssz_proof.proofs.rows.+rows.Goals as goal
 
 pub calculate-overflow_mul-first : goal.calculate-overflow_mul-first
