@@ -29,6 +29,14 @@ pub(crate) struct Lanes<'a, H: PairHash> {
     pub(crate) ghost short: { length bytes.now < 2 ^ 32 },
 }
 
+/// Where a value lies in lane 0: from a byte on, and how many it has. In the other lanes it lies so
+/// many strides further on.
+#[derive(Clone, Copy)]
+pub(crate) struct Span {
+    pub(crate) from: usize,
+    pub(crate) size: usize,
+}
+
 // The chunks of two columns, those of each lane side by side.
 fn woven(left: &Column, right: &Column) -> [Chunk; 2 * WIDE]
     ensures left { (j : ℕ) → j < 8 → chunk_at result (2 * j) ≡ chunk_at left.now j }
@@ -76,31 +84,26 @@ pub(crate) fn zero_column<H: PairHash>(depth: u32, zeros: &ZeroTable<H>) -> Colu
     column
 }
 
-// The bytes of the value in lane j, where that of lane 0 begins at a place.
-fn lane<'a, H: PairHash>(lanes: &Lanes<'a, H>, from: usize, size: usize, j: usize) -> &'a [u8]
+// The bytes of the value in lane j.
+fn lane<'a, H: PairHash>(lanes: &Lanes<'a, H>, span: Span, j: usize) -> &'a [u8]
     requires below { j < 8 }
-    requires room { from + 7 * lanes.now.stride + size ≤ length lanes.now.bytes.now }
-    ensures { result.now ≡ lane from lanes.now.stride size lanes.now.bytes.now j }
+    requires room { span.from + 7 * lanes.now.stride + span.size ≤ length lanes.now.bytes.now }
+    ensures { result.now ≡ lane span.from lanes.now.stride span.size lanes.now.bytes.now j }
 {
-    let start = from + j * lanes.stride;
-    let part = &lanes.bytes[start..start + size];
+    let start = span.from + j * lanes.stride;
+    let part = &lanes.bytes[start..start + span.size];
     part
 }
 
 /// Chunk i of the value in each lane.
-pub(crate) fn chunk_column<H: PairHash>(
-    lanes: &Lanes<'_, H>,
-    from: usize,
-    size: usize,
-    i: usize,
-) -> Column
-    requires room { from + 7 * lanes.now.stride + size ≤ length lanes.now.bytes.now }
+pub(crate) fn chunk_column<H: PairHash>(lanes: &Lanes<'_, H>, span: Span, i: usize) -> Column
+    requires room { span.from + 7 * lanes.now.stride + span.size ≤ length lanes.now.bytes.now }
     ensures { (j : ℕ) → j < 8 → chunk_at result j
-        ≡ chunk_of (lane from lanes.now.stride size lanes.now.bytes.now j) i }
+        ≡ chunk_of (lane span.from lanes.now.stride span.size lanes.now.bytes.now j) i }
 {
     let mut column = [Chunk::ZERO; WIDE];
     for j in 0..WIDE {
-        column[j] = chunk_at(lane(lanes, from, size, j), i);
+        column[j] = chunk_at(lane(lanes, span, j), i);
     }
     column
 }
@@ -118,29 +121,28 @@ pub(crate) fn left_of(depth: u32, count: u64) -> u64
 pub(crate) fn chunks_of_eight<H: PairHash>(
     lanes: &Lanes<'_, H>,
     depth: u32,
-    from: usize,
-    size: usize,
+    span: Span,
     first: u64,
     count: u64,
     hasher: &mut H,
 ) -> Column
     requires depth { depth ≤ 62 }
-    requires room { from + 7 * lanes.now.stride + size ≤ length lanes.now.bytes.now }
+    requires room { span.from + 7 * lanes.now.stride + span.size ≤ length lanes.now.bytes.now }
     requires few { count ≤ 2 ^ depth }
     requires small { first + count < 2 ^ 60 }
     ensures roots { AreRoots H.pair_of result (λ j. full depth (leaves (chunks count
-        (drop (32 * first) (lane from lanes.now.stride size lanes.now.bytes.now j))))) }
+        (drop (32 * first) (lane span.from lanes.now.stride span.size lanes.now.bytes.now j))))) }
     ensures counts { CountsUp (8 * grow depth count) (H.pairs hasher.old) (H.pairs hasher.new) }
 {
     if count == 0 {
         return zero_column(depth, lanes.zeros);
     }
     if depth == 0 {
-        return chunk_column(lanes, from, size, first as usize);
+        return chunk_column(lanes, span, first as usize);
     }
     let half = left_of(depth - 1, count);
     let rest = count - half;
-    let left = chunks_of_eight(lanes, depth - 1, from, size, first, half, hasher);
-    let right = chunks_of_eight(lanes, depth - 1, from, size, first + half, rest, hasher);
+    let left = chunks_of_eight(lanes, depth - 1, span, first, half, hasher);
+    let right = chunks_of_eight(lanes, depth - 1, span, first + half, rest, hasher);
     pair_columns(&left, &right, hasher)
 }

@@ -16,7 +16,7 @@ ghost use Rattle.ssz_packing.specs.Elements.{element_trees};
 ghost use Rattle.ssz_roots.specs.Eights.{AreRoots, AreFixed, AreFaultless, lane, eight, pieces};
 
 use super::columns::{
-    Column, Lanes, chunk_column, chunks_of_eight, left_of, pair_columns, zero_column,
+    Column, Lanes, Span, chunk_column, chunks_of_eight, left_of, pair_columns, zero_column,
 };
 use ssz_chunk::PairHash;
 use ssz_schema::{Name, Ty, TypeId};
@@ -29,44 +29,43 @@ fn chunk_count(size: usize) -> u64
     (size as u64 + 31) / 32
 }
 
-/// The roots of eight values of a type of this size, the first of which begins at a place.
+/// The roots of eight values of a type of the span's size.
 #[cycle(eight)]
 pub(crate) fn roots_of_eight<H: PairHash>(
     lanes: &Lanes<'_, H>,
     id: TypeId,
-    from: usize,
-    size: usize,
+    span: Span,
     hasher: &mut H,
 ) -> Column
     requires known { id < length lanes.now.schema.now.trees }
-    requires fixed { fixed_size (type_of lanes.now.schema.now id) ≡ Some size }
-    requires room { from + 7 * lanes.now.stride + size ≤ length lanes.now.bytes.now }
+    requires fixed { fixed_size (type_of lanes.now.schema.now id) ≡ Some span.size }
+    requires room { span.from + 7 * lanes.now.stride + span.size ≤ length lanes.now.bytes.now }
     requires faultless { let t = type_of lanes.now.schema.now id in
-        let part = lane from lanes.now.stride size lanes.now.bytes.now in
+        let part = lane span.from lanes.now.stride span.size lanes.now.bytes.now in
         (j : ℕ) → j < 8 → why t 0 (part j) ≡ None }
     ensures roots { let t = type_of lanes.now.schema.now id in
-        let part = lane from lanes.now.stride size lanes.now.bytes.now in
+        let part = lane span.from lanes.now.stride span.size lanes.now.bytes.now in
         AreRoots H.pair_of result (λ j. tree t (value_in t (part j))) }
     ensures counts { let t = type_of lanes.now.schema.now id in
-        let part = lane from lanes.now.stride size lanes.now.bytes.now in
+        let part = lane span.from lanes.now.stride span.size lanes.now.bytes.now in
         CountsUp (eight (λ j. pairs t (value_in t (part j))))
         (H.pairs hasher.old) (H.pairs hasher.new) }
 {
     let schema = lanes.schema;
     match schema.ty(id) {
-        Ty::Uint(_) => chunk_column(lanes, from, size, 0),
-        Ty::Boolean => chunk_column(lanes, from, size, 0),
+        Ty::Uint(_) => chunk_column(lanes, span, 0),
+        Ty::Boolean => chunk_column(lanes, span, 0),
         Ty::Vector(elem, count) => {
             let depth = schema.depth(id);
-            vector_of_eight(lanes, *elem, depth, *count, from, size, hasher)
+            vector_of_eight(lanes, *elem, depth, *count, span, hasher)
         }
         Ty::Bitvector(_) => {
-            let count = chunk_count(size);
-            chunks_of_eight(lanes, schema.depth(id), from, size, 0, count, hasher)
+            let count = chunk_count(span.size);
+            chunks_of_eight(lanes, schema.depth(id), span, 0, count, hasher)
         }
         Ty::Container(fields) => {
             let fields = fields.as_slice();
-            let made = fields_of_eight(lanes, id, schema.depth(id), fields, from, hasher);
+            let made = fields_of_eight(lanes, id, schema.depth(id), fields, span.from, hasher);
             made.0
         }
         // None of these has a fixed size.
@@ -83,8 +82,7 @@ fn vector_of_eight<H: PairHash>(
     elem: TypeId,
     depth: u32,
     count: u64,
-    from: usize,
-    size: usize,
+    span: Span,
     hasher: &mut H,
 ) -> Column
     requires known { elem < length lanes.now.schema.now.trees }
@@ -93,28 +91,28 @@ fn vector_of_eight<H: PairHash>(
     requires few { element_chunks (basic_size (type_of lanes.now.schema.now elem)) count
         ≤ 2 ^ depth }
     requires fixed { option_map (λ z. count * z) (fixed_size (type_of lanes.now.schema.now elem))
-        ≡ Some size }
-    requires room { from + 7 * lanes.now.stride + size ≤ length lanes.now.bytes.now }
+        ≡ Some span.size }
+    requires room { span.from + 7 * lanes.now.stride + span.size ≤ length lanes.now.bytes.now }
     requires faultless { let t = type_of lanes.now.schema.now elem in
-        let part = lane from lanes.now.stride size lanes.now.bytes.now in
+        let part = lane span.from lanes.now.stride span.size lanes.now.bytes.now in
         (j : ℕ) → j < 8 → elements_fault (why t) (fixed_size t) count 0 (part j) ≡ None }
     ensures roots { let t = type_of lanes.now.schema.now elem in
-        let part = lane from lanes.now.stride size lanes.now.bytes.now in
+        let part = lane span.from lanes.now.stride span.size lanes.now.bytes.now in
         AreRoots H.pair_of result
         (λ j. full depth (element_trees t (element_values t count (part j)))) }
     ensures counts { let t = type_of lanes.now.schema.now elem in
-        let part = lane from lanes.now.stride size lanes.now.bytes.now in
+        let part = lane span.from lanes.now.stride span.size lanes.now.bytes.now in
         CountsUp (eight (λ j. grow depth (element_chunks (basic_size t) count)
         + sum_by (pairs t) (element_values t count (part j))))
         (H.pairs hasher.old) (H.pairs hasher.new) }
 {
     match lanes.schema.basic_size(elem) {
         Some(_) => {
-            let chunks = chunk_count(size);
-            chunks_of_eight(lanes, depth, from, size, 0, chunks, hasher)
+            let chunks = chunk_count(span.size);
+            chunks_of_eight(lanes, depth, span, 0, chunks, hasher)
         }
         None => {
-            let made = elements_of_eight(lanes, elem, depth, count, from, hasher);
+            let made = elements_of_eight(lanes, elem, depth, count, span.from, hasher);
             made.0
         }
     }
@@ -205,7 +203,7 @@ fn one_of_eight<H: PairHash>(
     match lanes.schema.fixed_size(id) {
         Some(size) => {
             let size = size as usize;
-            let column = roots_of_eight(lanes, id, from, size, hasher);
+            let column = roots_of_eight(lanes, id, Span { from, size }, hasher);
             (column, from + size)
         }
         None => (zero_column(0, lanes.zeros), from),

@@ -11,7 +11,7 @@ ghost use Rattle.ssz_value.specs.Pairs.{pairs};
 ghost use Rattle.ssz_merkle.specs.Frontier.{Holds, bytes_of, whole_pairs};
 ghost use Rattle.ssz_parts.specs.PartValues.{element_values};
 
-use super::columns::{Column, Lanes, WIDE};
+use super::columns::{Column, Lanes, Span, WIDE};
 use super::eights::roots_of_eight;
 use super::rows::{LONGEST, next_row};
 use ssz_chunk::{Chunk, PairHash};
@@ -41,7 +41,7 @@ fn column_of<H: PairHash>(
 {
     let size = lanes.stride;
     let from = first as usize * size;
-    roots_of_eight(lanes, elem, from, size, hasher)
+    roots_of_eight(lanes, elem, Span { from, size }, hasher)
 }
 
 // Makes a row of the roots of elements of the lanes' size, from one on.

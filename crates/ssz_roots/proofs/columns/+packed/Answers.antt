@@ -22,7 +22,7 @@ returns-then-depth-eq0-clause-roots g t c j below =
     let few : c.args.count ≤ 1 = subst (λ d. c.args.count ≤ 2 ^ d) flat c.requires.few in
     c.chunk_column.ensures j below
     ∙ one_leaf g.H.PairHash.pair_of c.args.depth c.args.first c.args.count
-    (lane c.args.from c.args.lanes.now.stride c.args.size c.args.lanes.now.bytes.now j) flat
+    (lane c.args.span.from c.args.lanes.now.stride c.args.span.size c.args.lanes.now.bytes.now j) flat
     (omega (arith, few, c.if-count-eq0.false))
 
 pub returns-then-depth-eq0-clause-counts : goal.returns-then-depth-eq0-clause-counts
@@ -44,7 +44,7 @@ pub returns-clause-roots : goal.returns-clause-roots
 returns-clause-roots g t c j below =
     let d : ℕ = c.args.depth - 1 in
     let deep : suc d ≡ c.args.depth = omega (arith, c.if-depth-eq0.false) in
-    let bytes = lane c.args.from c.args.lanes.now.stride c.args.size c.args.lanes.now.bytes.now j in
+    let bytes = lane c.args.span.from c.args.lanes.now.stride c.args.span.size c.args.lanes.now.bytes.now j in
     chunks-halves g.H.PairHash.pair_of d c.args.first c.args.count c.left_of-half.result bytes
     _ _ _ c.left_of-half.ensures (c.chunks_of_eight-left.ensures.roots j below)
     (c.chunks_of_eight-right.ensures.roots j below) (c.pair_columns.ensures.value j below)

@@ -8,5 +8,5 @@ abbrev pub invariant-loop-j : goal.invariant-loop-j
 invariant-loop-j g l = record {
   long : length l.column ≡ 8;
   each : (j : ℕ) → j < l.j
-      → chunk_at l.column j ≡ chunk_of (lane l.from l.lanes.stride l.size l.lanes.bytes.now j) l.i;
+      → chunk_at l.column j ≡ chunk_of (lane l.span.from l.lanes.stride l.span.size l.lanes.bytes.now j) l.i;
 }

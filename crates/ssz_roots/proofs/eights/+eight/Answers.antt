@@ -396,7 +396,7 @@ roots_of_eight-returns-in-Uint-clause-roots g t c j below =
     c.chunk_column.ensures j below
     ∙ basic_root g.H.PairHash.pair_of c.args.lanes.now.schema.now.format
     (type_of c.args.lanes.now.schema.now c.args.id) _
-    (lane c.args.from c.args.lanes.now.stride c.args.size c.args.lanes.now.bytes.now j)
+    (lane c.args.span.from c.args.lanes.now.stride c.args.span.size c.args.lanes.now.bytes.now j)
     (ap basic_size form) c.ty.ensures.legal (record {
       input = IsInput-range c.args.lanes.now.bytes.now _ _ input;
       none = c.requires.faultless j below;
@@ -412,7 +412,7 @@ roots_of_eight-returns-in-Boolean-clause-roots g t c j below =
     c.chunk_column-in-Boolean.ensures j below
     ∙ basic_root g.H.PairHash.pair_of c.args.lanes.now.schema.now.format
     (type_of c.args.lanes.now.schema.now c.args.id) _
-    (lane c.args.from c.args.lanes.now.stride c.args.size c.args.lanes.now.bytes.now j)
+    (lane c.args.span.from c.args.lanes.now.stride c.args.span.size c.args.lanes.now.bytes.now j)
     (ap basic_size form) c.ty.ensures.legal (record {
       input = IsInput-range c.args.lanes.now.bytes.now _ _ input;
       none = c.requires.faultless j below;
@@ -431,7 +431,7 @@ roots_of_eight-fields_of_eight-made-requires g t c κs within =
     let is : ty ≡ container (fields_over trees parts) =
     sym c.ty.ensures.form ∙ ap (tree_over trees) c.in-Container.is
     ∙ ap (λ (ps : List Part). container (fields_over trees ps)) fields in
-    let law = fixed_fields ty trees parts c.args.size is c.requires.fixed in
+    let law = fixed_fields ty trees parts c.args.span.size is c.requires.fixed in
     let space = container_room format ty trees parts c.depth-in-Container.result is
     c.ty.ensures.legal c.depth-in-Container.ensures.exact in
     let P : List Part → Type 0 = AllByRecursion (λ (part : Part). part.1 < c.args.id) in
@@ -440,13 +440,13 @@ roots_of_eight-fields_of_eight-made-requires g t c κs within =
     let before : P parts = subst P fields all in
     let few : length parts ≤ 2 ^ c.depth-in-Container.result = space.few in
     let fixed : AreFixed (sizes_of trees parts) = law.fixed in
-    let room : c.args.from + 7 * c.args.lanes.now.stride + heads_length (sizes_of trees parts)
+    let room : c.args.span.from + 7 * c.args.lanes.now.stride + heads_length (sizes_of trees parts)
     ≤ length c.args.lanes.now.bytes.now = omega (arith, law.heads, c.requires.room) in
     let good : (j : ℕ) → j < 8 → AreFaultless (fields_over trees parts)
-    (pieces (sizes_of trees parts) (c.args.from + j * c.args.lanes.now.stride)
+    (pieces (sizes_of trees parts) (c.args.span.from + j * c.args.lanes.now.stride)
     c.args.lanes.now.bytes.now) =
     λ j below. (container_lane g.H.PairHash.pair_of format ty trees parts
-    c.depth-in-Container.result (c.args.from + j * c.args.lanes.now.stride) c.args.size
+    c.depth-in-Container.result (c.args.span.from + j * c.args.lanes.now.stride) c.args.span.size
     c.args.lanes.now.bytes.now is
     c.ty.ensures.legal c.depth-in-Container.ensures.exact input c.requires.fixed
     (c.requires.faultless j below)).none in
@@ -467,7 +467,7 @@ roots_of_eight-returns-in-Container-clause-roots g t c j below =
     ∙ ap (λ (ps : List Part). container (fields_over trees ps)) fields in
     c.fields_of_eight-made.ensures.roots j below
     ∙ (container_lane g.H.PairHash.pair_of c.args.lanes.now.schema.now.format ty trees parts
-    c.depth-in-Container.result (c.args.from + j * c.args.lanes.now.stride) c.args.size
+    c.depth-in-Container.result (c.args.span.from + j * c.args.lanes.now.stride) c.args.span.size
     c.args.lanes.now.bytes.now is
     c.ty.ensures.legal c.depth-in-Container.ensures.exact input c.requires.fixed
     (c.requires.faultless j below)).same
@@ -487,7 +487,7 @@ roots_of_eight-returns-in-Container-clause-counts g t c =
     ∙ ap (λ (ps : List Part). container (fields_over trees ps)) fields in
     let same = eight-same _ _ (λ j below. (container_lane g.H.PairHash.pair_of
     c.args.lanes.now.schema.now.format ty trees parts
-    c.depth-in-Container.result (c.args.from + j * c.args.lanes.now.stride) c.args.size
+    c.depth-in-Container.result (c.args.span.from + j * c.args.lanes.now.stride) c.args.span.size
     c.args.lanes.now.bytes.now is
     c.ty.ensures.legal c.depth-in-Container.ensures.exact input c.requires.fixed
     (c.requires.faultless j below)).costs) in
@@ -499,7 +499,7 @@ pub roots_of_eight-vector_of_eight-requires : goal.roots_of_eight-vector_of_eigh
 roots_of_eight-vector_of_eight-requires g t c κs within =
     let trees = c.args.lanes.now.schema.now.trees in
     let ty = tree_at trees c.in-Vector.elem in
-    let bytes = lane c.args.from c.args.lanes.now.stride c.args.size c.args.lanes.now.bytes.now in
+    let bytes = lane c.args.span.from c.args.lanes.now.stride c.args.span.size c.args.lanes.now.bytes.now in
     let form = sym c.ty.ensures.form ∙ ap (tree_over trees) c.in-Vector.is in
     let h = λ (j : ℕ) (below : j < 8). vector_elements c.args.lanes.now.schema.now.format
     (type_of c.args.lanes.now.schema.now c.args.id) ty c.in-Vector.count c.depth-depth.result
@@ -510,7 +510,7 @@ roots_of_eight-vector_of_eight-requires g t c κs within =
     let legal : IsLegal c.args.lanes.now.schema.now.format ty = first.legal in
     let few : element_chunks (basic_size ty) c.in-Vector.count ≤ 2 ^ c.depth-depth.result =
     first.few in
-    let fixed : option_map (λ z. c.in-Vector.count * z) (fixed_size ty) ≡ Some c.args.size =
+    let fixed : option_map (λ z. c.in-Vector.count * z) (fixed_size ty) ≡ Some c.args.span.size =
     sym (ap fixed_size form) ∙ c.requires.fixed in
     let good : (j : ℕ) → j < 8 → elements_fault (why ty) (fixed_size ty) c.in-Vector.count 0
     (bytes j) ≡ None = λ j below. (h j below).faultless in
@@ -522,7 +522,7 @@ roots_of_eight-returns-in-Vector-clause-roots g t c j below =
     let trees = c.args.lanes.now.schema.now.trees in
     let form = sym c.ty.ensures.form ∙ ap (tree_over trees) c.in-Vector.is in
     let ty = tree_at trees c.in-Vector.elem in
-    let bytes = lane c.args.from c.args.lanes.now.stride c.args.size c.args.lanes.now.bytes.now j in
+    let bytes = lane c.args.span.from c.args.lanes.now.stride c.args.span.size c.args.lanes.now.bytes.now j in
     c.vector_of_eight.ensures.roots j below
     ∙ ap (λ d. root g.H.PairHash.pair_of (full d
     (element_trees ty (element_values ty c.in-Vector.count bytes))))
@@ -537,7 +537,7 @@ roots_of_eight-returns-in-Vector-clause-counts g t c =
     let form = sym c.ty.ensures.form ∙ ap (tree_over trees) c.in-Vector.is in
     let ty = tree_at trees c.in-Vector.elem in
     let n : ℕ = c.in-Vector.count in
-    let bytes = lane c.args.from c.args.lanes.now.stride c.args.size c.args.lanes.now.bytes.now in
+    let bytes = lane c.args.span.from c.args.lanes.now.stride c.args.span.size c.args.lanes.now.bytes.now in
     let same = eight-same (λ j. grow c.depth-depth.result (element_chunks (basic_size ty) n)
     + sum_by (pairs ty) (element_values ty n (bytes j)))
     (λ j. pairs (type_of c.args.lanes.now.schema.now c.args.id)
@@ -554,15 +554,15 @@ pub roots_of_eight-chunks_of_eight-requires-clause-few :
 roots_of_eight-chunks_of_eight-requires-clause-few g t c =
     let input : IsInput c.args.lanes.now.bytes.now = record
     { bytes = c.args.lanes.now.are_bytes; short = c.args.lanes.now.short } in
-    let bytes = lane c.args.from c.args.lanes.now.stride c.args.size c.args.lanes.now.bytes.now 0 in
+    let bytes = lane c.args.span.from c.args.lanes.now.stride c.args.span.size c.args.lanes.now.bytes.now 0 in
     let h = IsPackedBits-bitvector g.H.PairHash.pair_of c.args.lanes.now.schema.now.format
     (type_of c.args.lanes.now.schema.now c.args.id) c.in-Bitvector.field-0 bytes
     (sym c.ty.ensures.form ∙ ap (tree_over c.args.lanes.now.schema.now.trees) c.in-Bitvector.is)
     c.ty.ensures.legal (IsInput-range c.args.lanes.now.bytes.now _ _ input)
     (c.requires.faultless 0 (omega arith)) in
-    let long : length bytes ≡ c.args.size = length-lane c.args.lanes.now.bytes.now
-    (c.args.from + 0 * c.args.lanes.now.stride) c.args.size (omega (arith, c.requires.room)) in
-    let few : (c.args.size + 31) / 32 ≤ 2 ^ depth (type_of c.args.lanes.now.schema.now c.args.id) =
+    let long : length bytes ≡ c.args.span.size = length-lane c.args.lanes.now.bytes.now
+    (c.args.span.from + 0 * c.args.lanes.now.stride) c.args.span.size (omega (arith, c.requires.room)) in
+    let few : (c.args.span.size + 31) / 32 ≤ 2 ^ depth (type_of c.args.lanes.now.schema.now c.args.id) =
     subst (λ n. (n + 31) / 32 ≤ 2 ^ depth (type_of c.args.lanes.now.schema.now c.args.id)) long
     h.few in
     subst (λ d. c.chunk_count-count.result ≤ 2 ^ d) (sym c.depth.ensures.exact)
@@ -574,16 +574,16 @@ pub roots_of_eight-returns-in-Bitvector-clause-roots :
 roots_of_eight-returns-in-Bitvector-clause-roots g t c j below =
     let input : IsInput c.args.lanes.now.bytes.now = record
     { bytes = c.args.lanes.now.are_bytes; short = c.args.lanes.now.short } in
-    let bytes : List ℕ = lane c.args.from c.args.lanes.now.stride c.args.size
+    let bytes : List ℕ = lane c.args.span.from c.args.lanes.now.stride c.args.span.size
     c.args.lanes.now.bytes.now j in
     let h = IsPackedBits-bitvector g.H.PairHash.pair_of c.args.lanes.now.schema.now.format
     (type_of c.args.lanes.now.schema.now c.args.id) c.in-Bitvector.field-0 bytes
     (sym c.ty.ensures.form ∙ ap (tree_over c.args.lanes.now.schema.now.trees) c.in-Bitvector.is)
     c.ty.ensures.legal (IsInput-range c.args.lanes.now.bytes.now _ _ input)
     (c.requires.faultless j below) in
-    let long : length bytes ≡ c.args.size = length-lane c.args.lanes.now.bytes.now
-    (c.args.from + j * c.args.lanes.now.stride) c.args.size
-    (lane_room c.args.from c.args.lanes.now.stride c.args.size (length c.args.lanes.now.bytes.now) j
+    let long : length bytes ≡ c.args.span.size = length-lane c.args.lanes.now.bytes.now
+    (c.args.span.from + j * c.args.lanes.now.stride) c.args.span.size
+    (lane_room c.args.span.from c.args.lanes.now.stride c.args.span.size (length c.args.lanes.now.bytes.now) j
     below c.requires.room) in
     c.chunks_of_eight.ensures.roots j below
     ∙ ap (λ n. root g.H.PairHash.pair_of (full c.depth.result
@@ -598,7 +598,7 @@ roots_of_eight-returns-in-Bitvector-clause-counts g t c =
     let input : IsInput c.args.lanes.now.bytes.now = record
     { bytes = c.args.lanes.now.are_bytes; short = c.args.lanes.now.short } in
     let ty = type_of c.args.lanes.now.schema.now c.args.id in
-    let bytes : ℕ → List ℕ = lane c.args.from c.args.lanes.now.stride c.args.size
+    let bytes : ℕ → List ℕ = lane c.args.span.from c.args.lanes.now.stride c.args.span.size
     c.args.lanes.now.bytes.now in
     let each : (j : ℕ) → j < 8 → grow c.depth.result c.chunk_count-count.result
     ≡ pairs ty (value_in ty (bytes j)) =
@@ -608,9 +608,9 @@ roots_of_eight-returns-in-Bitvector-clause-counts g t c =
     (sym c.ty.ensures.form ∙ ap (tree_over c.args.lanes.now.schema.now.trees) c.in-Bitvector.is)
     c.ty.ensures.legal (IsInput-range c.args.lanes.now.bytes.now _ _ input)
     (c.requires.faultless j below) in
-    let long : length (bytes j) ≡ c.args.size = length-lane c.args.lanes.now.bytes.now
-    (c.args.from + j * c.args.lanes.now.stride) c.args.size
-    (lane_room c.args.from c.args.lanes.now.stride c.args.size (length c.args.lanes.now.bytes.now) j
+    let long : length (bytes j) ≡ c.args.span.size = length-lane c.args.lanes.now.bytes.now
+    (c.args.span.from + j * c.args.lanes.now.stride) c.args.span.size
+    (lane_room c.args.span.from c.args.lanes.now.stride c.args.span.size (length c.args.lanes.now.bytes.now) j
     below c.requires.room) in
     ap (grow c.depth.result) (c.chunk_count-count.ensures
     ∙ ap (λ n. (n + 31) / 32) (sym long))
@@ -629,12 +629,12 @@ vector_of_eight-chunks_of_eight-requires-clause-few g t c =
     let input : IsInput c.args.lanes.now.bytes.now = record
     { bytes = c.args.lanes.now.are_bytes; short = c.args.lanes.now.short } in
     let ty = type_of c.args.lanes.now.schema.now c.args.elem in
-    let room = lane_room c.args.from c.args.lanes.now.stride c.args.size
+    let room = lane_room c.args.span.from c.args.lanes.now.stride c.args.span.size
     (length c.args.lanes.now.bytes.now) 0 (omega arith) c.requires.room in
-    let long = length-lane c.args.lanes.now.bytes.now (c.args.from + 0 * c.args.lanes.now.stride)
-    c.args.size room in
+    let long = length-lane c.args.lanes.now.bytes.now (c.args.span.from + 0 * c.args.lanes.now.stride)
+    c.args.span.size room in
     let packed = packed_lane g.H.PairHash.pair_of c.args.depth c.args.lanes.now.schema.now.format ty
-    c.in-Some.field-0 c.args.count (c.args.from + 0 * c.args.lanes.now.stride) c.args.size
+    c.in-Some.field-0 c.args.count (c.args.span.from + 0 * c.args.lanes.now.stride) c.args.span.size
     c.args.lanes.now.bytes.now (sym c.in-Some.ensures.exact) c.requires.legal input room
     c.requires.fixed (c.requires.faultless 0 (omega arith)) in
     subst (λ n. n ≤ 2 ^ c.args.depth) (sym (c.chunk_count-chunks.ensures
@@ -645,14 +645,14 @@ vector_of_eight-returns-in-Some-clause-roots g t c j below =
     let input : IsInput c.args.lanes.now.bytes.now = record
     { bytes = c.args.lanes.now.are_bytes; short = c.args.lanes.now.short } in
     let ty = type_of c.args.lanes.now.schema.now c.args.elem in
-    let bytes : List ℕ = lane c.args.from c.args.lanes.now.stride c.args.size
+    let bytes : List ℕ = lane c.args.span.from c.args.lanes.now.stride c.args.span.size
     c.args.lanes.now.bytes.now j in
-    let room = lane_room c.args.from c.args.lanes.now.stride c.args.size
+    let room = lane_room c.args.span.from c.args.lanes.now.stride c.args.span.size
     (length c.args.lanes.now.bytes.now) j below c.requires.room in
-    let long = length-lane c.args.lanes.now.bytes.now (c.args.from + j * c.args.lanes.now.stride)
-    c.args.size room in
+    let long = length-lane c.args.lanes.now.bytes.now (c.args.span.from + j * c.args.lanes.now.stride)
+    c.args.span.size room in
     let packed = packed_lane g.H.PairHash.pair_of c.args.depth c.args.lanes.now.schema.now.format ty
-    c.in-Some.field-0 c.args.count (c.args.from + j * c.args.lanes.now.stride) c.args.size
+    c.in-Some.field-0 c.args.count (c.args.span.from + j * c.args.lanes.now.stride) c.args.span.size
     c.args.lanes.now.bytes.now (sym c.in-Some.ensures.exact) c.requires.legal input room
     c.requires.fixed (c.requires.faultless j below) in
     c.chunks_of_eight.ensures.roots j below
@@ -667,18 +667,18 @@ vector_of_eight-returns-in-Some-clause-counts g t c =
     { bytes = c.args.lanes.now.are_bytes; short = c.args.lanes.now.short } in
     let ty = type_of c.args.lanes.now.schema.now c.args.elem in
     let d : ℕ = c.args.depth in
-    let bytes : ℕ → List ℕ = lane c.args.from c.args.lanes.now.stride c.args.size
+    let bytes : ℕ → List ℕ = lane c.args.span.from c.args.lanes.now.stride c.args.span.size
     c.args.lanes.now.bytes.now in
     let each : (j : ℕ) → j < 8 → grow d c.chunk_count-chunks.result
     ≡ grow d (element_chunks (basic_size ty) c.args.count)
     + sum_by (pairs ty) (element_values ty c.args.count (bytes j)) =
     λ j below.
-    let room = lane_room c.args.from c.args.lanes.now.stride c.args.size
+    let room = lane_room c.args.span.from c.args.lanes.now.stride c.args.span.size
     (length c.args.lanes.now.bytes.now) j below c.requires.room in
-    let long = length-lane c.args.lanes.now.bytes.now (c.args.from + j * c.args.lanes.now.stride)
-    c.args.size room in
+    let long = length-lane c.args.lanes.now.bytes.now (c.args.span.from + j * c.args.lanes.now.stride)
+    c.args.span.size room in
     let packed = packed_lane g.H.PairHash.pair_of d c.args.lanes.now.schema.now.format ty
-    c.in-Some.field-0 c.args.count (c.args.from + j * c.args.lanes.now.stride) c.args.size
+    c.in-Some.field-0 c.args.count (c.args.span.from + j * c.args.lanes.now.stride) c.args.span.size
     c.args.lanes.now.bytes.now (sym c.in-Some.ensures.exact) c.requires.legal input room
     c.requires.fixed (c.requires.faultless j below) in
     ap (grow d) (c.chunk_count-chunks.ensures ∙ ap (λ n. (n + 31) / 32) (sym long)
@@ -696,32 +696,32 @@ vector_of_eight-elements_of_eight-made-requires g t c κs within =
     let input : IsInput c.args.lanes.now.bytes.now = record
     { bytes = c.args.lanes.now.are_bytes; short = c.args.lanes.now.short } in
     let ty = type_of c.args.lanes.now.schema.now c.args.elem in
-    let law = fixed_elements c.args.count c.args.size (fixed_size ty) c.requires.fixed in
+    let law = fixed_elements c.args.count c.args.span.size (fixed_size ty) c.requires.fixed in
     let few : c.args.count ≤ 2 ^ c.args.depth =
     subst (λ size. element_chunks size c.args.count ≤ 2 ^ c.args.depth)
     (sym c.in-None.ensures.exact) c.requires.few in
     let fixed : AreFixed (replicate c.args.count (fixed_size ty)) = law.0 in
-    let room : c.args.from + 7 * c.args.lanes.now.stride
+    let room : c.args.span.from + 7 * c.args.lanes.now.stride
     + heads_length (replicate c.args.count (fixed_size ty)) ≤ length c.args.lanes.now.bytes.now =
     omega (arith, law.1, c.requires.room) in
     let good : (j i : ℕ) → j < 8 → i < c.args.count → why ty 0 (get_or
-    (pieces (replicate c.args.count (fixed_size ty)) (c.args.from + j * c.args.lanes.now.stride)
+    (pieces (replicate c.args.count (fixed_size ty)) (c.args.span.from + j * c.args.lanes.now.stride)
     c.args.lanes.now.bytes.now) i []) ≡ None =
     λ j i below inside. elements_none c.args.lanes.now.schema.now.format ty c.args.count
-    (c.args.from + j * c.args.lanes.now.stride) c.args.size c.args.lanes.now.bytes.now
+    (c.args.span.from + j * c.args.lanes.now.stride) c.args.span.size c.args.lanes.now.bytes.now
     c.requires.legal input law.0 law.1 (c.requires.faultless j below) i inside in
     search rules
 
 pub vector_of_eight-returns-in-None-clause-roots : goal.vector_of_eight-returns-in-None-clause-roots
 vector_of_eight-returns-in-None-clause-roots g t c j below =
     let ty = type_of c.args.lanes.now.schema.now c.args.elem in
-    let law = fixed_elements c.args.count c.args.size (fixed_size ty) c.requires.fixed in
+    let law = fixed_elements c.args.count c.args.span.size (fixed_size ty) c.requires.fixed in
     let vs = element_values ty c.args.count
-    (lane c.args.from c.args.lanes.now.stride c.args.size c.args.lanes.now.bytes.now j) in
+    (lane c.args.span.from c.args.lanes.now.stride c.args.span.size c.args.lanes.now.bytes.now j) in
     c.elements_of_eight-made.ensures.roots j below
     ∙ ap (λ xs. root g.H.PairHash.pair_of (full c.args.depth (trees_of ty xs)))
-    (sym (elements_within (fixed_size ty) c.args.count (c.args.from + j * c.args.lanes.now.stride)
-    c.args.size c.args.lanes.now.bytes.now law.0 law.1))
+    (sym (elements_within (fixed_size ty) c.args.count (c.args.span.from + j * c.args.lanes.now.stride)
+    c.args.span.size c.args.lanes.now.bytes.now law.0 law.1))
     ∙ ap (λ size. root g.H.PairHash.pair_of (full c.args.depth (element_leaves size
     (map (enc ty) vs) (map (tree ty) vs)))) c.in-None.ensures.exact
 
@@ -731,16 +731,16 @@ vector_of_eight-returns-in-None-clause-counts g t c =
     let ty = type_of c.args.lanes.now.schema.now c.args.elem in
     let d : ℕ = c.args.depth in
     let n : ℕ = c.args.count in
-    let law = fixed_elements n c.args.size (fixed_size ty) c.requires.fixed in
-    let bytes : ℕ → List ℕ = lane c.args.from c.args.lanes.now.stride c.args.size
+    let law = fixed_elements n c.args.span.size (fixed_size ty) c.requires.fixed in
+    let bytes : ℕ → List ℕ = lane c.args.span.from c.args.lanes.now.stride c.args.span.size
     c.args.lanes.now.bytes.now in
     let same = eight-same (λ j. grow d n + pairs_of ty
-    (pieces (replicate n (fixed_size ty)) (c.args.from + j * c.args.lanes.now.stride)
+    (pieces (replicate n (fixed_size ty)) (c.args.span.from + j * c.args.lanes.now.stride)
     c.args.lanes.now.bytes.now)) (λ j. grow d (element_chunks (basic_size ty) n)
     + sum_by (pairs ty) (element_values ty n (bytes j)))
     (λ j below. ap (λ xs. grow d n + pairs_of ty xs)
-    (sym (elements_within (fixed_size ty) n (c.args.from + j * c.args.lanes.now.stride)
-    c.args.size c.args.lanes.now.bytes.now law.0 law.1))
+    (sym (elements_within (fixed_size ty) n (c.args.span.from + j * c.args.lanes.now.stride)
+    c.args.span.size c.args.lanes.now.bytes.now law.0 law.1))
     ∙ ap (λ size. grow d (element_chunks size n)
     + sum_by (pairs ty) (element_values ty n (bytes j))) c.in-None.ensures.exact) in
     subst (λ n. CountsUp n (g.H.PairHash.pairs c.args.hasher.now)
