@@ -4,8 +4,8 @@ use Rattle.std.specs.Prelude.{ℕ, suc, ◌+◌, ◌^◌, ◌≤◌, List, ◌�
 use Rattle.ssz_making.specs.Parts.{Part, whole}
 
 -- a leaf is put beside a part that was made
-pub record CanJoin {S O : Type 0} (room : S → ℕ → Type 0) (made : S → S → Part → O → Type 0)
-    (now : S) (out : O) : Type 0 where
+pub record CanJoin {S O : Type 0} (room : S → ℕ → Type 0)
+    (made : S → S → Part → O → Type 0) (now : S) (out : O) : Type 0 where
   pub start : S
   pub one : Part
   pub is : made start now one out

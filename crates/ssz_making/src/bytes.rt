@@ -79,7 +79,7 @@ fn elements_made<M: Maker>(
     requires faultless { elements_fault (why (type_of schema.now elem))
         (fixed_size (type_of schema.now elem)) count 0 bytes.now ≡ None }
     requires room { let t = type_of schema.now elem in
-        M.room maker.old ((elements_part t depth (element_values t count bytes.now)).nodes) }
+        M.room maker.old (elements_part t depth (element_values t count bytes.now)).nodes }
     ensures { let t = type_of schema.now elem in M.made maker.old maker.new
         (elements_part t depth (element_values t count bytes.now)) result }
 {
@@ -107,7 +107,8 @@ fn parts_made<M: Maker>(
     requires faultless { elements_fault (why (type_of schema.now elem))
         (fixed_size (type_of schema.now elem)) count 0 bytes.now ≡ None }
     requires room { let t = type_of schema.now elem in
-        M.room maker.old ((whole depth (map (part_of t) (element_values t count bytes.now))).nodes) }
+        M.room maker.old
+        (whole depth (map (part_of t) (element_values t count bytes.now))).nodes }
     ensures { let t = type_of schema.now elem in M.made maker.old maker.new
         (whole depth (map (part_of t) (element_values t count bytes.now))) result }
 {
@@ -143,7 +144,7 @@ fn fields_made<M: Maker>(
     requires faultless { why (container (fields_over schema.now.trees fields.now)) 0 bytes.now
         ≡ None }
     requires room { let fs = fields_over schema.now.trees fields.now in
-        M.room maker.old ((whole depth (field_parts fs (field_values fs bytes.now))).nodes) }
+        M.room maker.old (whole depth (field_parts fs (field_values fs bytes.now))).nodes }
     ensures { let fs = fields_over schema.now.trees fields.now in
         M.made maker.old maker.new (whole depth (field_parts fs (field_values fs bytes.now)))
         result }
@@ -200,7 +201,7 @@ fn option_made<M: Maker>(
     requires before { IsBelow id option }
     requires short { length bytes.now < 2 ^ 32 }
     requires faultless { IfSome option (λ some. why (type_of schema.now some) 0 bytes.now ≡ None) }
-    requires room { M.room maker.old ((chosen_part schema.now.trees option bytes.now).nodes) }
+    requires room { M.room maker.old (chosen_part schema.now.trees option bytes.now).nodes }
     ensures { M.made maker.old maker.new (chosen_part schema.now.trees option bytes.now) result }
 {
     match option {

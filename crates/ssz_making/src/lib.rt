@@ -3,7 +3,7 @@
 //!
 //! `bytes_part` goes over the bytes of a value, which have no fault, in one pass, and `value_part`
 //! over a value. What they make says a `Maker`: a root, a node, or a count of nodes. Part by part
-//! they ask it for leaves, for rows of parts, and for what is packed, and never what became of them.
+//! they ask it for leaves, for rows of parts, and for what is packed.
 //!
 //! A part is a tree with its pairs and the nodes that are made for it (`specs/Parts.antt`). A maker
 //! says by ghost members what it made of one since a moment, so that what follows one another

@@ -68,7 +68,8 @@ fn sequence_made<M: Maker>(
     requires depth { depth ≤ LEVELS }
     requires few { element_chunks (basic_size (type_of schema.now elem))
         (part_count_of (value_of value.now)) ≤ 2 ^ depth }
-    requires room { M.room maker.old ((elements_part (type_of schema.now elem) depth (parts_of (value_of value.now))).nodes) }
+    requires room { let t = type_of schema.now elem in
+        M.room maker.old (elements_part t depth (parts_of (value_of value.now))).nodes }
     ensures { M.made maker.old maker.new (elements_part (type_of schema.now elem) depth
         (parts_of (value_of value.now))) result }
 {
@@ -96,7 +97,7 @@ fn values_made<M: Maker>(
     requires few { length parts.now ≤ 2 ^ depth }
     requires values { AllByRecursion (IsValue (type_of schema.now elem)) parts.now }
     requires room { let t = type_of schema.now elem in
-        M.room maker.old ((whole depth (map (part_of t) (map value_of parts.now))).nodes) }
+        M.room maker.old (whole depth (map (part_of t) (map value_of parts.now))).nodes }
     ensures { let t = type_of schema.now elem in
         M.made maker.old maker.new (whole depth (map (part_of t) (map value_of parts.now)))
         result }
@@ -130,7 +131,7 @@ fn container_made<M: Maker>(
     requires depth { depth ≤ LEVELS }
     requires few { length fields.now ≤ 2 ^ depth }
     requires room { let fs = fields_over schema.now.trees fields.now in
-        M.room maker.old ((whole depth (field_parts fs (parts_of (value_of value.now)))).nodes) }
+        M.room maker.old (whole depth (field_parts fs (parts_of (value_of value.now)))).nodes }
     ensures { let fs = fields_over schema.now.trees fields.now in
         M.made maker.old maker.new (whole depth (field_parts fs (parts_of (value_of value.now))))
         result }
@@ -157,7 +158,7 @@ fn field_values_made<M: Maker>(
     requires depth { depth ≤ LEVELS }
     requires few { length fields.now ≤ 2 ^ depth }
     requires room { let fs = fields_over schema.now.trees fields.now in
-        M.room maker.old ((whole depth (field_parts fs (map value_of parts.now))).nodes) }
+        M.room maker.old (whole depth (field_parts fs (map value_of parts.now))).nodes }
     ensures { let fs = fields_over schema.now.trees fields.now in
         M.made maker.old maker.new (whole depth (field_parts fs (map value_of parts.now)))
         result }

@@ -61,8 +61,10 @@ parts_made-bytes_part-out-requires g t c κs within =
     let split = split-at all c.elements.i _ at in
     let space = subst (λ ps. g.M.Maker.room c.args.maker.now (whole c.args.depth ps).nodes)
     (sym split) c.requires.room in
-    let room : g.M.Maker.room c.elements.maker (new_nodes ty (value_in ty c.element_at-part.result.now))
-    = g.met.M.Maker.room_next _ _ c.args.depth c.args.count (take c.elements.i all) (drop (c.elements.i + 1) all)
+    let room : g.M.Maker.room c.elements.maker (new_nodes ty (value_in ty
+    c.element_at-part.result.now))
+    = g.met.M.Maker.room_next _ _ c.args.depth c.args.count (take c.elements.i all) (drop
+    (c.elements.i + 1) all)
     (part_of ty (value_in ty c.element_at-part.result.now)) _ c.elements.invariant space in
     search rules
 
@@ -304,9 +306,11 @@ fields_made-bytes_part-out-requires g t c κs within =
     let split = split-at all c.loop-i.i _ next.at in
     let space = subst (λ ps. g.M.Maker.room c.args.maker.now (whole c.args.depth ps).nodes)
     (sym split) c.requires.room in
-    let room : g.M.Maker.room c.loop-i.maker (new_nodes ty (value_in ty (slice_range c.args.bytes.now
+    let room : g.M.Maker.room c.loop-i.maker (new_nodes ty (value_in ty (slice_range
+    c.args.bytes.now
     c.part_range-from.result.0 c.part_range-from.result.1))) =
-    g.met.M.Maker.room_next _ _ c.args.depth (length c.args.fields.now) (take c.loop-i.i all) (drop (c.loop-i.i + 1) all)
+    g.met.M.Maker.room_next _ _ c.args.depth (length c.args.fields.now) (take c.loop-i.i all) (drop
+    (c.loop-i.i + 1) all)
     (part_of ty (value_in ty (slice_range c.args.bytes.now c.part_range-from.result.0
     c.part_range-from.result.1))) _ c.loop-i.invariant.pushed space in
     search rules
@@ -414,7 +418,8 @@ union_made-option_made-value-requires g t c κs within =
     let made = union-part c.args.schema.now.trees c.args.options.now c.index-options-from.result
     c.args.bytes.now h.some chosen in
     let room : g.M.Maker.room c.args.maker.now (chosen_part c.args.schema.now.trees
-    c.index-options-from.result (take (length c.args.bytes.now - 1) (drop 1 c.args.bytes.now))).nodes
+    c.index-options-from.result (take (length c.args.bytes.now - 1) (drop 1
+    c.args.bytes.now))).nodes
     = subst (λ (b : List ℕ). g.M.Maker.room c.args.maker.now (chosen_part c.args.schema.now.trees
     c.index-options-from.result b).nodes) (sym rest)
     (g.met.M.Maker.room_less c.args.maker.now _ _ (omega (arith, same_nodes _ _ made))
@@ -594,9 +599,11 @@ bytes_part-returns-in-Boolean g t c =
     let input : IsInput c.args.bytes.now = record
     { bytes = λ i. omega (arith, c.type_inv.bytes i); short = c.requires.short } in
     let form = sym c.ty.ensures.form ∙ ap (tree_over c.args.schema.now.trees) c.in-Boolean.is in
-    subst (λ part. g.M.Maker.made c.args.maker.now c.leaf-in-Boolean.new.self part c.leaf-in-Boolean.result)
+    subst (λ part. g.M.Maker.made c.args.maker.now c.leaf-in-Boolean.new.self part
+    c.leaf-in-Boolean.result)
     (basic_made c.args.schema.now.format (type_of c.args.schema.now c.args.id) _ c.args.bytes.now
-    c.chunk_at-in-Boolean.result.0 (ap basic_size form) c.ty.ensures.legal input c.requires.faultless
+    c.chunk_at-in-Boolean.result.0 (ap basic_size form) c.ty.ensures.legal input
+    c.requires.faultless
     c.chunk_at-in-Boolean.ensures) c.leaf-in-Boolean.ensures
 
 pub bytes_part-union_made-requires : goal.bytes_part-union_made-requires
@@ -789,7 +796,8 @@ bytes_part-join-requires-in-Bitlist g t c =
     (type_of c.args.schema.now c.args.id) c.in-Bitlist.field-0 c.depth-in-Bitlist.result
     c.args.bytes.now form c.ty.ensures.legal input c.requires.faultless
     c.depth-in-Bitlist.ensures.exact in
-    let number = c.number_chunk-len-in-Bitlist.ensures ∙ ap number_chunk c.from-in-Bitlist.ensures in
+    let number = c.number_chunk-len-in-Bitlist.ensures ∙ ap number_chunk c.from-in-Bitlist.ensures
+    in
     let made = bitlist_made (type_of c.args.schema.now c.args.id) c.in-Bitlist.field-0
     c.depth-in-Bitlist.result c.bitlist_len-count.result c.args.bytes.now
     c.number_chunk-len-in-Bitlist.result.0 form input h.some h.delimited
@@ -812,7 +820,8 @@ bytes_part-returns-in-Bitlist g t c =
     (type_of c.args.schema.now c.args.id) c.in-Bitlist.field-0 c.depth-in-Bitlist.result
     c.args.bytes.now form c.ty.ensures.legal input c.requires.faultless
     c.depth-in-Bitlist.ensures.exact in
-    let number = c.number_chunk-len-in-Bitlist.ensures ∙ ap number_chunk c.from-in-Bitlist.ensures in
+    let number = c.number_chunk-len-in-Bitlist.ensures ∙ ap number_chunk c.from-in-Bitlist.ensures
+    in
     let made = bitlist_made (type_of c.args.schema.now c.args.id) c.in-Bitlist.field-0
     c.depth-in-Bitlist.result c.bitlist_len-count.result c.args.bytes.now
     c.number_chunk-len-in-Bitlist.result.0 form input h.some h.delimited

@@ -18,7 +18,6 @@ use Rattle.ssz_packing.proofs.Bounds.{basic_divides}
 use Rattle.ssz_packing.proofs.Options.{below_at}
 use Rattle.ssz_packing.proofs.ValueArms.{HasValues-seq, HasBitValues-bitvector, HasBitList-bitlist, HasVector-vector, HasList-list, HasByteValues-bytes, parts_of_seq, field_value}
 use Rattle.ssz_packing.proofs.Lists.{take-map-next}
-
 use Rattle.std.specs.Prelude.{IsSome}
 use Rattle.std.proofs.Common.{◌-◌, drop, length-drop}
 use Rattle.std.proofs.Math.Seq.{take-add}
@@ -104,8 +103,13 @@ values_made-elements-preserved g t c =
     let more : List Part = take c.repeats.result (drop (c.elements.i + 1) all) in
     let long : length (take c.repeats.result (drop (c.elements.i + 1) all))
     ≡ c.repeats.result = length-take-le c.repeats.result (drop (c.elements.i + 1) all)
-    (omega (arith, many, length-drop (c.elements.i + 1) all, c.repeats.ensures.at_most,
-    c.elements-test.true)) in
+    (omega (
+      arith,
+      many,
+      length-drop (c.elements.i + 1) all,
+      c.repeats.ensures.at_most,
+      c.elements-test.true,
+    )) in
     let one = subst (λ ps. g.M.Maker.gathered c.args.maker.now c.push.new.self c.args.depth
     (length c.args.parts.now) ps c.push.new.rows) (sym at.more)
     (c.push.ensures _ _ _ _ _ _ c.elements.invariant c.value_part-out.ensures) in
@@ -400,7 +404,8 @@ sequence_made-values_made-requires g t c κs within =
     let made = composite_values (type_of c.args.schema.now c.args.elem) c.args.depth
     c.in-Seq.parts c.as_slice-in-None.result.now c.args.value.now c.in-Seq.is
     c.as_slice-in-None.ensures.value (sym c.basic_size.ensures.exact ∙ c.in-None.is) in
-    let room : g.M.Maker.room c.args.maker.now (whole c.args.depth (map (part_of (type_of c.args.schema.now c.args.elem))
+    let room : g.M.Maker.room c.args.maker.now (whole c.args.depth (map (part_of (type_of
+    c.args.schema.now c.args.elem))
     (map value_of c.as_slice-in-None.result.now))).nodes =
     subst (g.M.Maker.room c.args.maker.now) (sym (same_nodes _ _ made)) c.requires.room in
     search rules
@@ -470,7 +475,8 @@ value_part-returns-in-Bitvector g t c =
     let made = bitvector_value (type_of c.args.schema.now c.args.id) c.in-Bitvector.field-0
     c.depth.result (value_of c.args.value.now) c.bits_of.result.now form
     c.requires.value.fits c.depth.ensures.exact c.bits_of.ensures in
-    subst (λ part. g.M.Maker.made c.args.maker.now c.bit_values.new.self part c.bit_values.result) made
+    subst (λ part. g.M.Maker.made c.args.maker.now c.bit_values.new.self part c.bit_values.result)
+    made
     c.bit_values.ensures
 
 pub value_part-bit_values-content-requires-clause-few :
@@ -522,7 +528,8 @@ pub value_part-returns-in-Bitlist : goal.value_part-returns-in-Bitlist
 value_part-returns-in-Bitlist g t c =
     let form = sym c.ty.ensures.form ∙ ap (tree_over c.args.schema.now.trees) c.in-Bitlist.is in
     let made = bitlist_value (type_of c.args.schema.now c.args.id) c.in-Bitlist.field-0
-    c.depth-in-Bitlist.result (value_of c.args.value.now) c.bits_of-bits.result.now c.number_chunk-len.result.0
+    c.depth-in-Bitlist.result (value_of c.args.value.now) c.bits_of-bits.result.now
+    c.number_chunk-len.result.0
     form c.requires.value.fits c.depth-in-Bitlist.ensures.exact c.bits_of-bits.ensures
     c.number_chunk-len.ensures in
     subst (λ part. g.M.Maker.made c.args.maker.now c.join.new.self part c.join.result) made
@@ -541,7 +548,8 @@ value_part-sequence_made-requires g t c κs within =
     (subst (λ f. IsValue f c.args.value.now) form c.requires.value) in
     let below : c.in-Vector.elem < c.args.id = subst (AreBelow c.args.id)
     c.in-Vector.is c.ty.ensures.before in
-    let room : g.M.Maker.room c.args.maker.now (elements_part (tree_at c.args.schema.now.trees c.in-Vector.elem)
+    let room : g.M.Maker.room c.args.maker.now (elements_part (tree_at c.args.schema.now.trees
+    c.in-Vector.elem)
     c.depth-in-Vector.result (parts_of (value_of c.args.value.now))).nodes =
     subst (g.M.Maker.room c.args.maker.now) (sym (same_nodes _ _ (vector_value
     (type_of c.args.schema.now c.args.id) ty c.in-Vector.field-1 c.depth-in-Vector.result
@@ -574,7 +582,8 @@ value_part-sequence_made-content-requires g t c κs within =
     let made = list_value (type_of c.args.schema.now c.args.id) ty c.in-List.field-1
     c.depth-in-List.result (value_of c.args.value.now) _ form c.requires.value.fits
     c.depth-in-List.ensures.exact refl in
-    let room : g.M.Maker.room c.args.maker.now (elements_part (tree_at c.args.schema.now.trees c.in-List.elem)
+    let room : g.M.Maker.room c.args.maker.now (elements_part (tree_at c.args.schema.now.trees
+    c.in-List.elem)
     c.depth-in-List.result (parts_of (value_of c.args.value.now))).nodes =
     g.met.M.Maker.room_less c.args.maker.now _ _ (omega (arith, same_nodes _ _ made))
     c.requires.room in
@@ -599,9 +608,11 @@ value_part-returns-in-List g t c =
     let form = sym c.ty.ensures.form ∙ ap (tree_over c.args.schema.now.trees) c.in-List.is in
     let made = list_value (type_of c.args.schema.now c.args.id)
     (tree_at c.args.schema.now.trees c.in-List.elem) c.in-List.field-1 c.depth-in-List.result
-    (value_of c.args.value.now) c.number_chunk-len-in-List.result.0 form c.requires.value.fits c.depth-in-List.ensures.exact
+    (value_of c.args.value.now) c.number_chunk-len-in-List.result.0 form c.requires.value.fits
+    c.depth-in-List.ensures.exact
     (c.number_chunk-len-in-List.ensures ∙ ap number_chunk c.part_count.ensures) in
-    subst (λ part. g.M.Maker.made c.args.maker.now c.join-in-List.new.self part c.join-in-List.result) made
+    subst (λ part. g.M.Maker.made c.args.maker.now c.join-in-List.new.self part
+    c.join-in-List.result) made
     (c.join-in-List.ensures _ _ c.sequence_made-content.ensures)
 
 pub value_part-container_made-requires : goal.value_part-container_made-requires
@@ -666,9 +677,11 @@ chosen_made-value_part-out-requires g t c κs within =
     let made = chosen_value c.args.schema.now.trees c.args.options.now c.in-Union.selector
     c.in-Some-Some.option (value_of c.in-Some.inner.value) (value_of c.args.value.now) (sym here)
     is in
-    let room : g.M.Maker.room c.args.maker.now (new_nodes (tree_at c.args.schema.now.trees c.in-Some-Some.option)
+    let room : g.M.Maker.room c.args.maker.now (new_nodes (tree_at c.args.schema.now.trees
+    c.in-Some-Some.option)
     (value_of c.deref.result.now)) =
-    subst (λ (v : Value). g.M.Maker.room c.args.maker.now (new_nodes (tree_at c.args.schema.now.trees
+    subst (λ (v : Value). g.M.Maker.room c.args.maker.now (new_nodes (tree_at
+    c.args.schema.now.trees
     c.in-Some-Some.option) (value_of v))) (sym c.deref.ensures)
     (g.met.M.Maker.room_less c.args.maker.now _ _ (omega (arith, same_nodes _ _ made))
     c.requires.room) in
@@ -754,5 +767,6 @@ chosen_made-returns-in-None g t c =
     let numbered = c.number_chunk-leaf-in-None.ensures ∙ ap number_chunk c.from-in-None.ensures in
     let made = ap (joined none_part) numbered ∙ none_value c.args.schema.now.trees
     c.args.options.now c.in-Union.selector (value_of c.args.value.now) is in
-    subst (λ part. g.M.Maker.made c.args.maker.now c.join-in-None.new.self part c.join-in-None.result) made
+    subst (λ part. g.M.Maker.made c.args.maker.now c.join-in-None.new.self part
+    c.join-in-None.result) made
     (c.join-in-None.ensures _ _ c.none-none.ensures)
