@@ -20,3 +20,4 @@ pub mod BackUnions
 pub mod WalkBack
 pub mod Exact
 pub mod OneLine
+pub mod Passing

@@ -7,6 +7,7 @@
 #![tactic(auto)]
 
 mod appending;
+mod comparing;
 mod count;
 mod draft;
 mod fault;

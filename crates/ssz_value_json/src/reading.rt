@@ -17,6 +17,7 @@ ghost use Rattle.ssz_schema_json.specs.Schema.{json_of as json_read};
 ghost use Rattle.ssz_value_json.specs.Answers.{Walks, ReadsTo, ReadsJson, IsFaultOf, IsFormedSequence, IsFormedUnion};
 
 use super::appending::append_value;
+use super::comparing::spells;
 use super::count::{Count, allows};
 use super::draft::draft_of;
 use super::fault::{JsonFault, JsonRead};
@@ -67,7 +68,7 @@ fn value_spelled(
     if !fits(schema, id, &value) {
         return Ok(None);
     }
-    if is_text_of(alloc, schema, id, &value, bytes)? {
+    if spells(alloc, schema, id, &value, bytes)? {
         Ok(Some(value))
     } else {
         Ok(None)
