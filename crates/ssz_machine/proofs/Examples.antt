@@ -362,6 +362,16 @@ pub no_edits : (held : Content) → work types_Q held (codes "Q") 0 0
 unfolding computes
 no_edits held = refl
 
+-- an edit of a list makes its top anew, and one of a number has no pair there
+pub one_top : (held : Content) → (work_of (rules types_Q) (fresh held) (codes "Q") 0 1).tops ≡ 1
+unfolding computes
+one_top held = refl
+
+pub no_top : (held : Content)
+    → (work_of (rules ((codes "T", uint W64) ∷ [])) (fresh held) (codes "T") 0 1).tops ≡ 0
+unfolding computes
+no_top held = refl
+
 -- a list that can hold nothing
 pub no_room : (held : Content) → work ((codes "T", list (uint W64) 0) ∷ []) held (codes "T") 7 5
     ≡ codes "work 5 0\n"
