@@ -30,6 +30,12 @@ class Index(ctypes.Structure):
     _fields_ = [("low", ctypes.c_uint64), ("high", ctypes.c_uint64)]
 
 
+class Entry(ctypes.Structure):
+    """A chunk of a proof, and its generalized index."""
+
+    _fields_ = [("index", Index), ("chunk", ctypes.c_uint8 * 32)]
+
+
 _BYTES = [ctypes.c_char_p, ctypes.c_size_t]
 _ROOM = [ctypes.c_void_p, ctypes.c_size_t, ctypes.POINTER(ctypes.c_uint64)]
 _HANDLE = [ctypes.POINTER(Handle)]
@@ -37,6 +43,7 @@ _FAULT = [ctypes.POINTER(Fault)]
 _NUMBER = [ctypes.c_uint64]
 _LENGTH = [ctypes.POINTER(ctypes.c_uint64)]
 _CHUNK = [ctypes.c_void_p]
+_ENTRIES = [ctypes.POINTER(Entry), ctypes.c_size_t]
 
 _CALLS = {
     "ssz_schema_read": _HANDLE + _BYTES + _FAULT,
@@ -46,7 +53,7 @@ _CALLS = {
     "ssz_root": _HANDLE + _NUMBER + _BYTES + _CHUNK + _FAULT,
     "ssz_gindex": _HANDLE + _NUMBER + _BYTES + [ctypes.POINTER(Index)] + _FAULT,
     "ssz_part": _HANDLE + _NUMBER + _BYTES * 2 + _ROOM + _FAULT,
-    "ssz_verify": [ctypes.c_char_p] + _BYTES,
+    "ssz_verify_all": [ctypes.c_char_p] + _ENTRIES * 2,
     "ssz_session_start": _HANDLE + _BYTES + _FAULT,
     "ssz_session_end": _HANDLE,
     "ssz_session_run": _HANDLE + _BYTES + _LENGTH + _FAULT,

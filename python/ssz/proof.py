@@ -4,9 +4,9 @@ from __future__ import annotations
 
 import re
 from dataclasses import dataclass
-from typing import Sequence
+from typing import Any, Iterable, Sequence
 
-from ._library import library
+from ._library import Entry, Index, library
 from .errors import Status, error_of
 
 _NODE = re.compile(r"([1-9][0-9]*)=0x([0-9a-fA-F]{64})")
@@ -48,6 +48,18 @@ def word_of(index: int, chunk: bytes) -> str:
     return f"{index}=0x{chunk.hex()}"
 
 
+def _entries(nodes: Iterable[tuple[int, bytes]]) -> Any:
+    """Nodes as calls take them."""
+    found = list(nodes)
+    if not all(0 < index < 1 << 128 and len(chunk) == 32 for index, chunk in found):
+        raise error_of(Status.BAD_PROOF, 0, 0)
+    entries = (Entry * len(found))()
+    for entry, (index, chunk) in zip(entries, found):
+        entry.index = Index(index & (1 << 64) - 1, index >> 64)
+        entry.chunk[:] = chunk
+    return entries
+
+
 @dataclass(frozen=True)
 class Proof:
     """A multiproof: chunks by their generalized indices. `str(proof)` is the line that `ssz verify` takes."""
@@ -81,8 +93,8 @@ class Proof:
 
     def verify(self, root: bytes | str) -> bool:
         """Whether the proof leads to the root. Raises BadProof where it has not the nodes that its leaves need."""
-        text = str(self).encode()
-        status = library().ssz_verify(as_chunk(root), text, len(text))
+        leaves, helpers = _entries(sorted(self.leaves.items())), _entries(sorted(self.helpers.items(), reverse=True))
+        status = library().ssz_verify_all(as_chunk(root), leaves, len(leaves), helpers, len(helpers))
         if status in (Status.OK, Status.UNLIKE):
             return status == Status.OK
         raise error_of(status, 0, 0)

@@ -27,6 +27,13 @@ pub struct Index {
     pub high: u64,
 }
 
+/// A chunk of a proof, and its generalized index.
+#[repr(C)]
+pub struct Entry {
+    pub index: Index,
+    pub chunk: [u8; 32],
+}
+
 type Bytes = *const u8;
 type Room = *mut u8;
 
@@ -41,7 +48,7 @@ extern "C" {
         schema: *mut Handle, number: u64, data: Bytes, len: usize, path: Bytes, path_len: usize, room: Room, room_len: usize,
         part_len: *mut u64, fault: *mut Fault,
     ) -> u32;
-    pub fn ssz_verify(root: *const [u8; 32], proof: Bytes, len: usize) -> u32;
+    pub fn ssz_verify_all(root: *const [u8; 32], leaves: *const Entry, leaves_len: usize, nodes: *const Entry, nodes_len: usize) -> u32;
     pub fn ssz_session_start(session: *mut Handle, schema: Bytes, len: usize, fault: *mut Fault) -> u32;
     pub fn ssz_session_end(session: *mut Handle) -> u32;
     pub fn ssz_session_run(session: *mut Handle, line: Bytes, len: usize, reply_len: *mut u64, fault: *mut Fault) -> u32;

@@ -2,7 +2,7 @@ use std::collections::BTreeMap;
 use std::fmt;
 use std::str::FromStr;
 
-use crate::calls::{ssz_verify, Fault};
+use crate::calls::{ssz_verify_all, Entry, Fault, Index};
 use crate::error::{ended, Error, Result, UNLIKE};
 
 /// A multiproof: chunks by their generalized indices. It is printed, and parsed, as the line that `ssz prove` has.
@@ -17,8 +17,9 @@ pub struct Proof {
 impl Proof {
     /// Whether the proof leads to the root. [`Error::BadProof`] where it has not exactly the helpers that its leaves need.
     pub fn verify(&self, root: &[u8; 32]) -> Result<bool> {
-        let line = self.to_string();
-        verdict(unsafe { ssz_verify(root, line.as_ptr(), line.len()) })
+        let leaves: Vec<Entry> = self.leaves.iter().map(entry).collect();
+        let nodes: Vec<Entry> = self.helpers.iter().rev().map(entry).collect();
+        verdict(unsafe { ssz_verify_all(root, leaves.as_ptr(), leaves.len(), nodes.as_ptr(), nodes.len()) })
     }
 
     /// The proof that a branch is, its nodes from the leaf up; `None` where the index has another number of them.
@@ -38,6 +39,10 @@ impl Proof {
         let nodes: Option<Vec<_>> = levels.map(|level| self.helpers.get(&(index >> level ^ 1)).copied()).collect();
         Some((*index, *leaf, nodes?))
     }
+}
+
+fn entry((index, chunk): (&u128, &[u8; 32])) -> Entry {
+    Entry { index: Index { low: *index as u64, high: (index >> 64) as u64 }, chunk: *chunk }
 }
 
 fn verdict(status: u32) -> Result<bool> {
