@@ -1,9 +1,10 @@
 #!/bin/sh
 # Builds the static library and the examples of C, Python and Rust, runs each over the same inputs as the
-# program `ssz`, and compares what they print, of sessions beside `ssz run` too; examples/c/statuses.c and
-# examples/c/typed.c lead each call to its statuses, under valgrind where that is there, and
-# examples/c/state.c edits a state, whose root and bytes are compared. It needs the kit that README names, and says
-# what it left out for want of a compiler, an interpreter or valgrind. The last line is 'N compared, M differ'.
+# program `ssz`, and compares what they print, of sessions beside `ssz run` too. examples/c/statuses.c and
+# typed.c lead each call to its statuses, and memory.c refuses each allocation in turn, under valgrind where
+# that is there; state.c edits a state, whose root and bytes are compared. It needs the kit that README names,
+# and says what it left out for want of a compiler, an interpreter or valgrind. The last line is
+# 'N compared, M differ'.
 set -eu
 cd "$(dirname "$0")/.."
 out=$(mktemp -d)
@@ -23,13 +24,16 @@ if command -v cc >/dev/null; then
     cc -std=c11 -O2 -Wall -Wextra -Iinclude -o "$out/statuses" examples/c/statuses.c $library
     cc -std=c11 -O2 -Wall -Wextra -Iinclude -o "$out/typed" examples/c/typed.c $library
     cc -std=c11 -O2 -Wall -Wextra -Iinclude -o "$out/state_c" examples/c/state.c $library
+    cc -std=c11 -O2 -Wall -Wextra -Iinclude -Wl,--wrap=malloc,--wrap=realloc -o "$out/memory" examples/c/memory.c $library
     if command -v valgrind >/dev/null; then
         valgrind -q --leak-check=full --error-exitcode=9 "$out/statuses"
         valgrind -q --leak-check=full --error-exitcode=9 "$out/typed"
+        valgrind -q --leak-check=full --error-exitcode=9 "$out/memory"
     else
         echo "left out: valgrind"
         "$out/statuses"
         "$out/typed"
+        "$out/memory"
     fi
     ways="$ways c"
     if command -v python3 >/dev/null; then
