@@ -7,4 +7,4 @@ returns-clause-does c =
     let answer = c.answer.ensures in
     reaches (scene_at c.args.self.now) c.args.statement.now c.answer.new.self
     c.answer.new.hasher answer.keeps c.answer.result answer.ok answer.stops answer.err
-    answer.nodes answer.whole
+    answer.nodes answer.intact
