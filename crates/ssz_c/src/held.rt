@@ -6,7 +6,7 @@ ghost use Rattle.ssz_c.specs.Held.{library_coded, schema_owns};
 use super::parts::Parts;
 use ssz_typed::Library;
 use std::alloc::Global;
-use std::marker::Model;
+use std::marker::{Model, Send};
 use std::ptr::null_mut;
 
 /// What a handle holds, or nothing.
@@ -21,6 +21,9 @@ pub struct Held {
 impl Model for Held {
     ghost also_owns = { λ held. schema_owns held.alloc held.at held.value };
 }
+
+// It owns its box alone, so it goes to another thread as the schema does.
+unsafe impl Send for Held {}
 
 impl Held {
     /// Nothing.

@@ -6,7 +6,7 @@ ghost use Rattle.ssz_c.specs.Held.{session_coded, session_owns};
 use super::parts::Parts;
 use super::session::Session;
 use std::alloc::Global;
-use std::marker::Model;
+use std::marker::{Model, Send};
 use std::ptr::null_mut;
 
 /// What a handle holds, or nothing.
@@ -21,6 +21,9 @@ pub struct HeldSession {
 impl Model for HeldSession {
     ghost also_owns = { λ held. session_owns held.alloc held.at held.value };
 }
+
+// It owns its box alone, so it goes to another thread as the session does.
+unsafe impl Send for HeldSession {}
 
 impl HeldSession {
     /// Nothing.

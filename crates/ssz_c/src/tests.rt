@@ -365,3 +365,12 @@ fn a_session_is_edited_and_proved(rt: HostRuntime) {
     assert!(rt; upgrades(rt.alloc(), &mut session));
     assert!(rt; proves_both(rt.alloc(), &mut session));
 }
+
+// What may go to another thread.
+fn crosses<T: Send>() {}
+
+#[test]
+fn handles_cross_threads() {
+    crosses::<SszSchema>();
+    crosses::<SszSession>();
+}
