@@ -2,9 +2,9 @@
 # Builds the static library and the examples of C, Python and Rust, runs each over the same inputs as the
 # program `ssz`, and compares what they print, of sessions beside `ssz run` too. examples/c/statuses.c and
 # typed.c lead each call to its statuses, and memory.c refuses each allocation in turn, under valgrind where
-# that is there; state.c edits a state, whose root and bytes are compared. It needs the kit that README names,
-# and says what it left out for want of a compiler, an interpreter or valgrind. The last line is
-# 'N compared, M differ'.
+# that is there; state.c edits a state, whose root and bytes are compared, and threads.c asks in eight threads.
+# It needs the kit that README names, and says what it left out for want of a compiler, an interpreter or
+# valgrind. The last line is 'N compared, M differ'.
 set -eu
 cd "$(dirname "$0")/.."
 out=$(mktemp -d)
@@ -25,6 +25,7 @@ if command -v cc >/dev/null; then
     cc -std=c11 -O2 -Wall -Wextra -Iinclude -o "$out/typed" examples/c/typed.c $library
     cc -std=c11 -O2 -Wall -Wextra -Iinclude -o "$out/state_c" examples/c/state.c $library
     cc -std=c11 -O2 -Wall -Wextra -Iinclude -Wl,--wrap=malloc,--wrap=realloc -o "$out/memory" examples/c/memory.c $library
+    cc -std=c11 -O2 -Wall -Wextra -pthread -Iinclude -o "$out/threads" examples/c/threads.c $library
     if command -v valgrind >/dev/null; then
         valgrind -q --leak-check=full --error-exitcode=9 "$out/statuses"
         valgrind -q --leak-check=full --error-exitcode=9 "$out/typed"
@@ -157,6 +158,16 @@ if [ -x "$out/state_c" ]; then
     compared=$((compared + 2))
     cmp -s "$out/wanted" "$out/said" || { differ=$((differ + 1)); echo "state.c says another root"; }
     cmp -s "$out/after" "$out/written" || { differ=$((differ + 1)); echo "state.c writes other bytes"; }
+fi
+
+# Eight threads, each with a handle of its own: no call is refused, no root differs, nothing is read while it is written.
+if [ -x "$out/threads" ]; then
+    echo '48008 asked, 0 refused, 0 differ' >"$out/wanted"
+    watched=
+    command -v valgrind >/dev/null && watched='valgrind -q --tool=helgrind --error-exitcode=9'
+    $watched "$out/threads" "$deneb" Checkpoint >"$out/said" 2>&1 || true
+    compared=$((compared + 1))
+    cmp -s "$out/wanted" "$out/said" || { differ=$((differ + 1)); echo "threads.c says otherwise"; cat "$out/said"; }
 fi
 
 compare_lines "$out/m.json" <<'LINES'

@@ -10,10 +10,12 @@
  *  - During a call nothing else reads or writes what the call's pointers lead to, and what one
  *    pointer leads to that the call writes through overlaps nothing that another one leads to.
  *  - A handle is a variable of type ssz_schema or ssz_session. It begins as SSZ_SCHEMA_NONE or
- *    SSZ_SESSION_NONE and is changed by calls alone; it is not copied while it holds something. One
- *    thread at a time uses it. Two handles know nothing of one another, and there is no state
- *    beside them. A handle has a mark of its kind while it holds something: one that was freed, a
- *    handle of the other kind and one that was never set (short of a mark by chance) hold nothing.
+ *    SSZ_SESSION_NONE and is changed by calls alone; it is not copied while it holds something. It
+ *    is given to one call at a time, and goes from thread to thread by a thread's start or end, a
+ *    lock, or an atomic in sequentially consistent order. Two handles know nothing of one another,
+ *    and there is no state beside them: threads that ask at once read a handle each. A handle has
+ *    a mark of its kind while it holds something: one that was freed, a handle of the other kind
+ *    and one that was never set (short of a mark by chance) hold nothing.
  *  - malloc, realloc and free are those of one allocator; no call is made from a signal handler.
  *
  * What the library keeps: it frees all that it took at ssz_schema_free or ssz_session_end, it keeps
