@@ -1,4 +1,5 @@
 pub mod PlainLemmas
+pub mod SoundLemmas
 pub mod OptionLemmas
 pub mod ByteLemmas
 pub mod BitLemmas

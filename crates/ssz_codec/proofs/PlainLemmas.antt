@@ -27,10 +27,10 @@ pub record AreClean (fs : Fields) : Type 0 where
   pub clean : (place s : ℕ) (b : List ℕ) → IsBytes b → place + size ≤ length b
       → fields_fault fs s (scopes (part_sizes fs) place b) ≡ None
 
-range_bytes : (b : List ℕ) (from to : ℕ) → IsBytes b → IsBytes (slice_range b from to)
+pub range_bytes : (b : List ℕ) (from to : ℕ) → IsBytes b → IsBytes (slice_range b from to)
 range_bytes b from to h = IsBytes-take (to - from) (drop from b) (IsBytes-drop from b h)
 
-range_length : (b : List ℕ) (from size : ℕ) → from + size ≤ length b
+pub range_length : (b : List ℕ) (from size : ℕ) → from + size ≤ length b
     → length (slice_range b from (from + size)) ≡ size
 range_length b from size h =
     omega (arith, length-take (from + size - from) (drop from b), length-drop from b)

@@ -6,7 +6,7 @@ ghost use Rattle.ssz_schema.specs.Legal.{IsSize};
 ghost use Rattle.ssz_schema.specs.Unfolding.{type_of, fields_over};
 ghost use Rattle.ssz_value.specs.Faults.{why, elements_fault};
 
-use super::plain::is_plain;
+use super::sound::is_sound;
 use ssz_basic::{read_bitlist, read_bitvector, read_bool};
 use ssz_bytes::Fault;
 use ssz_parts::{
@@ -113,7 +113,7 @@ fn fixed_elements(
     }
     // Asked of two elements at least, so that the question costs no more than the bytes.
     if count > 1 {
-        if is_plain(schema, elem) {
+        if is_sound(schema, elem, 0, size as usize, bytes) {
             return None;
         }
     }

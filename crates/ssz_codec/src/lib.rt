@@ -11,6 +11,7 @@ mod encoding;
 mod fault;
 mod measuring;
 mod plain;
+mod sound;
 
 pub use checking::check;
 pub use decoding::decode;

@@ -8,7 +8,7 @@ use Rattle.ssz_schema.specs.Legal.{IsLegal}
 use Rattle.ssz_schema.proofs.SizeLemmas.{vector_few}
 use Rattle.ssz_value.specs.Faults.{why}
 use Rattle.ssz_value.proofs.Agree.{length_from_fault}
-use Rattle.ssz_codec.proofs.PlainLemmas.{clean_of, elements_clean}
+use Rattle.ssz_codec.proofs.SoundLemmas.{elements_sound}
 use Rattle.ssz_parts.proofs.ElementFaults.{FixedFrom-more, FixedFrom-found, FixedFrom-end, VariableFrom-start, VariableFrom-part, VariableFrom-more, VariableFrom-found, fixed_found_head}
 use Rattle.ssz_parts.proofs.FieldLemmas.{FieldsFrom, FieldsFrom-start, FieldsFrom-found, FieldsFrom-more, FieldsFrom-end}
 use Rattle.ssz_value.proofs.PartLemmas.{known_weaker, part_known}
@@ -35,14 +35,13 @@ fixed_elements-returns-in-Some-scope t c =
     c.args.start c.args.bytes.now c.loop-i.i c.in-Some-scope.fault
     c.loop-i.invariant (omega arith) (sym c.in-Some-scope.ensures))
 
-pub fixed_elements-returns-then-is_plain : goal.fixed_elements-returns-then-is_plain
-fixed_elements-returns-then-is_plain t c =
+pub fixed_elements-returns-then-is_sound : goal.fixed_elements-returns-then-is_sound
+fixed_elements-returns-then-is_sound t c =
     let whole = length_from_fault (c.args.count * c.args.size) c.args.start c.args.bytes.now
     (sym c.in_default.ensures) in
-    sym (elements_clean (type_of c.args.schema.now c.args.elem) c.args.size c.args.count
-    c.args.start c.args.bytes.now
-    (clean_of (type_of c.args.schema.now c.args.elem) (sym c.is_plain.ensures ∙ c.if-is_plain.true))
-    c.requires.size (λ i. omega (arith, c.type_inv.bytes i)) whole)
+    sym (elements_sound (type_of c.args.schema.now c.args.elem) c.args.size c.args.count
+    c.args.start c.args.bytes.now c.requires.in_range.some c.requires.size
+    (λ i. omega (arith, c.type_inv.bytes i)) whole (sym c.is_sound.ensures ∙ c.if-is_sound.true))
 
 pub fixed_elements-loop-i-preserved : goal.fixed_elements-loop-i-preserved
 fixed_elements-loop-i-preserved t c =
