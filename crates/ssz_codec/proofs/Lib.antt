@@ -1,5 +1,6 @@
 pub mod PlainLemmas
 pub mod SoundLemmas
+pub mod NumberLemmas
 pub mod OptionLemmas
 pub mod ByteLemmas
 pub mod BitLemmas

@@ -9,6 +9,7 @@ use Rattle.ssz_schema.proofs.SizeLemmas.{vector_few}
 use Rattle.ssz_value.specs.Faults.{why}
 use Rattle.ssz_value.proofs.Agree.{length_from_fault}
 use Rattle.ssz_codec.proofs.SoundLemmas.{elements_sound}
+use Rattle.ssz_codec.proofs.NumberLemmas.{FieldsFrom-number}
 use Rattle.ssz_parts.proofs.ElementFaults.{FixedFrom-more, FixedFrom-found, FixedFrom-end, VariableFrom-start, VariableFrom-part, VariableFrom-more, VariableFrom-found, fixed_found_head}
 use Rattle.ssz_parts.proofs.FieldLemmas.{FieldsFrom, FieldsFrom-start, FieldsFrom-found, FieldsFrom-more, FieldsFrom-end}
 use Rattle.ssz_value.proofs.PartLemmas.{known_weaker, part_known}
@@ -251,3 +252,13 @@ scope-returns-in-Ok-union_head t c =
     (take_rest c.args.bytes.now 1)
     ∙ sym (c.in-Ok-union_head.ensures.ok c.args.schema.now.trees)
     ∙ ap (λ (ty : SszType). why ty c.args.start c.args.bytes.now) form
+
+-- a number of the right size has no fault
+pub container-loop-i-preserved-in-Uint : goal.container-loop-i-preserved-in-Uint
+container-loop-i-preserved-in-Uint t c =
+    subst (λ (n : ℕ). FieldsFrom c.args.schema.now.trees c.args.fields.now c.args.start
+    c.args.bytes.now (c.loop-i.i + 1) (c.loop-i.place + n)) (sym c.byte_count.ensures.exact)
+    (FieldsFrom-number c.args.schema.now.trees c.args.fields.now c.args.start c.args.bytes.now
+    c.loop-i.i c.loop-i.place c.index-fields-i.result c.in-Uint.width c.loop-i.invariant
+    c.loop-i-test.true c.index-fields-i.is
+    (sym c.ty.ensures.form ∙ ap (tree_over c.args.schema.now.trees) c.in-Uint.is))

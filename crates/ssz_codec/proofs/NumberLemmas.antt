@@ -1,0 +1,41 @@
+-- Fields that are numbers.
+use Rattle.std.proofs.Common.{ℕ, ◌+◌, ◌<◌, ◌≡◌, List, length, get_or, drop, slice_range, None, sym, ap, ◌∙◌, subst}
+use Rattle.ssz_schema.specs.declared.width.Width.{Width}
+use Rattle.ssz_schema.specs.Types.{SszType, uint}
+use Rattle.ssz_schema.specs.Sizes.{byte_count, head_size, fixed_size}
+use Rattle.ssz_schema.specs.Unfolding.{tree_at}
+use Rattle.ssz_value.specs.Faults.{why}
+use Rattle.ssz_value.proofs.Agree.{right_length}
+use Rattle.ssz_value.proofs.PartLemmas.{Part, sizes_of, size_at}
+use Rattle.ssz_parts.specs.Ranges.{part_range}
+use Rattle.ssz_parts.proofs.FieldLemmas.{FieldsFrom, FieldsFrom-more}
+use Rattle.ssz_codec.proofs.PlainLemmas.{range_length}
+use Rattle.ssz_codec.proofs.ReadLemmas.{field_range}
+
+-- where its part lies
+pub number_range : (trees : List SszType) (parts : List Part) (b : List ℕ) (i place : ℕ)
+    (part : Part) (w : Width) → tree_at trees part.1 ≡ uint w
+    → (place, place + byte_count w)
+    ≡ part_range (size_at trees part) (sizes_of trees (drop (i + 1) parts)) place b
+number_range trees parts b i place part w is =
+    sym (ap (λ (t : SszType). part_range (fixed_size t)
+    (sizes_of trees (drop (i + 1) parts)) place b) is)
+
+-- it has no fault
+pub FieldsFrom-number : (trees : List SszType) (parts : List Part) (s : ℕ) (b : List ℕ)
+    (i place : ℕ) (part : Part) (w : Width) → FieldsFrom trees parts s b i place
+    → i < length parts → part ≡ get_or parts i part → tree_at trees part.1 ≡ uint w
+    → FieldsFrom trees parts s b (i + 1) (place + byte_count w)
+FieldsFrom-number trees parts s b i place part w h below e is =
+    let range = number_range trees parts b i place part w is in
+    let room = (field_range trees parts s b i place place (place + byte_count w) part h below e
+    range).1 in
+    let whole = range_length b place (byte_count w) room in
+    let clean : why (tree_at trees part.1) (s + place)
+    (slice_range b place (place + byte_count w)) ≡ None =
+    ap (λ (t : SszType). why t (s + place) (slice_range b place (place + byte_count w))) is
+    ∙ right_length (byte_count w) (s + place) (slice_range b place (place + byte_count w)) whole in
+    subst (λ (n : ℕ). FieldsFrom trees parts s b (i + 1) (place + n))
+    (ap (λ (t : SszType). head_size (fixed_size t)) is)
+    (FieldsFrom-more trees parts s b i place place (place + byte_count w) part h below e range
+    clean)
