@@ -1,6 +1,6 @@
 //! Values of basic types and of bits, read from bytes.
 ghost use Rattle.std.specs.Prelude.{◌≡◌, ◌≢◌, ◌+◌, ◌*◌, ◌<◌, ◌≤◌, ◌^◌, length, map, Some, IfOk};
-ghost use Rattle.ssz_schema.specs.declared.width.Width.TheVariants.{W8, W256};
+ghost use Rattle.ssz_schema.specs.declared.width.Width.TheVariants.{W8, W64, W256};
 ghost use Rattle.ssz_schema.specs.Types.{uint, boolean, vector, bitvector, bitlist};
 ghost use Rattle.ssz_schema.specs.Sizes.{byte_count};
 ghost use Rattle.ssz_bytes.specs.Bytes.{le_number, bits_of_number};
@@ -73,6 +73,7 @@ pub fn numbers(
     ensures { IfOk result (λ parts. AreNumbers width count bytes.now parts.items) }
 {
     match width {
+        Width::W64 => words(alloc, count, bytes),
         Width::W256 => wide_numbers(alloc, count, bytes),
         _ => narrow_numbers(alloc, width, count, bytes),
     }
@@ -97,6 +98,21 @@ fn narrow_numbers(
     for i in 0..count {
         let place = (i * size) as usize;
         parts.push(narrow_in(width, &bytes[place..place + size as usize]))?;
+    }
+    Ok(parts)
+}
+
+// Of 64 bits, the commonest: a loop that knows the width takes half the instructions.
+fn words(alloc: Global, count: u64, bytes: &[u8]) -> Result<Vec<Value>, AllocError>
+    requires few { count ≤ 2 ^ 32 }
+    requires exact { length bytes.now ≡ count * 8 }
+    requires short { length bytes.now < 2 ^ 32 }
+    ensures { IfOk result (λ parts. AreNumbers W64 count bytes.now parts.items) }
+{
+    let mut parts = Vec::with_capacity(alloc, count as usize)?;
+    for i in 0..count {
+        let place = (i * 8) as usize;
+        parts.push_reserved(narrow_in(Width::W64, &bytes[place..place + 8]));
     }
     Ok(parts)
 }
