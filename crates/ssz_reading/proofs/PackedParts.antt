@@ -1,5 +1,5 @@
 -- Basic values and bits that are packed in chunks.
-use Rattle.std.proofs.Common.{ℕ, zero, suc, ◌+◌, ◌-◌, ◌*◌, ◌/◌, ◌%◌, ◌^◌, ◌<◌, ◌≤◌, ◌≡◌, min, eqb, Bool, true, false, List, [], ◌∷◌, ◌++◌, length, map, take, drop, get_or, slice_get, slice_range, Option, Some, None, refl, sym, ap, ap₂, ◌∙◌, subst, arith, append_assoc, length-append, length-drop, drop-drop, take-add, zero-mul}
+use Rattle.std.proofs.Common.{ℕ, zero, suc, ◌+◌, ◌-◌, ◌*◌, ◌/◌, ◌%◌, ◌^◌, ◌<◌, ◌≤◌, ◌≡◌, min, eqb, Bool, true, false, List, [], ◌∷◌, ◌++◌, length, map, take, drop, get_or, slice_get, slice_range, Option, Some, None, refl, sym, ap, ap₂, ◌∙◌, subst, arith, append_assoc, length-drop, drop-drop, take-add}
 use Rattle.std.specs.List.{AllByRecursion, concat}
 use Rattle.std.proofs.Math.Nat.{mul-le-mul_right}
 use Rattle.std.proofs.lemmas.List.{append-nil, length-map, take_min, take_all, map-append}
@@ -18,13 +18,13 @@ use Rattle.ssz_value.specs.Standing.{value_of}
 use Rattle.ssz_value.proofs.ChunkLaw.{length-chunks}
 use Rattle.ssz_places.proofs.Packing.{chunk-part}
 use Rattle.ssz_places.proofs.BitPacking.{bit_bytes, bits-part}
-use Rattle.ssz_places.proofs.Elements.{IsBasic, is_basic, AreSized-enc}
+use Rattle.ssz_places.proofs.Elements.{is_basic, AreSized-enc}
 use Rattle.ssz_arena.specs.declared.node.NodeId.{NodeId}
 use Rattle.ssz_arena.specs.Content.{Content, tree_of}
-use Rattle.ssz_reading.specs.Ahead.{Ahead, Holds}
-use Rattle.ssz_reading.specs.Shown.{AreElements, ArePacked, bit_in, chunk_from}
-use Rattle.ssz_reading.proofs.Walked.{Takes}
-use Rattle.ssz_reading.proofs.Chunked.{pack-more}
+use Rattle.ssz_nodes.specs.Ahead.{Ahead, Holds}
+use Rattle.ssz_nodes.specs.Shown.{AreElements, ArePacked, bit_in, chunk_from}
+use Rattle.ssz_nodes.proofs.Walked.{Takes, length-encodings}
+use Rattle.ssz_nodes.proofs.Chunked.{pack-more}
 
 -- the chunks of some bytes from number j on are still to come
 pub record ChunksLeft (arena : Content) (bytes : List ℕ) (j : ℕ) (places : Ahead) : Type 0 where
@@ -89,13 +89,6 @@ encoding_at : (t : SszType) (vs : List SszValue) (i : ℕ) (v : SszValue) → sl
 encoding_at t [] i v e = cc
 encoding_at t (w ∷ vs) zero v e = let same : w ≡ v = cc in ap (enc t) same
 encoding_at t (w ∷ vs) (suc i) v e = encoding_at t vs i v e
-
-pub length-encodings : (t : SszType) (z : ℕ) → IsBasic t z → (vs : List SszValue)
-    → AllByRecursion (Fits t) vs → length (concat (map (enc t) vs)) ≡ length vs * z
-length-encodings t z basic [] fit = sym (zero-mul z)
-length-encodings t z basic (v ∷ vs) fit =
-    length-append (enc t v) (concat (map (enc t) vs))
-    ∙ omega (arith, basic.sized v fit.0, length-encodings t z basic vs fit.1)
 
 -- the encoding of a value in its chunk
 pub value_there : (t : SszType) (z : ℕ) (vs : List SszValue) (j from k : ℕ) (chunk : List ℕ)

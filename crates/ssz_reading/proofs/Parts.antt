@@ -28,13 +28,13 @@ use Rattle.ssz_value.proofs.ValueLemmas.{seq_is, bits_are, chosen_is, chosen_non
 use Rattle.ssz_value.proofs.Sequences.{values-items}
 use Rattle.ssz_arena.specs.declared.node.NodeId.{NodeId}
 use Rattle.ssz_arena.specs.Content.{Content, tree_of}
-use Rattle.ssz_reading.specs.Ahead.{Ahead, Holds}
+use Rattle.ssz_nodes.specs.Ahead.{Ahead, Holds}
 use Rattle.ssz_places.specs.PlaceLaws.{IsTreeOf}
-use Rattle.ssz_reading.specs.Shown.{ForValue, ForPlace, AreElements, AreFields, AreBits, ForElements, ForFields, basic_type}
-use Rattle.ssz_reading.specs.declared.basics.Basic.{Basic}
-use Rattle.ssz_reading.specs.declared.basics.Basic.TheVariants.{Number, Flag}
-use Rattle.ssz_reading.proofs.Walked.{Takes, Left, Left-first, AreElements-trees, FieldsLeft, FieldsLeft-start, FieldsLeft-first}
-use Rattle.ssz_reading.proofs.Formed.{IsVector, vector_elements, IsList, list_elements, IsContainer, container_fields, IsBitvector, bitvector_bits, IsBitlist, bitlist_bits, IsUnion, union_option, Unmixes}
+use Rattle.ssz_nodes.specs.Shown.{ForValue, ForPlace, AreElements, AreFields, AreBits, ForElements, ForFields, basic_type}
+use Rattle.ssz_nodes.specs.declared.basics.Basic.{Basic}
+use Rattle.ssz_nodes.specs.declared.basics.Basic.TheVariants.{Number, Flag}
+use Rattle.ssz_nodes.proofs.Walked.{Takes, Left, Left-first, AreElements-trees, FieldsLeft, FieldsLeft-start, FieldsLeft-first}
+use Rattle.ssz_nodes.proofs.Formed.{IsVector, vector_elements, IsList, list_elements, IsContainer, container_fields, IsBitvector, bitvector_bits, IsBitlist, bitlist_bits, IsUnion, union_option, Unmixes}
 
 -- elements of one type, so far
 pub record ElementsRead (arena : Content) (t : SszType) (vs : List SszValue) (i : ℕ)

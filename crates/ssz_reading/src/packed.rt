@@ -8,15 +8,12 @@ ghost use Rattle.ssz_value.specs.Values.{SszValue, number, Fits};
 ghost use Rattle.ssz_value.specs.Encoding.{enc};
 ghost use Rattle.ssz_value.specs.Standing.{value_of};
 ghost use Rattle.ssz_arena.specs.Content.{IsNodeOf, tree_of};
-ghost use Rattle.ssz_reading.specs.Shown.{AreBits, AreElements, ForElements, basic_type, bit_in, chunk_from};
+ghost use Rattle.ssz_nodes.specs.Shown.{AreBits, AreElements, ForElements, basic_type, bit_in, chunk_from};
 
-use super::basics::{Basic, bit_of};
-use super::chunks::append_chunks;
-use super::nodes::chunk_of;
-use super::places::Places;
-use ssz_arena::{Arena, NodeId};
+use ssz_arena::Arena;
 use ssz_bytes::{BitRun, ByteRun};
 use ssz_chunk::{Chunk, PairHash};
+use ssz_nodes::{Basic, Places, Top, append_chunks, bit_of, chunk_of};
 use ssz_value::Value;
 use std::alloc::{AllocError, Global};
 
@@ -24,17 +21,16 @@ use std::alloc::{AllocError, Global};
 pub fn read_bytes<H: PairHash>(
     alloc: Global,
     arena: &Arena<H>,
-    depth: u32,
+    top: Top,
     count: u64,
-    node: NodeId,
 ) -> Result<ByteRun, AllocError>
-    requires depth { depth < 64 }
-    requires node { IsNodeOf arena.now node }
-    ensures { ForElements (uint W8) depth count (tree_of arena.now node)
+    requires depth { top.depth < 64 }
+    requires node { IsNodeOf arena.now top.node }
+    ensures { ForElements (uint W8) top.depth count (tree_of arena.now top.node)
         (λ vs. IfOk result (λ run. map number run ≡ vs)) }
 {
     let mut bytes = Vec::with_capacity(alloc, count as usize)?;
-    append_chunks(arena, depth, u128::from(count), node, &mut bytes)?;
+    append_chunks(arena, top, u128::from(count), &mut bytes)?;
     Ok(ByteRun::from_bytes(bytes))
 }
 
@@ -43,18 +39,17 @@ pub fn read_packed<H: PairHash>(
     alloc: Global,
     arena: &Arena<H>,
     basic: Basic,
-    depth: u32,
+    top: Top,
     count: u64,
-    node: NodeId,
 ) -> Result<Vec<Value>, AllocError>
-    requires depth { depth < 64 }
-    requires node { IsNodeOf arena.now node }
-    ensures { ForElements (basic_type basic) depth count (tree_of arena.now node)
+    requires depth { top.depth < 64 }
+    requires node { IsNodeOf arena.now top.node }
+    ensures { ForElements (basic_type basic) top.depth count (tree_of arena.now top.node)
         (λ vs. IfOk result (λ parts. map value_of parts.items ≡ vs)) }
 {
     let per_chunk = 32 / basic.size();
     let mut parts = Vec::with_capacity(alloc, count as usize)?;
-    let mut places = Places::new(node, depth);
+    let mut places = Places::new(top);
     let mut left = count as usize;
     while left > 0 {
         let chunk = chunk_of(arena, places.next(arena));
@@ -91,17 +86,16 @@ fn append_values(
 pub fn read_bits<H: PairHash>(
     alloc: Global,
     arena: &Arena<H>,
-    depth: u32,
+    top: Top,
     count: u64,
-    node: NodeId,
 ) -> Result<BitRun, AllocError>
-    requires depth { depth < 64 }
-    requires node { IsNodeOf arena.now node }
-    ensures { (bs : List Bool) → AreBits depth count bs (tree_of arena.now node)
+    requires depth { top.depth < 64 }
+    requires node { IsNodeOf arena.now top.node }
+    ensures { (bs : List Bool) → AreBits top.depth count bs (tree_of arena.now top.node)
         → IfOk result (λ run. run ≡ bs) }
 {
     let mut bits = Vec::with_capacity(alloc, count as usize)?;
-    let mut places = Places::new(node, depth);
+    let mut places = Places::new(top);
     let mut left = count as usize;
     while left > 0 {
         let chunk = chunk_of(arena, places.next(arena));

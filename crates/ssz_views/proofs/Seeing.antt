@@ -20,8 +20,8 @@ use Rattle.ssz_arena.specs.Content.{tree_of}
 use Rattle.ssz_places.specs.Spots.{HasPart, offset_of, is_bit}
 use Rattle.ssz_places.specs.PlaceLaws.{IsTreeOf, HasBasicPart}
 use Rattle.ssz_places.proofs.BasicParts.{basic_part}
-use Rattle.ssz_reading.proofs.Formed.{IsVector, vector_elements, IsList, list_elements, IsBitvector, bitvector_bits, IsBitlist, bitlist_bits, IsUnion, union_option}
-use Rattle.ssz_reading.proofs.LeafParts.{number_there, flag_byte}
+use Rattle.ssz_nodes.proofs.Formed.{IsVector, vector_elements, IsList, list_elements, IsBitvector, bitvector_bits, IsBitlist, bitlist_bits, IsUnion, union_option}
+use Rattle.ssz_nodes.proofs.LeafParts.{number_there, flag_byte}
 use Rattle.ssz_views.specs.Looking.{Looking, IsView, StandsFor, ForPart, type_seen, bit_offset, length_in, selector_in, number_in, wide_in, truth_in}
 
 -- a composite part is a whole node

@@ -13,7 +13,7 @@ ghost use Rattle.ssz_views.specs.Looking.{CanLie, bit_offset, ForPart, IsView, M
 
 use ssz_arena::{Arena, NodeId};
 use ssz_chunk::{Chunk, PairHash};
-use ssz_reading::{bit_of, chunk_of, number_of};
+use ssz_nodes::{bit_of, chunk_of, number_of};
 use ssz_schema::{PathStep, Schema, Ty, TypeId, Width};
 use ssz_value::{PathFault, wide_bytes};
 use ssz_walk::{Place, Spot, find, find_field, mixed_in};

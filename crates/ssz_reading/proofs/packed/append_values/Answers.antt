@@ -1,7 +1,7 @@
 use Rattle.std.proofs.Common.{ℕ, ◌+◌, ◌*◌, ◌≤◌, ◌<◌, Option, sym, subst, arith}
 use Rattle.std.specs.Prelude.{IfSome}
 use Rattle.std.proofs.Math.Nat.{mul-le-mul_right}
-use Rattle.ssz_reading.specs.Shown.{basic_type}
+use Rattle.ssz_nodes.specs.Shown.{basic_type}
 use Rattle.ssz_reading.proofs.PackedParts.{ValuesSoFar-start, values_more}
 use Rattle.ssz_reading.proofs.packed.append_values.Goals as goal
 

@@ -1,7 +1,7 @@
 use Rattle.std.proofs.Common.{◌*◌, ◌/◌, List, map, sym, subst}
 use Rattle.ssz_value.specs.declared.value.Value.{Value}
 use Rattle.ssz_value.specs.Standing.{value_of}
-use Rattle.ssz_reading.specs.Shown.{basic_type}
+use Rattle.ssz_nodes.specs.Shown.{basic_type}
 use Rattle.ssz_reading.proofs.PackedParts.{ValuesLeft, ValuesLeft-start, ValuesLeft-more, ValuesLeft-end}
 use Rattle.ssz_reading.proofs.packed.read_packed.Goals as goal
 
@@ -12,7 +12,8 @@ loop-left-init g c = (
       (32 / c.size-per_chunk.result) vs c.args.count (map value_of parts) c.new-places.result)
       (sym c.in_ok-parts.ensures.items)
       (ValuesLeft-start c.args.arena.now (basic_type c.args.basic) c.size-per_chunk.result
-      (32 / c.size-per_chunk.result) c.args.depth c.args.count vs c.args.node c.new-places.result
+      (32 / c.size-per_chunk.result) c.args.top.depth c.args.count vs c.args.top.node
+      c.new-places.result
       c.size-per_chunk.ensures.exact are (c.new-places.ensures.holds c.args.arena.now)),
 )
 

@@ -10,9 +10,9 @@ use Rattle.ssz_value.specs.declared.value.Value.TheVariants.{Bits}
 use Rattle.ssz_value.proofs.PartLemmas.{Part, part_known}
 use Rattle.ssz_packing.proofs.Options.{below_at}
 use Rattle.ssz_arena.specs.Content.{tree_of}
-use Rattle.ssz_reading.specs.Shown.{ForValue, basic_type}
-use Rattle.ssz_reading.proofs.Formed.{union_few}
-use Rattle.ssz_reading.proofs.Walked.{at_place}
+use Rattle.ssz_nodes.specs.Shown.{ForValue, basic_type}
+use Rattle.ssz_nodes.proofs.Formed.{union_few}
+use Rattle.ssz_nodes.proofs.Walked.{at_place}
 use Rattle.ssz_reading.proofs.Parts.{Reads, ElementsRead, ElementsRead-start, ElementsRead-more, ElementsRead-end, FieldsRead, FieldsRead-start, FieldsRead-more, FieldsRead-end, vector_read, list_read, container_read, bitvector_read, bitlist_read, basic_read, packed_read, basic_formed, option_read, none_read}
 use Rattle.ssz_reading.proofs.reading.+value.Goals as goal
 
@@ -22,17 +22,18 @@ read_elements-loop-i-init g t c = (
   λ vs are. subst (λ (parts : List Value). ElementsRead c.args.arena.now
       (type_of c.args.schema.now c.args.elem) vs 0 parts c.new-places.result)
       (sym c.in_ok-parts.ensures.items)
-      (ElementsRead-start c.args.arena.now (type_of c.args.schema.now c.args.elem) c.args.depth
-      c.args.count vs c.args.node c.new-places.result c.requires.composite are
+      (ElementsRead-start c.args.arena.now (type_of c.args.schema.now c.args.elem) c.args.top.depth
+      c.args.count vs c.args.top.node c.new-places.result c.requires.composite are
       (c.new-places.ensures.holds c.args.arena.now)),
 )
 
 pub read_fields-loop-i-init : goal.read_fields-loop-i-init
 read_fields-loop-i-init g t c = λ vs are.
     subst (λ (parts : List Value). FieldsRead c.args.schema.now.trees c.args.fields.now vs 0
-    c.args.depth parts (tree_of c.args.arena.now c.args.node)) (sym c.in_ok-parts.ensures.items)
-    (FieldsRead-start c.args.schema.now.trees c.args.fields.now c.args.depth vs
-    (tree_of c.args.arena.now c.args.node) are)
+    c.args.top.depth parts (tree_of c.args.arena.now c.args.top.node))
+    (sym c.in_ok-parts.ensures.items)
+    (FieldsRead-start c.args.schema.now.trees c.args.fields.now c.args.top.depth vs
+    (tree_of c.args.arena.now c.args.top.node) are)
 
 pub read_elements-loop-i-preserved : goal.read_elements-loop-i-preserved
 read_elements-loop-i-preserved g t c = (
@@ -62,26 +63,29 @@ read_fields-read_value-requires g t c =
 
 pub read_fields-loop-i-preserved : goal.read_fields-loop-i-preserved
 read_fields-loop-i-preserved g t c = λ vs are.
-    FieldsRead-more c.args.schema.now.trees c.args.fields.now vs c.loop-i.i c.args.depth
+    FieldsRead-more c.args.schema.now.trees c.args.fields.now vs c.loop-i.i c.args.top.depth
     c.index-fields-i.result c.loop-i.parts.items c.push.new.self.items
-    c.in_ok-read_value.field-0 (tree_of c.args.arena.now c.args.node) (c.loop-i.invariant vs are)
+    c.in_ok-read_value.field-0 (tree_of c.args.arena.now c.args.top.node)
+    (c.loop-i.invariant vs are)
     c.loop-i-test.true c.index-fields-i.is
     (λ v h. c.in_ok-read_value.ensures v
-    (at_place (type_of c.args.schema.now c.index-fields-i.result.1) c.args.depth c.loop-i.i v
-    (tree_of c.args.arena.now c.args.node) (tree_of c.args.arena.now c.node_of_place-part.result)
+    (at_place (type_of c.args.schema.now c.index-fields-i.result.1) c.args.top.depth c.loop-i.i v
+    (tree_of c.args.arena.now c.args.top.node) (tree_of c.args.arena.now
+    c.node_of_place-part.result)
     h c.node_of_place-part.ensures.tree))
     c.in_ok-push.ensures.items
 
 pub read_fields-returns : goal.read_fields-returns
 read_fields-returns g t c = λ vs are.
-    FieldsRead-end c.args.schema.now.trees c.args.fields.now vs c.loop-i.i c.args.depth
-    c.loop-i.parts (tree_of c.args.arena.now c.args.node) (c.loop-i.invariant vs are)
+    FieldsRead-end c.args.schema.now.trees c.args.fields.now vs c.loop-i.i c.args.top.depth
+    c.loop-i.parts (tree_of c.args.arena.now c.args.top.node) (c.loop-i.invariant vs are)
     c.loop-i-test.false
 
 pub read_sequence-returns-in_ok-parts-in-Some : goal.read_sequence-returns-in_ok-parts-in-Some
 read_sequence-returns-in_ok-parts-in-Some g t c =
-    packed_read (basic_type c.in-Some.basic) (type_of c.args.schema.now c.args.elem) c.args.depth
-    c.args.count (tree_of c.args.arena.now c.args.node) c.in_ok-parts-in-Some.parts
+    packed_read (basic_type c.in-Some.basic) (type_of c.args.schema.now c.args.elem)
+    c.args.top.depth
+    c.args.count (tree_of c.args.arena.now c.args.top.node) c.in_ok-parts-in-Some.parts
     c.in-Some.ensures.form (sym c.is_byte.ensures ∙ c.if-is_byte.false)
     (basic_formed c.in-Some.basic) c.in_ok-parts-in-Some.ensures
 

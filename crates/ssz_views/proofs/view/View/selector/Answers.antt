@@ -4,7 +4,7 @@ use Rattle.ssz_schema.specs.Types.{union}
 use Rattle.ssz_schema.specs.Legal.{IsLegal}
 use Rattle.ssz_schema.specs.Unfolding.{type_of, tree_over, options_over}
 use Rattle.ssz_walk.specs.Found.{spot_of}
-use Rattle.ssz_reading.proofs.Formed.{union_few}
+use Rattle.ssz_nodes.proofs.Formed.{union_few}
 use Rattle.ssz_views.specs.Looking.{Looking, ForPart, selector_in}
 use Rattle.ssz_views.proofs.Seeing.{Tells, union_selector}
 use Rattle.ssz_views.proofs.view.View.selector.Goals as goal

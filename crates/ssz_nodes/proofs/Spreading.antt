@@ -1,0 +1,205 @@
+-- How all places of a full tree are come down to together, level by level.
+use Rattle.std.proofs.Common.{◌≡◌, ℕ, suc, ◌+◌, ◌-◌, ◌*◌, ◌/◌, ◌%◌, ◌^◌, ◌<◌, ◌≤◌, List, length, take, drop, set, refl, sym, ap, ◌∙◌, subst, inl, inr, arith, get_or-set_same, get_or-set_other, length-set, mul_assoc, mul_comm, add-mul, one-mul, pow-suc}
+use Rattle.std.specs.List.{All}
+use Rattle.std.proofs.lemmas.Bool.{cases_lt}
+use Rattle.std.proofs.lemmas.List.{drop-drop}
+use Rattle.std.proofs.lemmas.List.Elements.{All-set}
+use Rattle.ssz_chunk.specs.Tree.{Tree, pair, full, place}
+use Rattle.ssz_chunk.proofs.Trees.{full-zero}
+use Rattle.ssz_chunk.proofs.FullTrees.{full-Agree, place-take, place-drop}
+use Rattle.ssz_arena.specs.declared.node.NodeId.{NodeId}
+use Rattle.ssz_arena.specs.Content.{Content, IsNodeOf, tree_of}
+use Rattle.ssz_nodes.specs.Ahead.{node_of}
+use Rattle.ssz_nodes.proofs.Taking.{halves_of}
+
+-- The nodes from `now` on made way for their children, and those before it are as they were.
+pub record Widened (arena : Content) (len now : ℕ) (old new : List NodeId) : Type 0 where
+  pub count : length new ≡ length old
+  pub all : All (IsNodeOf arena) new
+  pub low : (k : ℕ) → k < now → node_of new k ≡ node_of old k
+  pub left : (i : ℕ) (left right : Tree) → now ≤ i → i < len
+      → tree_of arena (node_of old i) ≡ pair left right → tree_of arena (node_of new (2 * i)) ≡ left
+  pub right : (i : ℕ) (left right : Tree) → now ≤ i → i < len
+      → tree_of arena (node_of old i) ≡ pair left right
+      → tree_of arena (node_of new (2 * i + 1)) ≡ right
+
+pub Widened-start : (arena : Content) (len : ℕ) (nodes : List NodeId) → All (IsNodeOf arena) nodes
+    → Widened arena len len nodes nodes
+Widened-start arena len nodes all = record {
+  count = refl;
+  all = all;
+  low = λ k below. refl;
+  left = λ i l r from below is. absurd (omega arith);
+  right = λ i l r from below is. absurd (omega arith);
+}
+
+module _ (arena : Content) (len now : ℕ) (first second : NodeId) (old nodes : List NodeId)
+    (below : now < len) (room : 2 * len ≤ length old) (h : Widened arena len (suc now) old nodes)
+    (one : IsNodeOf arena first) (two : IsNodeOf arena second)
+    (left_is : (left right : Tree) → tree_of arena (node_of nodes now) ≡ pair left right
+    → tree_of arena first ≡ left)
+    (right_is : (left right : Tree) → tree_of arena (node_of nodes now) ≡ pair left right
+    → tree_of arena second ≡ right) where
+  abbrev pub mid : List NodeId
+  mid = set nodes (2 * now) first
+
+  abbrev pub new : List NodeId
+  new = set mid (2 * now + 1) second
+
+  -- what is at other places stays
+  others : (k : ℕ) → (k ≡ 2 * now → ⊥) → (k ≡ 2 * now + 1 → ⊥) → node_of new k ≡ node_of nodes k
+  others k even odd =
+      get_or-set_other mid (2 * now + 1) k second (record { 0 = 0 }) odd
+      ∙ get_or-set_other nodes (2 * now) k first (record { 0 = 0 }) even
+
+  at_first : node_of new (2 * now) ≡ first
+  at_first =
+      get_or-set_other mid (2 * now + 1) (2 * now) second (record { 0 = 0 }) (λ e. omega arith)
+      ∙ get_or-set_same nodes (2 * now) first (record { 0 = 0 }) (omega (arith, h.count))
+
+  at_second : node_of new (2 * now + 1) ≡ second
+  at_second = get_or-set_same mid (2 * now + 1) second (record { 0 = 0 })
+      (omega (arith, h.count, length-set nodes (2 * now) first))
+
+  same_node : node_of nodes now ≡ node_of old now
+  same_node = h.low now (omega arith)
+
+  pub Widened-more : Widened arena len now old new
+  Widened-more = record {
+    count = length-set mid (2 * now + 1) second ∙ length-set nodes (2 * now) first ∙ h.count;
+    all = All-set (IsNodeOf arena) mid (2 * now + 1) second two
+        (All-set (IsNodeOf arena) nodes (2 * now) first one h.all);
+    low = λ k less. others k (λ e. omega arith) (λ e. omega arith) ∙ h.low k (omega arith);
+    left = λ i l r from within is. elim (cases_lt now i) [
+      | inl above ↦ ap (tree_of arena) (others (2 * i) (λ e. omega arith) (λ e. omega arith))
+          ∙ h.left i l r (omega arith) within is
+      | inr here ↦
+          (let same : now ≡ i = omega arith in
+          subst (λ k. tree_of arena (node_of old k) ≡ pair l r
+          → tree_of arena (node_of new (2 * k)) ≡ l) same
+          (λ pair_is. ap (tree_of arena) at_first
+          ∙ left_is l r (ap (tree_of arena) same_node ∙ pair_is)) is)
+    ];
+    right = λ i l r from within is. elim (cases_lt now i) [
+      | inl above ↦ ap (tree_of arena) (others (2 * i + 1) (λ e. omega arith) (λ e. omega arith))
+          ∙ h.right i l r (omega arith) within is
+      | inr here ↦
+          (let same : now ≡ i = omega arith in
+          subst (λ k. tree_of arena (node_of old k) ≡ pair l r
+          → tree_of arena (node_of new (2 * k + 1)) ≡ r) same
+          (λ pair_is. ap (tree_of arena) at_second
+          ∙ right_is l r (ap (tree_of arena) same_node ∙ pair_is)) is)
+    ];
+  }
+
+-- The subtrees of this depth stand at the front of the row, as many as the level has.
+pub record Spread (arena : Content) (trees : List Tree) (depth level : ℕ) (row : List NodeId)
+    : Type 0 where
+  pub rest : ℕ
+  pub levels : rest + level ≡ depth
+  pub each : (p : ℕ) → p < 2 ^ level
+      → tree_of arena (node_of row p) ≡ full rest (take (2 ^ rest) (drop (p * 2 ^ rest) trees))
+
+pub Spread-start : (arena : Content) (trees : List Tree) (depth : ℕ) (row : List NodeId)
+    → tree_of arena (node_of row 0) ≡ full depth trees → Spread arena trees depth 0 row
+Spread-start arena trees depth row is = record {
+  rest = depth;
+  levels = omega arith;
+  each = λ p below.
+      let first : 0 ≡ p = omega (arith, below) in
+      subst (λ k. tree_of arena (node_of row k)
+      ≡ full depth (take (2 ^ depth) (drop (k * 2 ^ depth) trees))) first
+      (is ∙ full-Agree depth (take (2 ^ depth) (drop (0 * 2 ^ depth) trees)) trees
+      (λ i within. sym (place-take (2 ^ depth) i (drop (0 * 2 ^ depth) trees) within
+      ∙ place-drop (0 * 2 ^ depth) i trees
+      ∙ ap (place trees) (none (2 ^ depth) i))));
+}
+  where
+    none : (n i : ℕ) → 0 * n + i ≡ i
+    none n i = omega arith
+
+-- the children of the subtree p are the subtrees 2 p and 2 p + 1 of the next level
+module _ (trees : List Tree) (rest p : ℕ) where
+  first_half : take (2 ^ rest) (drop (p * 2 ^ suc rest) trees)
+      ≡ take (2 ^ rest) (drop (2 * p * 2 ^ rest) trees)
+  first_half = ap (λ n. take (2 ^ rest) (drop n trees))
+      (ap (λ n. p * n) (pow-suc 2 rest) ∙ double p (2 ^ rest))
+    where
+      double : (p n : ℕ) → p * (n * 2) ≡ 2 * p * n
+      double p n = ap (λ k. p * k) (mul_comm n 2) ∙ sym (mul_assoc p 2 n)
+          ∙ ap (λ k. k * n) (mul_comm p 2)
+
+  second_half : take (2 ^ rest) (drop (2 ^ rest) (drop (p * 2 ^ suc rest) trees))
+      ≡ take (2 ^ rest) (drop ((2 * p + 1) * 2 ^ rest) trees)
+  second_half = ap (take (2 ^ rest)) (drop-drop (2 ^ rest) (p * 2 ^ suc rest) trees)
+      ∙ ap (λ n. take (2 ^ rest) (drop n trees))
+      (ap (λ n. p * n + 2 ^ rest) (pow-suc 2 rest) ∙ double p (2 ^ rest))
+    where
+      double : (p n : ℕ) → p * (n * 2) + n ≡ (2 * p + 1) * n
+      double p n = ap (λ k. k + n) (ap (λ k. p * k) (mul_comm n 2) ∙ sym (mul_assoc p 2 n)
+          ∙ ap (λ k. k * n) (mul_comm p 2)) ∙ ap (λ k. 2 * p * n + k) (sym (one-mul n))
+          ∙ sym (add-mul (2 * p) 1 n)
+
+-- one level further
+module _ (arena : Content) (trees : List Tree) (depth level : ℕ) (old new : List NodeId)
+    (below : level < depth) (h : Spread arena trees depth level old)
+    (left_is : (i : ℕ) (left right : Tree) → i < 2 ^ level
+    → tree_of arena (node_of old i) ≡ pair left right → tree_of arena (node_of new (2 * i)) ≡ left)
+    (right_is : (i : ℕ) (left right : Tree) → i < 2 ^ level
+    → tree_of arena (node_of old i) ≡ pair left right
+    → tree_of arena (node_of new (2 * i + 1)) ≡ right) where
+  both : (rest i : ℕ) → h.rest ≡ suc rest → i < 2 ^ level
+      → tree_of arena (node_of old i)
+      ≡ pair (full rest (take (2 ^ rest) (drop (i * 2 ^ suc rest) trees)))
+      (full rest (take (2 ^ rest) (drop (2 ^ rest) (drop (i * 2 ^ suc rest) trees))))
+  both rest i is within =
+      subst (λ n. tree_of arena (node_of old i) ≡ full n (take (2 ^ n) (drop (i * 2 ^ n) trees)))
+      is (h.each i within)
+      ∙ halves_of rest (drop (i * 2 ^ suc rest) trees)
+
+  each_half : (rest p : ℕ) → h.rest ≡ suc rest → p < 2 ^ suc level
+      → tree_of arena (node_of new p) ≡ full rest (take (2 ^ rest) (drop (p * 2 ^ rest) trees))
+  each_half rest p is within =
+      let room : 2 ^ suc level ≡ 2 ^ level * 2 = pow-suc 2 level in
+      let inside : p / 2 < 2 ^ level = omega (arith, within, room) in
+      elim (cases_lt (p % 2) 1) [
+        | inl even ↦
+            (let same : 2 * (p / 2) ≡ p = omega (arith, even) in
+            subst (λ k. tree_of arena (node_of new k)
+            ≡ full rest (take (2 ^ rest) (drop (k * 2 ^ rest) trees))) same
+            (left_is (p / 2) _ _ inside (both rest (p / 2) is inside)
+            ∙ ap (full rest) (first_half trees rest (p / 2))))
+        | inr odd ↦
+            (let same : 2 * (p / 2) + 1 ≡ p = omega (arith, odd) in
+            subst (λ k. tree_of arena (node_of new k)
+            ≡ full rest (take (2 ^ rest) (drop (k * 2 ^ rest) trees))) same
+            (right_is (p / 2) _ _ inside (both rest (p / 2) is inside)
+            ∙ ap (full rest) (second_half trees rest (p / 2))))
+      ]
+
+  pub Spread-more : Spread arena trees depth (level + 1) new
+  Spread-more =
+      let is : h.rest ≡ suc (h.rest - 1) = omega (arith, h.levels) in
+      let next : suc level ≡ level + 1 = omega arith in
+      record {
+        rest = h.rest - 1;
+        levels = omega (arith, h.levels);
+        each = λ p within. each_half (h.rest - 1) p is
+            (subst (λ n. p < 2 ^ n) (sym next) within);
+      }
+
+-- the whole way down, they are the trees at the places
+pub Spread-end : (arena : Content) (trees : List Tree) (depth level i : ℕ) (row : List NodeId)
+    → Spread arena trees depth level row → depth ≤ level → i < 2 ^ depth
+    → tree_of arena (node_of row i) ≡ place trees i
+Spread-end arena trees depth level i row h all within =
+    let none : h.rest ≡ 0 = omega (arith, h.levels, all) in
+    let same : depth ≡ level = omega (arith, h.levels, all) in
+    subst (λ n. tree_of arena (node_of row i) ≡ full n (take (2 ^ n) (drop (i * 2 ^ n) trees)))
+    none (h.each i (subst (λ n. i < 2 ^ n) same within))
+    ∙ full-zero (take (2 ^ 0) (drop (i * 2 ^ 0) trees))
+    ∙ place-take 1 0 (drop (i * 1) trees) (omega arith)
+    ∙ place-drop (i * 1) 0 trees ∙ ap (place trees) (whole i)
+  where
+    whole : (n : ℕ) → n * 1 + 0 ≡ n
+    whole n = omega arith

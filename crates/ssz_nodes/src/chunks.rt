@@ -1,0 +1,83 @@
+//! The bytes of chunks, appended.
+ghost use Rattle.std.specs.Prelude.{ℕ, ◌≡◌, ◌<◌, ◌≤◌, ◌+◌, ◌++◌, List, length, take, OnOk};
+ghost use Rattle.ssz_chunk.specs.Tree.{leaf};
+ghost use Rattle.ssz_arena.specs.Content.{IsNodeOf, tree_of};
+ghost use Rattle.ssz_nodes.specs.Shown.{ArePacked, Extends};
+
+use super::nodes::chunk_of;
+use super::places::{Places, Top, node_of_place};
+use ssz_arena::{Arena, NodeId};
+use ssz_chunk::PairHash;
+use std::alloc::AllocError;
+
+/// Appends the first len bytes of the chunks at the places of a full tree.
+pub fn append_chunks<H: PairHash>(
+    arena: &Arena<H>,
+    top: Top,
+    len: u128,
+    out: &mut Vec<u8>,
+) -> Result<(), AllocError>
+    requires depth { top.depth < 64 }
+    requires node { IsNodeOf arena.now top.node }
+    ensures kept { Extends out.old.items out.new.items }
+    ensures long { OnOk result (length out.new.items ≡ length out.old.items + len) }
+    ensures bytes { (bytes : List ℕ) → ArePacked top.depth len bytes (tree_of arena.now top.node)
+        → OnOk result (out.new.items ≡ out.old.items ++ bytes) }
+{
+    if len <= 32 {
+        let first = node_of_place(arena, top, 0);
+        return append_leaf(arena, len as usize, first, out);
+    }
+    append_many(arena, top, len, out)
+}
+
+// The same of more than a chunk. It is a function of its own, so that room for the places to come
+// is made only here.
+fn append_many<H: PairHash>(
+    arena: &Arena<H>,
+    top: Top,
+    len: u128,
+    out: &mut Vec<u8>,
+) -> Result<(), AllocError>
+    requires depth { top.depth < 64 }
+    requires node { IsNodeOf arena.now top.node }
+    ensures kept { Extends out.old.items out.new.items }
+    ensures long { OnOk result (length out.new.items ≡ length out.old.items + len) }
+    ensures bytes { (bytes : List ℕ) → ArePacked top.depth len bytes (tree_of arena.now top.node)
+        → OnOk result (out.new.items ≡ out.old.items ++ bytes) }
+{
+    let mut places = Places::new(top);
+    let mut left = len;
+    while left > 32 {
+        let chunk = chunk_of(arena, places.next(arena));
+        out.extend_from_slice(&chunk.0)?;
+        left -= 32;
+    }
+    if left == 0 {
+        return Ok(());
+    }
+    append_leaf(arena, left as usize, places.next(arena), out)
+}
+
+/// Appends the first len bytes of the chunk of a leaf. The whole chunk is copied, and the others of
+/// its bytes taken away again, since the compiler then knows how many bytes it copies.
+#[inline(always)]
+pub fn append_leaf<H: PairHash>(
+    arena: &Arena<H>,
+    len: usize,
+    node: NodeId,
+    out: &mut Vec<u8>,
+) -> Result<(), AllocError>
+    requires len { len ≤ 32 }
+    requires node { IsNodeOf arena.now node }
+    ensures kept { Extends out.old.items out.new.items }
+    ensures long { OnOk result (length out.new.items ≡ length out.old.items + len) }
+    ensures bytes { (chunk : List ℕ) → tree_of arena.now node ≡ leaf chunk
+        → OnOk result (out.new.items ≡ out.old.items ++ take len chunk) }
+{
+    let chunk = chunk_of(arena, node);
+    let end = out.len() + len;
+    out.extend_from_slice(&chunk.0)?;
+    out.truncate(end);
+    Ok(())
+}

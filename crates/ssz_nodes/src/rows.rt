@@ -1,0 +1,47 @@
+//! Places of a full tree that are come down to together.
+ghost use Rattle.std.specs.Prelude.{ℕ, ◌≡◌, ◌+◌, ◌*◌, ◌<◌, ◌≤◌, ◌^◌, List, length, All};
+ghost use Rattle.ssz_chunk.specs.Tree.{Tree, pair, full, place};
+ghost use Rattle.ssz_arena.specs.Content.{IsNodeOf, tree_of};
+ghost use Rattle.ssz_nodes.specs.Ahead.{node_of};
+
+use super::nodes::halves;
+use ssz_arena::{Arena, NodeId};
+use ssz_chunk::PairHash;
+
+/// Comes down from the first node of the row to all places of its full tree of this depth, which
+/// stand at the front of the row then. It goes level by level, since no node of a level waits for
+/// another: the memory of all of them is asked for at once.
+pub fn spread<H: PairHash>(arena: &Arena<H>, depth: u32, row: &mut [NodeId])
+    requires depth { depth < 64 }
+    requires room { 2 ^ depth ≤ length row.old }
+    requires nodes { All (IsNodeOf arena.now) row.old }
+    ensures long { length row.new ≡ length row.old }
+    ensures nodes { All (IsNodeOf arena.now) row.new }
+    ensures places { (trees : List Tree) → tree_of arena.now (node_of row.old 0) ≡ full depth trees
+        → (i : ℕ) → i < 2 ^ depth → tree_of arena.now (node_of row.new i) ≡ place trees i }
+{
+    for level in 0..depth {
+        widen(arena, 1 << level, row);
+    }
+}
+
+// Each of the first len nodes makes way for its two children. From the last one on, since the
+// children of a node stand at its place or behind it.
+fn widen<H: PairHash>(arena: &Arena<H>, len: usize, row: &mut [NodeId])
+    requires room { 2 * len ≤ length row.old }
+    requires nodes { All (IsNodeOf arena.now) row.old }
+    ensures long { length row.new ≡ length row.old }
+    ensures nodes { All (IsNodeOf arena.now) row.new }
+    ensures left { (i : ℕ) (left right : Tree) → i < len
+        → tree_of arena.now (node_of row.old i) ≡ pair left right
+        → tree_of arena.now (node_of row.new (2 * i)) ≡ left }
+    ensures right { (i : ℕ) (left right : Tree) → i < len
+        → tree_of arena.now (node_of row.old i) ≡ pair left right
+        → tree_of arena.now (node_of row.new (2 * i + 1)) ≡ right }
+{
+    for i in (0..len).rev() {
+        let (first, second) = halves(arena, row[i]);
+        row[2 * i] = first;
+        row[2 * i + 1] = second;
+    }
+}

@@ -1,9 +1,0 @@
-use Rattle.std.proofs.Common.{◌≡◌, ◌-◌, ◌++◌}
-use Rattle.ssz_reading.specs.Shown.{Extends, offset_rooms}
-use Rattle.ssz_reading.proofs.writing.append_rooms.Given as goal
-
-abbrev pub invariant-loop-i : goal.invariant-loop-i
-invariant-loop-i l =
-    Extends l.initial.out.items l.out.items
-    × (l.out.items ++ offset_rooms (l.count - l._i)
-    ≡ l.initial.out.items ++ offset_rooms l.count)

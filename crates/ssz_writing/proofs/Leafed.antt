@@ -1,0 +1,101 @@
+-- Types whose values are one leaf each.
+use Rattle.std.proofs.Common.{◌≡◌, ℕ, ◌+◌, ◌-◌, ◌*◌, ◌<◌, ◌≤◌, List, length, map, take, set, get_or, Some, option_map, refl, sym, ap, ◌∙◌, subst, inl, inr, arith, get_or-set_same, get_or-set_other}
+use Rattle.std.proofs.lemmas.Bool.{cases_lt}
+use Rattle.std.proofs.lemmas.List.{get_or_default}
+use Rattle.std.specs.List.{concat}
+use Rattle.std.proofs.lemmas.Option.{none-some}
+use Rattle.ssz_schema.specs.Types.{SszType, uint, boolean, vector}
+use Rattle.ssz_schema.specs.Sizes.{basic_size, fixed_size, depth}
+use Rattle.ssz_schema.specs.Indices.{whole}
+use Rattle.ssz_value.specs.Values.{items}
+use Rattle.ssz_value.specs.Encoding.{enc, joined_alike}
+use Rattle.ssz_value.proofs.PartLemmas.{Part}
+use Rattle.ssz_schema.specs.Unfolding.{tree_at}
+use Rattle.ssz_packing.proofs.BasicTrees.{joined_alike-concat}
+use Rattle.ssz_places.specs.PlaceLaws.{HasBasicPart}
+use Rattle.ssz_places.proofs.BasicParts.{basic_part}
+use Rattle.ssz_places.proofs.Elements.{is_basic}
+use Rattle.ssz_nodes.specs.Shown.{ArePacked}
+use Rattle.ssz_writing.specs.Leaves.{IsLeafLen}
+use Rattle.ssz_nodes.proofs.Chunked.{LastChunk, only_chunk}
+use Rattle.ssz_nodes.proofs.Formed.{IsVector, vector_elements}
+use Rattle.ssz_writing.proofs.Written.{packed_elements}
+
+-- where no number is told
+pub no_leaf : (t : SszType) → IsLeafLen t 0
+no_leaf t = record {
+  few = omega arith;
+  size = λ some. absurd (omega (arith, some));
+  leaf = λ some. absurd (omega (arith, some));
+}
+
+basic_fixed_size : (t : SszType) (z : ℕ) → basic_size t ≡ Some z → fixed_size t ≡ Some z
+basic_fixed_size (uint w) z e = e
+basic_fixed_size boolean z e = e
+basic_fixed_size _ z e = absurd (none-some z e)
+
+-- a basic value is the first bytes of its leaf
+pub basic_leaf : (t : SszType) (z : ℕ) → basic_size t ≡ Some z → IsLeafLen t z
+basic_leaf t z e =
+    let inside = (is_basic t z e).inside 0 in
+    record {
+      few = omega (arith, inside);
+      size = λ some. basic_fixed_size t z e;
+      leaf = λ some node v h.
+          let at : HasBasicPart whole t v node z = basic_part whole t v node z e refl h.fits h.is in
+          let all : z ≡ 0 + z - 0 = omega arith in
+          record {
+            chunk = at.chunk;
+            is = at.is;
+            same = ap (λ n. take n at.chunk) all ∙ at.bytes;
+          };
+    }
+
+-- a vector of basic elements that fit in one chunk
+pub vector_leaf : (elem : SszType) (z n d len : ℕ) → basic_size elem ≡ Some z
+    → d ≡ depth (vector elem n) → d ≤ 0 → len ≤ 32 → (0 < len → len ≡ n * z)
+    → IsLeafLen (vector elem n) len
+vector_leaf elem z n d len e deep flat few is = record {
+  few = few;
+  size = λ some. ap (option_map (λ y. n * y)) (basic_fixed_size elem z e) ∙ ap Some (sym (is some));
+  leaf = λ some node v h.
+      let of : IsVector elem n v node = vector_elements elem n v node h in
+      let zero_depth : depth (vector elem n) ≡ 0 = omega (arith, deep, flat) in
+      let packed : ArePacked 0 (n * z) (concat (map (enc elem) (items of.parts))) node =
+      subst (λ k. ArePacked k (n * z) (concat (map (enc elem) (items of.parts))) node) zero_depth
+      (packed_elements elem z (depth (vector elem n)) n (items of.parts) node e of.are) in
+      let last : LastChunk node (concat (map (enc elem) (items of.parts))) (n * z) =
+      only_chunk (concat (map (enc elem) (items of.parts))) (n * z) node packed
+      (omega (arith, few, is some)) in
+      let bytes : enc (vector elem n) v ≡ concat (map (enc elem) (items of.parts)) =
+      ap (enc (vector elem n)) of.is
+      ∙ ap (λ s. joined_alike s (map (enc elem) (items of.parts))) (basic_fixed_size elem z e)
+      ∙ joined_alike-concat z (map (enc elem) (items of.parts)) in
+      record {
+        chunk = last.chunk;
+        is = last.is;
+        same = ap (λ k. take k last.chunk) (is some) ∙ last.same ∙ sym bytes;
+      };
+}
+
+-- the numbers so far, with one more
+pub more_lens : (trees : List SszType) (fields : List Part) (lens : List ℕ) (k len : ℕ)
+    (field : Part) → k < length lens
+    → ((i : ℕ) (part : Part) → i < k → part ≡ get_or fields i part
+    → IsLeafLen (tree_at trees part.1) (get_or lens i 0))
+    → field ≡ get_or fields k field → k < length fields → IsLeafLen (tree_at trees field.1) len
+    → (i : ℕ) (part : Part) → i < k + 1 → part ≡ get_or fields i part
+    → IsLeafLen (tree_at trees part.1) (get_or (set lens k len) i 0)
+more_lens trees fields lens k len field room all here inside one i part below at =
+    elim (cases_lt i k) [
+      | inl before ↦ subst (IsLeafLen (tree_at trees part.1))
+          (sym (get_or-set_other lens k i len 0 (λ e. omega arith))) (all i part before at)
+      | inr from ↦
+          (let same : i ≡ k = omega arith in
+          let first : get_or fields i part ≡ get_or fields k field =
+          ap (λ n. get_or fields n part) same ∙ get_or_default fields k part field inside in
+          let field_is : field ≡ part = here ∙ sym first ∙ sym at in
+          subst (λ n. IsLeafLen (tree_at trees part.1) (get_or (set lens k len) n 0)) (sym same)
+          (subst (IsLeafLen (tree_at trees part.1)) (sym (get_or-set_same lens k len 0 room))
+          (subst (λ (p : Part). IsLeafLen (tree_at trees p.1) len) field_is one)))
+    ]

@@ -1,0 +1,101 @@
+//! Numbers, flags and bits, whose bytes lie in leaves.
+ghost use Rattle.std.specs.Prelude.{ℕ, ◌≡◌, ◌+◌, ◌<◌, ◌++◌, ◌∷◌, [], Bool, List, length, OnOk};
+ghost use Rattle.ssz_value.specs.Encoding.{enc};
+ghost use Rattle.ssz_arena.specs.Content.{IsNodeOf, tree_of};
+ghost use Rattle.ssz_nodes.specs.Shown.{ForValue, ArePacked, Extends, basic_type};
+ghost use Rattle.ssz_writing.specs.Offsets.{AreCountedBits, delimited_bytes};
+
+use super::writer::Writer;
+use ssz_arena::NodeId;
+use ssz_chunk::PairHash;
+use ssz_nodes::{Basic, Top, append_chunks, chunk_of, mixed_in};
+use ssz_value::EncodeFault;
+use std::alloc::AllocError;
+
+impl<'a, H: PairHash> Writer<'a, H> {
+    /// Makes room for so many bytes more, and for a leaf, since one is appended whole before what
+    /// is not of the value is taken away again. `TooLong` where they would end behind `end`.
+    pub(crate) fn make_room(&self, len: u128, out: &mut Vec<u8>) -> Result<(), EncodeFault>
+        ensures { out.new.items ≡ out.old.items }
+    {
+        let left = self.end.saturating_sub(out.len());
+        if len > left as u128 {
+            return Err(EncodeFault::TooLong);
+        }
+        out.reserve((len as usize).saturating_add(32))?;
+        Ok(())
+    }
+
+    /// A value of a basic type.
+    pub(crate) fn append_basic(
+        &self,
+        basic: Basic,
+        node: NodeId,
+        out: &mut Vec<u8>,
+    ) -> Result<(), EncodeFault>
+        requires node { IsNodeOf self.now.arena.now node }
+        ensures kept { Extends out.old.items out.new.items }
+        ensures value { let t = basic_type basic in
+            ForValue t (tree_of self.now.arena.now node)
+            (λ v. OnOk result (out.new.items ≡ out.old.items ++ enc t v)) }
+    {
+        let chunk = chunk_of(self.arena, node);
+        out.extend_from_slice(&chunk.0[..basic.size()])?;
+        Ok(())
+    }
+
+    /// The first len bytes of the chunks at the places of a full tree.
+    pub(crate) fn append_packed(
+        &self,
+        top: Top,
+        len: u128,
+        out: &mut Vec<u8>,
+    ) -> Result<(), EncodeFault>
+        requires depth { top.depth < 64 }
+        requires node { IsNodeOf self.now.arena.now top.node }
+        ensures kept { Extends out.old.items out.new.items }
+        ensures long { OnOk result (length out.new.items ≡ length out.old.items + len) }
+        ensures bytes { (bytes : List ℕ)
+            → ArePacked top.depth len bytes (tree_of self.now.arena.now top.node)
+            → OnOk result (out.new.items ≡ out.old.items ++ bytes) }
+    {
+        self.make_room(len, out)?;
+        append_chunks(self.arena, top, len, out)?;
+        Ok(())
+    }
+
+    /// Bits with a delimiter behind them.
+    pub(crate) fn append_bitlist(&self, top: Top, out: &mut Vec<u8>) -> Result<(), EncodeFault>
+        requires depth { top.depth < 64 }
+        requires node { IsNodeOf self.now.arena.now top.node }
+        ensures kept { Extends out.old.items out.new.items }
+        ensures value { (bs : List Bool)
+            → AreCountedBits top.depth bs (tree_of self.now.arena.now top.node)
+            → OnOk result (out.new.items ≡ out.old.items ++ delimited_bytes bs) }
+    {
+        let (content, count) = mixed_in(self.arena, top.node);
+        let bits = Top {
+            node: content,
+            depth: top.depth,
+        };
+        self.append_packed(bits, (u128::from(count) + 7) / 8, out)?;
+        let above = count % 8;
+        if above == 0 {
+            append_byte(1, out)?;
+            return Ok(());
+        }
+        if let Some(last) = out.pop() {
+            append_byte(last.wrapping_add(1 << above), out)?;
+        }
+        Ok(())
+    }
+}
+
+/// One byte.
+pub fn append_byte(byte: u8, out: &mut Vec<u8>) -> Result<(), AllocError>
+    ensures kept { Extends out.old.items out.new.items }
+    ensures items { OnOk result (out.new.items ≡ out.old.items ++ byte ∷ []) }
+{
+    out.push(byte)?;
+    Ok(())
+}

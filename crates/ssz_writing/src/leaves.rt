@@ -1,0 +1,113 @@
+//! Which types have values that are one leaf each, and which containers have few fields: what is
+//! asked of the schema once, for many values.
+ghost use Rattle.std.specs.Prelude.{ℕ, ◌≡◌, ◌<◌, ◌≤◌, length};
+ghost use Rattle.std.specs.List.{AllByRecursion};
+ghost use Rattle.std.specs.Option.{ForSome};
+ghost use Rattle.ssz_schema.specs.Types.{vector};
+ghost use Rattle.ssz_schema.specs.Sizes.{depth as depth_of_type};
+ghost use Rattle.ssz_schema.specs.Unfolding.{type_of};
+ghost use Rattle.ssz_writing.specs.Leaves.{AreFewFields, AreLeafLens, IsLeafLen};
+
+use super::fields::{FIELDS, FIELDS_DEPTH};
+use ssz_nodes::Basic;
+use ssz_schema::{Name, Schema, Ty, TypeId};
+
+/// A container of at most FIELDS fields.
+#[derive(Drop)]
+pub(crate) struct Few<'a> {
+    pub id: TypeId,
+    pub fields: &'a [(Name, TypeId)],
+    // How many bytes of its leaf each field takes, or 0 where it may be no leaf.
+    pub lens: [usize; FIELDS],
+}
+
+impl<'a> Few<'a> {
+    /// The type, if it is such a container.
+    pub(crate) fn of(schema: &'a Schema, id: TypeId) -> Option<Few<'a>>
+        requires { id < length schema.now.trees }
+        ensures same { ForSome result (λ few. few.id ≡ id) }
+        ensures fields { ForSome result (λ few. AreFewFields schema.now few.id few.fields.now) }
+        ensures lens { ForSome result (λ few. AreLeafLens schema.now few.fields.now few.lens) }
+    {
+        let fields = few_fields(schema, id)?;
+        let lens = leaf_lens(schema, fields);
+        Some(Few { id, fields, lens })
+    }
+}
+
+// The fields of such a container.
+fn few_fields(schema: &Schema, id: TypeId) -> Option<&[(Name, TypeId)]>
+    requires { id < length schema.now.trees }
+    ensures { ForSome result (λ fields. AreFewFields schema.now id fields.now) }
+{
+    if schema.depth(id) > FIELDS_DEPTH {
+        return None;
+    }
+    match schema.ty(id) {
+        Ty::Container(fields) => at_most_few(fields.as_slice()),
+        _ => None,
+    }
+}
+
+// The fields, if they are at most FIELDS.
+fn at_most_few(fields: &[(Name, TypeId)]) -> Option<&[(Name, TypeId)]>
+    ensures { ForSome result (λ some. (some.now ≡ fields.now) × (length fields.now ≤ 8)) }
+{
+    if fields.len() > FIELDS {
+        return None;
+    }
+    Some(fields)
+}
+
+// How many bytes of its leaf each field takes, or 0 where it may be no leaf.
+fn leaf_lens(schema: &Schema, fields: &[(Name, TypeId)]) -> [usize; FIELDS]
+    requires known { AllByRecursion (λ part. part.1 < length schema.now.trees) fields.now }
+    requires few { length fields.now ≤ 8 }
+    ensures { AreLeafLens schema.now fields.now result }
+{
+    let mut lens = [0usize; FIELDS];
+    for (i, field) in fields.iter().enumerate() {
+        lens[i] = leaf_len(schema, field.1);
+    }
+    lens
+}
+
+// Of a type.
+fn leaf_len(schema: &Schema, id: TypeId) -> usize
+    requires { id < length schema.now.trees }
+    ensures { IsLeafLen (type_of schema.now id) result }
+{
+    if let Some(basic) = Basic::of(schema, id) {
+        return basic.size();
+    }
+    match schema.ty(id) {
+        Ty::Vector(elem, n) => packed_len(schema, *elem, *n, schema.depth(id)),
+        _ => 0,
+    }
+}
+
+// Of a vector of n elements, in a full tree of this depth.
+fn packed_len(schema: &Schema, elem: TypeId, n: u64, depth: u32) -> usize
+    requires known { elem < length schema.now.trees }
+    requires depth { depth ≡ depth_of_type (vector (type_of schema.now elem) n) }
+    ensures { IsLeafLen (vector (type_of schema.now elem) n) result }
+{
+    if depth > 0 {
+        return 0;
+    }
+    match Basic::of(schema, elem) {
+        Some(basic) => at_most_chunk((n as usize).saturating_mul(basic.size())),
+        None => 0,
+    }
+}
+
+// The number, or 0 where it is greater than 32.
+fn at_most_chunk(len: usize) -> usize
+    ensures few { result ≤ 32 }
+    ensures same { 0 < result → result ≡ len }
+{
+    if len > 32 {
+        return 0;
+    }
+    len
+}
