@@ -30,7 +30,13 @@ use Rattle.std.proofs.lemmas.List.{take-map, take_all, length-take-le}
 use Rattle.std.specs.Prelude.{IsSome}
 use Rattle.std.proofs.Math.Seq.{take-add}
 use Rattle.ssz_making.proofs.Alike.{elements_alike}
+use mir.Val.{Fits}
+use mir.Syntax.{w8}
 use Rattle.ssz_making.proofs.bytes.+node.Goals as goal
+
+-- what is known of the bytes
+input_of : (b : List ℕ) → ((i : ℕ) → Fits w8 (get_or b i 0)) → length b < 2 ^ 32 → IsInput b
+input_of b fits short = record { bytes = λ i. omega (arith, fits i); short = short }
 
 pub parts_made-elements-init : goal.parts_made-elements-init
 parts_made-elements-init g t c =
@@ -44,8 +50,7 @@ parts_made-elements-init g t c =
 pub parts_made-bytes_part-out-requires : goal.parts_made-bytes_part-out-requires
 parts_made-bytes_part-out-requires g t c κs within =
     let ty = type_of c.args.schema.now c.args.elem in
-    let input : IsInput c.args.bytes.now = record
-    { bytes = λ i. omega (arith, c.type_inv.bytes i); short = c.requires.short } in
+    let input = input_of c.args.bytes.now c.type_inv.bytes c.requires.short in
     let good = element_faultless _ ty c.requires.legal (fixed_size ty)
     c.args.count c.args.bytes.now c.elements.i input c.requires.faultless c.elements-test.true in
     let is = c.element_at-part.ensures ∙ ap (λ (size : Option ℕ). get_or
@@ -111,8 +116,7 @@ parts_made-elements-preserved g t c =
     (let none : List ℕ = [] in none)) c.fixed_size-size.ensures.exact in
     let at = element-at ty c.args.count c.args.bytes.now c.elements.i
     c.element_at-part.result.now c.elements-test.true is in
-    let input : IsInput c.args.bytes.now = record
-    { bytes = λ i. omega (arith, c.type_inv.bytes i); short = c.requires.short } in
+    let input = input_of c.args.bytes.now c.type_inv.bytes c.requires.short in
     let n = c.elements.i + 1 in
     let more : List Part = take c.repeats-i.result (drop (c.elements.i + 1) all) in
     let long : length (take c.repeats-i.result (drop (c.elements.i + 1) all))
@@ -174,8 +178,7 @@ parts_made-returns g t c =
 pub elements_made-packed-requires-clause-few :
     goal.elements_made-packed-requires-clause-few
 elements_made-packed-requires-clause-few g t c =
-    let input : IsInput c.args.bytes.now = record
-    { bytes = λ i. omega (arith, c.type_inv.bytes i); short = c.requires.short } in
+    let input = input_of c.args.bytes.now c.type_inv.bytes c.requires.short in
     let packed = packed_elements c.args.schema.now.format
     (type_of c.args.schema.now c.args.elem) c.in-Some.field-0 c.args.depth c.args.count
     c.args.bytes.now (sym c.in-Some.is ∙ c.basic_size.ensures.exact) c.requires.legal input
@@ -184,8 +187,7 @@ elements_made-packed-requires-clause-few g t c =
 
 pub elements_made-packed-requires-clause-room : goal.elements_made-packed-requires-clause-room
 elements_made-packed-requires-clause-room g t c =
-    let input : IsInput c.args.bytes.now = record
-    { bytes = λ i. omega (arith, c.type_inv.bytes i); short = c.requires.short } in
+    let input = input_of c.args.bytes.now c.type_inv.bytes c.requires.short in
     let packed = packed_elements c.args.schema.now.format
     (type_of c.args.schema.now c.args.elem) c.in-Some.field-0 c.args.depth c.args.count
     c.args.bytes.now (sym c.in-Some.is ∙ c.basic_size.ensures.exact) c.requires.legal input
@@ -207,8 +209,7 @@ elements_made-parts_made-requires g t c κs within =
 
 pub elements_made-returns-in-Some : goal.elements_made-returns-in-Some
 elements_made-returns-in-Some g t c =
-    let input : IsInput c.args.bytes.now = record
-    { bytes = λ i. omega (arith, c.type_inv.bytes i); short = c.requires.short } in
+    let input = input_of c.args.bytes.now c.type_inv.bytes c.requires.short in
     let packed = packed_elements c.args.schema.now.format
     (type_of c.args.schema.now c.args.elem) c.in-Some.field-0 c.args.depth c.args.count
     c.args.bytes.now (sym c.in-Some.is ∙ c.basic_size.ensures.exact) c.requires.legal input
@@ -281,8 +282,7 @@ fields_made-slice_bounds-part-end g t c =
 
 pub fields_made-bytes_part-out-requires : goal.fields_made-bytes_part-out-requires
 fields_made-bytes_part-out-requires g t c κs within =
-    let input : IsInput c.args.bytes.now = record
-    { bytes = λ i. omega (arith, c.type_inv.bytes i); short = c.requires.short } in
+    let input = input_of c.args.bytes.now c.type_inv.bytes c.requires.short in
     let good = FieldsAt-faultless _ _ _ _ _ _ c.index-fields-i.result
     c.loop-i.invariant.fields c.loop-i-test.true c.index-fields-i.is c.requires.legal input
     c.requires.faultless in
@@ -395,8 +395,7 @@ union_made-bounds-options-from g t c = let h =
 
 pub union_made-option_made-value-requires : goal.union_made-option_made-value-requires
 union_made-option_made-value-requires g t c κs within =
-    let input : IsInput c.args.bytes.now = record
-    { bytes = λ i. omega (arith, c.type_inv.bytes i); short = c.requires.short } in
+    let input = input_of c.args.bytes.now c.type_inv.bytes c.requires.short in
     let h = union_chosen c.args.schema.now.trees c.args.options.now c.args.bytes.now
     c.requires.faultless in
     let chosen = chosen_at c.args.options.now c.from.result (get_or c.args.bytes.now 0 0)
@@ -523,8 +522,7 @@ bytes_part-elements_made-elements-requires g t c κs within =
     let ty = tree_at trees c.in-List.elem in
     let count = c.element_count-count.ensures ∙ ap
     (λ (size : Option ℕ). element_count size c.args.bytes.now) c.fixed_size.ensures.exact in
-    let input : IsInput c.args.bytes.now = record
-    { bytes = λ i. omega (arith, c.type_inv.bytes i); short = c.requires.short } in
+    let input = input_of c.args.bytes.now c.type_inv.bytes c.requires.short in
     let h = list_elements c.args.schema.now.format (type_of c.args.schema.now c.args.id)
     ty c.in-List.limit c.element_count-count.result c.depth-in-List.result c.args.bytes.now form
     c.ty.ensures.legal input c.requires.faultless c.depth-in-List.ensures.exact count in
@@ -586,8 +584,7 @@ bytes_part-returns-in-List g t c =
 
 pub bytes_part-returns-in-Uint : goal.bytes_part-returns-in-Uint
 bytes_part-returns-in-Uint g t c =
-    let input : IsInput c.args.bytes.now = record
-    { bytes = λ i. omega (arith, c.type_inv.bytes i); short = c.requires.short } in
+    let input = input_of c.args.bytes.now c.type_inv.bytes c.requires.short in
     let form = sym c.ty.ensures.form ∙ ap (tree_over c.args.schema.now.trees) c.in-Uint.is in
     subst (λ part. g.M.Maker.made c.args.maker.now c.leaf.new.self part c.leaf.result)
     (basic_made c.args.schema.now.format (type_of c.args.schema.now c.args.id) _ c.args.bytes.now
@@ -596,8 +593,7 @@ bytes_part-returns-in-Uint g t c =
 
 pub bytes_part-returns-in-Boolean : goal.bytes_part-returns-in-Boolean
 bytes_part-returns-in-Boolean g t c =
-    let input : IsInput c.args.bytes.now = record
-    { bytes = λ i. omega (arith, c.type_inv.bytes i); short = c.requires.short } in
+    let input = input_of c.args.bytes.now c.type_inv.bytes c.requires.short in
     let form = sym c.ty.ensures.form ∙ ap (tree_over c.args.schema.now.trees) c.in-Boolean.is in
     subst (λ part. g.M.Maker.made c.args.maker.now c.leaf-in-Boolean.new.self part
     c.leaf-in-Boolean.result)
@@ -640,8 +636,7 @@ bytes_part-returns-in-Union g t c =
 pub bytes_part-packed-requires-clause-depth :
     goal.bytes_part-packed-requires-clause-depth
 bytes_part-packed-requires-clause-depth g t c =
-    let input : IsInput c.args.bytes.now = record
-    { bytes = λ i. omega (arith, c.type_inv.bytes i); short = c.requires.short } in
+    let input = input_of c.args.bytes.now c.type_inv.bytes c.requires.short in
     let h = IsPackedBits-bitvector (λ l r. l) c.args.schema.now.format
     (type_of c.args.schema.now c.args.id) c.in-Bitvector.field-0 c.args.bytes.now
     (sym c.ty.ensures.form ∙ ap (tree_over c.args.schema.now.trees) c.in-Bitvector.is)
@@ -650,8 +645,7 @@ bytes_part-packed-requires-clause-depth g t c =
 
 pub bytes_part-packed-requires-clause-few : goal.bytes_part-packed-requires-clause-few
 bytes_part-packed-requires-clause-few g t c =
-    let input : IsInput c.args.bytes.now = record
-    { bytes = λ i. omega (arith, c.type_inv.bytes i); short = c.requires.short } in
+    let input = input_of c.args.bytes.now c.type_inv.bytes c.requires.short in
     let h = IsPackedBits-bitvector (λ l r. l) c.args.schema.now.format
     (type_of c.args.schema.now c.args.id) c.in-Bitvector.field-0 c.args.bytes.now
     (sym c.ty.ensures.form ∙ ap (tree_over c.args.schema.now.trees) c.in-Bitvector.is)
@@ -662,8 +656,7 @@ bytes_part-packed-requires-clause-few g t c =
 
 pub bytes_part-packed-requires-clause-room : goal.bytes_part-packed-requires-clause-room
 bytes_part-packed-requires-clause-room g t c =
-    let input : IsInput c.args.bytes.now = record
-    { bytes = λ i. omega (arith, c.type_inv.bytes i); short = c.requires.short } in
+    let input = input_of c.args.bytes.now c.type_inv.bytes c.requires.short in
     let made = bitvector_made c.args.schema.now.format (type_of c.args.schema.now c.args.id)
     c.in-Bitvector.field-0 c.depth-in-Bitvector.result c.args.bytes.now
     (sym c.ty.ensures.form ∙ ap (tree_over c.args.schema.now.trees) c.in-Bitvector.is)
@@ -672,8 +665,7 @@ bytes_part-packed-requires-clause-room g t c =
 
 pub bytes_part-returns-in-Bitvector : goal.bytes_part-returns-in-Bitvector
 bytes_part-returns-in-Bitvector g t c =
-    let input : IsInput c.args.bytes.now = record
-    { bytes = λ i. omega (arith, c.type_inv.bytes i); short = c.requires.short } in
+    let input = input_of c.args.bytes.now c.type_inv.bytes c.requires.short in
     let made = bitvector_made c.args.schema.now.format (type_of c.args.schema.now c.args.id)
     c.in-Bitvector.field-0 c.depth-in-Bitvector.result c.args.bytes.now
     (sym c.ty.ensures.form ∙ ap (tree_over c.args.schema.now.trees) c.in-Bitvector.is)
@@ -718,8 +710,7 @@ bytes_part-returns-in-Container g t c =
 pub bytes_part-bitlist_len-count-requires-clause-some :
     goal.bytes_part-bitlist_len-count-requires-clause-some
 bytes_part-bitlist_len-count-requires-clause-some g t c =
-    let input : IsInput c.args.bytes.now = record
-    { bytes = λ i. omega (arith, c.type_inv.bytes i); short = c.requires.short } in
+    let input = input_of c.args.bytes.now c.type_inv.bytes c.requires.short in
     let form = sym c.ty.ensures.form ∙ ap (tree_over c.args.schema.now.trees) c.in-Bitlist.is in
     let h = HasBits-bitlist (λ l r. l) c.args.schema.now.format
     (type_of c.args.schema.now c.args.id) c.in-Bitlist.field-0 (depth (type_of c.args.schema.now
@@ -729,8 +720,7 @@ bytes_part-bitlist_len-count-requires-clause-some g t c =
 pub bytes_part-bits-bits-requires-clause-some :
     goal.bytes_part-bits-bits-requires-clause-some
 bytes_part-bits-bits-requires-clause-some g t c =
-    let input : IsInput c.args.bytes.now = record
-    { bytes = λ i. omega (arith, c.type_inv.bytes i); short = c.requires.short } in
+    let input = input_of c.args.bytes.now c.type_inv.bytes c.requires.short in
     let form = sym c.ty.ensures.form ∙ ap (tree_over c.args.schema.now.trees) c.in-Bitlist.is in
     let h = HasBits-bitlist (λ l r. l) c.args.schema.now.format
     (type_of c.args.schema.now c.args.id) c.in-Bitlist.field-0 (depth (type_of c.args.schema.now
@@ -740,8 +730,7 @@ bytes_part-bits-bits-requires-clause-some g t c =
 pub bytes_part-bits-bits-requires-clause-delimited :
     goal.bytes_part-bits-bits-requires-clause-delimited
 bytes_part-bits-bits-requires-clause-delimited g t c =
-    let input : IsInput c.args.bytes.now = record
-    { bytes = λ i. omega (arith, c.type_inv.bytes i); short = c.requires.short } in
+    let input = input_of c.args.bytes.now c.type_inv.bytes c.requires.short in
     let form = sym c.ty.ensures.form ∙ ap (tree_over c.args.schema.now.trees) c.in-Bitlist.is in
     let h = HasBits-bitlist (λ l r. l) c.args.schema.now.format
     (type_of c.args.schema.now c.args.id) c.in-Bitlist.field-0 (depth (type_of c.args.schema.now
@@ -751,8 +740,7 @@ bytes_part-bits-bits-requires-clause-delimited g t c =
 pub bytes_part-bits-bits-requires-clause-len :
     goal.bytes_part-bits-bits-requires-clause-len
 bytes_part-bits-bits-requires-clause-len g t c =
-    let input : IsInput c.args.bytes.now = record
-    { bytes = λ i. omega (arith, c.type_inv.bytes i); short = c.requires.short } in
+    let input = input_of c.args.bytes.now c.type_inv.bytes c.requires.short in
     let form = sym c.ty.ensures.form ∙ ap (tree_over c.args.schema.now.trees) c.in-Bitlist.is in
     let h = HasBits-bitlist (λ l r. l) c.args.schema.now.format
     (type_of c.args.schema.now c.args.id) c.in-Bitlist.field-0 (depth (type_of c.args.schema.now
@@ -762,8 +750,7 @@ bytes_part-bits-bits-requires-clause-len g t c =
 pub bytes_part-bits-bits-requires-clause-few :
     goal.bytes_part-bits-bits-requires-clause-few
 bytes_part-bits-bits-requires-clause-few g t c =
-    let input : IsInput c.args.bytes.now = record
-    { bytes = λ i. omega (arith, c.type_inv.bytes i); short = c.requires.short } in
+    let input = input_of c.args.bytes.now c.type_inv.bytes c.requires.short in
     let form = sym c.ty.ensures.form ∙ ap (tree_over c.args.schema.now.trees) c.in-Bitlist.is in
     let h = HasBits-bitlist (λ l r. l) c.args.schema.now.format
     (type_of c.args.schema.now c.args.id) c.in-Bitlist.field-0 c.depth-in-Bitlist.result
@@ -774,8 +761,7 @@ bytes_part-bits-bits-requires-clause-few g t c =
 
 pub bytes_part-bits-bits-requires-clause-room : goal.bytes_part-bits-bits-requires-clause-room
 bytes_part-bits-bits-requires-clause-room g t c =
-    let input : IsInput c.args.bytes.now = record
-    { bytes = λ i. omega (arith, c.type_inv.bytes i); short = c.requires.short } in
+    let input = input_of c.args.bytes.now c.type_inv.bytes c.requires.short in
     let form = sym c.ty.ensures.form ∙ ap (tree_over c.args.schema.now.trees) c.in-Bitlist.is in
     let h = HasBits-bitlist (λ l r. l) c.args.schema.now.format
     (type_of c.args.schema.now c.args.id) c.in-Bitlist.field-0 c.depth-in-Bitlist.result
@@ -789,8 +775,7 @@ bytes_part-bits-bits-requires-clause-room g t c =
 
 pub bytes_part-join-requires-in-Bitlist : goal.bytes_part-join-requires-in-Bitlist
 bytes_part-join-requires-in-Bitlist g t c =
-    let input : IsInput c.args.bytes.now = record
-    { bytes = λ i. omega (arith, c.type_inv.bytes i); short = c.requires.short } in
+    let input = input_of c.args.bytes.now c.type_inv.bytes c.requires.short in
     let form = sym c.ty.ensures.form ∙ ap (tree_over c.args.schema.now.trees) c.in-Bitlist.is in
     let h = HasBits-bitlist (λ l r. l) c.args.schema.now.format
     (type_of c.args.schema.now c.args.id) c.in-Bitlist.field-0 c.depth-in-Bitlist.result
@@ -813,8 +798,7 @@ bytes_part-join-requires-in-Bitlist g t c =
 
 pub bytes_part-returns-in-Bitlist : goal.bytes_part-returns-in-Bitlist
 bytes_part-returns-in-Bitlist g t c =
-    let input : IsInput c.args.bytes.now = record
-    { bytes = λ i. omega (arith, c.type_inv.bytes i); short = c.requires.short } in
+    let input = input_of c.args.bytes.now c.type_inv.bytes c.requires.short in
     let form = sym c.ty.ensures.form ∙ ap (tree_over c.args.schema.now.trees) c.in-Bitlist.is in
     let h = HasBits-bitlist (λ l r. l) c.args.schema.now.format
     (type_of c.args.schema.now c.args.id) c.in-Bitlist.field-0 c.depth-in-Bitlist.result
