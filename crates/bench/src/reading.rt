@@ -9,7 +9,8 @@ use super::nodes::node_of;
 use anyhow::{Result, bail};
 use ssz_arena::{Arena, NodeId};
 use ssz_chunk::{PairHash, ShaPair};
-use ssz_reading::{read_value, write_encoding};
+use ssz_reading::read_value;
+use ssz_writing::write_encoding;
 use std::alloc::Global;
 
 const USAGE: &str = "usage: bench reading decode|encode|read|measure|write SCHEMA TYPE FILE TIMES";

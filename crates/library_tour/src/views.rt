@@ -6,8 +6,8 @@ use crate::sample::Sample;
 use anyhow::{Context, Result};
 use ssz_arena::{Arena, NodeId};
 use ssz_chunk::ShaPair;
-use ssz_reading::{part_len, write_encoding};
 use ssz_views::View;
+use ssz_writing::{part_len, write_encoding};
 
 // A view reads single parts, and makes no value. While it lives, its arena stays as it is.
 fn show_parts(rt: &HostRuntime, view: &View<'_, ShaPair>) -> Result<()> {

@@ -10,9 +10,10 @@ use super::rows::{Subject, parted, type_named};
 use anyhow::{Result, bail};
 use ssz_arena::{Arena, NodeId};
 use ssz_chunk::{PairHash, XorPair};
-use ssz_reading::{part_len, read_value, write_encoding};
+use ssz_reading::read_value;
 use ssz_schema::{Schema, TypeId};
 use ssz_views::View;
+use ssz_writing::{part_len, write_encoding};
 use std::alloc::Global;
 
 fn print_value<H: PairHash>(

@@ -23,12 +23,13 @@ use ssz_bytes::ByteRun;
 use ssz_chunk::PairHash;
 use ssz_line::Steps;
 use ssz_machine::Place;
-use ssz_reading::{EncodeFault, bit_of, chunk_of, write_encoding};
+use ssz_nodes::{bit_of, chunk_of};
 use ssz_schema::Schema;
 use ssz_script::{FileName, Identifier, Reply};
 use ssz_value_json::{JsonWrite, write_json};
 use ssz_versions::Writer;
 use ssz_walk::{Place as PartPlace, Spot};
+use ssz_writing::{EncodeFault, write_encoding};
 
 // Appends the bytes, unless they are more than max.
 fn append_short(bytes: &[u8], max: u32, out: &mut Vec<u8>) -> Result<(), EncodeFault>
