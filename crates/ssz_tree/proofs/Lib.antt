@@ -11,6 +11,7 @@ pub mod Sums
 pub mod Copies
 pub mod Zeros
 pub mod DefaultForms
+pub mod Sharing
 pub mod FieldPieces
 pub mod GivenFields
 mod Rooms

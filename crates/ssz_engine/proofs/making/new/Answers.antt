@@ -3,7 +3,7 @@ use Rattle.ssz_schema.specs.Unfolding.{type_of}
 use Rattle.ssz_value.specs.Defaults.{default_of}
 use Rattle.ssz_value.specs.Pairs.{pairs}
 use Rattle.ssz_value.proofs.SizeLaw.{default_fits}
-use Rattle.ssz_upgrade.proofs.Sharing.{shared_few}
+use Rattle.ssz_tree.proofs.Sharing.{shared_few}
 use Rattle.ssz_machine.specs.Making.{new}
 use Rattle.ssz_machine.specs.Rules.{makes}
 use Rattle.ssz_machine.specs.Changes.{puts}
