@@ -11,14 +11,14 @@ use Rattle.ssz_machine.specs.declared.place.Place.TheVariants as place
 use Rattle.ssz_machine.specs.State.{Versions}
 use Rattle.ssz_machine.specs.Machine.{Turn, reply_of}
 use Rattle.ssz_engine.specs.Compacting.{compacted}
-use Rattle.ssz_engine.specs.Content.{Content as Engine}
-use Rattle.ssz_engine.specs.Standing.{StandsFor, StandsForVersions}
+use Rattle.ssz_decisions.specs.Content.{Content as Engine}
+use Rattle.ssz_decisions.specs.Standing.{StandsFor, StandsForVersions}
 use Rattle.ssz_engine.specs.Steps.{DoesStep, Keeps, Leaves, SavesPart, Stops, is_refusal, turn_at}
-use Rattle.ssz_engine.specs.declared.outcome.Outcome.{Outcome}
-use Rattle.ssz_engine.specs.declared.outcome.Outcome.TheVariants.{Accepted, Refused}
-use Rattle.ssz_engine.specs.declared.fault.EngineFault.{EngineFault}
-use Rattle.ssz_engine.specs.declared.fault.EngineFault.TheVariants.{Read, Write, Memory}
-use Rattle.ssz_engine.proofs.Standing.{stand-kept}
+use Rattle.ssz_decisions.specs.declared.outcome.Outcome.{Outcome}
+use Rattle.ssz_decisions.specs.declared.outcome.Outcome.TheVariants.{Accepted, Refused}
+use Rattle.ssz_decisions.specs.declared.fault.EngineFault.{EngineFault}
+use Rattle.ssz_decisions.specs.declared.fault.EngineFault.TheVariants.{Read, Write, Memory}
+use Rattle.ssz_decisions.proofs.Standing.{stand-kept}
 use Rattle.ssz_c.specs.declared.ran.Ran.{Ran}
 use Rattle.ssz_c.specs.declared.ran.Ran.TheVariants as ran
 use Rattle.ssz_c.specs.Session.{Does, DoesLine, DoesSaid, Refuses, Rests, Scene, Takes, no_files, ran_of}

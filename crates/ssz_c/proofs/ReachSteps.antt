@@ -8,10 +8,10 @@ use Rattle.ssz_script.specs.declared.statement.Statement.{Statement}
 use Rattle.ssz_machine.specs.declared.place.Place.TheVariants as place
 use Rattle.ssz_engine.specs.Answered.{DoesAnswer, IsTurn}
 use Rattle.ssz_engine.specs.Compacting.{is_compact}
-use Rattle.ssz_engine.specs.Content.{Content as Engine}
+use Rattle.ssz_decisions.specs.Content.{Content as Engine}
 use Rattle.ssz_engine.specs.Steps.{Keeps, SavesPart, Stops, turn_at}
-use Rattle.ssz_engine.specs.declared.fault.EngineFault.{EngineFault}
-use Rattle.ssz_engine.specs.declared.fault.EngineFault.TheVariants.{Read, Write, Memory}
+use Rattle.ssz_decisions.specs.declared.fault.EngineFault.{EngineFault}
+use Rattle.ssz_decisions.specs.declared.fault.EngineFault.TheVariants.{Read, Write, Memory}
 use Rattle.ssz_engine.proofs.Moving.{kept-whole}
 use Rattle.ssz_c.specs.Session.{Scene, no_files}
 use Rattle.ssz_c.specs.Answering.{Reaches}

@@ -6,11 +6,11 @@ use Rattle.ssz_script.specs.declared.statement.Statement.{Statement}
 use Rattle.ssz_script.specs.declared.reply.Reply.{Reply}
 use Rattle.ssz_machine.specs.State.{Versions}
 use Rattle.ssz_engine.specs.Answered.{IsTurn}
-use Rattle.ssz_engine.specs.Content.{Content as Engine}
-use Rattle.ssz_engine.specs.Standing.{StandsFor}
+use Rattle.ssz_decisions.specs.Content.{Content as Engine}
+use Rattle.ssz_decisions.specs.Standing.{StandsFor}
 use Rattle.ssz_engine.specs.Steps.{CanAsk, Keeps}
-use Rattle.ssz_engine.specs.declared.fault.EngineFault.{EngineFault}
-use Rattle.ssz_engine.specs.declared.fault.EngineFault.TheVariants as stop
+use Rattle.ssz_decisions.specs.declared.fault.EngineFault.{EngineFault}
+use Rattle.ssz_decisions.specs.declared.fault.EngineFault.TheVariants as stop
 use Rattle.ssz_said.specs.declared.status.TheConstants.{NO_HANDLE, NO_READ, NO_WRITE, NO_MEMORY}
 use Rattle.ssz_said.specs.Outcome.{Outcome, IsUnlessMemory, refused}
 use Rattle.ssz_said.specs.Replies.{taken}

@@ -12,13 +12,13 @@ use Rattle.ssz_script.specs.Texts.{reply_line}
 use Rattle.ssz_machine.specs.declared.place.Place.TheVariants as place
 use Rattle.ssz_machine.specs.State.{Versions}
 use Rattle.ssz_machine.specs.Machine.{Turn, step, reply_of, state_of, is_refused, save_of}
-use Rattle.ssz_engine.specs.Content.{Content as Engine, rules_of}
-use Rattle.ssz_engine.specs.Standing.{StandsFor}
+use Rattle.ssz_decisions.specs.Content.{Content as Engine, rules_of}
+use Rattle.ssz_decisions.specs.Standing.{StandsFor}
 use Rattle.ssz_engine.specs.Steps.{CanAsk, IsShort, Keeps}
-use Rattle.ssz_engine.specs.declared.outcome.Outcome.{Outcome as Ended}
-use Rattle.ssz_engine.specs.declared.outcome.Outcome.TheVariants as outcome
-use Rattle.ssz_engine.specs.declared.fault.EngineFault.{EngineFault}
-use Rattle.ssz_engine.specs.declared.fault.EngineFault.TheVariants as stop
+use Rattle.ssz_decisions.specs.declared.outcome.Outcome.{Outcome as Ended}
+use Rattle.ssz_decisions.specs.declared.outcome.Outcome.TheVariants as outcome
+use Rattle.ssz_decisions.specs.declared.fault.EngineFault.{EngineFault}
+use Rattle.ssz_decisions.specs.declared.fault.EngineFault.TheVariants as stop
 use Rattle.ssz_said.specs.declared.fault.SszFault.{SszFault}
 use Rattle.ssz_c.specs.declared.ran.Ran.{Ran}
 use Rattle.ssz_c.specs.declared.ran.Ran.TheVariants.{Quiet, Done, Refused, Unread, Unwritten, TooLong, Memory}

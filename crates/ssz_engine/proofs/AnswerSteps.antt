@@ -14,11 +14,12 @@ use Rattle.ssz_machine.specs.State.{Versions}
 use Rattle.ssz_machine.specs.Rules.{Row}
 use Rattle.ssz_machine.specs.Machine.{reply_in}
 use Rattle.ssz_engine.specs.Answered.{DoesAnswer, IsAnswered}
-use Rattle.ssz_engine.specs.Content.{Content, Grows, SameNodes}
-use Rattle.ssz_engine.specs.Decisions.{Comes}
-use Rattle.ssz_engine.specs.Steps.{Decides, IsCarriedOut, Keeps, outcome_of, reply_to}
-use Rattle.ssz_engine.specs.declared.decision.Decision.{Decision}
-use Rattle.ssz_engine.specs.declared.decision.Decision.TheVariants as decision
+use Rattle.ssz_decisions.specs.Content.{Content, Grows, SameNodes}
+use Rattle.ssz_decisions.specs.Decisions.{Comes}
+use Rattle.ssz_engine.specs.Steps.{Decides, Keeps}
+use Rattle.ssz_decisions.specs.Carried.{IsCarriedOut, outcome_of, reply_to}
+use Rattle.ssz_decisions.specs.declared.decision.Decision.{Decision}
+use Rattle.ssz_decisions.specs.declared.decision.Decision.TheVariants as decision
 use Rattle.ssz_engine.proofs.Moving.{compact-step}
 use Rattle.ssz_engine.proofs.Leaving.{leaves}
 

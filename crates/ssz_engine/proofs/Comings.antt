@@ -19,13 +19,13 @@ use Rattle.ssz_machine.specs.Plays.{Event, says, front, play, shown, shown_all, 
 use Rattle.ssz_machine.specs.Runs.{IsUnderWay}
 use Rattle.ssz_machine.proofs.UnderWay.{line_follows, under_way_line}
 use Rattle.ssz_machine.proofs.Endings.{ends_without_memory, ends_unread, ends_torn_file, ends_torn_line, ends_ahead, steps_without_memory, steps_unread, steps_torn_file, steps_torn_line, steps_ahead}
-use Rattle.ssz_engine.specs.Content.{Content, rules_of}
+use Rattle.ssz_decisions.specs.Content.{Content, rules_of}
 use Rattle.ssz_engine.specs.Steps.{Keeps, SavesPart, is_refusal}
-use Rattle.ssz_engine.specs.Standing.{StaysFor}
+use Rattle.ssz_decisions.specs.Standing.{StaysFor}
 use Rattle.ssz_engine.specs.Scripts.{IsStopped, Scene, files_reached}
 use Rattle.ssz_engine.specs.Points.{Course, Comes, IsCutShort, Pays, turns_of}
 use Rattle.ssz_engine.specs.Lines.{Makes, Missed}
-use Rattle.ssz_engine.specs.declared.outcome.Outcome.{Outcome}
+use Rattle.ssz_decisions.specs.declared.outcome.Outcome.{Outcome}
 use Rattle.ssz_engine.proofs.Paying.{pays_step, pays_total}
 use Rattle.ssz_engine.proofs.Reaching.{reached_at}
 use Rattle.ssz_engine.proofs.Settling.{pays_nothing, settled}

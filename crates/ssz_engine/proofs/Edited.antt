@@ -21,15 +21,15 @@ use Rattle.ssz_machine.specs.State.{Name, Versions, version_of}
 use Rattle.ssz_machine.specs.Rules.{Rules, Refusal, Row, bad_bytes, code_of, coded, edits}
 use Rattle.ssz_machine.specs.Machine.{charge_in}
 use Rattle.ssz_machine.specs.Changes.{puts}
-use Rattle.ssz_engine.specs.Content.{Content, rules_of}
-use Rattle.ssz_engine.specs.Decisions.{AnswersWith}
+use Rattle.ssz_decisions.specs.Content.{Content, rules_of}
+use Rattle.ssz_decisions.specs.Decisions.{AnswersWith}
 use Rattle.ssz_engine.specs.Finished.{finished, Finishes, unread}
-use Rattle.ssz_engine.specs.Standing.{AreVersions, Match}
-use Rattle.ssz_engine.specs.declared.decision.Decision.{Decision}
-use Rattle.ssz_engine.specs.declared.fault.EngineFault.{EngineFault}
-use Rattle.ssz_engine.specs.declared.decision.Decision.TheVariants.{BadBytes, Edited, Refused}
-use Rattle.ssz_engine.proofs.Brought.{over}
-use Rattle.ssz_engine.proofs.Showing.{held-there, tree-stands}
+use Rattle.ssz_decisions.specs.Standing.{AreVersions, Match}
+use Rattle.ssz_decisions.specs.declared.decision.Decision.{Decision}
+use Rattle.ssz_decisions.specs.declared.fault.EngineFault.{EngineFault}
+use Rattle.ssz_decisions.specs.declared.decision.Decision.TheVariants.{BadBytes, Edited, Refused}
+use Rattle.ssz_decisions.proofs.Brought.{over}
+use Rattle.ssz_decisions.proofs.Showing.{held-there, tree-stands}
 
 -- the value of the type of an entry, which is the version of its name
 pub record IsThere (types : Types) (arena : Nodes) (held : Held) (name : Name) (versions : Versions)

@@ -16,17 +16,17 @@ use Rattle.ssz_machine.specs.Machine.{Turn, step, state_of, charge_of, is_refuse
 use Rattle.ssz_machine.specs.Changes.{Touch, nothing, puts, takes}
 use Rattle.ssz_machine.specs.Counts.{asks_root, hashes_row}
 use Rattle.ssz_engine.specs.Compacting.{compacted, is_compact}
-use Rattle.ssz_engine.specs.Content.{Content, rules_of}
-use Rattle.ssz_engine.specs.Outside.{Holds}
+use Rattle.ssz_decisions.specs.Content.{Content, rules_of}
+use Rattle.ssz_decisions.specs.Outside.{Holds}
 use Rattle.ssz_engine.specs.Steps.{DoesStep, Finds, Leaves, SavesPart, Stops, TouchesWhere, file_read, is_refusal, turn_at}
 use Rattle.ssz_engine.specs.Scripts.{Scene, file_named, name_before}
 use Rattle.ssz_engine.specs.Lines.{DoesLine, LeavesOthers, type_held}
-use Rattle.ssz_engine.specs.declared.outcome.Outcome.{Outcome}
-use Rattle.ssz_engine.specs.declared.outcome.Outcome.TheVariants.{Accepted, Refused}
-use Rattle.ssz_engine.specs.declared.fault.EngineFault.{EngineFault}
-use Rattle.ssz_engine.specs.declared.fault.EngineFault.TheVariants.{Read, Write, Memory}
-use Rattle.ssz_engine.proofs.Entries.{held_at-with, held_at-without}
-use Rattle.ssz_engine.proofs.Keys.{other_writer}
+use Rattle.ssz_decisions.specs.declared.outcome.Outcome.{Outcome}
+use Rattle.ssz_decisions.specs.declared.outcome.Outcome.TheVariants.{Accepted, Refused}
+use Rattle.ssz_decisions.specs.declared.fault.EngineFault.{EngineFault}
+use Rattle.ssz_decisions.specs.declared.fault.EngineFault.TheVariants.{Read, Write, Memory}
+use Rattle.ssz_decisions.proofs.Entries.{held_at-with, held_at-without}
+use Rattle.ssz_decisions.proofs.Keys.{other_writer}
 use Rattle.ssz_engine.proofs.Moving.{type-moved}
 use Rattle.ssz_engine.proofs.Replies.{said_number}
 
@@ -248,11 +248,6 @@ pub stays_uncompacted : (statement : Statement) (result : Result Outcome EngineF
 stays_uncompacted statement (Ok Accepted) none = none
 stays_uncompacted statement (Ok Refused) none = refl
 stays_uncompacted statement (Err fault) none = refl
-
--- what is so whatever is answered
-pub on_ok : {T : Type 0} {P : Type 0} (result : Result T EngineFault) → P → OnOk result P
-on_ok (Ok made) is = is
-on_ok (Err fault) is = tt
 
 -- a statement that reads no file finds each that it reads
 pub finds_alone : (pair_of : PairOf) (engine : Content) (writer : ℕ) (statement : Statement)

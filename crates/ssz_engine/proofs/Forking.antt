@@ -5,12 +5,14 @@ use Rattle.ssz_script.specs.declared.statement.Statement.{Statement}
 use Rattle.ssz_script.specs.declared.statement.Statement.TheVariants as statement
 use Rattle.ssz_versions.specs.Content.{Entries, held_at}
 use Rattle.ssz_machine.specs.State.{Name}
-use Rattle.ssz_engine.specs.Steps.{ForksWhere, IsCarriedOut, MakesFork}
-use Rattle.ssz_engine.specs.declared.decision.Decision.{Decision}
-use Rattle.ssz_engine.specs.declared.decision.Decision.TheVariants as decision
-use Rattle.ssz_engine.specs.declared.outcome.Outcome.{Outcome}
-use Rattle.ssz_engine.specs.declared.outcome.Outcome.TheVariants.{Accepted, Refused}
-use Rattle.ssz_engine.proofs.Entries.{held-there-now}
+use Rattle.ssz_engine.specs.Steps.{ForksWhere}
+use Rattle.ssz_decisions.specs.Carried.{IsCarriedOut}
+use Rattle.ssz_decisions.specs.Decisions.{MakesFork}
+use Rattle.ssz_decisions.specs.declared.decision.Decision.{Decision}
+use Rattle.ssz_decisions.specs.declared.decision.Decision.TheVariants as decision
+use Rattle.ssz_decisions.specs.declared.outcome.Outcome.{Outcome}
+use Rattle.ssz_decisions.specs.declared.outcome.Outcome.TheVariants.{Accepted, Refused}
+use Rattle.ssz_decisions.proofs.Entries.{held-there-now}
 
 -- a fork that was carried out
 forked : (made : Decision) (v w : Name) (writer line : ℕ) (first mid new : Entries)

@@ -21,7 +21,7 @@ use Rattle.ssz_machine.specs.Plays.{base_writer, mark, shown_all}
 use Rattle.ssz_machine.specs.Jobs.{turns_of_weave, weave_job}
 use Rattle.ssz_machine.specs.Isolation.{IsolatesLines, lines_alone, marked}
 use Rattle.ssz_machine.proofs.IsolatedLines.{lines_are_isolated_lem}
-use Rattle.ssz_engine.specs.Content.{rules_of}
+use Rattle.ssz_decisions.specs.Content.{rules_of}
 use Rattle.ssz_engine.specs.Scripts.{Scene}
 use Rattle.ssz_engine.specs.Weaves.{AreFirst, EndsWeave, IsolatesFrom, IsolatesWriters}
 

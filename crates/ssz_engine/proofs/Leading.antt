@@ -8,7 +8,7 @@ use Rattle.ssz_machine.specs.declared.place.Place.{Place}
 use Rattle.ssz_machine.specs.State.{Name}
 use Rattle.ssz_machine.specs.Machine.{Line}
 use Rattle.ssz_machine.specs.Plays.{Event, says, all_of}
-use Rattle.ssz_engine.specs.Content.{Content}
+use Rattle.ssz_decisions.specs.Content.{Content}
 use Rattle.ssz_engine.specs.Steps.{Keeps}
 use Rattle.ssz_engine.specs.Scripts.{Scene, files_reached}
 use Rattle.ssz_engine.specs.Points.{Course, Goes, IsCutShort, LeadsTo, turns_of}

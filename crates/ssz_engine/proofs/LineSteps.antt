@@ -12,9 +12,9 @@ use Rattle.ssz_engine.specs.Steps.{Keeps, is_refusal}
 use Rattle.ssz_engine.specs.Scripts.{Scene}
 use Rattle.ssz_engine.specs.Points.{Course, Comes, Goes}
 use Rattle.ssz_engine.specs.Lines.{Does, DoesLine, Prints, ended_by}
-use Rattle.ssz_engine.specs.declared.outcome.Outcome.{Outcome}
-use Rattle.ssz_engine.specs.declared.fault.EngineFault.{EngineFault}
-use Rattle.ssz_engine.specs.declared.fault.EngineFault.TheVariants.{Read, Write, Memory}
+use Rattle.ssz_decisions.specs.declared.outcome.Outcome.{Outcome}
+use Rattle.ssz_decisions.specs.declared.fault.EngineFault.{EngineFault}
+use Rattle.ssz_decisions.specs.declared.fault.EngineFault.TheVariants.{Read, Write, Memory}
 use Rattle.ssz_engine.proofs.Comings.{Passes, line_ahead, line_cut, line_done, line_memory, line_unread, line_unwritten}
 
 module _ (pair_of : PairOf) (place : Place) (writer : ℕ) (line : Line) (was : Bool)

@@ -15,13 +15,13 @@ use Rattle.ssz_versions.specs.Compacted.{HasNodes, IsCompacted, IsMoved}
 use Rattle.ssz_machine.specs.declared.place.Place.{Place}
 use Rattle.ssz_machine.specs.State.{Name, Version, Versions, version_of}
 use Rattle.ssz_machine.specs.Changes.{nothing, puts}
-use Rattle.ssz_engine.specs.Content.{Content}
+use Rattle.ssz_decisions.specs.Content.{Content}
 use Rattle.ssz_engine.specs.Lines.{type_held}
-use Rattle.ssz_engine.specs.Outside.{Holds}
-use Rattle.ssz_engine.specs.Standing.{AreVersions, IsSomeVersion, IsVersion, Match, StandsForVersions, StandsForWriter}
+use Rattle.ssz_decisions.specs.Outside.{Holds}
+use Rattle.ssz_decisions.specs.Standing.{AreVersions, IsSomeVersion, IsVersion, Match, StandsForVersions, StandsForWriter}
 use Rattle.ssz_engine.specs.Steps.{DoesStep, Keeps}
-use Rattle.ssz_engine.specs.declared.outcome.Outcome.TheVariants.{Accepted}
-use Rattle.ssz_engine.proofs.Entries.{some_held}
+use Rattle.ssz_decisions.specs.declared.outcome.Outcome.TheVariants.{Accepted}
+use Rattle.ssz_decisions.proofs.Entries.{some_held}
 use Rattle.ssz_engine.proofs.Found.{no-files}
 use Rattle.ssz_engine.proofs.Leaving.{stands-with}
 

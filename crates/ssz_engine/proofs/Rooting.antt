@@ -9,14 +9,15 @@ use Rattle.ssz_versions.specs.Content.{Entries, Held, held_at}
 use Rattle.ssz_machine.specs.State.{Name, Version, Versions}
 use Rattle.ssz_machine.specs.Machine.{Turn, state_of}
 use Rattle.ssz_machine.specs.Changes.{nothing, puts, takes, touch}
-use Rattle.ssz_engine.specs.Content.{Content, SameNodes}
-use Rattle.ssz_engine.specs.Decisions.{IsOf}
-use Rattle.ssz_engine.specs.Standing.{Match, StandsForWriter}
-use Rattle.ssz_engine.specs.Steps.{Does, IsCarriedOut, LeavesHashed}
+use Rattle.ssz_decisions.specs.Content.{Content, SameNodes}
+use Rattle.ssz_decisions.specs.Decisions.{IsOf}
+use Rattle.ssz_decisions.specs.Standing.{Match, StandsForWriter}
+use Rattle.ssz_decisions.specs.Carried.{Does, IsCarriedOut}
+use Rattle.ssz_decisions.specs.Roots.{LeavesHashed}
 use Rattle.ssz_engine.specs.Works.{AreHashed, IsHashed, MakesRoot}
-use Rattle.ssz_engine.specs.declared.decision.Decision.{Decision}
-use Rattle.ssz_engine.specs.declared.decision.Decision.TheVariants as decision
-use Rattle.ssz_engine.specs.declared.outcome.Outcome.{Outcome}
+use Rattle.ssz_decisions.specs.declared.decision.Decision.{Decision}
+use Rattle.ssz_decisions.specs.declared.decision.Decision.TheVariants as decision
+use Rattle.ssz_decisions.specs.declared.outcome.Outcome.{Outcome}
 
 not-puts : {P : Type 0} (name : Name) → nothing ≡ puts name → P
 not-puts name e = cc

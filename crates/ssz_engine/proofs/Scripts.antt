@@ -19,8 +19,8 @@ use Rattle.ssz_machine.specs.Counts.{AreCounts}
 use Rattle.ssz_machine.specs.Runs.{job_from}
 use Rattle.ssz_machine.proofs.UnderWay.{Follow, under_way_all, under_way_begins, under_way_last}
 use Rattle.ssz_machine.proofs.Endings.{ends_done}
-use Rattle.ssz_engine.specs.Content.{rules_of}
-use Rattle.ssz_engine.specs.Standing.{StandsFor}
+use Rattle.ssz_decisions.specs.Content.{rules_of}
+use Rattle.ssz_decisions.specs.Standing.{StandsFor}
 use Rattle.ssz_engine.specs.Scripts.{EndsRun, EndsScript, Scene}
 use Rattle.ssz_engine.specs.Points.{Comes, Course, Goes, IsCutShort, Pays, finished, turns_of}
 use Rattle.ssz_engine.proofs.Paying.{pays_counts, pays_total}

@@ -21,8 +21,8 @@ use Rattle.ssz_machine.specs.Editing.{ends_beside, set}
 use Rattle.ssz_machine.specs.Machine.{charge_in}
 use Rattle.ssz_engine.specs.Laws.{LawOfSets}
 use Rattle.ssz_engine.proofs.EditRows.{set_end}
-use Rattle.ssz_engine.proofs.Entries.{held-there-now}
-use Rattle.ssz_engine.proofs.Showing.{held-there}
+use Rattle.ssz_decisions.proofs.Entries.{held-there-now}
+use Rattle.ssz_decisions.proofs.Showing.{held-there}
 
 -- a basic value is no pair
 basic_pairs : (u : SszType) (x : SszValue) → IsSome (basic_size u) → pairs u x ≡ 0

@@ -1,6 +1,6 @@
 -- A decision that is carried out is a step.
 use Rattle.std.proofs.lemmas.Bool.{false≢true}
-use Rattle.std.proofs.Common.{◌≡◌, ◌≤◌, ◌+◌, ◌-◌, ℕ, Bool, true, false, List, Option, Some, None, Result, Ok, Err, IfOk, IfErr, sym, ap, subst, ◌∙◌, arith}
+use Rattle.std.proofs.Common.{◌≡◌, ◌≤◌, ◌+◌, ◌-◌, ℕ, Bool, true, false, List, Option, Some, None, sym, ap, subst, ◌∙◌, arith}
 use Rattle.ssz_outside.specs.Content.{Content as Files}
 use Rattle.ssz_arena.specs.Content.{Content as Nodes, todo, unhashed}
 use Rattle.ssz_proof.specs.Calculation.{PairOf}
@@ -11,16 +11,17 @@ use Rattle.ssz_machine.specs.State.{Name, Versions}
 use Rattle.ssz_machine.specs.Rules.{Rules, Row}
 use Rattle.ssz_machine.specs.Machine.{charge_in, effect}
 use Rattle.ssz_machine.specs.Changes.{Touch, nothing, puts, takes, touch}
-use Rattle.ssz_engine.specs.Content.{Content, Grows, SameNodes}
-use Rattle.ssz_engine.specs.Decisions.{CanDo, Comes, IsOf, IsPaid, MakesFew, Pays}
-use Rattle.ssz_engine.specs.Steps.{AddsFew, Decides, DoesStep, Fails, IsCarriedOut, PaysAnew, Stops, makes_anew, outcome_of}
-use Rattle.ssz_engine.specs.declared.decision.Decision.{Decision}
-use Rattle.ssz_engine.specs.declared.decision.Decision.TheVariants as decision
-use Rattle.ssz_engine.specs.declared.outcome.Outcome.{Outcome}
-use Rattle.ssz_engine.specs.declared.outcome.Outcome.TheVariants.{Accepted, Refused}
-use Rattle.ssz_engine.specs.declared.fault.EngineFault.{EngineFault}
-use Rattle.ssz_engine.specs.declared.fault.EngineFault.TheVariants.{Read, Write, Memory}
-use Rattle.ssz_engine.proofs.Entries.{held-there-now, some_held}
+use Rattle.ssz_decisions.specs.Content.{Content, Grows, SameNodes}
+use Rattle.ssz_decisions.specs.Decisions.{CanDo, Comes, IsOf, IsPaid, MakesFew, Pays}
+use Rattle.ssz_engine.specs.Steps.{AddsFew, Decides, DoesStep, PaysAnew, Stops, makes_anew}
+use Rattle.ssz_decisions.specs.Carried.{Fails, IsCarriedOut, outcome_of}
+use Rattle.ssz_decisions.specs.declared.decision.Decision.{Decision}
+use Rattle.ssz_decisions.specs.declared.decision.Decision.TheVariants as decision
+use Rattle.ssz_decisions.specs.declared.outcome.Outcome.{Outcome}
+use Rattle.ssz_decisions.specs.declared.outcome.Outcome.TheVariants.{Accepted, Refused}
+use Rattle.ssz_decisions.specs.declared.fault.EngineFault.{EngineFault}
+use Rattle.ssz_decisions.specs.declared.fault.EngineFault.TheVariants.{Read, Write, Memory}
+use Rattle.ssz_decisions.proofs.Entries.{held-there-now, some_held}
 use Rattle.ssz_engine.proofs.Leaving.{leaves}
 
 -- what is held under a name after it was put there
@@ -244,14 +245,3 @@ module _ (first mid new : Content) (grows : Grows first mid) (same : SameNodes m
     stops (decision.Made name id node room) Write found fails = absurd fails
     stops (decision.Edited name node) Write found fails = absurd fails
     stops (decision.Dropped name) Write found fails = absurd fails
-
--- of results
-pub ok-of : {A E : Type 0} (P Q : A → Type 0) (r : Result A E) → ((x : A) → P x → Q x)
-    → IfOk r P → IfOk r Q
-ok-of P Q (Ok x) f h = f x h
-ok-of P Q (Err e) f h = h
-
-pub err-of : {A E : Type 0} (P Q : E → Type 0) (r : Result A E) → ((e : E) → P e → Q e)
-    → IfErr r P → IfErr r Q
-err-of P Q (Ok x) f h = h
-err-of P Q (Err e) f h = f e h

@@ -19,13 +19,13 @@ use Rattle.ssz_machine.specs.Plays as plays
 use Rattle.ssz_machine.specs.Plays.{Event, adopted, adoptions, base_writer}
 use Rattle.ssz_machine.specs.Runs.{IsUnderWay}
 use Rattle.ssz_machine.proofs.UnderWay.{under_way_adopts}
-use Rattle.ssz_engine.specs.Content.{Content, SameNodes, rules_of}
-use Rattle.ssz_engine.specs.Standing.{Match, StandsFor, StandsForVersions}
+use Rattle.ssz_decisions.specs.Content.{Content, SameNodes, rules_of}
+use Rattle.ssz_decisions.specs.Standing.{Match, StandsFor, StandsForVersions, HoldsNone}
 use Rattle.ssz_engine.specs.Scripts.{scene}
 use Rattle.ssz_engine.proofs.Comings.{no_memory, passes_none}
 use Rattle.ssz_engine.proofs.Leading.{earlier}
 use Rattle.ssz_engine.specs.Points.{Comes, Course, IsCutShort, Pays}
-use Rattle.ssz_engine.specs.Weaves.{AdoptsAll, AdoptsSome, HoldsNone}
+use Rattle.ssz_engine.specs.Weaves.{AdoptsAll, AdoptsSome}
 
 -- the next writer holds nothing yet
 pub next_holds_none : (count : ℕ) (old new : Entries) → AdoptsAll count old new

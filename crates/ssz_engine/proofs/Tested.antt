@@ -1,7 +1,6 @@
 -- What the tests of an edit come to, by the place that was found.
 use Rattle.std.proofs.Common.{◌≡◌, ◌≤◌, ◌<◌, ℕ, zero, suc, Bool, true, false, not, List, [], ◌∷◌, length, Option, Some, None, Ok, Err, refl, sym, ap, ap₂, ◌∙◌, arith}
-use Rattle.std.specs.Prelude.{nat_le, slice_get}
-use Rattle.std.specs.Prelude.{option_and_then}
+use Rattle.std.specs.Prelude.{nat_le, slice_get, option_and_then}
 use Rattle.std.proofs.lemmas.Bool.{false≢true, le-leb, lt-leb}
 use Rattle.std.proofs.lemmas.Option.{none-some, same_Some, slice_get_within}
 use Rattle.ssz_schema.specs.declared.path.PathStep.{PathStep}
@@ -31,7 +30,7 @@ use Rattle.ssz_edit.proofs.Counted.{changeable_composite}
 use Rattle.ssz_edit.specs.Chosen.{HasNoOptions}
 use Rattle.ssz_edit.specs.Slots.{limit_of as limit_in}
 use Rattle.ssz_engine.specs.EditTests.{at_part, ComesTo}
-use Rattle.ssz_engine.specs.Shown.{path_code}
+use Rattle.ssz_decisions.specs.Shown.{path_code}
 
 module _ (types : Types) (arena : Nodes) (id : ℕ) (node : NodeId) (path : Path) where
   abbrev t : SszType

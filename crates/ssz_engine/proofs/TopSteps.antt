@@ -16,17 +16,17 @@ use Rattle.ssz_script.specs.declared.statement.Statement.TheVariants as statemen
 use Rattle.ssz_versions.specs.Content.{Entries, Held, held_at}
 use Rattle.ssz_machine.specs.State.{Name}
 use Rattle.ssz_machine.specs.Changes.{puts, touch}
-use Rattle.ssz_engine.specs.Content.{Content, SameNodes}
-use Rattle.ssz_engine.specs.Decisions.{IsOf}
+use Rattle.ssz_decisions.specs.Content.{Content, SameNodes}
+use Rattle.ssz_decisions.specs.Decisions.{IsOf}
 use Rattle.ssz_engine.specs.Finished.{Finishes, finished, unread}
-use Rattle.ssz_engine.specs.Steps.{IsCarriedOut}
+use Rattle.ssz_decisions.specs.Carried.{IsCarriedOut}
 use Rattle.ssz_engine.specs.Tops.{HasDue, IsDue, MakesTop, Tops, TopsWhere}
-use Rattle.ssz_engine.specs.declared.decision.Decision.{Decision}
-use Rattle.ssz_engine.specs.declared.decision.Decision.TheVariants as decision
-use Rattle.ssz_engine.specs.declared.fault.EngineFault.{EngineFault}
-use Rattle.ssz_engine.specs.declared.outcome.Outcome.{Outcome}
-use Rattle.ssz_engine.specs.declared.outcome.Outcome.TheVariants.{Accepted, Refused}
-use Rattle.ssz_engine.proofs.Entries.{held-there-now, some_held}
+use Rattle.ssz_decisions.specs.declared.decision.Decision.{Decision}
+use Rattle.ssz_decisions.specs.declared.decision.Decision.TheVariants as decision
+use Rattle.ssz_decisions.specs.declared.fault.EngineFault.{EngineFault}
+use Rattle.ssz_decisions.specs.declared.outcome.Outcome.{Outcome}
+use Rattle.ssz_decisions.specs.declared.outcome.Outcome.TheVariants.{Accepted, Refused}
+use Rattle.ssz_decisions.proofs.Entries.{held-there-now, some_held}
 
 same-name : (a b : Name) → puts a ≡ puts b → a ≡ b
 same-name a b e = cc

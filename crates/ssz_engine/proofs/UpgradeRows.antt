@@ -19,15 +19,15 @@ use Rattle.ssz_machine.specs.Rules.{Rules, Row, ◌>>=◌, ◌>>◌, coded, need
 use Rattle.ssz_machine.specs.Machine.{charge_in}
 use Rattle.ssz_machine.specs.Making.{contained, upgrade}
 use Rattle.ssz_machine.specs.Changes.{puts}
-use Rattle.ssz_engine.specs.Content.{Content, rules_of}
-use Rattle.ssz_engine.specs.Decisions.{AnswersWith}
+use Rattle.ssz_decisions.specs.Content.{Content, rules_of}
+use Rattle.ssz_decisions.specs.Decisions.{AnswersWith}
 use Rattle.ssz_engine.specs.Steps.{IsUpgradeOf}
-use Rattle.ssz_engine.specs.Standing.{AreVersions, StandsForWriter}
-use Rattle.ssz_engine.specs.declared.decision.Decision.TheVariants.{Made, Refused}
-use Rattle.ssz_engine.proofs.Brought.{free-there, over}
-use Rattle.ssz_engine.proofs.Entries.{some_held}
+use Rattle.ssz_decisions.specs.Standing.{AreVersions, StandsForWriter}
+use Rattle.ssz_decisions.specs.declared.decision.Decision.TheVariants.{Made, Refused}
+use Rattle.ssz_decisions.proofs.Brought.{free-there, over}
+use Rattle.ssz_decisions.proofs.Entries.{some_held}
 use Rattle.ssz_engine.proofs.Edited.{IsThere, value-there}
-use Rattle.ssz_engine.proofs.Showing.{held-there, tree-stands}
+use Rattle.ssz_decisions.proofs.Showing.{held-there, tree-stands}
 
 -- the tests, in their order, over what they look at
 abbrev tested : Versions → Name → Option SszType → Option Version → Bool → Row

@@ -9,13 +9,14 @@ use Rattle.ssz_script.specs.declared.statement.Statement.{Statement}
 use Rattle.ssz_script.specs.declared.statement.Statement.TheVariants as statement
 use Rattle.ssz_versions.specs.Content.{Entries, Held, held_at}
 use Rattle.ssz_machine.specs.State.{Name}
-use Rattle.ssz_engine.specs.Content.{Content, SameNodes}
-use Rattle.ssz_engine.specs.Steps.{IsCarriedOut, MakesUpgrade, UpgradesWhere}
-use Rattle.ssz_engine.specs.declared.decision.Decision.{Decision}
-use Rattle.ssz_engine.specs.declared.decision.Decision.TheVariants as decision
-use Rattle.ssz_engine.specs.declared.outcome.Outcome.{Outcome}
-use Rattle.ssz_engine.specs.declared.outcome.Outcome.TheVariants.{Accepted, Refused}
-use Rattle.ssz_engine.proofs.Entries.{held-there-now, some_held}
+use Rattle.ssz_decisions.specs.Content.{Content, SameNodes}
+use Rattle.ssz_decisions.specs.Carried.{IsCarriedOut}
+use Rattle.ssz_engine.specs.Steps.{MakesUpgrade, UpgradesWhere}
+use Rattle.ssz_decisions.specs.declared.decision.Decision.{Decision}
+use Rattle.ssz_decisions.specs.declared.decision.Decision.TheVariants as decision
+use Rattle.ssz_decisions.specs.declared.outcome.Outcome.{Outcome}
+use Rattle.ssz_decisions.specs.declared.outcome.Outcome.TheVariants.{Accepted, Refused}
+use Rattle.ssz_decisions.proofs.Entries.{held-there-now, some_held}
 
 module _ (writer line : ℕ) (first mid new : Content) (same : SameNodes mid new)
     (told_old told_new : Option Files) (out_old out_new : List ℕ) where

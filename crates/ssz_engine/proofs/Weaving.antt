@@ -14,8 +14,8 @@ use Rattle.ssz_machine.specs.Jobs.{job_of, turns_of_weave}
 use Rattle.ssz_machine.specs.Runs.{steps_done}
 use Rattle.ssz_machine.proofs.NoNumbers.{same_weave}
 use Rattle.ssz_machine.proofs.Numbering.{same_run}
-use Rattle.ssz_engine.specs.Content.{rules_of}
-use Rattle.ssz_engine.specs.Standing.{StandsFor}
+use Rattle.ssz_decisions.specs.Content.{rules_of}
+use Rattle.ssz_decisions.specs.Standing.{StandsFor}
 use Rattle.ssz_engine.specs.Scripts.{EndsRun, Scene}
 use Rattle.ssz_engine.specs.Points.{Goes, finished}
 use Rattle.ssz_engine.specs.Weaves.{EndsWeave, EndsWeaveFrom}

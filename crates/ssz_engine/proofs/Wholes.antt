@@ -9,14 +9,15 @@ use Rattle.ssz_arena.specs.Content.{Content as Nodes, node_count}
 use Rattle.ssz_proof.specs.Calculation.{PairOf}
 use Rattle.ssz_script.specs.declared.statement.Statement.{Statement}
 use Rattle.ssz_machine.specs.declared.place.Place.{Place}
-use Rattle.ssz_engine.specs.Content.{Content, SameNodes}
-use Rattle.ssz_engine.specs.Decisions.{MakesFew}
+use Rattle.ssz_decisions.specs.Content.{Content, SameNodes}
+use Rattle.ssz_decisions.specs.Decisions.{MakesFew}
 use Rattle.ssz_engine.specs.Finished.{Finishes, finished}
-use Rattle.ssz_engine.specs.Laws.{StandsForSome}
-use Rattle.ssz_engine.specs.Steps.{CanLack, Decides}
-use Rattle.ssz_engine.specs.declared.decision.Decision.{Decision}
-use Rattle.ssz_engine.specs.declared.decision.Decision.TheVariants as decision
-use Rattle.ssz_engine.specs.declared.fault.EngineFault.{EngineFault}
+use Rattle.ssz_decisions.specs.Standing.{StandsForSome}
+use Rattle.ssz_decisions.specs.Carried.{CanLack}
+use Rattle.ssz_engine.specs.Steps.{Decides}
+use Rattle.ssz_decisions.specs.declared.decision.Decision.{Decision}
+use Rattle.ssz_decisions.specs.declared.decision.Decision.TheVariants as decision
+use Rattle.ssz_decisions.specs.declared.fault.EngineFault.{EngineFault}
 
 -- a decision that may lack memory made none
 none-made : (made : Decision) (charge : ℕ) (old new : Nodes) → CanLack made

@@ -12,7 +12,7 @@ use Rattle.ssz_versions.specs.Content.{Held}
 use Rattle.ssz_machine.specs.State.{Version}
 use Rattle.ssz_machine.specs.Drawing.{Walk, walk}
 use Rattle.ssz_draws.specs.Walked.{IsEdit, IsWalked}
-use Rattle.ssz_engine.specs.Standing.{Match}
+use Rattle.ssz_decisions.specs.Standing.{Match}
 use Rattle.ssz_engine.specs.Works.{Draws, IsOfWork}
 
 -- over the nodes of an entry

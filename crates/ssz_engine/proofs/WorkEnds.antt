@@ -15,14 +15,14 @@ use Rattle.ssz_machine.specs.Rules.{Rules}
 use Rattle.ssz_machine.specs.Drawing.{worked}
 use Rattle.ssz_machine.specs.Work.{Worked, done, work_of}
 use Rattle.ssz_script.specs.declared.statement.Statement.TheVariants.{Root}
-use Rattle.ssz_engine.specs.Content.{rules_of}
+use Rattle.ssz_decisions.specs.Content.{rules_of}
 use Rattle.ssz_engine.specs.Lines.{Prints, ended_by}
-use Rattle.ssz_engine.specs.Outside.{CountsWrites}
+use Rattle.ssz_decisions.specs.Outside.{CountsWrites}
 use Rattle.ssz_engine.specs.Scripts.{Scene}
-use Rattle.ssz_engine.specs.Tops.{RisesBy}
+use Rattle.ssz_decisions.specs.Roots.{RisesBy}
 use Rattle.ssz_engine.specs.Works.{AreBroken, AreDone, EndsWorkFrom, Point, Replies, point, two_lines_job, whole_work}
-use Rattle.ssz_engine.specs.declared.fault.EngineFault.{EngineFault}
-use Rattle.ssz_engine.specs.declared.fault.EngineFault.TheVariants.{Read, Write, Memory}
+use Rattle.ssz_decisions.specs.declared.fault.EngineFault.{EngineFault}
+use Rattle.ssz_decisions.specs.declared.fault.EngineFault.TheVariants.{Read, Write, Memory}
 use Rattle.ssz_engine.proofs.Scripts.{told_append-none}
 use Rattle.ssz_engine.proofs.WorkSteps.{broken_paid}
 

@@ -13,12 +13,13 @@ use Rattle.ssz_machine.specs.Rules.{Rules}
 use Rattle.ssz_machine.specs.Machine.{is_refused}
 use Rattle.ssz_machine.specs.Drawing.{Walk, worked}
 use Rattle.ssz_machine.specs.Work.{alters, changes_below, done, tops_of}
-use Rattle.ssz_engine.specs.Content.{Content}
-use Rattle.ssz_engine.specs.Standing.{Match}
+use Rattle.ssz_decisions.specs.Content.{Content}
+use Rattle.ssz_decisions.specs.Standing.{Match}
 use Rattle.ssz_engine.specs.Steps.{is_refusal}
-use Rattle.ssz_engine.specs.Tops.{HasDue, HashesSome, RisesBy, Tops, TopsWhere}
-use Rattle.ssz_engine.specs.declared.outcome.Outcome.{Outcome}
-use Rattle.ssz_engine.specs.declared.outcome.Outcome.TheVariants.{Accepted, Refused}
+use Rattle.ssz_engine.specs.Tops.{HasDue, Tops, TopsWhere}
+use Rattle.ssz_decisions.specs.Roots.{HashesSome, RisesBy}
+use Rattle.ssz_decisions.specs.declared.outcome.Outcome.{Outcome}
+use Rattle.ssz_decisions.specs.declared.outcome.Outcome.TheVariants.{Accepted, Refused}
 
 -- a rise, and another one behind it
 pub rises-then : (n m before mid after : ℕ) → RisesBy n before mid → RisesBy m mid after

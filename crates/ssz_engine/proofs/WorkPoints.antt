@@ -8,13 +8,13 @@ use Rattle.ssz_machine.specs.Machine.{Turn, state_of}
 use Rattle.ssz_machine.specs.Drawing.{Walk, worked}
 use Rattle.ssz_proof.specs.Calculation.{PairOf}
 use Rattle.ssz_machine.specs.Rules.{Rules}
-use Rattle.ssz_engine.specs.Content.{Content, rules_of}
+use Rattle.ssz_decisions.specs.Content.{Content, rules_of}
 use Rattle.ssz_machine.specs.Work.{Worked, done, round}
-use Rattle.ssz_engine.specs.Standing.{StandsFor}
+use Rattle.ssz_decisions.specs.Standing.{StandsFor}
 use Rattle.ssz_engine.specs.Steps.{Keeps}
 use Rattle.ssz_engine.specs.Works.{AreBroken, AreDone, Point, Works}
-use Rattle.ssz_engine.specs.declared.fault.EngineFault.{EngineFault}
-use Rattle.ssz_engine.specs.declared.fault.EngineFault.TheVariants.{Memory}
+use Rattle.ssz_decisions.specs.declared.fault.EngineFault.{EngineFault}
+use Rattle.ssz_decisions.specs.declared.fault.EngineFault.TheVariants.{Memory}
 use Rattle.ssz_engine.proofs.Comings.{same_rules}
 use Rattle.ssz_engine.proofs.WorkSteps.{broken_here, done_then}
 

@@ -18,16 +18,17 @@ use Rattle.ssz_machine.specs.Plays.{charges}
 use Rattle.ssz_machine.specs.Work.{done}
 use Rattle.ssz_machine.proofs.Moves.{statements_change_their_entry_lem}
 use Rattle.ssz_engine.specs.Compacting.{is_compact}
-use Rattle.ssz_engine.specs.Content.{rules_of}
+use Rattle.ssz_decisions.specs.Content.{rules_of}
 use Rattle.ssz_engine.specs.Lines.{Does, DoesLine}
-use Rattle.ssz_engine.specs.Outside.{CountsReads}
+use Rattle.ssz_decisions.specs.Outside.{CountsReads}
 use Rattle.ssz_engine.specs.Scripts.{Scene, name_before}
-use Rattle.ssz_engine.specs.Standing.{StandsFor, StaysFor}
-use Rattle.ssz_engine.specs.Steps.{LeavesHashed, file_read, is_refusal}
+use Rattle.ssz_decisions.specs.Standing.{StandsFor, StaysFor}
+use Rattle.ssz_decisions.specs.Roots.{LeavesHashed}
+use Rattle.ssz_engine.specs.Steps.{file_read, is_refusal}
 use Rattle.ssz_engine.specs.Works.{AreBroken, AreDone, IsAtState, IsOfWork, Point, Replies, Works, one_step, point}
-use Rattle.ssz_engine.specs.declared.outcome.Outcome.{Outcome}
-use Rattle.ssz_engine.specs.declared.fault.EngineFault.{EngineFault}
-use Rattle.ssz_engine.specs.declared.fault.EngineFault.TheVariants.{Read, Write, Memory}
+use Rattle.ssz_decisions.specs.declared.outcome.Outcome.{Outcome}
+use Rattle.ssz_decisions.specs.declared.fault.EngineFault.{EngineFault}
+use Rattle.ssz_decisions.specs.declared.fault.EngineFault.TheVariants.{Read, Write, Memory}
 use Rattle.ssz_engine.proofs.Rooting.{root-made, roots-joined, roots-kept}
 
 -- their steps do not depend on what was hashed

@@ -9,11 +9,12 @@ use Rattle.ssz_versions.specs.Content.{Entries}
 use Rattle.ssz_machine.specs.declared.place.Place.{Place}
 use Rattle.ssz_machine.specs.State.{Versions}
 use Rattle.ssz_machine.specs.Machine.{Turn, charge_of, reply_of, state_of}
-use Rattle.ssz_engine.specs.Content.{Content}
-use Rattle.ssz_engine.specs.Standing.{StandsFor}
-use Rattle.ssz_engine.specs.Steps.{Does, reply_to, told_after, turn_at}
-use Rattle.ssz_engine.specs.Outside.{Holds}
-use Rattle.ssz_engine.specs.declared.decision.Decision.{Decision}
+use Rattle.ssz_decisions.specs.Content.{Content}
+use Rattle.ssz_decisions.specs.Standing.{StandsFor}
+use Rattle.ssz_decisions.specs.Carried.{Does, reply_to, told_after}
+use Rattle.ssz_engine.specs.Steps.{turn_at}
+use Rattle.ssz_decisions.specs.Outside.{Holds}
+use Rattle.ssz_decisions.specs.declared.decision.Decision.{Decision}
 
 -- A decision was carried out, and this is the reply.
 pub record IsAnswered (made : Decision) (writer line : ℕ) (old new : Entries)

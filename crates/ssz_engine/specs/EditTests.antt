@@ -1,24 +1,19 @@
 -- The tests of an edit that come before its literal is read, by the type and the value of a
 -- version.
-use Rattle.std.specs.Prelude.{ℕ, ◌≡◌, ◌<◌, nat_le, List, length, slice_get, Option, Some, option_map, Result, Ok, Err}
+use Rattle.std.specs.Prelude.{ℕ, ◌≡◌, ◌<◌, nat_le, List, length, slice_get, Option, Some, Ok}
 use Rattle.ssz_schema.specs.Types.{SszType, Options, union}
 use Rattle.ssz_schema.specs.Sizes.{option_count}
 use Rattle.ssz_schema.specs.Paths.{Path, path_type}
 use Rattle.ssz_schema.specs.Unfolding.{Types, type_of, options_over, IsBelow}
 use Rattle.ssz_value.specs.Values.{SszValue}
 use Rattle.ssz_value.specs.Parts.{part}
-use Rattle.ssz_value.specs.Standing.{value_of}
-use Rattle.ssz_value.specs.Suiting.{IsInner}
-use Rattle.ssz_value.specs.declared.value.Value.{Value}
-use Rattle.ssz_codec.specs.declared.fault.DecodeFault.{DecodeFault}
-use Rattle.ssz_codec.specs.declared.fault.DecodeFault.TheVariants.{Bad, Memory}
 use Rattle.ssz_arena.specs.declared.node.NodeId.{NodeId}
 use Rattle.ssz_arena.specs.Content.{Content as Nodes, tree_of}
 use Rattle.ssz_places.specs.PlaceLaws.{IsTreeOf}
 use Rattle.ssz_places.specs.EditLaws.{count_of}
 use Rattle.ssz_script.specs.declared.reply.TheConstants.Reply.{BAD_PATH, ABSENT, NOT_THAT, FULL, BAD_SELECTOR}
-use Rattle.ssz_machine.specs.Rules.{Outcome, ◌>>=◌, ◌>>◌, bad_bytes, need, refuse}
-use Rattle.ssz_machine.specs.Editing.{element_of, ends_beside, inner_value, limit_of, options_of}
+use Rattle.ssz_machine.specs.Rules.{Outcome, ◌>>=◌, ◌>>◌, need, refuse}
+use Rattle.ssz_machine.specs.Editing.{element_of, ends_beside, limit_of, options_of}
 
 -- what is said of the part at a path, where there is one
 abbrev pub at_part : {X : Type 0} → SszType → SszValue → Path → (SszType → SszValue → Outcome X)
@@ -76,17 +71,3 @@ pub record CanChoose (types : Types) (arena : Nodes) (id : ℕ) (node : NodeId) 
       ≡ Some (union (options_over types.trees options))
   pub tests : ComesTo types arena id node (λ t v. choosable t v path k)
       (Ok (options_over types.trees options))
-
--- what an option's literal, or its default, comes to
-abbrev pub IsInnerRead : Options → ℕ → Option (List ℕ) → Result (Option Value) DecodeFault → Type 0
-IsInnerRead os k literal (Ok inner) =
-    (inner_value os k literal ≡ Ok (option_map value_of inner)) × IsInner (union os) k inner
-IsInnerRead os k literal (Err (Bad fault)) = inner_value os k literal ≡ Err (bad_bytes fault)
-IsInnerRead os k literal (Err Memory) = Unit {0}
-
--- of the option that stands at this number
-abbrev pub ReadsInner : Types → Option ℕ → Option (List ℕ) → Result (Option Value) DecodeFault
-    → Type 0
-ReadsInner types option literal result =
-    (options : List (Option ℕ)) (k : ℕ) → slice_get options k ≡ Some option
-    → IsInnerRead (options_over types.trees options) k literal result

@@ -11,17 +11,13 @@ use Rattle.ssz_proof.specs.Calculation.{PairOf}
 use Rattle.ssz_script.specs.declared.statement.Statement.TheVariants.{Root, Set}
 use Rattle.ssz_versions.specs.Content.{Held, held_at}
 use Rattle.ssz_machine.specs.declared.place.Place.{Place}
-use Rattle.ssz_machine.specs.State.{Name, Versions}
+use Rattle.ssz_machine.specs.State.{Name}
 use Rattle.ssz_machine.specs.Changes.{puts}
-use Rattle.ssz_engine.specs.Content.{Content}
-use Rattle.ssz_engine.specs.Dues.{HashesDue}
-use Rattle.ssz_engine.specs.Standing.{StandsFor}
+use Rattle.ssz_decisions.specs.Content.{Content}
+use Rattle.ssz_decisions.specs.Roots.{HashesDue}
+use Rattle.ssz_decisions.specs.Standing.{StandsForSome}
 use Rattle.ssz_engine.specs.Steps.{DoesStep, TouchesWhere}
-use Rattle.ssz_engine.specs.declared.outcome.Outcome.TheVariants.{Accepted}
-
--- it stands for some versions
-abbrev pub StandsForSome : Content → Type 0
-StandsForSome engine = (versions : ℕ → Versions) × StandsFor engine versions
+use Rattle.ssz_decisions.specs.declared.outcome.Outcome.TheVariants.{Accepted}
 
 -- A part is set, and then the root of its version is asked for: what the clauses of `Engine::step`
 -- say of both, with the counts of pairs before the first, between them and after the second.

@@ -19,8 +19,8 @@ use Rattle.ssz_machine.specs.Plays.{Event, all_of, charges, play, state_after}
 use Rattle.ssz_machine.specs.Jobs.{job_of}
 use Rattle.ssz_machine.specs.Runs.{steps_done}
 use Rattle.ssz_machine.specs.Counts.{AreCounts}
-use Rattle.ssz_engine.specs.Content.{Content, rules_of}
-use Rattle.ssz_engine.specs.Standing.{StandsFor}
+use Rattle.ssz_decisions.specs.Content.{Content, rules_of}
+use Rattle.ssz_decisions.specs.Standing.{StandsFor}
 use Rattle.ssz_engine.specs.Steps.{file_read}
 
 -- the file that a line names for reading

@@ -1,6 +1,6 @@
 -- What a step of an engine leaves, by a step of the plain machine.
 use Rattle.std.specs.Prelude.{◌≡◌, ◌≤◌, ◌<◌, ◌^◌, ◌+◌, ◌-◌, ◌*◌, ℕ, IsTrue, length, Bool, true, false, List, ◌++◌, Option, Some, None}
-use Rattle.ssz_outside.specs.Content.{Content as Files, told_with_bytes}
+use Rattle.ssz_outside.specs.Content.{Content as Files}
 use Rattle.ssz_outside.specs.Job.{Save}
 use Rattle.ssz_outside.specs.Outcome.{Tears}
 use Rattle.ssz_arena.specs.Content.{Content as Nodes, node_count, todo, unhashed}
@@ -9,10 +9,7 @@ use Rattle.ssz_schema.specs.Unfolding.{type_of}
 use Rattle.ssz_forms.specs.Upgrades.{upgrade_charge}
 use Rattle.ssz_proof.specs.Calculation.{PairOf}
 use Rattle.ssz_script.specs.declared.statement.Statement.{Statement}
-use Rattle.ssz_script.specs.declared.statement.Statement.TheVariants.{New, Lit, Load, LoadJson, Fork, Upgrade, Set, Append, Choose, Root}
-use Rattle.ssz_script.specs.declared.reply.Reply.{Reply}
-use Rattle.ssz_script.specs.declared.reply.Reply.TheVariants as reply
-use Rattle.ssz_script.specs.declared.reply.TheConstants.Reply.{BAD_LITERAL}
+use Rattle.ssz_script.specs.declared.statement.Statement.TheVariants.{New, Lit, Load, LoadJson, Fork, Upgrade, Set, Append, Choose}
 use Rattle.ssz_script.specs.Texts.{reply_line}
 use Rattle.ssz_versions.specs.Content.{Entries, Held, held_at, with_held, without_held}
 use Rattle.ssz_machine.specs.declared.place.Place.{Place}
@@ -21,16 +18,16 @@ use Rattle.ssz_machine.specs.Rules.{Rules, Row}
 use Rattle.ssz_machine.specs.Machine.{Turn, step, effect, names_absent, reads, reply_of, state_of, save_of, charge_of, is_refused}
 use Rattle.ssz_machine.specs.Changes.{Touch, nothing, puts, takes, touch}
 use Rattle.ssz_engine.specs.Compacting.{is_compact}
-use Rattle.ssz_engine.specs.Content.{Content, rules_of}
-use Rattle.ssz_engine.specs.Standing.{StandsFor, StandsForWriter}
-use Rattle.ssz_engine.specs.Decisions.{Answers, Pays}
-use Rattle.ssz_engine.specs.Outside.{Holds}
-use Rattle.ssz_engine.specs.declared.decision.Decision.{Decision}
-use Rattle.ssz_engine.specs.declared.decision.Decision.TheVariants as decision
-use Rattle.ssz_engine.specs.declared.outcome.Outcome.{Outcome}
-use Rattle.ssz_engine.specs.declared.outcome.Outcome.TheVariants.{Accepted, Refused}
-use Rattle.ssz_engine.specs.declared.fault.EngineFault.{EngineFault}
-use Rattle.ssz_engine.specs.declared.fault.EngineFault.TheVariants.{Read, Write, Memory}
+use Rattle.ssz_decisions.specs.Content.{Content, rules_of}
+use Rattle.ssz_decisions.specs.Standing.{StandsFor, StandsForWriter}
+use Rattle.ssz_decisions.specs.Decisions.{Answers, Pays}
+use Rattle.ssz_decisions.specs.Outside.{Holds}
+use Rattle.ssz_decisions.specs.declared.decision.Decision.{Decision}
+use Rattle.ssz_decisions.specs.declared.decision.Decision.TheVariants as decision
+use Rattle.ssz_decisions.specs.declared.outcome.Outcome.{Outcome}
+use Rattle.ssz_decisions.specs.declared.outcome.Outcome.TheVariants.{Accepted, Refused}
+use Rattle.ssz_decisions.specs.declared.fault.EngineFault.{EngineFault}
+use Rattle.ssz_decisions.specs.declared.fault.EngineFault.TheVariants.{Read, Write, Memory}
 
 abbrev pub is_refusal : Outcome → Bool
 is_refusal Accepted = false
@@ -44,68 +41,6 @@ pub record Leaves (turn : Turn) (made : Outcome) (engine : Content) (told : Opti
   pub text : out_new ≡ out_old ++ reply_line (reply_of turn)
   pub versions : StandsFor engine (state_of turn).versions
   pub files : Holds told (state_of turn).files
-
--- the entry has its type and another node
-abbrev pub Edits : Entries → Entries → ℕ → Name → NodeId → Type 0
-Edits old new writer name node =
-    (held : Held) × (held_at old writer name ≡ Some held)
-    × (new ≡ with_held old writer name (held.0, node))
-
--- what a decision that is carried out does to the entries
-abbrev pub Does : Decision → ℕ → Entries → Entries → Type 0
-Does (decision.Refused code) writer old new = new ≡ old
-Does (decision.BadBytes fault) writer old new = new ≡ old
-Does (decision.BadJson fault) writer old new = new ≡ old
-Does (decision.Said reply) writer old new = new ≡ old
-Does (decision.Made name id node room) writer old new =
-    new ≡ with_held old writer name.now (id, node)
-Does (decision.Edited name node) writer old new = Edits old new writer name.now node
-Does (decision.Dropped name) writer old new = new ≡ without_held old writer name.now
-Does (decision.Saved name bytes) writer old new = new ≡ old
-
--- the reply to the statement of this line
-abbrev pub reply_to : ℕ → Decision → Reply
-reply_to line (decision.Refused code) = reply.Refused line code None
-reply_to line (decision.BadBytes fault) = reply.Refused line BAD_LITERAL (Some fault)
-reply_to line (decision.BadJson fault) = reply.BadJson line fault.code fault.number
-reply_to line (decision.Said said) = said
-reply_to line (decision.Made name id node room) = reply.Done
-reply_to line (decision.Edited name node) = reply.Done
-reply_to line (decision.Dropped name) = reply.Done
-reply_to line (decision.Saved name bytes) = reply.Done
-
-abbrev pub outcome_of : Decision → Outcome
-outcome_of (decision.Refused code) = Refused
-outcome_of (decision.BadBytes fault) = Refused
-outcome_of (decision.BadJson fault) = Refused
-outcome_of _ = Accepted
-
--- what the files then tell
-abbrev pub told_after : Decision → Option Files → Option Files
-told_after (decision.Saved name bytes) told = told_with_bytes name.now bytes.items told
-told_after _ told = told
-
--- A decision was carried out.
-pub record IsCarriedOut (made : Decision) (writer line : ℕ) (old new : Entries) (done : Outcome)
-    (told_old told_new : Option Files) (out_old out_new : List ℕ) : Type 0 where
-  pub entries : Does made writer old new
-  pub outcome : done ≡ outcome_of made
-  pub files : told_new ≡ told_after made told_old
-  pub text : out_new ≡ out_old ++ reply_line (reply_to line made)
-
--- What is left of the files where a decision was not carried out: only a save can fail in writing.
-abbrev pub Fails : EngineFault → Decision → Option Files → Option Files → Type 0
-Fails Read made old new = ⊥
-Fails Memory made old new = new ≡ old
-Fails Write (decision.Saved name bytes) old new = Tears name.now bytes.items old new
-Fails Write _ old new = ⊥
-
--- What may lack memory: a decision that makes, edits or drops a version has all that it takes.
-abbrev pub CanLack : Decision → Type 0
-CanLack (decision.Made name id node room) = ⊥
-CanLack (decision.Edited name node) = ⊥
-CanLack (decision.Dropped name) = ⊥
-CanLack made = Unit {0}
 
 -- only what the table of statements names changes of the entries
 abbrev pub Touches : Touch → ℕ → Entries → Entries → Type 0
@@ -125,14 +60,6 @@ Forks _ writer old new = Unit {0}
 abbrev pub ForksWhere : Outcome → Statement → ℕ → Entries → Entries → Type 0
 ForksWhere Accepted statement writer old new = Forks statement writer old new
 ForksWhere Refused statement writer old new = Unit {0}
-
--- a fork is found to come to that, or is refused
-abbrev pub MakesFork : Statement → ℕ → Entries → Decision → Type 0
-MakesFork (Fork v w) writer entries (decision.Refused code) = Unit {0}
-MakesFork (Fork v w) writer entries (decision.Made name id node room) =
-    (name.now ≡ w) × (held_at entries writer v ≡ Some (id, node))
-MakesFork (Fork v w) writer entries _ = ⊥
-MakesFork _ writer entries made = Unit {0}
 
 -- For what an upgrade makes no more is to be hashed than for what it takes the fields of, and the
 -- charge.
@@ -163,12 +90,6 @@ MakesUpgrade (Upgrade v w t) writer old new (decision.Made name id node room) =
     IsUpgradeOf v w writer old new name.now id node
 MakesUpgrade (Upgrade v w t) writer old new _ = ⊥
 MakesUpgrade _ writer old new made = Unit {0}
-
--- `root` leaves nothing to be hashed of what its name stands for
-abbrev pub LeavesHashed : Statement → ℕ → Content → Type 0
-LeavesHashed (Root v) writer engine =
-    (held : Held) → held_at engine.entries writer v ≡ Some held → todo engine.arena held.1 ≡ 0
-LeavesHashed _ writer engine = Unit {0}
 
 -- the turn of the machine for a statement, where the writers have these versions and the files hold
 -- this

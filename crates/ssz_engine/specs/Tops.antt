@@ -1,29 +1,18 @@
 -- Edits that make the pair at the top of a version anew, and roots that hash it.
-use Rattle.std.specs.Prelude.{◌≡◌, ◌<◌, ◌≤◌, ◌+◌, ◌^◌, ℕ, Some}
+use Rattle.std.specs.Prelude.{◌≡◌, ◌<◌, ℕ, Some}
 use Rattle.ssz_schema.specs.Paths.{Path}
 use Rattle.ssz_schema.specs.Unfolding.{type_of}
 use Rattle.ssz_gindex.specs.Paths.{index_levels}
 use Rattle.ssz_arena.specs.Content.{Content as Nodes, todo}
 use Rattle.ssz_script.specs.declared.statement.Statement.{Statement}
-use Rattle.ssz_script.specs.declared.statement.Statement.TheVariants.{Set, Append, Pop, Choose, Root}
+use Rattle.ssz_script.specs.declared.statement.Statement.TheVariants.{Set, Append, Pop, Choose}
 use Rattle.ssz_versions.specs.Content.{Held, held_at}
 use Rattle.ssz_machine.specs.State.{Name}
-use Rattle.ssz_engine.specs.Content.{Content}
-use Rattle.ssz_engine.specs.declared.decision.Decision.{Decision}
-use Rattle.ssz_engine.specs.declared.decision.Decision.TheVariants as decision
-use Rattle.ssz_engine.specs.declared.outcome.Outcome.{Outcome}
-use Rattle.ssz_engine.specs.declared.outcome.Outcome.TheVariants.{Accepted, Refused}
-
--- a count of pairs rose by n at least, or came to the greatest u64
-abbrev pub RisesBy : ℕ → ℕ → ℕ → Type 0
-RisesBy n before after = after + 1 < 2 ^ 64 → before + n ≤ after
-
--- `root` hashes something where something is to be hashed for what its name stands for
-abbrev pub HashesSome : Statement → ℕ → Content → ℕ → ℕ → Type 0
-HashesSome (Root v) writer old before after =
-    (held : Held) → held_at old.entries writer v ≡ Some held → 0 < todo old.arena held.1
-    → RisesBy 1 before after
-HashesSome _ writer old before after = Unit {0}
+use Rattle.ssz_decisions.specs.Content.{Content}
+use Rattle.ssz_decisions.specs.declared.decision.Decision.{Decision}
+use Rattle.ssz_decisions.specs.declared.decision.Decision.TheVariants as decision
+use Rattle.ssz_decisions.specs.declared.outcome.Outcome.{Outcome}
+use Rattle.ssz_decisions.specs.declared.outcome.Outcome.TheVariants.{Accepted, Refused}
 
 -- the node of an edit is to be hashed
 abbrev pub IsDue : Nodes → Decision → Type 0

@@ -1,5 +1,5 @@
 -- How a weave ends, and what its writers are told in it.
-use Rattle.std.specs.Prelude.{◌≡◌, ◌≢◌, ◌≤◌, ◌<◌, ℕ, ◌+◌, nat_lt, if◌then◌else◌, List, [], ◌∷◌, length, map, take, None, Some}
+use Rattle.std.specs.Prelude.{◌≡◌, ◌≢◌, ◌≤◌, ◌<◌, ℕ, ◌+◌, nat_lt, if◌then◌else◌, List, [], ◌∷◌, length, map, take, Some}
 use Rattle.std.specs.List.{AllByRecursion}
 use Rattle.ssz_arena.specs.Content.{unhashed}
 use Rattle.ssz_outside.specs.Job.{Ends, IsFinished}
@@ -16,13 +16,9 @@ use Rattle.ssz_machine.specs.Plays.{base_writer, charges, state_after, weaving}
 use Rattle.ssz_machine.specs.Jobs.{turns_of_weave, weave_job}
 use Rattle.ssz_machine.specs.Runs.{steps_done}
 use Rattle.ssz_machine.specs.Isolation.{lines_alone, marked}
-use Rattle.ssz_engine.specs.Content.{rules_of}
-use Rattle.ssz_engine.specs.Standing.{StandsFor}
+use Rattle.ssz_decisions.specs.Content.{rules_of}
+use Rattle.ssz_decisions.specs.Standing.{StandsFor}
 use Rattle.ssz_engine.specs.Scripts.{IsStopped, IsThrough, Scene, files_reached}
-
--- the writer holds nothing
-abbrev pub HoldsNone : Entries → ℕ → Type 0
-HoldsNone entries writer = (name : Name) → held_at entries writer name ≡ None
 
 -- each writer of so many scripts holds what the base's holds, and all else is as before
 abbrev pub AdoptsAll : ℕ → Entries → Entries → Type 0

@@ -18,12 +18,12 @@ use Rattle.ssz_machine.specs.Machine.{Turn, reply_of, state_of}
 use Rattle.ssz_machine.specs.Plays.{charges}
 use Rattle.ssz_machine.specs.Drawing.{worked}
 use Rattle.ssz_machine.specs.Work.{Worked, done, joined, walk_from, work_job, work_of}
-use Rattle.ssz_engine.specs.Content.{Content, rules_of}
-use Rattle.ssz_engine.specs.Standing.{StandsFor}
+use Rattle.ssz_decisions.specs.Content.{Content, rules_of}
+use Rattle.ssz_decisions.specs.Standing.{StandsFor}
 use Rattle.ssz_engine.specs.Scripts.{IsThrough, Scene}
-use Rattle.ssz_engine.specs.Tops.{RisesBy}
-use Rattle.ssz_engine.specs.declared.fault.EngineFault.{EngineFault}
-use Rattle.ssz_engine.specs.declared.fault.EngineFault.TheVariants.{Memory}
+use Rattle.ssz_decisions.specs.Roots.{RisesBy}
+use Rattle.ssz_decisions.specs.declared.fault.EngineFault.{EngineFault}
+use Rattle.ssz_decisions.specs.declared.fault.EngineFault.TheVariants.{Memory}
 
 -- the statements of a work: none of them reads or writes a file, or tells how much was hashed
 abbrev pub IsOfWork : Statement → Type 0

@@ -6,19 +6,18 @@ ghost use Rattle.ssz_machine.specs.Counts.{asks_root};
 ghost use Rattle.ssz_versions.specs.Compacted.{IsCompacted};
 ghost use Rattle.ssz_engine.specs.Answered.{DoesAnswer, IsAnswered};
 ghost use Rattle.ssz_engine.specs.Compacting.{is_compact};
-ghost use Rattle.ssz_engine.specs.Content.{SameNodes};
-ghost use Rattle.ssz_engine.specs.Decisions.{CanDo};
-ghost use Rattle.ssz_engine.specs.Dues.{HashesDue};
-ghost use Rattle.ssz_engine.specs.Outside.{CountsReads, CountsWrites};
-ghost use Rattle.ssz_engine.specs.Steps.{CanLack, Fails, Finds, IsShort, Keeps, Stops, file_read};
+ghost use Rattle.ssz_decisions.specs.Content.{SameNodes};
+ghost use Rattle.ssz_decisions.specs.Decisions.{CanDo};
+ghost use Rattle.ssz_decisions.specs.Roots.{HashesDue};
+ghost use Rattle.ssz_decisions.specs.Outside.{CountsReads, CountsWrites};
+ghost use Rattle.ssz_decisions.specs.Carried.{CanLack, Fails};
+ghost use Rattle.ssz_engine.specs.Steps.{Finds, IsShort, Keeps, Stops, file_read};
 
-use super::carrying::{edit, give_up, make, save};
 use super::compaction::compact;
 use super::deciding::decide;
-use super::decision::Decision;
 use super::engine::Engine;
-use super::fault::EngineFault;
 use ssz_chunk::PairHash;
+use ssz_decisions::{Decision, EngineFault, Store, edit, give_up, make, put_file};
 use ssz_machine::Place;
 use ssz_outside::Files;
 use ssz_script::{Reply, Statement};
@@ -26,17 +25,17 @@ use ssz_versions::Writer;
 
 // Carries out a decision, and answers the reply.
 fn carry<F: Files, H: PairHash>(
-    engine: &mut Engine<H>,
+    store: &mut Store<H>,
     writer: Writer,
     line: u64,
     decision: Decision<'_>,
     files: &mut F,
 ) -> Result<Reply, EngineFault>
-    requires { CanDo engine.old writer.0 decision }
-    ensures nodes { SameNodes engine.old engine.new }
-    ensures ok { IfOk result (IsAnswered decision.entry writer.0 line engine.old.entries
-        engine.new.entries (F.content files.old) (F.content files.new)) }
-    ensures err { OnErr result (engine.new.entries ≡ engine.old.entries) }
+    requires { CanDo store.old writer.0 decision }
+    ensures nodes { SameNodes store.old store.new }
+    ensures ok { IfOk result (IsAnswered decision.entry writer.0 line store.old.entries
+        store.new.entries (F.content files.old) (F.content files.new)) }
+    ensures err { OnErr result (store.new.entries ≡ store.old.entries) }
     ensures fails { IfErr result (λ fault. Fails fault decision.entry (F.content files.old)
         (F.content files.new)) }
     ensures sure { OnErr result (CanLack decision.entry) }
@@ -60,19 +59,19 @@ fn carry<F: Files, H: PairHash>(
         }
         Decision::Said(reply) => Ok(reply),
         Decision::Made(name, id, node, room) => {
-            make(engine, writer, name, (id, node), room);
+            make(store, writer, name, (id, node), room);
             Ok(Reply::Done)
         }
         Decision::Edited(name, node) => {
-            edit(engine, writer, name, node);
+            edit(store, writer, name, node);
             Ok(Reply::Done)
         }
         Decision::Dropped(name) => {
-            give_up(engine, writer, name);
+            give_up(store, writer, name);
             Ok(Reply::Done)
         }
         Decision::Saved(name, bytes) => {
-            save(files, name, bytes.as_slice())?;
+            put_file(files, name, bytes.as_slice())?;
             Ok(Reply::Done)
         }
     }
@@ -83,7 +82,7 @@ impl<H: PairHash> Engine<H> {
     pub fn node_count(&self) -> usize
         ensures { result ≡ node_count self.now.arena }
     {
-        self.arena.len()
+        self.store.arena.len()
     }
 
     /// Does a statement as `step` does, and answers the reply itself: a root, an encoding or a
@@ -137,13 +136,13 @@ impl<H: PairHash> Engine<H> {
         ensures puts { CountsWrites result (F.put_faults files.old) (F.put_faults files.new) }
     {
         if let Statement::Compact = statement {
-            let mut out = Vec::new(self.alloc);
-            compact(self, &mut out)?;
+            let mut out = Vec::new(self.store.alloc);
+            compact(&mut self.store, &mut out)?;
             return Ok(Reply::Done);
         }
         // So what its clauses say of all versions for which it stands is said of some.
         self.stands();
-        let decision = decide(self, writer, place, statement, files, hasher)?;
-        carry(self, writer, line, decision, files)
+        let decision = decide(&mut self.store, writer, place, statement, files, hasher)?;
+        carry(&mut self.store, writer, line, decision, files)
     }
 }

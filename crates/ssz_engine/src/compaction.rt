@@ -5,25 +5,24 @@ ghost use Rattle.ssz_script.specs.declared.reply.Reply.TheVariants.{Done};
 ghost use Rattle.ssz_versions.specs.Compacted.{IsCompacted};
 ghost use Rattle.ssz_engine.specs.Steps.{Keeps};
 
-use super::carrying::say_done;
-use super::engine::Engine;
 use ssz_chunk::PairHash;
+use ssz_decisions::{Store, say_done};
 use std::alloc::AllocError;
 
 /// Moves what the versions of all writers reach into a fresh arena, and appends the line of the
 /// reply. All memory is taken before anything is changed.
 pub(crate) fn compact<H: PairHash>(
-    engine: &mut Engine<H>,
+    store: &mut Store<H>,
     out: &mut Vec<u8>,
 ) -> Result<(), AllocError>
-    ensures keeps { Keeps engine.old engine.new }
-    ensures ok { OnOk result (IsCompacted engine.old.entries engine.new.entries engine.old.arena
-        engine.new.arena) }
+    ensures keeps { Keeps store.old store.new }
+    ensures ok { OnOk result (IsCompacted store.old.entries store.new.entries store.old.arena
+        store.new.arena) }
     ensures text { OnOk result (out.new.items ≡ out.old.items ++ reply_line Done) }
-    ensures err { OnErr result ((engine.new ≡ engine.old) × (out.new.items ≡ out.old.items)) }
+    ensures err { OnErr result ((store.new ≡ store.old) × (out.new.items ≡ out.old.items)) }
 {
     out.reserve(3)?;
-    ssz_versions::compact(&mut engine.versions, &mut engine.arena)?;
+    ssz_versions::compact(&mut store.versions, &mut store.arena)?;
     say_done(out);
     Ok(())
 }

@@ -5,9 +5,9 @@ ghost use Rattle.ssz_arena.specs.Content.{IsNodeOf};
 ghost use Rattle.ssz_machine.specs.Rules.{coded};
 ghost use Rattle.ssz_engine.specs.EditTests.{CanAppend, CanChoose, CanSet, ComesTo, appendable, choosable, settable};
 
-use super::refusals::code_of_path;
 use ssz_arena::{Arena, NodeId};
 use ssz_chunk::PairHash;
+use ssz_decisions::code_of_path;
 use ssz_edit::{is_changeable, limit_of, options_of};
 use ssz_schema::{PathStep, Schema, TypeId};
 use ssz_script::Reply;

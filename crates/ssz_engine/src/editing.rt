@@ -6,22 +6,17 @@ ghost use Rattle.std.specs.Prelude.{◌≡◌, ◌<◌, ◌^◌, length, IfOk, I
 ghost use Rattle.ssz_arena.specs.Content.{node_count};
 ghost use Rattle.ssz_machine.specs.Editing.{append, choose, pop, set};
 ghost use Rattle.ssz_machine.specs.Changes.{puts};
-ghost use Rattle.ssz_engine.specs.Content.{Grows};
-ghost use Rattle.ssz_engine.specs.Decisions.{AnswersWith};
+ghost use Rattle.ssz_decisions.specs.Content.{Grows};
+ghost use Rattle.ssz_decisions.specs.Decisions.{AnswersWith};
 ghost use Rattle.ssz_engine.specs.Finished.{Finishes, unread};
 ghost use Rattle.ssz_engine.specs.Tops.{IsDue, SetsTop};
 
-use super::decision::Decision;
 use super::editable::{appendable, choosable, settable};
-use super::engine::Engine;
-use super::fault::EngineFault;
-use super::inner::inner_value;
-use super::refusals::code_of_edit;
-use super::ways::way_from;
 use ssz_arena::NodeId;
 use ssz_bytes::ByteRun;
 use ssz_chunk::PairHash;
 use ssz_codec::{DecodeFault, decode};
+use ssz_decisions::{Decision, EngineFault, Store, code_of_edit, inner_value, way_from};
 use ssz_line::Steps;
 use ssz_script::Identifier;
 use ssz_value::EditFault;
@@ -53,35 +48,35 @@ fn unread<'a>(fault: DecodeFault) -> Result<Decision<'a>, EngineFault>
 
 /// `set V P LIT`.
 pub(crate) fn set<'a, H: PairHash>(
-    engine: &mut Engine<H>,
+    store: &mut Store<H>,
     writer: Writer,
     v: &'a Identifier,
     path: &Steps,
     literal: &[u8],
 ) -> Result<Decision<'a>, EngineFault>
     requires { length literal.now < 2 ^ 32 }
-    ensures grows { Grows engine.old engine.new }
+    ensures grows { Grows store.old store.new }
     ensures answers { IfOk result (AnswersWith H.pair_of
         (λ rules versions. set versions v.now path.now literal.now) (puts v.now) writer.0
-        engine.old engine.new) }
-    ensures tops { IfOk result (SetsTop v.now path.now writer.0 engine.old engine.new) }
+        store.old store.new) }
+    ensures tops { IfOk result (SetsTop v.now path.now writer.0 store.old store.new) }
     ensures memory { IfErr result (λ fault. fault ≡ EngineFault.Memory) }
-    ensures whole { OnErr result (node_count engine.new.arena ≡ node_count engine.old.arena) }
+    ensures whole { OnErr result (node_count store.new.arena ≡ node_count store.old.arena) }
 {
-    let way = match way_from(engine, writer, v, path)? {
+    let way = match way_from(store, writer, v, path)? {
         Ok(way) => way,
         Err(code) => return Ok(Decision::Refused(code)),
     };
     let steps = way.steps.as_slice();
-    let part = match settable(&engine.arena, &engine.schema, way.id, way.node, steps) {
+    let part = match settable(&store.arena, &store.schema, way.id, way.node, steps) {
         Ok(part) => part,
         Err(code) => return Ok(Decision::Refused(code)),
     };
-    match decode(engine.alloc, &engine.schema, part, literal) {
+    match decode(store.alloc, &store.schema, part, literal) {
         Ok(value) => {
             let made = ssz_edit::set(
-                &mut engine.arena,
-                &engine.schema,
+                &mut store.arena,
+                &store.schema,
                 way.id,
                 way.node,
                 steps,
@@ -96,35 +91,35 @@ pub(crate) fn set<'a, H: PairHash>(
 
 /// `append V P LIT`.
 pub(crate) fn append<'a, H: PairHash>(
-    engine: &mut Engine<H>,
+    store: &mut Store<H>,
     writer: Writer,
     v: &'a Identifier,
     path: &Steps,
     literal: &[u8],
 ) -> Result<Decision<'a>, EngineFault>
     requires { length literal.now < 2 ^ 32 }
-    ensures grows { Grows engine.old engine.new }
+    ensures grows { Grows store.old store.new }
     ensures answers { IfOk result (AnswersWith H.pair_of
         (λ rules versions. append versions v.now path.now literal.now) (puts v.now) writer.0
-        engine.old engine.new) }
-    ensures tops { IfOk result (IsDue engine.new.arena) }
+        store.old store.new) }
+    ensures tops { IfOk result (IsDue store.new.arena) }
     ensures memory { IfErr result (λ fault. fault ≡ EngineFault.Memory) }
-    ensures whole { OnErr result (node_count engine.new.arena ≡ node_count engine.old.arena) }
+    ensures whole { OnErr result (node_count store.new.arena ≡ node_count store.old.arena) }
 {
-    let way = match way_from(engine, writer, v, path)? {
+    let way = match way_from(store, writer, v, path)? {
         Ok(way) => way,
         Err(code) => return Ok(Decision::Refused(code)),
     };
     let steps = way.steps.as_slice();
-    let element = match appendable(&engine.arena, &engine.schema, way.id, way.node, steps) {
+    let element = match appendable(&store.arena, &store.schema, way.id, way.node, steps) {
         Ok(element) => element,
         Err(code) => return Ok(Decision::Refused(code)),
     };
-    match decode(engine.alloc, &engine.schema, element, literal) {
+    match decode(store.alloc, &store.schema, element, literal) {
         Ok(value) => {
             let made = ssz_edit::append(
-                &mut engine.arena,
-                &engine.schema,
+                &mut store.arena,
+                &store.schema,
                 way.id,
                 way.node,
                 steps,
@@ -139,33 +134,33 @@ pub(crate) fn append<'a, H: PairHash>(
 
 /// `pop V P`.
 pub(crate) fn pop<'a, H: PairHash>(
-    engine: &mut Engine<H>,
+    store: &mut Store<H>,
     writer: Writer,
     v: &'a Identifier,
     path: &Steps,
 ) -> Result<Decision<'a>, EngineFault>
-    ensures grows { Grows engine.old engine.new }
+    ensures grows { Grows store.old store.new }
     ensures answers { IfOk result (AnswersWith H.pair_of
         (λ rules versions. pop versions v.now path.now) (puts v.now) writer.0
-        engine.old engine.new) }
-    ensures tops { IfOk result (IsDue engine.new.arena) }
+        store.old store.new) }
+    ensures tops { IfOk result (IsDue store.new.arena) }
     ensures memory { IfErr result (λ fault. fault ≡ EngineFault.Memory) }
-    ensures whole { OnErr result (node_count engine.new.arena ≡ node_count engine.old.arena) }
+    ensures whole { OnErr result (node_count store.new.arena ≡ node_count store.old.arena) }
 {
-    let way = match way_from(engine, writer, v, path)? {
+    let way = match way_from(store, writer, v, path)? {
         Ok(way) => way,
         Err(code) => return Ok(Decision::Refused(code)),
     };
     let steps = way.steps.as_slice();
     // Every type of a schema is legal, so that the parts of its values are of their types.
-    let _legal = engine.schema.ty(way.id);
-    let made = ssz_edit::pop(&mut engine.arena, &engine.schema, way.id, way.node, steps);
+    let _legal = store.schema.ty(way.id);
+    let made = ssz_edit::pop(&mut store.arena, &store.schema, way.id, way.node, steps);
     finish(v, made)
 }
 
 /// `choose V P SEL [LIT]`.
 pub(crate) fn choose<'a, H: PairHash>(
-    engine: &mut Engine<H>,
+    store: &mut Store<H>,
     writer: Writer,
     v: &'a Identifier,
     path: &Steps,
@@ -173,22 +168,22 @@ pub(crate) fn choose<'a, H: PairHash>(
     literal: &Option<ByteRun>,
 ) -> Result<Decision<'a>, EngineFault>
     requires { IfSome literal.now (λ bytes. length bytes < 2 ^ 32) }
-    ensures grows { Grows engine.old engine.new }
+    ensures grows { Grows store.old store.new }
     ensures answers { IfOk result (AnswersWith H.pair_of
         (λ rules versions. choose versions v.now path.now selector literal.now) (puts v.now)
-        writer.0 engine.old engine.new) }
-    ensures tops { IfOk result (IsDue engine.new.arena) }
+        writer.0 store.old store.new) }
+    ensures tops { IfOk result (IsDue store.new.arena) }
     ensures memory { IfErr result (λ fault. fault ≡ EngineFault.Memory) }
-    ensures whole { OnErr result (node_count engine.new.arena ≡ node_count engine.old.arena) }
+    ensures whole { OnErr result (node_count store.new.arena ≡ node_count store.old.arena) }
 {
-    let way = match way_from(engine, writer, v, path)? {
+    let way = match way_from(store, writer, v, path)? {
         Ok(way) => way,
         Err(code) => return Ok(Decision::Refused(code)),
     };
     let steps = way.steps.as_slice();
     let option = match choosable(
-        &engine.arena,
-        &engine.schema,
+        &store.arena,
+        &store.schema,
         way.id,
         way.node,
         steps,
@@ -197,11 +192,11 @@ pub(crate) fn choose<'a, H: PairHash>(
         Ok(option) => option,
         Err(code) => return Ok(Decision::Refused(code)),
     };
-    match inner_value(engine.alloc, &engine.schema, option, literal) {
+    match inner_value(store.alloc, &store.schema, option, literal) {
         Ok(inner) => {
             let made = ssz_edit::choose(
-                &mut engine.arena,
-                &engine.schema,
+                &mut store.arena,
+                &store.schema,
                 way.id,
                 way.node,
                 steps,

@@ -8,59 +8,40 @@ ghost use Rattle.ssz_versions.specs.Compacted.{IsCompacted};
 ghost use Rattle.ssz_machine.specs.Changes.{touch};
 ghost use Rattle.ssz_machine.specs.Counts.{asks_root};
 ghost use Rattle.ssz_engine.specs.Compacting.{compacted, is_compact};
-ghost use Rattle.ssz_engine.specs.Laws.{StandsForSome};
-ghost use Rattle.ssz_engine.specs.Outside.{CountsReads, CountsWrites};
-ghost use Rattle.ssz_engine.specs.Standing.{StandsFor};
-ghost use Rattle.ssz_engine.specs.Dues.{HashesDue};
-ghost use Rattle.ssz_engine.specs.Steps.{DoesStep, Finds, ForksWhere, IsShort, Keeps, LeavesHashed, Stops, TouchesWhere, UpgradesWhere, file_read};
-ghost use Rattle.ssz_engine.specs.Tops.{HashesSome, TopsWhere};
-ghost use Rattle.ssz_engine.specs.Weaves.{HoldsNone};
+ghost use Rattle.ssz_decisions.specs.Standing.{StandsForSome, StandsFor, HoldsNone};
+ghost use Rattle.ssz_decisions.specs.Outside.{CountsReads, CountsWrites};
+ghost use Rattle.ssz_decisions.specs.Roots.{HashesDue, LeavesHashed, HashesSome};
+ghost use Rattle.ssz_engine.specs.Steps.{DoesStep, Finds, ForksWhere, IsShort, Keeps, Stops, TouchesWhere, UpgradesWhere, file_read};
+ghost use Rattle.ssz_engine.specs.Tops.{TopsWhere};
 
-use super::carrying::carry_out;
 use super::compaction::compact;
 use super::deciding::decide;
-use super::fault::EngineFault;
-use super::outcome::Outcome;
-use ssz_arena::Arena;
 use ssz_chunk::PairHash;
+use ssz_decisions::{EngineFault, Outcome, Store, carry_out};
 use ssz_machine::Place;
 use ssz_outside::Files;
 use ssz_schema::Schema;
 use ssz_script::Statement;
-use ssz_versions::{Versions, Writer};
+use ssz_versions::Writer;
 use std::alloc::{AllocError, Global};
 use std::marker::Model;
 
 /// A schema, an arena of nodes, and what each writer holds under each name.
 #[derive(Drop)]
 pub struct Engine<H: PairHash> {
-    pub(crate) alloc: Global,
-    pub(crate) schema: Schema,
-    pub(crate) max: u32,
-    pub(crate) arena: Arena<H>,
-    pub(crate) versions: Versions,
-    pub(crate) base: u64,
+    pub(crate) store: Store<H>,
 }
 
 impl<H: PairHash> Model for Engine<H> {
     ghost use Rattle.std.specs.Coded.{codes};
     ghost use Rattle.ssz_schema.specs.Unfolding.{coded_types};
-    ghost use Rattle.ssz_engine.specs.Content.{Content, entries_code};
-    ghost use Rattle.ssz_engine.specs.Standing.{AreVersions};
+    ghost use Rattle.ssz_decisions.specs.Content.{Content, entries_code};
 
     ghost Value = { Content };
 
     ghost coded = { Prim.hlevel (codes, coded_types, entries_code) };
 
-    ghost view = { λ a. record {
-      types = a.schema;
-      most = a.max;
-      arena = a.arena;
-      entries = a.versions.entries;
-      base = a.base;
-    } };
-
-    ghost invariant = { λ a. AreVersions a.schema a.arena a.versions.entries };
+    ghost view = { λ a. a.store };
 }
 
 impl<H: PairHash> Engine<H> {
@@ -83,16 +64,8 @@ impl<H: PairHash> Engine<H> {
         ensures err { OnErr result (hasher.new ≡ hasher.old) }
         ensures counts { OnOk result (CountsUp LEVELS (H.pairs hasher.old) (H.pairs hasher.new)) }
     {
-        let versions = Versions::empty(alloc)?;
-        let arena = Arena::start(alloc, hasher)?;
-        Ok(Engine {
-            alloc,
-            schema,
-            max,
-            arena,
-            versions,
-            base: hasher.count(),
-        })
+        let store = Store::start(alloc, schema, max, hasher)?;
+        Ok(Engine { store })
     }
 
     /// The engine stands for some versions of the machine: what the clauses of the other calls say
@@ -100,7 +73,7 @@ impl<H: PairHash> Engine<H> {
     pub fn stands(&self)
         ensures { StandsForSome self.now }
     {
-        let _ = &self.versions;
+        self.store.stands();
     }
 
     /// Does a statement of this line of a script, and appends the line of the reply. All memory is
@@ -181,13 +154,13 @@ impl<H: PairHash> Engine<H> {
         ensures puts { CountsWrites result (F.put_faults files.old) (F.put_faults files.new) }
     {
         if let Statement::Compact = statement {
-            compact(self, out)?;
+            compact(&mut self.store, out)?;
             return Ok(Outcome::Accepted);
         }
         out.reserve(3)?;
         // So what its clauses say of all versions for which it stands is said of some.
         self.stands();
-        let decision = decide(self, writer, place, statement, files, hasher)?;
-        carry_out(self, writer, line, decision, files, out)
+        let decision = decide(&mut self.store, writer, place, statement, files, hasher)?;
+        carry_out(&mut self.store, writer, line, decision, files, out)
     }
 }

@@ -9,17 +9,17 @@ ghost use Rattle.ssz_script.specs.declared.reply.TheConstants.Reply.{SYNTAX};
 ghost use Rattle.ssz_machine.specs.Plays.{front, mark, says};
 ghost use Rattle.ssz_engine.specs.Compacting.{compacts};
 ghost use Rattle.ssz_engine.specs.Lines.{CountsPrint, DoesLine, LeavesOthers, Prints, ended_by};
-ghost use Rattle.ssz_engine.specs.Outside.{CountsReads, CountsWrites};
+ghost use Rattle.ssz_decisions.specs.Outside.{CountsReads, CountsWrites};
 ghost use Rattle.ssz_engine.specs.Points.{Counts, Goes};
 ghost use Rattle.ssz_engine.specs.Scripts.{files_named};
-ghost use Rattle.ssz_engine.specs.Standing.{StaysFor};
-ghost use Rattle.ssz_engine.specs.Steps.{IsShort, Keeps, LeavesHashed, is_refusal};
-ghost use Rattle.ssz_engine.specs.Tops.{HashesSome, TopsWhere};
+ghost use Rattle.ssz_decisions.specs.Standing.{StaysFor};
+ghost use Rattle.ssz_engine.specs.Steps.{IsShort, Keeps, is_refusal};
+ghost use Rattle.ssz_decisions.specs.Roots.{LeavesHashed, HashesSome};
+ghost use Rattle.ssz_engine.specs.Tops.{TopsWhere};
 
 use super::engine::Engine;
-use super::fault::EngineFault;
-use super::outcome::Outcome;
 use ssz_chunk::PairHash;
+use ssz_decisions::{EngineFault, Outcome};
 use ssz_machine::Place;
 use ssz_outside::{Files, PutFault, Sink, Status};
 use ssz_script::{Reply, ScriptStatement, Statement, reply_text};
@@ -223,7 +223,7 @@ pub(crate) fn run_line<F: Files, S: Sink, H: PairHash>(
         (files_named ((line.now.line, line.now.statement) ∷ [])) → result ≢ Err Status.ReadFault }
     ensures readable { (other : List ℕ) → F.readable files.old other → F.readable files.new other }
 {
-    let mut text = Vec::new(engine.alloc);
+    let mut text = Vec::new(engine.store.alloc);
     if push_front(place, writer, &mut text).is_err() {
         return Err(Status::Memory);
     }

@@ -59,7 +59,7 @@ pub(crate) fn run_lines<F: Files, S: Sink, H: PairHash>(
     ensures readable { (other : List ℕ) → F.readable files.old other → F.readable files.new other }
 {
     loop {
-        match lines.next(engine.alloc) {
+        match lines.next(engine.store.alloc) {
             Err(_) => return Err(Status::Memory),
             Ok(None) => return Ok(()),
             Ok(Some(line)) => {

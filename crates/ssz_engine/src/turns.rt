@@ -45,7 +45,7 @@ fn run_next<F: Files, S: Sink, H: PairHash>(
         → result ≢ Err Status.ReadFault }
     ensures readable { (other : List ℕ) → F.readable files.old other → F.readable files.new other }
 {
-    match lines.next(engine.alloc) {
+    match lines.next(engine.store.alloc) {
         Err(_) => Err(Status::Memory),
         Ok(None) => Ok(()),
         Ok(Some(line)) => {

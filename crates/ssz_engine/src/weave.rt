@@ -11,7 +11,8 @@ ghost use Rattle.ssz_engine.specs.Compacting.{NoneCompacts};
 ghost use Rattle.ssz_engine.specs.Points.{Counts, Goes};
 ghost use Rattle.ssz_engine.specs.Scripts.{AreNamedReadable, scene};
 ghost use Rattle.ssz_engine.specs.Steps.{Keeps};
-ghost use Rattle.ssz_engine.specs.Weaves.{EndsWeave, HoldsNone, IsolatesWriters};
+ghost use Rattle.ssz_engine.specs.Weaves.{EndsWeave, IsolatesWriters};
+ghost use Rattle.ssz_decisions.specs.Standing.{HoldsNone};
 
 use super::adopting::adopt_all;
 use super::engine::Engine;
@@ -72,10 +73,11 @@ fn run_base<F: Files, S: Sink, H: PairHash>(
     let mut lines = Statements::new(base);
     let weave = Place::Weave;
     run_lines(engine, weave, BASE, &mut lines, files, out, hasher, refused)?;
-    match adopt_all(engine, count) {
-        Ok(()) => Ok(()),
-        Err(_) => Err(Status::Memory),
+    match adopt_all(&mut engine.store, count) {
+        Ok(()) => {}
+        Err(_) => return Err(Status::Memory),
     }
+    Ok(())
 }
 
 // Runs the base, and then the scripts in turns.
@@ -111,7 +113,7 @@ fn run_weave<F: Files, S: Sink, H: PairHash>(
         (map statements_in (base.now ∷ scripts.now)) → result ≢ Err Status.ReadFault }
     ensures readable { (other : List ℕ) → F.readable files.old other → F.readable files.new other }
 {
-    let Ok(mut lines) = statements_of(engine.alloc, scripts) else {
+    let Ok(mut lines) = statements_of(engine.store.alloc, scripts) else {
         return Err(Status::Memory);
     };
     run_base(engine, base, lines.len(), files, out, hasher, refused)?;

@@ -82,9 +82,9 @@ impl<H: PairHash> Engine<H> {
         // It answers none of the others.
         ensures status { IsThatOrStopped Status.Accepted result }
     {
-        let mut reply = Vec::new(self.alloc);
+        let mut reply = Vec::new(self.store.alloc);
         match work_through(self, type_name, seed, edits, files, hasher, &mut reply) {
-            Ok(made) => print_work(self.alloc, edits, made, reply.as_slice(), out),
+            Ok(made) => print_work(self.store.alloc, edits, made, reply.as_slice(), out),
             Err(fault) => status_of(fault),
         }
     }

@@ -7,18 +7,18 @@ ghost use Rattle.ssz_machine.specs.Machine.{is_refused, reply_of};
 ghost use Rattle.ssz_machine.specs.State.{State, Versions, version_of};
 ghost use Rattle.ssz_machine.specs.Work.{done, round, tops_of, walk_from, work_of, worked_on};
 ghost use Rattle.ssz_script.specs.declared.statement.Statement.TheVariants.{New, Root};
-ghost use Rattle.ssz_engine.specs.Content.{rules_of};
-ghost use Rattle.ssz_engine.specs.Outside.{CountsWrites};
-ghost use Rattle.ssz_engine.specs.Standing.{StandsForWriter};
+ghost use Rattle.ssz_decisions.specs.Content.{rules_of};
+ghost use Rattle.ssz_decisions.specs.Outside.{CountsWrites};
+ghost use Rattle.ssz_decisions.specs.Standing.{StandsForWriter};
 ghost use Rattle.ssz_engine.specs.Steps.{Keeps, is_refusal};
-ghost use Rattle.ssz_engine.specs.Tops.{HashesSome, RisesBy, TopsWhere};
+ghost use Rattle.ssz_decisions.specs.Roots.{HashesSome, RisesBy};
+ghost use Rattle.ssz_engine.specs.Tops.{TopsWhere};
 ghost use Rattle.ssz_engine.specs.Works.{Draws, IsAtState, IsOfWork, Replies, Works, one_step, point, whole_work};
 
 use super::engine::Engine;
-use super::fault::EngineFault;
 use super::line::reply_to;
-use super::outcome::Outcome;
 use ssz_chunk::PairHash;
+use ssz_decisions::{EngineFault, Outcome, Store};
 use ssz_draws::{Generator, worked};
 use ssz_machine::Place;
 use ssz_outside::Files;
@@ -105,7 +105,7 @@ fn answer_root<F: Files, H: PairHash>(
     ensures puts { CountsWrites result (F.put_faults files.old) (F.put_faults files.new) }
     ensures readable { (other : List ℕ) → F.readable files.old other → F.readable files.new other }
 {
-    let Ok(asked) = root_w(engine.alloc) else {
+    let Ok(asked) = root_w(engine.store.alloc) else {
         return Err(EngineFault::Memory);
     };
     answer(engine, asked, files, hasher, reply)
@@ -113,19 +113,19 @@ fn answer_root<F: Files, H: PairHash>(
 
 // The edit that a walk from the whole value of `w` comes to, if any.
 fn draw_edit<H: PairHash>(
-    engine: &Engine<H>,
+    store: &Store<H>,
     generator: &mut Generator,
 ) -> Result<Option<Statement>, AllocError>
-    ensures drawn { (versions : Versions) → StandsForWriter engine.now 0 versions → IfOk result
+    ensures drawn { (versions : Versions) → StandsForWriter store.now 0 versions → IfOk result
         (Draws (version_of worked versions) generator.old generator.new) }
     ensures edits { IfOk result (λ edit. IfSome edit IsOfWork) }
     ensures named { IfOk result (λ edit. IfSome edit IsEdit) }
 {
-    let name = worked(engine.alloc)?;
-    let Some(held) = engine.versions.get(Writer(0), name.as_name()) else {
+    let name = worked(store.alloc)?;
+    let Some(held) = store.versions.get(Writer(0), name.as_name()) else {
         return Ok(None);
     };
-    generator.walk(engine.alloc, &engine.arena, &engine.schema, held.0, held.1)
+    generator.walk(store.alloc, &store.arena, &store.schema, held.0, held.1)
 }
 
 // Does the edit that a walk comes to, if any, and then `root w`. Answers how many edits there were.
@@ -156,7 +156,7 @@ fn work_round<F: Files, H: PairHash>(
     ensures puts { CountsWrites result (F.put_faults files.old) (F.put_faults files.new) }
     ensures readable { (other : List ℕ) → F.readable files.old other → F.readable files.new other }
 {
-    match draw_edit(engine, generator) {
+    match draw_edit(&engine.store, generator) {
         Err(_) => Err(EngineFault::Memory),
         Ok(None) => {
             answer_root(engine, files, hasher, reply)?;
@@ -235,7 +235,7 @@ pub(crate) fn work_through<F: Files, H: PairHash>(
     ensures puts { CountsWrites result (F.put_faults files.old) (F.put_faults files.new) }
     ensures readable { (other : List ℕ) → F.readable files.old other → F.readable files.new other }
 {
-    let Ok(made) = new_w(engine.alloc, type_name) else {
+    let Ok(made) = new_w(engine.store.alloc, type_name) else {
         return Err(EngineFault::Memory);
     };
     answer(engine, made, files, hasher, reply)?;

@@ -24,8 +24,8 @@ use Rattle.ssz_machine.specs.Jobs.{script_job, turns_of_script}
 use Rattle.ssz_machine.proofs.Endings.{ends_after_reading}
 use Rattle.ssz_machine.specs.Counts.{number_at}
 use Rattle.ssz_machine.proofs.Ledgers.{ledgers_count_lem}
-use Rattle.ssz_engine.specs.Content.{rules_of as engine_rules}
-use Rattle.ssz_engine.specs.Standing.{StandsFor}
+use Rattle.ssz_decisions.specs.Content.{rules_of as engine_rules}
+use Rattle.ssz_decisions.specs.Standing.{StandsFor}
 use Rattle.ssz_engine.specs.Scripts.{EndsRun, EndsScript, HasCounts, IsFresh, Scene}
 use Rattle.ssz_engine.proofs.Reaching.{same_charges}
 use Rattle.ssz_engine.proofs.Replies.{said_number}

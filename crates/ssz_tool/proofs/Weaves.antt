@@ -1,10 +1,9 @@
 -- What the files of several scripts give, by their lengths and the schema.
 use Rattle.std.proofs.Common.{◌≡◌, ℕ, zero, suc, ◌+◌, ◌<◌, ◌≤◌, ◌^◌, true, false, cond, List, [], ◌∷◌, ◌++◌, length, map, take, drop, get_or, Option, refl, sym, ap, ap₂, ◌∙◌, subst, arith}
 use Rattle.std.specs.Prelude.{All}
-use Rattle.std.proofs.lemmas.Bool.{or_left, or_parts, or_right}
+use Rattle.std.proofs.lemmas.Bool.{or_left, or_parts, or_right, lt-ltb, le-ltb}
 use Rattle.std.proofs.lemmas.List.{map-append}
 use Rattle.std.proofs.Math.Path.{fun_ext}
-use Rattle.std.proofs.lemmas.Bool.{lt-ltb, le-ltb}
 use Rattle.std.specs.List.{AllByRecursion, list_any}
 use Rattle.ssz_outside.specs.Content.{Content, contents}
 use Rattle.ssz_schema.specs.Types.{SszType}

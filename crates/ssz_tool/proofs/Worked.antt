@@ -17,8 +17,8 @@ use Rattle.ssz_machine.specs.State.{Name, fresh}
 use Rattle.ssz_machine.specs.Rules.{Rules}
 use Rattle.ssz_machine.specs.Work.{work_job}
 use Rattle.ssz_machine.proofs.Endings.{ends_after_reading}
-use Rattle.ssz_engine.specs.Content.{rules_of as engine_rules}
-use Rattle.ssz_engine.specs.Standing.{StandsFor}
+use Rattle.ssz_decisions.specs.Content.{rules_of as engine_rules}
+use Rattle.ssz_decisions.specs.Standing.{StandsFor}
 use Rattle.ssz_engine.specs.Scripts.{IsFresh, Scene}
 use Rattle.ssz_engine.specs.Works.{EndsWork, EndsWorkFrom}
 use Rattle.ssz_words.specs.declared.commands.WorkArgs.{WorkArgs}

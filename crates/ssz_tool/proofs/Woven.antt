@@ -13,8 +13,8 @@ use Rattle.ssz_machine.specs.Machine.{Line}
 use Rattle.ssz_machine.specs.Rules.{Rules}
 use Rattle.ssz_machine.specs.Jobs.{weave_job}
 use Rattle.ssz_machine.proofs.Endings.{ends_after_reading}
-use Rattle.ssz_engine.specs.Content.{rules_of as engine_rules}
-use Rattle.ssz_engine.specs.Standing.{StandsFor}
+use Rattle.ssz_decisions.specs.Content.{rules_of as engine_rules}
+use Rattle.ssz_decisions.specs.Standing.{StandsFor}
 use Rattle.ssz_engine.specs.Scripts.{AreNamedReadable, IsFresh, Scene, files_named}
 use Rattle.ssz_engine.specs.Weaves.{EndsWeave, EndsWeaveFrom}
 use Rattle.ssz_tool.specs.Reached.{reached_of_task}

@@ -13,7 +13,7 @@ use Rattle.ssz_machine.specs.Plays.{charges}
 use Rattle.ssz_machine.specs.Jobs.{after_reading, script_job, turns_of_script, turns_of_weave, weave_job}
 use Rattle.ssz_machine.specs.Work.{work_job}
 use Rattle.ssz_engine.specs.Scripts.{HasCounts}
-use Rattle.ssz_engine.specs.Tops.{RisesBy}
+use Rattle.ssz_decisions.specs.Roots.{RisesBy}
 use Rattle.ssz_engine.specs.Works.{whole_work}
 use Rattle.ssz_partial_script.specs.Plays.{charges as tree_charges, script_job as tree_job, turns_of_script as tree_turns}
 use Rattle.ssz_tool.specs.Jobs.{task_of}

@@ -1,9 +1,9 @@
 use Rattle.std.proofs.Common.{refl}
 use Rattle.ssz_machine.specs.Plays.{base_writer}
-use Rattle.ssz_engine.proofs.Entries.{are-adopted-or-same}
+use Rattle.ssz_decisions.proofs.Entries.{are-adopted-or-same}
 use Rattle.ssz_engine.proofs.adopting.adopt.Goals as goal
 
-pub invariant_of-engine : goal.invariant_of-engine
-invariant_of-engine g c =
+pub invariant_of-store : goal.invariant_of-store
+invariant_of-store g c =
     are-adopted-or-same c.adopt.result _ _ _ _ _ base_writer c.args.writer.0 refl
-    c.engine.invariant c.adopt.ensures.ok c.adopt.ensures.err
+    c.store.invariant c.adopt.ensures.ok c.adopt.ensures.err

@@ -4,14 +4,14 @@ use Rattle.ssz_engine.proofs.adopting.adopt_all.Goals as goal
 
 pub adopt-requires : goal.adopt-requires
 adopt-requires g c =
-    next_holds_none c.loop-number.number c.args.engine.now.entries c.loop-number.engine.entries
+    next_holds_none c.loop-number.number c.args.store.now.entries c.loop-number.store.entries
     c.loop-number.invariant.adopted
     (c.requires.none c.loop-number.number c.loop-number-test.true)
 
 pub loop-number-init : goal.loop-number-init
 loop-number-init g c = record {
   nodes = record { types = refl; most = refl; base = refl; arena = refl };
-  adopted = adopts_none c.args.engine.now.entries;
+  adopted = adopts_none c.args.store.now.entries;
 }
 
 pub loop-number-preserved : goal.loop-number-preserved
@@ -25,7 +25,7 @@ loop-number-preserved g c =
         base = more.base ∙ so_far.base;
         arena = more.arena ∙ so_far.arena;
       };
-      adopted = adopts_more c.loop-number.number c.args.engine.now.entries
-          c.loop-number.engine.entries c.adopt.new.engine.entries (omega arith)
+      adopted = adopts_more c.loop-number.number c.args.store.now.entries
+          c.loop-number.store.entries c.adopt.new.store.entries (omega arith)
           c.loop-number.invariant.adopted c.in_ok-adopt.ensures.ok;
     }

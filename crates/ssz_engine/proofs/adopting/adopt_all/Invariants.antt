@@ -1,10 +1,10 @@
-use Rattle.ssz_engine.specs.Content.{SameNodes}
+use Rattle.ssz_decisions.specs.Content.{SameNodes}
 use Rattle.ssz_engine.specs.Weaves.{AdoptsAll}
 use Rattle.ssz_engine.proofs.adopting.adopt_all.Given as goal
 
 -- the writers so far have taken over what the base's holds
 abbrev pub invariant-loop-number : goal.invariant-loop-number
 invariant-loop-number g l = record {
-  nodes : SameNodes l.fn.engine l.engine;
-  adopted : AdoptsAll l.number l.fn.engine.entries l.engine.entries;
+  nodes : SameNodes l.fn.store l.store;
+  adopted : AdoptsAll l.number l.fn.store.entries l.store.entries;
 }

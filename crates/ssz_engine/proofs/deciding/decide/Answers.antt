@@ -4,8 +4,9 @@ use Rattle.ssz_machine.specs.Changes.{puts}
 use Rattle.std.specs.Prelude.{OnOk}
 use Rattle.ssz_script.specs.declared.statement.Statement.{Statement}
 use Rattle.ssz_engine.specs.Steps.{CanAsk, Finds}
-use Rattle.ssz_engine.proofs.EngineSteps.{finds_alone, on_ok}
-use Rattle.ssz_engine.specs.declared.fault.EngineFault.TheVariants.{Read, Write, Memory}
+use Rattle.ssz_engine.proofs.EngineSteps.{finds_alone}
+use Rattle.ssz_decisions.proofs.Results.{on_ok}
+use Rattle.ssz_decisions.specs.declared.fault.EngineFault.TheVariants.{Read, Write, Memory}
 use Rattle.ssz_engine.proofs.Found.{counts-none, decides-ok, loads-ok, memory-alone}
 use Rattle.ssz_engine.proofs.deciding.decide.Goals as goal
 
@@ -18,8 +19,8 @@ no-write e = cc
 pub returns-in_default-clause-decides : goal.returns-in_default-clause-decides
 returns-in_default-clause-decides g c =
     decides-ok g.H.PairHash.pair_of c.args.place
-    (g.H.PairHash.pairs c.args.hasher.now - c.args.engine.now.base) c.args.writer.0
-    c.args.engine.now c.decide_alone.new.engine (g.H.PairHash.pairs c.args.hasher.now)
+    (g.H.PairHash.pairs c.args.hasher.now - c.args.store.now.base) c.args.writer.0
+    c.args.store.now c.decide_alone.new.store (g.H.PairHash.pairs c.args.hasher.now)
     (g.H.PairHash.pairs c.decide_alone.new.hasher) c.args.statement.now
     (g.F.Files.content c.args.files.now) c.decide_alone.result c.decide_alone.ensures.decides
 
@@ -50,8 +51,8 @@ returns-in_default-clause-gets g c =
 pub returns-in-Load-clause-decides : goal.returns-in-Load-clause-decides
 returns-in-Load-clause-decides g c =
     loads-ok g.H.PairHash.pair_of c.args.place
-    (g.H.PairHash.pairs c.args.hasher.now - c.args.engine.now.base) c.args.writer.0
-    c.args.engine.now c.load.new.engine (g.H.PairHash.pairs c.args.hasher.now)
+    (g.H.PairHash.pairs c.args.hasher.now - c.args.store.now.base) c.args.writer.0
+    c.args.store.now c.load.new.store (g.H.PairHash.pairs c.args.hasher.now)
     (g.F.Files.content c.args.files.now) c.in-Load.file
     (λ bytes rules versions. load rules versions c.in-Load.v c.in-Load.t bytes)
     (puts c.in-Load.v) c.args.statement.now _ c.load.result c.in-Load.is (λ files. refl) refl refl
@@ -59,33 +60,33 @@ returns-in-Load-clause-decides g c =
 
 pub returns-in_default-clause-found : goal.returns-in_default-clause-found
 returns-in_default-clause-found g c =
-    on_ok c.decide_alone.result (finds_alone g.H.PairHash.pair_of c.args.engine.now
+    on_ok c.decide_alone.result (finds_alone g.H.PairHash.pair_of c.args.store.now
     c.args.writer.0 c.args.statement.now (g.F.Files.content c.args.files.now)
     (λ v t file is. c.in_default.not-Load v t file is)
     (λ v t file is. c.in_default.not-LoadJson v t file is))
 
 pub returns-in-Load-clause-found : goal.returns-in-Load-clause-found
 returns-in-Load-clause-found g c =
-    subst (λ (s : Statement). OnOk c.load.result (Finds g.H.PairHash.pair_of c.args.engine.now
+    subst (λ (s : Statement). OnOk c.load.result (Finds g.H.PairHash.pair_of c.args.store.now
     c.args.writer.0 s (g.F.Files.content c.args.files.now))) (sym c.in-Load.is)
     c.load.ensures.found
 
 pub returns-in-LoadJson-clause-found : goal.returns-in-LoadJson-clause-found
 returns-in-LoadJson-clause-found g c =
     subst (λ (s : Statement). OnOk c.load-in-LoadJson.result (Finds g.H.PairHash.pair_of
-    c.args.engine.now c.args.writer.0 s (g.F.Files.content c.args.files.now)))
+    c.args.store.now c.args.writer.0 s (g.F.Files.content c.args.files.now)))
     (sym c.in-LoadJson.is) c.load-in-LoadJson.ensures.found
 
 pub returns-in-Load-clause-asked : goal.returns-in-Load-clause-asked
 returns-in-Load-clause-asked g c = λ e.
-    subst (λ s. CanAsk g.H.PairHash.pair_of c.args.engine.now c.args.writer.0 s) (sym c.in-Load.is)
+    subst (λ s. CanAsk g.H.PairHash.pair_of c.args.store.now c.args.writer.0 s) (sym c.in-Load.is)
     (c.load.ensures.asked e)
 
 pub returns-in-LoadJson-clause-decides : goal.returns-in-LoadJson-clause-decides
 returns-in-LoadJson-clause-decides g c =
     loads-ok g.H.PairHash.pair_of c.args.place
-    (g.H.PairHash.pairs c.args.hasher.now - c.args.engine.now.base) c.args.writer.0
-    c.args.engine.now c.load-in-LoadJson.new.engine (g.H.PairHash.pairs c.args.hasher.now)
+    (g.H.PairHash.pairs c.args.hasher.now - c.args.store.now.base) c.args.writer.0
+    c.args.store.now c.load-in-LoadJson.new.store (g.H.PairHash.pairs c.args.hasher.now)
     (g.F.Files.content c.args.files.now) c.in-LoadJson.file
     (λ bytes rules versions. loadjson rules versions c.in-LoadJson.v c.in-LoadJson.t bytes)
     (puts c.in-LoadJson.v) c.args.statement.now _ c.load-in-LoadJson.result c.in-LoadJson.is
@@ -94,5 +95,5 @@ returns-in-LoadJson-clause-decides g c =
 
 pub returns-in-LoadJson-clause-asked : goal.returns-in-LoadJson-clause-asked
 returns-in-LoadJson-clause-asked g c = λ e.
-    subst (λ s. CanAsk g.H.PairHash.pair_of c.args.engine.now c.args.writer.0 s)
+    subst (λ s. CanAsk g.H.PairHash.pair_of c.args.store.now c.args.writer.0 s)
     (sym c.in-LoadJson.is) (c.load-in-LoadJson.ensures.asked e)

@@ -9,36 +9,36 @@ use Rattle.ssz_versions.specs.Content.{Held, held_at}
 use Rattle.ssz_machine.specs.Rules.{coded, edits}
 use Rattle.ssz_machine.specs.Editing.{set}
 use Rattle.ssz_machine.specs.Changes.{puts}
-use Rattle.ssz_engine.specs.Content.{Content}
-use Rattle.ssz_engine.specs.Decisions.{AnswersWith}
-use Rattle.ssz_engine.specs.declared.decision.Decision.TheVariants.{Refused}
-use Rattle.ssz_engine.specs.declared.decision.Decision.{Decision}
-use Rattle.ssz_engine.specs.declared.fault.EngineFault.{EngineFault}
+use Rattle.ssz_decisions.specs.Content.{Content}
+use Rattle.ssz_decisions.specs.Decisions.{AnswersWith}
+use Rattle.ssz_decisions.specs.declared.decision.Decision.TheVariants.{Refused}
+use Rattle.ssz_decisions.specs.declared.decision.Decision.{Decision}
+use Rattle.ssz_decisions.specs.declared.fault.EngineFault.{EngineFault}
 use Rattle.ssz_engine.specs.Finished.{unread}
 use Rattle.ssz_codec.specs.Answers.{Faulty}
 use Rattle.ssz_codec.specs.declared.fault.DecodeFault.{DecodeFault}
 use Rattle.ssz_value.specs.Faults.{why}
-use Rattle.ssz_engine.proofs.Brought.{are-kept, over}
+use Rattle.ssz_decisions.proofs.Brought.{are-kept, over}
 use Rattle.ssz_engine.proofs.EditRows.{set_read, set_refused}
 use Rattle.ssz_engine.proofs.Edited.{unread-answers, code-answers, finished-answers}
 use Rattle.ssz_engine.specs.Tops.{SetsTop}
 use Rattle.ssz_engine.proofs.TopSteps.{finishes-set, unread-none}
 use Rattle.ssz_engine.proofs.Wholes.{edit-whole}
-use Rattle.ssz_engine.proofs.Straying.{set-astray}
+use Rattle.ssz_engine.proofs.EditsAstray.{set-astray}
 use Rattle.ssz_engine.proofs.editing.set.Goals as goal
 
 pub returns-in-Err-clause-answers : goal.returns-in-Err-clause-answers
 returns-in-Err-clause-answers g c =
-    set-astray g.H.PairHash.pair_of c.args.engine.now c.args.writer.0 c.args.v.now c.args.path.now
+    set-astray g.H.PairHash.pair_of c.args.store.now c.args.writer.0 c.args.v.now c.args.path.now
     c.in-Err.code (rw c.in-Err.is at c.in_ok-way.ensures.err) c.args.literal.now
 
 pub returns-in-Err-settable-clause-answers : goal.returns-in-Err-settable-clause-answers
 returns-in-Err-settable-clause-answers g c =
     let pair_of = g.H.PairHash.pair_of in
-    let schema = c.engine.inside.schema in
-    let most = c.engine.inside.max in
-    let entries = c.engine.inside.versions.entries in
-    let base = c.engine.inside.base in
+    let schema = c.store.inside.schema in
+    let most = c.store.inside.max in
+    let entries = c.store.inside.versions.entries in
+    let base = c.store.inside.base in
     let v = c.args.v.now in
     let w = c.args.writer.0 in
     let way = rw c.in-Ok.is at c.in_ok-way.ensures.ok in
@@ -47,13 +47,13 @@ returns-in-Err-settable-clause-answers g c =
     let literal = c.args.literal.now in
     let held : Held = (c.in-Ok.way.id, c.in-Ok.way.node) in
     let t = type_of schema held.0 in
-    let old = c.engine.inside.arena in
+    let old = c.store.inside.arena in
     let there : held_at entries w v ≡ Some held
-    = subst (λ (s : Content). held_at s.entries w v ≡ Some held) (sym c.engine.view_is) way.there in
+    = subst (λ (s : Content). held_at s.entries w v ≡ Some held) (sym c.store.view_is) way.there in
     subst (λ (p : Path). AnswersWith pair_of (λ rules versions. set versions v p literal)
-    (puts v) w c.args.engine.now c.args.engine.now (Refused c.in-Err-settable.code)) is
+    (puts v) w c.args.store.now c.args.store.now (Refused c.in-Err-settable.code)) is
     (subst (λ (seen : Content). AnswersWith pair_of (λ rules versions. set versions v path literal)
-    (puts v) w seen seen (Refused c.in-Err-settable.code)) c.engine.view_is
+    (puts v) w seen seen (Refused c.in-Err-settable.code)) c.store.view_is
     (code-answers pair_of schema most entries base old old w c.args.v held
     (λ rules versions. set versions v path literal) there c.in-Err-settable.code
     (λ versions value found of. set_refused versions v (record { type = t; value = value }) path
@@ -62,10 +62,10 @@ returns-in-Err-settable-clause-answers g c =
 pub returns-in-Ok-decode-clause-answers : goal.returns-in-Ok-decode-clause-answers
 returns-in-Ok-decode-clause-answers g c =
     let pair_of = g.H.PairHash.pair_of in
-    let schema = c.engine.inside.schema in
-    let most = c.engine.inside.max in
-    let entries = c.engine.inside.versions.entries in
-    let base = c.engine.inside.base in
+    let schema = c.store.inside.schema in
+    let most = c.store.inside.max in
+    let entries = c.store.inside.versions.entries in
+    let base = c.store.inside.base in
     let v = c.args.v.now in
     let w = c.args.writer.0 in
     let way = rw c.in-Ok.is at c.in_ok-way.ensures.ok in
@@ -74,17 +74,17 @@ returns-in-Ok-decode-clause-answers g c =
     let literal = c.args.literal.now in
     let held : Held = (c.in-Ok.way.id, c.in-Ok.way.node) in
     let t = type_of schema held.0 in
-    let old = c.engine.inside.arena in
+    let old = c.store.inside.arena in
     let there : held_at entries w v ≡ Some held
-    = subst (λ (s : Content). held_at s.entries w v ≡ Some held) (sym c.engine.view_is) way.there in
+    = subst (λ (s : Content). held_at s.entries w v ≡ Some held) (sym c.store.view_is) way.there in
     let new = c.set-made.new.arena in
     let x = value_of c.in-Ok-decode.value in
     subst (λ (p : Path). IfOk c.finish.result (AnswersWith pair_of
-    (λ rules versions. set versions v p literal) (puts v) w c.args.engine.now
+    (λ rules versions. set versions v p literal) (puts v) w c.args.store.now
     (over schema most entries base new))) is
     (subst (λ (seen : Content). IfOk c.finish.result (AnswersWith pair_of
     (λ rules versions. set versions v path literal) (puts v) w seen
-    (over schema most entries base new))) c.engine.view_is
+    (over schema most entries base new))) c.store.view_is
     (finished-answers pair_of schema most entries base old new w v held
     (λ name rules versions. set versions name path literal)
     (λ value. set_at t value path x) (λ value. set_charge t path x)
@@ -94,16 +94,16 @@ returns-in-Ok-decode-clause-answers g c =
     c.in-Ok-decode.ensures.answer.0
     ∙ ap (λ y. edits versions v t (set_at t value path y) (set_charge t path y))
     (sym c.in-Ok-decode.ensures.answer.1.value))
-    c.engine.invariant there c.set-made.result c.set-made.ensures.refused
+    c.store.invariant there c.set-made.result c.set-made.ensures.refused
     c.set-made.ensures.answers c.finish.result c.finish.ensures))
 
 pub returns-clause-answers : goal.returns-clause-answers
 returns-clause-answers g c =
     let pair_of = g.H.PairHash.pair_of in
-    let schema = c.engine.inside.schema in
-    let most = c.engine.inside.max in
-    let entries = c.engine.inside.versions.entries in
-    let base = c.engine.inside.base in
+    let schema = c.store.inside.schema in
+    let most = c.store.inside.max in
+    let entries = c.store.inside.versions.entries in
+    let base = c.store.inside.base in
     let v = c.args.v.now in
     let w = c.args.writer.0 in
     let way = rw c.in-Ok.is at c.in_ok-way.ensures.ok in
@@ -112,42 +112,42 @@ returns-clause-answers g c =
     let literal = c.args.literal.now in
     let held : Held = (c.in-Ok.way.id, c.in-Ok.way.node) in
     let t = type_of schema held.0 in
-    let old = c.engine.inside.arena in
+    let old = c.store.inside.arena in
     let there : held_at entries w v ≡ Some held
-    = subst (λ (s : Content). held_at s.entries w v ≡ Some held) (sym c.engine.view_is) way.there in
+    = subst (λ (s : Content). held_at s.entries w v ≡ Some held) (sym c.store.view_is) way.there in
     let fault = c.in-Err-decode.fault in
     let u = type_of schema c.in-Ok-settable.part in
     subst (λ (p : Path). IfOk c.unread.result (AnswersWith pair_of
-    (λ rules versions. set versions v p literal) (puts v) w c.args.engine.now c.args.engine.now)) is
+    (λ rules versions. set versions v p literal) (puts v) w c.args.store.now c.args.store.now)) is
     (subst (λ (r : Result Decision EngineFault). IfOk r (AnswersWith pair_of
-    (λ rules versions. set versions v path literal) (puts v) w c.args.engine.now
-    c.args.engine.now)) (sym c.unread.ensures)
+    (λ rules versions. set versions v path literal) (puts v) w c.args.store.now
+    c.args.store.now)) (sym c.unread.ensures)
     (subst (λ (seen : Content). IfOk (unread fault) (AnswersWith pair_of
-    (λ rules versions. set versions v path literal) (puts v) w seen seen)) c.engine.view_is
+    (λ rules versions. set versions v path literal) (puts v) w seen seen)) c.store.view_is
     (unread-answers pair_of schema most entries base old old w c.args.v held
     (λ rules versions. set versions v path literal) there fault
     (λ bad is versions value found of. set_read versions v (record { type = t; value = value })
     path found literal u (Some bad) (c.in-Ok-settable.ensures.ok.tests value of)
     (subst (λ (f : DecodeFault). Faulty (why u 0 literal) f) is c.in-Err-decode.ensures.answer)))))
 
-pub invariant_of-engine : goal.invariant_of-engine
-invariant_of-engine g c =
-    are-kept c.engine.inside.schema c.engine.inside.arena c.set-made.new.arena
-    c.engine.inside.versions.entries c.set-made.ensures.keeps c.engine.invariant
+pub invariant_of-store : goal.invariant_of-store
+invariant_of-store g c =
+    are-kept c.store.inside.schema c.store.inside.arena c.set-made.new.arena
+    c.store.inside.versions.entries c.set-made.ensures.keeps c.store.invariant
 
 pub returns-in-Ok-decode-clause-whole : goal.returns-in-Ok-decode-clause-whole
 returns-in-Ok-decode-clause-whole g c =
-    edit-whole c.args.engine.now c.set-made.new.arena c.args.v.now c.set-made.result c.finish.result
+    edit-whole c.args.store.now c.set-made.new.arena c.args.v.now c.set-made.result c.finish.result
     c.finish.ensures
     (subst (λ (seen : Content). OnErr c.set-made.result
-    (c.set-made.new.arena.nodes ≡ seen.arena.nodes)) c.engine.view_is c.set-made.ensures.refused)
+    (c.set-made.new.arena.nodes ≡ seen.arena.nodes)) c.store.view_is c.set-made.ensures.refused)
 
 pub returns-in-Ok-decode-clause-tops : goal.returns-in-Ok-decode-clause-tops
 returns-in-Ok-decode-clause-tops g c =
-    let schema = c.engine.inside.schema in
-    let most = c.engine.inside.max in
-    let entries = c.engine.inside.versions.entries in
-    let base = c.engine.inside.base in
+    let schema = c.store.inside.schema in
+    let most = c.store.inside.max in
+    let entries = c.store.inside.versions.entries in
+    let base = c.store.inside.base in
     let v = c.args.v.now in
     let w = c.args.writer.0 in
     let way = rw c.in-Ok.is at c.in_ok-way.ensures.ok in
@@ -155,18 +155,18 @@ returns-in-Ok-decode-clause-tops g c =
     let is : path ≡ c.args.path.now = c.as_slice-steps.ensures.value ∙ way.all in
     let held : Held = (c.in-Ok.way.id, c.in-Ok.way.node) in
     let there : held_at entries w v ≡ Some held
-    = subst (λ (s : Content). held_at s.entries w v ≡ Some held) (sym c.engine.view_is) way.there in
+    = subst (λ (s : Content). held_at s.entries w v ≡ Some held) (sym c.store.view_is) way.there in
     let new = c.set-made.new.arena in
-    subst (λ (p : Path). IfOk c.finish.result (SetsTop v p w c.args.engine.now
+    subst (λ (p : Path). IfOk c.finish.result (SetsTop v p w c.args.store.now
     (over schema most entries base new))) is
     (subst (λ (seen : Content). IfOk c.finish.result (SetsTop v path w seen
-    (over schema most entries base new))) c.engine.view_is
+    (over schema most entries base new))) c.store.view_is
     (finishes-set schema new entries w v path held there c.set-made.result c.finish.result
     c.set-made.ensures.least c.finish.ensures))
 
 pub returns-clause-tops : goal.returns-clause-tops
 returns-clause-tops g c =
     let P : Decision → Type 0 = SetsTop c.args.v.now c.args.path.now c.args.writer.0
-    c.args.engine.now c.args.engine.now in
+    c.args.store.now c.args.store.now in
     subst (λ (r : Result Decision EngineFault). IfOk r P) (sym c.unread.ensures)
     (unread-none P (λ fault was found below. tt) c.in-Err-decode.fault)

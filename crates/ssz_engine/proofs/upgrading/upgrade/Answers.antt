@@ -13,22 +13,22 @@ use Rattle.ssz_script.specs.declared.reply.TheConstants.Reply.{NOT_CONTAINER}
 use Rattle.ssz_versions.specs.Content.{Held, held_at}
 use Rattle.ssz_machine.specs.Making.{upgrade}
 use Rattle.ssz_machine.specs.Changes.{puts}
-use Rattle.ssz_engine.specs.Content.{Content}
-use Rattle.ssz_engine.specs.Decisions.{AnswersWith}
+use Rattle.ssz_decisions.specs.Content.{Content}
+use Rattle.ssz_decisions.specs.Decisions.{AnswersWith}
 use Rattle.ssz_engine.specs.Steps.{IsUpgradeOf}
-use Rattle.ssz_engine.specs.declared.decision.Decision.TheVariants.{Made, Refused}
-use Rattle.ssz_engine.proofs.Brought.{over}
+use Rattle.ssz_decisions.specs.declared.decision.Decision.TheVariants.{Made, Refused}
+use Rattle.ssz_decisions.proofs.Brought.{over}
 use Rattle.ssz_engine.proofs.UpgradeRows.{none-there, refused, refused-room, upgrade-answers, upgrade-due}
 use Rattle.ssz_engine.proofs.upgrading.upgrade.Goals as goal
 
 pub returns-in-NotContainer-clause-answers : goal.returns-in-NotContainer-clause-answers
 returns-in-NotContainer-clause-answers g c =
     let pair_of = g.H.PairHash.pair_of in
-    let schema = c.engine.inside.schema in
-    let most = c.engine.inside.max in
-    let entries = c.engine.inside.versions.entries in
-    let base = c.engine.inside.base in
-    let old = c.engine.inside.arena in
+    let schema = c.store.inside.schema in
+    let most = c.store.inside.max in
+    let entries = c.store.inside.versions.entries in
+    let base = c.store.inside.base in
+    let old = c.store.inside.arena in
     let new = c.upgrade-made.new.arena in
     let v = c.args.v.now in
     let w = c.args.w.now in
@@ -54,7 +54,7 @@ returns-in-NotContainer-clause-answers g c =
     fault (c.upgrade-made.ensures.answers x of) in
     subst (λ (seen : Content). AnswersWith pair_of
     (λ rules versions. upgrade rules versions v w t) (puts w) writer seen
-    (over schema most entries base new) (Refused NOT_CONTAINER)) c.engine.view_is
+    (over schema most entries base new) (Refused NOT_CONTAINER)) c.store.view_is
     (refused-room pair_of schema most entries base old new
     (λ rules versions. upgrade rules versions v w t) writer w NOT_CONTAINER
     (subst (λ (r : Result NodeId UpgradeFault). OnErr r (new.nodes ≡ old.nodes)) fault
@@ -64,11 +64,11 @@ returns-in-NotContainer-clause-answers g c =
 pub returns-clause-answers : goal.returns-clause-answers
 returns-clause-answers g c =
     let pair_of = g.H.PairHash.pair_of in
-    let schema = c.engine.inside.schema in
-    let most = c.engine.inside.max in
-    let entries = c.engine.inside.versions.entries in
-    let base = c.engine.inside.base in
-    let old = c.engine.inside.arena in
+    let schema = c.store.inside.schema in
+    let most = c.store.inside.max in
+    let entries = c.store.inside.versions.entries in
+    let base = c.store.inside.base in
+    let old = c.store.inside.arena in
     let new = c.upgrade-made.new.arena in
     let v = c.args.v.now in
     let w = c.args.w in
@@ -87,21 +87,21 @@ returns-clause-answers g c =
     ∙ c.if-is_some.false) in
     subst (λ (seen : Content). AnswersWith pair_of
     (λ rules versions. upgrade rules versions v w.now t) (puts w.now) writer seen
-    (over schema most entries base new) (Made w id c.in-Ok.node c.in_ok-room.room)) c.engine.view_is
+    (over schema most entries base new) (Made w id c.in-Ok.node c.in_ok-room.room)) c.store.view_is
     (upgrade-answers pair_of schema most entries base old new writer v w t id held c.in-Ok.node
-    c.in_ok-room.room (c.in-Some.ensures.known id refl) known c.engine.invariant there free c.in-Ok.ensures.answers)
+    c.in_ok-room.room (c.in-Some.ensures.known id refl) known c.store.invariant there free c.in-Ok.ensures.answers)
 
 pub returns-clause-upgrades : goal.returns-clause-upgrades
 returns-clause-upgrades g c =
-    let schema = c.engine.inside.schema in
-    let entries = c.engine.inside.versions.entries in
+    let schema = c.store.inside.schema in
+    let entries = c.store.inside.versions.entries in
     let held : Held = c.in-Some-get.held in
     let there : held_at entries c.args.writer.0 c.args.v.now ≡ Some held
     = ap (λ n. held_at entries c.args.writer.0 n) (sym c.as_name-2.ensures.text)
     ∙ sym c.get.ensures ∙ c.in-Some-get.is in
     subst (λ (seen : Content). IsUpgradeOf c.args.v.now c.args.w.now c.args.writer.0 seen
-    (over schema c.engine.inside.max entries c.engine.inside.base c.upgrade-made.new.arena)
-    c.args.w.now c.in-Some.id c.in-Ok.node) c.engine.view_is
-    (upgrade-due schema c.engine.inside.max entries c.engine.inside.base c.engine.inside.arena
+    (over schema c.store.inside.max entries c.store.inside.base c.upgrade-made.new.arena)
+    c.args.w.now c.in-Some.id c.in-Ok.node) c.store.view_is
+    (upgrade-due schema c.store.inside.max entries c.store.inside.base c.store.inside.arena
     c.upgrade-made.new.arena c.args.writer.0 c.args.v.now c.args.w.now c.in-Some.id held
-    c.in-Ok.node c.engine.invariant there c.in-Ok.ensures.answers)
+    c.in-Ok.node c.store.invariant there c.in-Ok.ensures.answers)

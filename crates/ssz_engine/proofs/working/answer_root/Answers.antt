@@ -1,7 +1,7 @@
 use Rattle.ssz_script.specs.declared.statement.Statement.TheVariants.{Root}
 use Rattle.ssz_machine.specs.Drawing.{worked}
 use Rattle.ssz_machine.specs.Work.{done}
-use Rattle.ssz_engine.specs.Content.{rules_of}
+use Rattle.ssz_decisions.specs.Content.{rules_of}
 use Rattle.ssz_engine.proofs.WorkSteps.{broken_here}
 use Rattle.ssz_engine.proofs.working.answer_root.Goals as goal
 

@@ -9,9 +9,10 @@ use Rattle.ssz_machine.specs.Rules.{Rules}
 use Rattle.ssz_machine.specs.Machine.{Turn, state_of}
 use Rattle.ssz_machine.specs.Drawing.{Walk, worked}
 use Rattle.ssz_machine.specs.Work.{done, round, walk_from}
-use Rattle.ssz_engine.specs.Content.{rules_of}
+use Rattle.ssz_decisions.specs.Content.{Content as Engine, rules_of}
+use Rattle.ssz_decisions.specs.Standing.{StandsForWriter}
 use Rattle.ssz_engine.specs.Works.{AreBroken, AreDone, Draws, Point, point}
-use Rattle.ssz_engine.specs.declared.fault.EngineFault.{EngineFault}
+use Rattle.ssz_decisions.specs.declared.fault.EngineFault.{EngineFault}
 use Rattle.ssz_engine.proofs.WorkLeast.{round-least}
 use Rattle.ssz_engine.proofs.WorkPoints.{by_first_rules, round_done, round_here, works_exit}
 use Rattle.ssz_engine.proofs.WorkSteps.{broken_early, broken_then}
@@ -56,7 +57,9 @@ returns-in_err-answer_root-in-Ok-Some-clause-works g c = λ state at.
     let exit = err_from_is_err_and c.from_residual-in_err-answer_root-in-Ok-Some.result
     c.from_residual-in_err-answer_root-in-Ok-Some.ensures.1 in
     let way : Walk = walk_from (version_of worked (state.versions 0)) c.args.generator.now in
-    let drawn = c.in-Ok-Some.ensures.drawn (state.versions 0) (at.versions.each 0) in
+    let drawn = c.in-Ok-Some.ensures.drawn (state.versions 0)
+    (subst (λ (engine : Engine). StandsForWriter engine 0 (state.versions 0))
+    (sym c.engine.view_is) (at.versions.each 0)) in
     works_exit c.from_residual-in_err-answer_root-in-Ok-Some.result (round rules state way.edit) _
     before after exit.0 fault exit.1 exit.2
     (round_broken rules state way edit c.draw_edit.new.generator fault before mid after
@@ -85,7 +88,9 @@ returns-in_ok-answer_root-in-Ok-Some-clause-works g c = λ state at.
     (λ r. AreDone (done r middle (Root worked) ∷ []) (state_of (done r middle (Root worked))) mid
     after)
     asked in
-    let drawn = c.in-Ok-Some.ensures.drawn (state.versions 0) (at.versions.each 0) in
+    let drawn = c.in-Ok-Some.ensures.drawn (state.versions 0)
+    (subst (λ (engine : Engine). StandsForWriter engine 0 (state.versions 0))
+    (sym c.engine.view_is) (at.versions.each 0)) in
     round_done rules state (walk_from (version_of worked (state.versions 0)) c.args.generator.now)
     edit c.draw_edit.new.generator before mid after
     (subst (λ (e : Option Statement). Draws (version_of worked (state.versions 0))
@@ -116,7 +121,9 @@ returns-in_err-answer-in-Ok-Some-clause-works g c = λ state at.
     let exit = err_from_is_err_and c.from_residual-in_err-answer-in-Ok-Some.result
     c.from_residual-in_err-answer-in-Ok-Some.ensures.1 in
     let way : Walk = walk_from (version_of worked (state.versions 0)) c.args.generator.now in
-    let drawn = c.in-Ok-Some.ensures.drawn (state.versions 0) (at.versions.each 0) in
+    let drawn = c.in-Ok-Some.ensures.drawn (state.versions 0)
+    (subst (λ (engine : Engine). StandsForWriter engine 0 (state.versions 0))
+    (sym c.engine.view_is) (at.versions.each 0)) in
     works_exit c.from_residual-in_err-answer-in-Ok-Some.result (round rules state way.edit) _
     before mid exit.0 fault exit.1 exit.2
     (round_first rules state way edit c.draw_edit.new.generator fault before mid
@@ -129,7 +136,9 @@ pub returns-in_ok-answer_root-in-Ok-Some-clause-least :
 returns-in_ok-answer_root-in-Ok-Some-clause-least g c = λ state at.
     let pairs = g.H.PairHash.pairs in
     let edit : Statement = c.in-Ok-Some.edit in
-    let drawn = c.in-Ok-Some.ensures.drawn (state.versions 0) (at.versions.each 0) in
+    let drawn = c.in-Ok-Some.ensures.drawn (state.versions 0)
+    (subst (λ (engine : Engine). StandsForWriter engine 0 (state.versions 0))
+    (sym c.engine.view_is) (at.versions.each 0)) in
     round-least (rules_of g.H.PairHash.pair_of c.args.engine.now) state
     (walk_from (version_of worked (state.versions 0)) c.args.generator.now) edit
     c.draw_edit.new.generator c.args.engine.now c.answer.new.engine (pairs c.args.hasher.now)

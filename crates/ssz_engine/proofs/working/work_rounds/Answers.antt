@@ -6,8 +6,8 @@ use Rattle.ssz_machine.specs.Rules.{Rules}
 use Rattle.ssz_machine.specs.Work.{round, tops_of, walk_from, worked_on}
 use Rattle.ssz_machine.specs.State.{version_of}
 use Rattle.ssz_machine.specs.Drawing.{worked}
-use Rattle.ssz_engine.specs.Content.{rules_of}
-use Rattle.ssz_engine.specs.Tops.{RisesBy}
+use Rattle.ssz_decisions.specs.Content.{rules_of}
+use Rattle.ssz_decisions.specs.Roots.{RisesBy}
 use Rattle.ssz_engine.specs.Works.{Point, Works, point}
 use Rattle.ssz_engine.proofs.Leading.{keeps_on}
 use Rattle.ssz_engine.proofs.WorkPoints.{by_first_rules, works_exit}

@@ -1,7 +1,7 @@
 use Rattle.std.proofs.Common.{◌≡◌, ◌≤◌, ◌-◌, List, ℕ}
 use Rattle.ssz_arena.specs.Content.{KeepsNodes}
 use Rattle.ssz_machine.specs.State.{State}
-use Rattle.ssz_engine.specs.Content.{rules_of}
+use Rattle.ssz_decisions.specs.Content.{rules_of}
 use Rattle.ssz_engine.specs.Steps.{Keeps}
 use Rattle.ssz_engine.specs.Works.{IsAtState, point}
 use Rattle.ssz_engine.proofs.WorkRounds.{AreRounds}

@@ -6,10 +6,10 @@ use Rattle.ssz_machine.specs.Rules.{Rules}
 use Rattle.ssz_machine.specs.Machine.{Turn, state_of}
 use Rattle.ssz_machine.specs.Drawing.{worked}
 use Rattle.ssz_machine.specs.Work.{Worked, done, work_of, worked_on}
-use Rattle.ssz_engine.specs.Content.{Content, rules_of}
-use Rattle.ssz_engine.specs.Tops.{RisesBy}
+use Rattle.ssz_decisions.specs.Content.{Content, rules_of}
+use Rattle.ssz_decisions.specs.Roots.{RisesBy}
 use Rattle.ssz_engine.specs.Works.{AreBroken, AreDone, Point, Replies, point, whole_work}
-use Rattle.ssz_engine.specs.declared.fault.EngineFault.{EngineFault}
+use Rattle.ssz_decisions.specs.declared.fault.EngineFault.{EngineFault}
 use Rattle.ssz_engine.proofs.Leading.{keeps_on}
 use Rattle.ssz_engine.proofs.WorkPoints.{by_first_rules, works_exit}
 use Rattle.ssz_engine.proofs.WorkSteps.{broken_early, broken_here, broken_then, done_then}

@@ -3,7 +3,7 @@ use Rattle.std.specs.Prelude.{Err}
 use Rattle.ssz_outside.specs.Job.{CountsRun, IsThatOrStopped}
 use Rattle.ssz_outside.specs.declared.status.Status.{Status}
 use Rattle.ssz_outside.specs.declared.status.Status.TheVariants as status
-use Rattle.ssz_engine.specs.Content.{rules_of}
+use Rattle.ssz_decisions.specs.Content.{rules_of}
 use Rattle.ssz_engine.specs.Scripts.{Scene, scene}
 use Rattle.ssz_engine.specs.Works.{EndsWorkFrom}
 use Rattle.ssz_engine.proofs.WorkEnds.{ended_counts, ended_stops, work_broken, work_done}

@@ -1,0 +1,17 @@
+pub mod Results
+pub mod Entries
+pub mod Keys
+pub mod Standing
+pub mod Beginning
+pub mod Names
+pub mod Held
+pub mod Brought
+pub mod Showing
+pub mod Numbers
+pub mod AskedSteps
+pub mod AscendingOnce
+pub mod ProofsMade
+pub mod ProofRows
+pub mod Straying
+pub mod Chosen
+pub mod Owing

@@ -1,0 +1,12 @@
+pub mod Content
+pub mod Standing
+pub mod Ways
+pub mod Decisions
+pub mod Loading
+pub mod Shown
+pub mod Proving
+pub mod Counted
+pub mod Inner
+pub mod Roots
+pub mod Carried
+pub mod Outside

@@ -1,0 +1,32 @@
+//! Codes of refusals.
+ghost use Rattle.std.specs.Prelude.{◌≡◌};
+ghost use Rattle.ssz_machine.specs.Rules.{code_of};
+ghost use Rattle.ssz_decisions.specs.Shown.{path_code};
+
+use ssz_script::Reply;
+use ssz_value::{EditFault, PathFault};
+
+/// The code of a path that leads to no part.
+pub fn code_of_path(fault: PathFault) -> u8
+    ensures { result ≡ path_code fault }
+{
+    match fault {
+        PathFault::BadPath => Reply::BAD_PATH,
+        PathFault::Absent => Reply::ABSENT,
+    }
+}
+
+/// The code of an edit's fault, 0 of want of memory.
+pub fn code_of_edit(fault: EditFault) -> u8
+    ensures { result ≡ code_of fault }
+{
+    match fault {
+        EditFault::BadPath => Reply::BAD_PATH,
+        EditFault::Absent => Reply::ABSENT,
+        EditFault::NotThat => Reply::NOT_THAT,
+        EditFault::Full => Reply::FULL,
+        EditFault::Empty => Reply::EMPTY,
+        EditFault::BadSelector => Reply::BAD_SELECTOR,
+        EditFault::Memory => 0,
+    }
+}

@@ -1,7 +1,0 @@
-use Rattle.ssz_schema.specs.Unfolding.{type_of}
-use Rattle.ssz_engine.proofs.AskedSteps.{AskedSoFar}
-use Rattle.ssz_engine.proofs.proving.numbers_asked.Given as goal
-
-abbrev pub invariant-loop-index : goal.invariant-loop-index
-invariant-loop-index l =
-    AskedSoFar (type_of l.schema l.id) l.indices l.index-index l.numbers.items

@@ -1,8 +1,0 @@
-/// In which form a file has a value.
-#[derive(Clone, Copy)]
-pub(crate) enum Form {
-    /// Its encoding.
-    Encoding,
-    /// Its JSON text.
-    Json,
-}
