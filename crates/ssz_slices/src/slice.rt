@@ -1,10 +1,11 @@
-ghost use Rattle.std.specs.Prelude.{◌≡◌, ◌<◌, ◌^◌, [], ◌∷◌, length, IfOk, IfSome, Option, option_map};
+ghost use Rattle.std.specs.Prelude.{◌≡◌, ◌<◌, ◌^◌, [], ◌∷◌, length, None, IfOk, IfSome, Option, option_map};
 ghost use Rattle.ssz_schema.specs.declared.path.PathStep.TheVariants.{Field, Index, Option as Chosen};
 ghost use Rattle.ssz_schema.specs.Unfolding.{type_of};
 ghost use Rattle.ssz_value.specs.Encoding.{enc};
+ghost use Rattle.ssz_value.specs.Faults.{why};
 ghost use Rattle.ssz_value.specs.Laws.{Encodes};
 ghost use Rattle.ssz_slices.specs.Written.{written};
-ghost use Rattle.ssz_slices.specs.Part.{opened, reached, bytes_at, len_of, selector_of, uint_of, boolean_of};
+ghost use Rattle.ssz_slices.specs.Part.{opened, whole, reached, bytes_at, len_of, selector_of, uint_of, boolean_of};
 
 use super::encoding::{Encoding, bit_encoding, length_encoding};
 use super::held::Held;
@@ -54,16 +55,29 @@ impl<'s, 'b> Slice<'s, 'b> {
         ensures exact { result ≡ opened (type_of schema.now id) bytes.now }
         ensures encodes { IfOk result (λ part. Encodes part.form part.value bytes.now) }
     {
-        // A type of a schema is legal, so that bytes without a fault tell their value.
-        let _legal = schema.ty(id);
         match check(schema, id, bytes) {
             Some(fault) => Err(fault),
-            None => Ok(Slice {
-                schema,
-                id,
-                input: bytes,
-                held: Held::Bytes(0, bytes.len()),
-            }),
+            None => Ok(Slice::whole(schema, id, bytes)),
+        }
+    }
+
+    /// The same of bytes that are known to encode a value of the type: they are not looked at.
+    ///
+    /// Conditions: as those of `new`, and the bytes have no fault.
+    pub fn whole(schema: &'s Schema, id: TypeId, bytes: &'b [u8]) -> Slice<'s, 'b>
+        requires known { id < length schema.now.trees }
+        requires short { length bytes.now < 2 ^ 32 }
+        requires faultless { why (type_of schema.now id) 0 bytes.now ≡ None }
+        ensures exact { result ≡ whole (type_of schema.now id) bytes.now }
+        ensures encodes { Encodes result.form result.value bytes.now }
+    {
+        // A type of a schema is legal, so that bytes without a fault tell their value.
+        let _legal = schema.ty(id);
+        Slice {
+            schema,
+            id,
+            input: bytes,
+            held: Held::Bytes(0, bytes.len()),
         }
     }
 
