@@ -48,6 +48,14 @@ ReadsLibrary (Ok library) bytes =
     ReadsTypes (Ok library.schema) bytes × (library.found.items ≡ [])
 ReadsLibrary (Err fault) bytes = ReadsTypes (Err fault) bytes
 
+-- A type has a number, and no type has two, while numbers that were given out stay; or it has none
+-- yet and memory ran out.
+abbrev pub Numbers : ℕ → Library → Library → Outcome ℕ → Type 0
+Numbers id old new (Ok number) =
+    (type_in new number ≡ Ok id) × Gives old.found.items new.found.items id number
+Numbers id old new (Err fault) =
+    (new.found.items ≡ old.found.items) × (fault ≡ refused NO_MEMORY) × IsNew old.found.items id
+
 -- why a name has no number: its type has none yet and memory ran out, or no type has the name
 abbrev pub IsUnnamed : List ℕ → Library → SszFault → Type 0
 IsUnnamed name library fault =

@@ -1,7 +1,7 @@
 // A schema of C: read, and its types by name and by number.
 ghost use Rattle.std.specs.Prelude.{◌≡◌, [], ◌∷◌, ◌++◌, ◌<◌, length, IfOk, OnErr};
 ghost use Rattle.ssz_typed.specs.Numbers.{IsFound, IsNew};
-ghost use Rattle.ssz_typed.specs.Library.{Names, ReadsLibrary, ReadsTypes, fault_of_read, type_in};
+ghost use Rattle.ssz_typed.specs.Library.{Names, Numbers, ReadsLibrary, ReadsTypes, fault_of_read, type_in};
 
 use super::library::Library;
 use ssz_chunk::{ShaPair, ZeroTable};
@@ -73,6 +73,15 @@ impl Library {
         let Some(id) = self.schema.find(name) else {
             return Err(SszFault::of(status::NO_TYPE));
         };
+        self.numbered(id)
+    }
+
+    // The number of a type: its own, if it has one, or the next.
+    pub(crate) fn numbered(&mut self, id: TypeId) -> Result<u64, SszFault>
+        requires { id < length self.old.schema.trees }
+        ensures numbers { Numbers id self.old self.new result }
+        ensures schema { self.new.schema ≡ self.old.schema }
+    {
         if let Some(number) = place_of(self.found.as_slice(), id) {
             return Ok(number);
         }
