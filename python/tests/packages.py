@@ -81,7 +81,7 @@ def c(tally, prefix, room):
         return
     flags, _ = ran("pkg-config", "--cflags", "--libs", "ssz", PKG_CONFIG_PATH=f"{prefix}/lib/pkgconfig")
     ways = [flags.split(), [f"-I{prefix}/include", f"{prefix}/lib/libssz.a"]]
-    wanted = re.search(r"prints\n\n((?:    .*\n)+)", (TOP / "c" / "README.md").read_text())[1].replace("    ", "")
+    wanted = shown("c")
     passed = failed = 0
     for number, way in enumerate(ways):
         made = room / f"example{number}"
@@ -90,6 +90,33 @@ def c(tally, prefix, room):
         right = [made.exists() and ran(*words) == (wanted, 0) for words in runs]
         passed, failed = passed + sum(right), failed + len(right) - sum(right)
     tally.add("c", passed, failed)
+
+
+def shown(package):
+    """What the page of a package says that its example prints."""
+    return re.search(r"prints\n\n((?:    .*\n)+)", (TOP / package / "README.md").read_text())[1].replace("    ", "")
+
+
+def front(tally, prefix, room):
+    """The commands of README, "From other languages", with the installation as ~/.local, in a folder of links to the repository."""
+    if not all(map(shutil.which, ("cc", "pkg-config", "cargo"))):
+        return
+    home, top = room / "home", room / "top"
+    home.mkdir()
+    (home / ".local").symlink_to(prefix)
+    top.mkdir()
+    for name in ("examples", "python", "rust"):
+        (top / name).symlink_to(TOP / name)
+    # rustc finds its toolchain by HOME, unless it is told
+    rustup = os.environ.get("RUSTUP_HOME") or os.path.expanduser("~/.rustup")
+    section = (TOP / "README.md").read_text().split("\n## From other languages\n")[1].split("\n## ")[0]
+    tables = {"cc": shown("c"), "(cd rust": shown("rust")}
+    right = []
+    for line in re.findall(r"(?m)^    (.+)$", section):
+        said, status = ran("bash", "-c", line, where=top, HOME=str(home), CARGO_TARGET_DIR=str(room / "target"), RUSTUP_HOME=rustup)
+        wanted = next((text for start, text in tables.items() if line.startswith(start)), said)
+        right.append(status == 0 and said == wanted != "")
+    tally.add("README", sum(right), len(right) - sum(right) or int(len(right) < 3))
 
 
 def packages(tally, prefix, room):
@@ -105,6 +132,7 @@ def packages(tally, prefix, room):
     python(tally, libraries)
     rust(tally, libraries, room)
     c(tally, prefix, room)
+    front(tally, prefix, room)
 
 
 def main(words):
