@@ -51,7 +51,7 @@ enum {
     SSZ_ABSENT = 8,      /* the path fits the type, and the value has no such part */
     SSZ_BAD_PROOF = 9,   /* the text, or the chunks, are no proof */
     SSZ_UNLIKE = 10,     /* the proof leads to another root */
-    SSZ_NO_MEMORY = 11,  /* want of memory */
+    SSZ_NO_MEMORY = 11,  /* out of memory */
     SSZ_NO_ROOM = 12,    /* too little room for what was found */
     SSZ_REFUSED = 13,    /* a session refused: the reply to a line says why, else the code */
     SSZ_NO_READ = 14,    /* the line's statement reads a file, and a session has none */
