@@ -141,6 +141,7 @@ class Words(unittest.TestCase):
 
     def check(self, words: list[str], *wanted: str) -> None:
         text = said(*words)
+        self.assertNotRegex(text, r"\w\.\.\n")
         for word in wanted:
             self.assertIn(word, text)
 

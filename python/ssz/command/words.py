@@ -24,7 +24,7 @@ class Problem(Exception):
 
 def problem(word: str, why: str, advice: str = "") -> Problem:
     """The problem with a word of the command line."""
-    return Problem(f"{'standard input' if word == '-' else word}: {why}. {advice}".rstrip())
+    return Problem(f"{'standard input' if word == '-' else word}: {why.rstrip('.')}. {advice}".rstrip())
 
 
 def content(word: str) -> bytes:
