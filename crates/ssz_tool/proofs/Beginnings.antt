@@ -5,7 +5,9 @@ use Rattle.std.specs.Prelude.{IsTrue}
 use Rattle.std.specs.List.{AllByRecursion}
 use Rattle.ssz_chunk.specs.Chunk.{CountsUp}
 use Rattle.ssz_outside.specs.Content.{Content}
-use Rattle.ssz_outside.specs.Job.{Job, Ends, IsFinished, StandsAt}
+use Rattle.ssz_outside.specs.Job.{CountsRun, Job, Ends, Finishes, IsFinished, StandsAt}
+use Rattle.ssz_outside.specs.Outcome.{Rose}
+use Rattle.ssz_outside.proofs.Finishing.{Finishes-quiet}
 use Rattle.ssz_outside.specs.Pieces.{Told}
 use Rattle.ssz_outside.specs.declared.status.Status.{Status}
 use Rattle.ssz_outside.specs.declared.status.Status.TheVariants as status
@@ -30,11 +32,10 @@ use Rattle.ssz_engine.specs.Scripts.{EndsRun, EndsScript, HasCounts, IsFresh, Sc
 use Rattle.ssz_engine.proofs.Reaching.{same_charges}
 use Rattle.ssz_engine.proofs.Replies.{said_number}
 use Rattle.ssz_engine.proofs.Scripts.{told_append-none}
-use Rattle.ssz_tool.specs.Reached.{reached_of_task}
-use Rattle.ssz_tool.specs.Runs.{Does, job_of_line, job_of_print, job_of_task, pairs_of_task, rules_of, turns_of_task}
+use Rattle.ssz_tool.specs.Runs.{Does, job_of_line, job_of_print, job_of_task, pairs_of_task, reached_of_task, rules_of, turns_of_task}
 use Rattle.ssz_tool.specs.Tasks.{DoesSame}
-use Rattle.ssz_tool.specs.ToDo.{Printed, printed, Task, says, prints, plays, weaves, works, plays_tree}
 use Rattle.ssz_tool.specs.declared.line.Line.{Line}
+use Rattle.ssz_tool.specs.ToDo.{Printed, printed, Task, prints, plays, weaves, works, plays_tree}
 use Rattle.ssz_tool.proofs.Quiet.{no_counts, weave_counts}
 
 -- a count that goes up by the pairs of the zero table
@@ -43,7 +44,8 @@ zero_table first = record { rises = omega arith; at_most = omega arith; exact = 
 
 -- so a job of one line is done for no numbers
 pub line_does : (ample : Bool) (held : Content) (reads : Bool) (made : Printed) (ended : Status)
-    (first last : ℕ) (old new : Told) → Ends ample ended (job_of_print held reads made) old new (Some held)
+    (first last : ℕ) (old new : Told) → Ends ample ended (job_of_print held reads made) old new
+    (Some held)
     → Does (λ numbers. job_of_print held reads made) (λ numbers. []) ended first last
     (λ job. Ends ample ended job old new (Some held))
 line_does ample held reads made ended first last old new ends = record {
@@ -64,12 +66,35 @@ line_does_as ample held reads line wanted ended first last old new is ends =
     line_does ample held reads (printed wanted) ended first last old new
     (subst (λ (l : Line). Ends ample ended (job_of_line held reads l) old new (Some held)) is ends)
 
+-- so a task that prints one text is done for no numbers
+pub print_does : (ample : Bool) (pair_of : PairOf) (held : Content) (reads : Bool)
+    (made : PairOf → Printed) (most : ℕ) (ended : Status) (first last : ℕ) (old new : Told)
+    → Ends ample ended (job_of_print held reads (made pair_of)) old new (Some held)
+    → Does (λ numbers. job_of_task pair_of numbers held reads (prints made most))
+    (λ numbers. turns_of_task pair_of numbers held (prints made most)) ended first last
+    (λ job. Ends ample ended job old new (Some held))
+print_does ample pair_of held reads made most ended first last old new ends = record {
+  numbers = [];
+  left = ends;
+  base = first + 126;
+  zeros = zero_table first;
+  counts = no_counts ended (last - (first + 126));
+}
+
+pub said_does : (ample : Bool) (pair_of : PairOf) (held : Content) (reads : Bool) (task : Task)
+    (made : PairOf → Printed) (most : ℕ) (ended : Status) (first last : ℕ) (old new : Told)
+    (left : Option Content) → task ≡ prints made most → left ≡ Some held
+    → Ends ample ended (job_of_print held reads (made pair_of)) old new (Some held)
+    → Does (λ numbers. job_of_task pair_of numbers held reads task)
+    (λ numbers. turns_of_task pair_of numbers held task) ended first last
+    (λ job. Ends ample ended job old new left)
+said_does ample pair_of held reads task made most ended first last old new left is told ends =
+    rw (is, told) (print_does ample pair_of held reads made most ended first last old new ends)
+
 -- before its first step a job has printed nothing, and the files are as they were
 pub stands_first : (pair_of : PairOf) (numbers : List ℕ) (held : Content) (reads : Bool)
     (task : Task) (told : Told)
     → StandsAt ((job_of_task pair_of numbers held reads task).at 0) told told (Some held)
-stands_first pair_of numbers held reads (says line) told =
-    record { printed = told_append-none told; held = refl }
 stands_first pair_of numbers held reads (prints made most) told =
     record { printed = told_append-none told; held = refl }
 stands_first pair_of numbers held reads (plays type_named most script) told =
@@ -83,7 +108,6 @@ stands_first pair_of numbers held reads (plays_tree t lists script) told =
 
 reads_first : (pair_of : PairOf) (numbers : List ℕ) (held : Content) (reads : Bool) (task : Task)
     → reads ≡ true → IsTrue ((job_of_task pair_of numbers held reads task).reads 0)
-reads_first pair_of numbers held reads (says line) is = is
 reads_first pair_of numbers held reads (prints made most) is = is
 reads_first pair_of numbers held reads (plays type_named most script) is = rw is refl
 reads_first pair_of numbers held reads (weaves type_named most base order scripts) is = rw is refl
@@ -127,7 +151,6 @@ zero_counts rules state script ended rise stopped = record {
 
 first_counts : (pair_of : PairOf) (held : Content) (task : Task) (ended : Status) (rise : ℕ)
     → ¬ IsFinished ended → HasCounts ended (turns_of_task pair_of [] held task) rise
-first_counts pair_of held (says line) ended rise stopped = no_counts ended rise
 first_counts pair_of held (prints made most) ended rise stopped = no_counts ended rise
 first_counts pair_of held (plays type_named most script) ended rise stopped =
     zero_counts (rules_of pair_of type_named most) (fresh held) script ended rise stopped
@@ -194,6 +217,24 @@ does_same pair_of held reads meant made ended first last Left same does = record
       (sym (same.turns pair_of does.numbers held)) does.counts;
 }
 
+-- where no fault is counted and memory is not wanting, it was done
+pub does_quietly : (ample : Bool) (job : List ℕ → Job) (turns : List ℕ → List Turn)
+    (ended : Status) (first last : ℕ) (old new : Told) (left : Option Content)
+    (gets gets_now puts puts_now sinks sinks_now : ℕ)
+    → Does job turns ended first last (λ job. Ends ample ended job old new left)
+    → CountsRun ended gets gets_now puts puts_now sinks sinks_now → ¬ Rose gets gets_now
+    → ¬ Rose puts puts_now → ¬ Rose sinks sinks_now → ended ≢ status.Memory
+    → Does job turns ended first last (λ job. Finishes job ended old new left)
+does_quietly ample job turns ended first last old new left gets gets_now puts puts_now sinks
+    sinks_now does counts no_get no_put no_sink memory = record {
+      numbers = does.numbers;
+      left = Finishes-quiet ample ended _ _ _ _ _ _ _ _ _ _ does.left counts no_get no_put no_sink
+          memory;
+      base = does.base;
+      zeros = does.zeros;
+      counts = does.counts;
+    }
+
 -- the files of the words are read, and those of the statements
 pub all_back : (P : List ℕ → Type 0) (xs ys : List (List ℕ)) → AllByRecursion P (xs ++ ys)
     → AllByRecursion P ys
@@ -230,7 +271,8 @@ module _ (pair_of : PairOf) (schema : Types) (most : ℕ) (held : Content) (scri
   script_does reads first zeros = record {
     numbers = run.numbers;
     left = ends_after_reading before.ample reads ended
-        (script_job rules run.numbers (fresh held) script) before.pieces after.pieces after.told run.ends;
+        (script_job rules run.numbers (fresh held) script) before.pieces after.pieces after.told
+        run.ends;
     base = before.hashed;
     zeros = zeros;
     counts = run.counts new;

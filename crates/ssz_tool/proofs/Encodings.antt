@@ -13,7 +13,8 @@ use Rattle.ssz_value.specs.Reading.{value_in}
 use Rattle.ssz_value.specs.Values.{SszValue}
 use Rattle.ssz_value.specs.declared.path_fault.PathFault.{PathFault}
 use Rattle.ssz_value.specs.declared.path_fault.PathFault.TheVariants.{Absent}
-use Rattle.ssz_tool.specs.Parts.{Forms, encoding_in, encoding_within}
+use Rattle.ssz_tool.specs.Commands.{encoding_in}
+use Rattle.ssz_tool.specs.Plans.{gives, refuses, ◌>>=◌}
 use Rattle.ssz_tool.specs.declared.line.Line.TheVariants as line
 
 -- the whole of bytes that has been opened
@@ -76,53 +77,60 @@ module _ (t : SszType) (b : List ℕ) (path : Path) (form : SszType)
           is ∙ reached-by (Some w) some in
           cc
 
--- a file that is too long
-pub encoding_in-too_long : (most : ℕ) (forms : Forms) (path : Path) (held : List ℕ)
-    → most < length held → encoding_in most forms path held ≡ Err line.TooLong
-unfolding encoding_in
-encoding_in-too_long most forms path held long = rw (lt-ltb most (length held) long) refl
+-- What the plan of an encoding comes to.
+module _ (most : ℕ) (whole_type form : SszType) (path : Path) (b : List ℕ) where
+  pub encoding_in-fault : (fault : Fault) → Err fault ≡ opened whole_type b
+      → encoding_in most whole_type form path b ≡ refuses (line.Invalid fault)
+  unfolding encoding_in ◌>>=◌
+  encoding_in-fault fault is = by (why whole_type 0 b) refl
+    where
+      by : (o : Option Fault) → why whole_type 0 b ≡ o
+          → encoding_in most whole_type form path b ≡ refuses (line.Invalid fault)
+      by None none =
+          let at : Err fault ≡ Ok (whole whole_type b) = is ∙ rw none refl in
+          cc
+      by (Some other) some =
+          let at : Err fault ≡ Err other = is ∙ rw some refl in
+          let same : other ≡ fault = cc in
+          rw (some, same) refl
 
--- Below, the file is not.
+  module _ (found : Part) (fits : path_type whole_type path ≡ Some form)
+      (is : Ok found ≡ opened whole_type b) where
+    pub encoding_in-absent : (fault : PathFault) → Err fault ≡ reached found path
+        → encoding_in most whole_type form path b ≡ refuses line.Absent
+    unfolding encoding_in ◌>>=◌
+    encoding_in-absent fault none =
+        let whole_is = opened-is whole_type b found is in
+        let gone = absent whole_type b path form fits fault
+        (none ∙ ap (λ (p : Part). reached p path) whole_is.1) in
+        rw (whole_is.0, gone) refl
 
-pub encoding_in-fault : (most : ℕ) (forms : Forms) (path : Path) (b : List ℕ) (fault : Fault)
-    → length b ≤ most → Err fault ≡ opened forms.whole b
-    → encoding_in most forms path b ≡ Err (line.Invalid fault)
-unfolding encoding_in
-encoding_in-fault most forms path b fault short is = by (why forms.whole 0 b) refl
-  where
-    by : (o : Option Fault) → why forms.whole 0 b ≡ o
-        → encoding_in most forms path b ≡ Err (line.Invalid fault)
-    by None none =
-        let at : Err fault ≡ Ok (whole forms.whole b) = is ∙ rw none refl in
-        cc
-    by (Some other) some =
-        let at : Err fault ≡ Err other = is ∙ rw some refl in
-        let same : other ≡ fault = cc in
-        rw (le-ltb most (length b) short, some, same) refl
+    pub encoding_in-long : (there : Part) → Ok there ≡ reached found path
+        → most < length (enc there.form there.value)
+        → encoding_in most whole_type form path b ≡ refuses line.TooLong
+    unfolding encoding_in ◌>>=◌
+    encoding_in-long there at long =
+        let whole_is = opened-is whole_type b found is in
+        let present_is = present whole_type b path form fits there
+        (at ∙ ap (λ (p : Part). reached p path) whole_is.1) in
+        rw (
+          whole_is.0,
+          present_is.value,
+          sym present_is.form_is,
+          lt-ltb most (length (enc there.form there.value)) long,
+        ) refl
 
-pub encoding_in-absent : (most : ℕ) (forms : Forms) (path : Path) (b : List ℕ) (found : Part)
-    (fault : PathFault) → length b ≤ most → path_type forms.whole path ≡ Some forms.part
-    → Ok found ≡ opened forms.whole b → Err fault ≡ reached found path
-    → encoding_in most forms path b ≡ Err line.Absent
-unfolding encoding_in
-encoding_in-absent most forms path b found fault short fits is none =
-    let whole_is = opened-is forms.whole b found is in
-    let gone = absent forms.whole b path forms.part fits fault
-    (none ∙ ap (λ (p : Part). reached p path) whole_is.1) in
-    rw (le-ltb most (length b) short, whole_is.0, gone) refl
-
-pub encoding_in-part : (most : ℕ) (forms : Forms) (path : Path) (b : List ℕ) (found there : Part)
-    → length b ≤ most → path_type forms.whole path ≡ Some forms.part
-    → Ok found ≡ opened forms.whole b → Ok there ≡ reached found path
-    → encoding_in most forms path b ≡ encoding_within most (enc there.form there.value)
-unfolding encoding_in
-encoding_in-part most forms path b found there short fits is at =
-    let whole_is = opened-is forms.whole b found is in
-    let present_is = present forms.whole b path forms.part fits there
-    (at ∙ ap (λ (p : Part). reached p path) whole_is.1) in
-    rw (
-      le-ltb most (length b) short,
-      whole_is.0,
-      present_is.value,
-      present_is.form_is,
-    ) refl
+    pub encoding_in-part : (there : Part) → Ok there ≡ reached found path
+        → length (enc there.form there.value) ≤ most
+        → encoding_in most whole_type form path b ≡ gives (enc there.form there.value)
+    unfolding encoding_in ◌>>=◌
+    encoding_in-part there at few =
+        let whole_is = opened-is whole_type b found is in
+        let present_is = present whole_type b path form fits there
+        (at ∙ ap (λ (p : Part). reached p path) whole_is.1) in
+        rw (
+          whole_is.0,
+          present_is.value,
+          sym present_is.form_is,
+          le-ltb most (length (enc there.form there.value)) few,
+        ) refl

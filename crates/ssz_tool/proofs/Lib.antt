@@ -1,7 +1,7 @@
-pub mod Readings
-pub mod Taken
+pub mod Steps
+pub mod Reading
+pub mod Followed
 pub mod Verdicts
-pub mod Playing
 pub mod Quiet
 pub mod Beginnings
 pub mod Woven

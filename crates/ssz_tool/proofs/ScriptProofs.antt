@@ -1,18 +1,16 @@
 -- What `verify` says of each proof that scripts print.
-use Rattle.std.proofs.Common.{ℕ, ◌≡◌, ◌≢◌, List, [], ◌∷◌, Option, Some, sym, subst}
+use Rattle.std.proofs.Common.{ℕ, List, [], ◌∷◌, Option, sym, subst}
 use Rattle.std.specs.Prelude.{IfOk}
 use Rattle.std.specs.List.{AllByRecursion}
-use Rattle.ssz_line.specs.declared.index.Index.{Index}
 use Rattle.ssz_schema.specs.declared.format.Format.{Format}
 use Rattle.ssz_script.specs.declared.statement.Statement.{Statement}
-use Rattle.ssz_script.specs.declared.statement.Statement.TheVariants.{Prove}
 use Rattle.ssz_value.specs.Trees.{hash_tree_root}
 use Rattle.ssz_machine.specs.declared.place.Place.{Place}
-use Rattle.ssz_machine.specs.State.{Name, Version, State, version_of, view_of}
+use Rattle.ssz_machine.specs.State.{State, view_of}
 use Rattle.ssz_machine.specs.Rules.{Rules}
 use Rattle.ssz_machine.specs.Machine.{Line, said, step, state_of}
 use Rattle.ssz_machine.specs.Plays.{Event, says, adopts, adopted, next_number, numbers_after, play}
-use Rattle.ssz_machine.specs.Proofs.{MakesChunks, IsIndex}
+use Rattle.ssz_machine.specs.Proofs.{MakesChunks}
 use Rattle.ssz_machine.specs.Sound.{IsSoundState}
 use Rattle.ssz_machine.proofs.KeptValues.{scripts_keep_values_lem}
 use Rattle.ssz_machine.proofs.Soundness.{sound_found}

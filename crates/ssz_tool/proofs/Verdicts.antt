@@ -1,14 +1,11 @@
--- What a proof file gives, by its length and its text, and tasks that do the same.
-use Rattle.std.proofs.Common.{◌≡◌, ℕ, ◌*◌, ◌<◌, ◌≤◌, ◌^◌, List, length, refl, sym, ap, ◌∙◌, Option, Some, None, Result, Ok, Err}
+-- Tasks that do the same.
+use Rattle.std.proofs.Common.{◌≡◌, ℕ, ◌*◌, List, refl, sym, ap, Result, Ok, Err}
 use Rattle.std.specs.Prelude.{IfOk}
-use Rattle.std.proofs.lemmas.Bool.{lt-ltb, le-ltb}
 use Rattle.ssz_clash.proofs.Given.{compared-given}
 use Rattle.ssz_proof.specs.Multiproof.{Multiproof, IsProofOf}
-use Rattle.ssz_proof.specs.Judgement.{multiproof_of}
-use Rattle.ssz_proof.proofs.Judged.{multiproof_of-read, multiproof_of-refused, calculated-given, levels-given}
-use Rattle.ssz_tool.specs.Readings.{proof_in}
+use Rattle.ssz_proof.proofs.Judged.{calculated-given, levels-given}
 use Rattle.ssz_tool.specs.Runs.{job_of_line}
-use Rattle.ssz_tool.specs.Tasks.{DoesSame, IsProofIn, IsProofOfText}
+use Rattle.ssz_tool.specs.Tasks.{DoesSame}
 use Rattle.ssz_tool.specs.ToDo.{Task, verifies, compares, line_of_root}
 use Rattle.ssz_tool.specs.declared.line.Line.TheVariants as line
 
@@ -18,31 +15,9 @@ DoesSame-equal meant made same = rw same (record {
   turns = λ pair_of numbers held. refl;
   reached = λ pair_of held. refl;
   least = λ pair_of held. refl;
+  scripts = refl;
   pairs = λ pair_of held. refl;
 })
-
--- ---- proof files
-
--- a proof file that is not too long gives what its text says
-pub proof_in-whole : (held bytes : List ℕ) → (held ≡ bytes) × (length bytes ≤ 2 ^ 26)
-    → proof_in held ≡ multiproof_of bytes
-unfolding proof_in
-proof_in-whole held bytes is = rw (is.0, le-ltb (2 ^ 26) (length bytes) is.1) refl
-
-pub proof_in-too_long : (held : List ℕ) → 2 ^ 26 < length held → proof_in held ≡ None
-unfolding proof_in
-proof_in-too_long held long = rw (lt-ltb (2 ^ 26) (length held) long) refl
-
--- so it gives the proof that was read from it
-pub IsProofIn-text : (held text : List ℕ) → (held ≡ text) × (length text ≤ 2 ^ 26)
-    → (result : Option Multiproof) → IsProofOfText text result → IsProofIn held result
-IsProofIn-text held text is None refused =
-    proof_in-whole held text is ∙ multiproof_of-refused text refused
-IsProofIn-text held text is (Some proof) read = (
-  read.lists,
-  proof_in-whole held text is ∙ multiproof_of-read text proof read,
-  read.is,
-)
 
 -- ---- tasks over proofs
 
@@ -56,6 +31,7 @@ verifies-given root lists proof is = record {
   turns = λ pair_of numbers held. refl;
   reached = λ pair_of held. refl;
   least = λ pair_of held. refl;
+  scripts = refl;
   pairs = λ pair_of held. sym (levels-given lists proof is);
 }
 
@@ -69,6 +45,7 @@ compares-given lists one others other is also = record {
   turns = λ pair_of numbers held. refl;
   reached = λ pair_of held. refl;
   least = λ pair_of held. refl;
+  scripts = refl;
   pairs = λ pair_of held. ap (λ n. 2 * n) (sym (levels-given lists one is));
 }
 

@@ -1,7 +1,6 @@
 -- The work that the words ask for, and how it was done.
 use Rattle.std.proofs.Common.{◌≡◌, ℕ, ◌+◌, ◌-◌, ◌≤◌, Bool, true, false, List, [], Option, Some, None, refl, sym, ap, ◌∙◌, subst, arith}
 use Rattle.std.specs.Prelude.{◌≢◌, option_and_then}
-use Rattle.std.proofs.Math.Path.{fun_ext}
 use Rattle.ssz_chunk.specs.Chunk.{CountsUp}
 use Rattle.ssz_outside.specs.Content.{Content}
 use Rattle.ssz_outside.specs.Job.{Ends}
@@ -12,7 +11,6 @@ use Rattle.ssz_proof.specs.Calculation.{PairOf}
 use Rattle.ssz_schema.specs.Names.{is_name}
 use Rattle.ssz_schema.specs.Types.{SszType}
 use Rattle.ssz_schema.specs.Unfolding.{Types, known_in}
-use Rattle.ssz_schema_json.specs.Schema.{HasTypes, NamedTypes}
 use Rattle.ssz_machine.specs.State.{Name, fresh}
 use Rattle.ssz_machine.specs.Rules.{Rules}
 use Rattle.ssz_machine.specs.Work.{work_job}
@@ -21,19 +19,10 @@ use Rattle.ssz_decisions.specs.Content.{rules_of as engine_rules}
 use Rattle.ssz_decisions.specs.Standing.{StandsFor}
 use Rattle.ssz_engine.specs.Scripts.{IsFresh, Scene}
 use Rattle.ssz_engine.specs.Works.{EndsWork, EndsWorkFrom}
-use Rattle.ssz_words.specs.declared.commands.WorkArgs.{WorkArgs}
-use Rattle.ssz_tool.specs.Readings.{Reading, accepted}
 use Rattle.ssz_tool.specs.Runs.{Does, RisesWhere, job_of_task, least_of_task, pairs_of_task, rules_of_work, turns_of_task}
 use Rattle.ssz_tool.specs.ToDo.{works}
-use Rattle.ssz_tool.specs.WorkTasks.{task_of_reading, task_of_type, type_of_word}
+use Rattle.ssz_tool.specs.Commands.{type_of_word}
 use Rattle.ssz_tool.proofs.Quiet.{no_counts}
-
--- the schema that was read knows each name for the type that the file defines
-pub task_of_reading-accepted : (args : WorkArgs) (meant : Reading) (schema : Types)
-    (names : NamedTypes) → meant ≡ accepted names → HasTypes schema names
-    → task_of_reading args meant
-    ≡ task_of_type args (known_in schema) (type_of_word (known_in schema) args.type_name)
-task_of_reading-accepted args meant schema names is has = rw (is, fun_ext has.types) refl
 
 -- a word that is read as a name is the name
 pub name_is : (word made : List ℕ) → name word ≡ Some made → made ≡ word
@@ -80,7 +69,8 @@ module _ (pair_of : PairOf) (schema : Types) (held : Content) (type_name : Name)
   work_does reads first zeros = record {
     numbers = [];
     left = ends_after_reading before.ample reads ended
-        (work_job rules (fresh held) type_name seed count) before.pieces after.pieces after.told run.ends;
+        (work_job rules (fresh held) type_name seed count) before.pieces after.pieces after.told
+        run.ends;
     base = before.hashed;
     zeros = zeros;
     counts = no_counts ended (after.hashed - before.hashed);

@@ -17,8 +17,7 @@ use Rattle.ssz_decisions.specs.Content.{rules_of as engine_rules}
 use Rattle.ssz_decisions.specs.Standing.{StandsFor}
 use Rattle.ssz_engine.specs.Scripts.{AreNamedReadable, IsFresh, Scene, files_named}
 use Rattle.ssz_engine.specs.Weaves.{EndsWeave, EndsWeaveFrom}
-use Rattle.ssz_tool.specs.Reached.{reached_of_task}
-use Rattle.ssz_tool.specs.Runs.{Does, job_of_task, pairs_of_task, rules_of, turns_of_task}
+use Rattle.ssz_tool.specs.Runs.{Does, job_of_task, pairs_of_task, reached_of_task, rules_of, turns_of_task}
 use Rattle.ssz_tool.specs.ToDo.{weaves}
 use Rattle.ssz_tool.proofs.Beginnings.{all_readable}
 use Rattle.ssz_tool.proofs.Quiet.{weave_counts}
@@ -56,7 +55,8 @@ module _ (pair_of : PairOf) (schema : Types) (most : ℕ) (held : Content) (base
   weave_does reads first zeros = record {
     numbers = [];
     left = ends_after_reading before.ample reads ended
-        (weave_job rules (fresh held) base order scripts) before.pieces after.pieces after.told run.ends;
+        (weave_job rules (fresh held) base order scripts) before.pieces after.pieces after.told
+        run.ends;
     base = before.hashed;
     zeros = zeros;
     counts = weave_counts rules (fresh held) base order scripts ended

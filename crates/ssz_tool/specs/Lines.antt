@@ -1,5 +1,5 @@
 -- The texts of the printed lines, and their statuses (this project's).
-use Rattle.std.specs.Prelude.{ℕ, List, [], ◌∷◌, ◌++◌, Bool, true, false, codes, decimal, Result, Ok, Err}
+use Rattle.std.specs.Prelude.{ℕ, List, [], ◌∷◌, ◌++◌, codes, decimal, Result, Ok, Err}
 use Rattle.hex.specs.Hex.{encode_lower}
 use Rattle.ssz_chunk.specs.declared.Chunk.{Chunk}
 use Rattle.ssz_clash.specs.declared.finding.Clash.{Clash}
@@ -63,7 +63,6 @@ usage_text =
     ++ ended (codes " | partial SCHEMA TYPE PROOF SCRIPT | clash FILE FILE"))
 
 abbrev pub line_text : Line → List ℕ
-line_text line.Usage = usage_text
 line_text line.SchemaTooLong = ended (codes "schema S15")
 line_text line.NotJson = ended (codes "schema S1")
 line_text line.Shape = ended (codes "schema S2")
@@ -88,7 +87,6 @@ comparison_status (Err fault) = status.Refused
 
 -- the status after a line was printed
 abbrev pub status_of : Line → Status
-status_of line.Usage = status.Usage
 status_of line.SchemaTooLong = status.SchemaFault
 status_of line.NotJson = status.SchemaFault
 status_of line.Shape = status.SchemaFault
@@ -105,8 +103,3 @@ status_of line.Absent = status.Refused
 status_of line.FirstBadProof = status.Refused
 status_of line.SecondBadProof = status.Refused
 status_of (line.Compared result) = comparison_status result
-
--- whether a line says how the program is used
-abbrev pub is_usage : Line → Bool
-is_usage line.Usage = true
-is_usage other = false

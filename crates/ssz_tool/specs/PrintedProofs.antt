@@ -2,7 +2,7 @@
 use Rattle.std.specs.Prelude.{ℕ, ◌≡◌, ◌≢◌, ◌≤◌, ◌^◌, Bool, List, [], Some, IfOk, length}
 use Rattle.std.specs.List.{AllByRecursion}
 use Rattle.ssz_line.specs.declared.index.Index.{Index}
-use Rattle.ssz_outside.specs.Content.{Content}
+use Rattle.ssz_outside.specs.Content.{Content, contents}
 use Rattle.ssz_proof.specs.Calculation.{PairOf}
 use Rattle.ssz_schema.specs.declared.format.Format.{Format}
 use Rattle.ssz_script.specs.declared.reply.Reply.{Reply}
@@ -17,15 +17,18 @@ use Rattle.ssz_machine.specs.Plays.{Event, play}
 use Rattle.ssz_machine.specs.Asking.{prove}
 use Rattle.ssz_machine.specs.Proofs.{MakesChunks, IsIndex, IsSound}
 use Rattle.ssz_machine.specs.Sound.{HasLegalTypes, IsSoundState, TurnBringsBytes}
-use Rattle.ssz_tool.specs.Jobs.{task_of_proof}
+use Rattle.ssz_words.specs.declared.commands.VerifyArgs.{VerifyArgs}
+use Rattle.ssz_tool.specs.Commands.{verify}
+use Rattle.ssz_tool.specs.Plans.{task_in}
 use Rattle.ssz_tool.specs.Runs.{job_of_line, job_of_task}
 use Rattle.ssz_tool.specs.declared.line.Line.TheVariants as line
 
--- as a file of at most 2 ^ 26 bytes the reply makes `verify` print `valid` for the root
+-- where a file of at most 2 ^ 26 bytes holds the reply, `verify` of it prints `valid` for the root
 abbrev pub IsValidFor : PairOf → List ℕ → Reply → Type 0
 IsValidFor pair_of root (Proof text) =
-    length text ≤ 2 ^ 26 → (numbers : List ℕ) (held : Content) (reads : Bool)
-    → job_of_task pair_of numbers held reads (task_of_proof root text)
+    length text ≤ 2 ^ 26 → (args : VerifyArgs) (held : Content) → args.root ≡ root
+    → contents held args.file ≡ text → (numbers : List ℕ) (reads : Bool)
+    → job_of_task pair_of numbers held reads (task_in held (verify args))
     ≡ job_of_line held reads line.Valid
 IsValidFor pair_of root other = ⊥
 

@@ -1,5 +1,5 @@
 -- The job of the program's words, and the pairs that it may hash.
-use Rattle.std.specs.Prelude.{ℕ, ◌+◌, ◌-◌, List, [], Bool, false, is_some, Option, Some, None}
+use Rattle.std.specs.Prelude.{ℕ, ◌+◌, ◌-◌, List, [], ◌++◌, Bool, false, is_some, Option, Some, None}
 use Rattle.ssz_chunk.specs.Chunk.{CountsUp}
 use Rattle.ssz_outside.specs.Content.{Content}
 use Rattle.ssz_outside.specs.Job.{Job, line_job}
@@ -12,13 +12,13 @@ use Rattle.ssz_machine.specs.Machine.{Turn}
 use Rattle.ssz_machine.specs.Plays.{charges}
 use Rattle.ssz_machine.specs.Jobs.{after_reading, script_job, turns_of_script, turns_of_weave, weave_job}
 use Rattle.ssz_machine.specs.Work.{work_job}
-use Rattle.ssz_engine.specs.Scripts.{HasCounts}
+use Rattle.ssz_engine.specs.Scripts.{HasCounts, files_reached}
 use Rattle.ssz_decisions.specs.Roots.{RisesBy}
 use Rattle.ssz_engine.specs.Works.{whole_work}
 use Rattle.ssz_partial_script.specs.Plays.{charges as tree_charges, script_job as tree_job, turns_of_script as tree_turns}
-use Rattle.ssz_tool.specs.Jobs.{task_of}
-use Rattle.ssz_tool.specs.ToDo.{Printed, printed, Task, says, prints, plays, weaves, works, plays_tree}
-use Rattle.ssz_tool.specs.Words.{taken}
+use Rattle.ssz_tool.specs.Commands.{plan_of}
+use Rattle.ssz_tool.specs.Plans.{Plan, files_in, task_in}
+use Rattle.ssz_tool.specs.ToDo.{Printed, printed, Task, prints, plays, weaves, works, plays_tree, shows_usage}
 use Rattle.ssz_tool.specs.declared.line.Line.{Line}
 
 -- the rules of a script: the types of its schema, the most bytes of a value, the hasher's pair
@@ -40,7 +40,6 @@ rules_of_work pair_of type_named = rules_of pair_of type_named 0
 -- The job of a task, where `hashes` prints these numbers: files are read before the first
 -- statement, or not any more.
 abbrev pub job_of_task : PairOf → List ℕ → Content → Bool → Task → Job
-job_of_task pair_of numbers held reads (says line) = job_of_line held reads line
 job_of_task pair_of numbers held reads (prints made most) = job_of_print held reads (made pair_of)
 job_of_task pair_of numbers held reads (plays type_named most script) =
     after_reading reads (script_job (rules_of pair_of type_named most) numbers (fresh held) script)
@@ -53,10 +52,19 @@ job_of_task pair_of numbers held reads (works type_named type_name seed count) =
 job_of_task pair_of numbers held reads (plays_tree t lists script) =
     after_reading reads (tree_job pair_of t lists held script)
 
+-- the task of a plan, if there is one
+abbrev pub task_by : Content → Option (Plan Task) → Task
+task_by held None = shows_usage
+task_by held (Some plan) = task_in held plan
+
+-- the task of these words
+abbrev pub task_of : Content → List (List ℕ) → Task
+task_of held words = task_by held (plan_of words)
+
 -- the job of these words over files with this content; files are read for words that are taken
 abbrev pub job_of : PairOf → List (List ℕ) → Content → List ℕ → Job
 job_of pair_of words held numbers =
-    job_of_task pair_of numbers held (is_some (taken words)) (task_of held words)
+    job_of_task pair_of numbers held (is_some (plan_of words)) (task_of held words)
 
 -- the same once the files that the words name are read
 abbrev pub job_once_read : PairOf → List (List ℕ) → Content → List ℕ → Job
@@ -65,7 +73,6 @@ job_once_read pair_of words held numbers =
 
 -- the steps of a task's scripts, where they may ask for `hashes`
 abbrev pub turns_of_task : PairOf → List ℕ → Content → Task → List Turn
-turns_of_task pair_of numbers held (says line) = []
 turns_of_task pair_of numbers held (prints made most) = []
 turns_of_task pair_of numbers held (plays type_named most script) =
     turns_of_script (rules_of pair_of type_named most) numbers (fresh held) script
@@ -81,7 +88,6 @@ turns_of pair_of words held numbers = turns_of_task pair_of numbers held (task_o
 -- How many pairs a task may hash: of scripts, and of a work, the charges of the statements, and 126
 -- for the zero table, which a partial tree needs not.
 abbrev pub pairs_of_task : PairOf → Content → Task → ℕ
-pairs_of_task pair_of held (says line) = 0
 pairs_of_task pair_of held (prints made most) = most
 pairs_of_task pair_of held (plays type_named most script) =
     126 + charges (turns_of_task pair_of [] held (plays type_named most script))
@@ -97,7 +103,6 @@ pairs_of_task pair_of held (plays_tree t lists script) =
 -- one for each edit of something below the top of its value. Such an edit makes the pair at the top
 -- anew, and the root behind it hashes that, before the next edit.
 abbrev pub least_of_task : PairOf → Content → Task → Option ℕ
-least_of_task pair_of held (says line) = None
 least_of_task pair_of held (prints made most) = None
 least_of_task pair_of held (plays type_named most script) = None
 least_of_task pair_of held (weaves type_named most base order scripts) = None
@@ -126,3 +131,31 @@ pub record Does (job : List ℕ → Job) (turns : List ℕ → List Turn) (ended
   pub base : ℕ
   pub zeros : CountsUp 126 first base
   pub counts : HasCounts ended (turns numbers) (last - base)
+
+-- ---- the files that are reached, in the order of work
+
+-- words that are not taken reach no file
+abbrev pub files_by : Content → Option (Plan Task) → List (List ℕ)
+files_by held None = []
+files_by held (Some plan) = files_in held plan
+
+-- the files of the words
+abbrev pub reached_first : Content → List (List ℕ) → List (List ℕ)
+reached_first held words = files_by held (plan_of words)
+
+-- the files that the statements of scripts read: one is reached where the statement is not refused
+-- before it reads
+abbrev pub reached_of_task : PairOf → Content → Task → List (List ℕ)
+reached_of_task pair_of held (prints made most) = []
+reached_of_task pair_of held (works type_named type_name seed count) = []
+reached_of_task pair_of held (plays_tree t lists script) = []
+reached_of_task pair_of held (plays type_named most script) =
+    files_reached (rules_of pair_of type_named most)
+    (turns_of_task pair_of [] held (plays type_named most script))
+reached_of_task pair_of held (weaves type_named most base order scripts) =
+    files_reached (rules_of pair_of type_named most)
+    (turns_of_task pair_of [] held (weaves type_named most base order scripts))
+
+abbrev pub reached : PairOf → Content → List (List ℕ) → List (List ℕ)
+reached pair_of held words =
+    reached_first held words ++ reached_of_task pair_of held (task_of held words)

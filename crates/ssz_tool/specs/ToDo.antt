@@ -10,7 +10,7 @@ use Rattle.ssz_schema.specs.Types.{SszType}
 use Rattle.ssz_value.specs.Pairs.{pairs}
 use Rattle.ssz_value.specs.Reading.{value_in}
 use Rattle.ssz_value.specs.Trees.{hash_tree_root}
-use Rattle.ssz_tool.specs.Lines.{bytes_text, is_usage, line_text, status_of}
+use Rattle.ssz_tool.specs.Lines.{bytes_text, line_text, status_of, usage_text}
 use Rattle.ssz_tool.specs.declared.line.Line.{Line}
 use Rattle.ssz_tool.specs.declared.line.Line.TheVariants as line
 
@@ -22,12 +22,11 @@ pub record Printed : Type 0 where
 abbrev pub printed : Line → Printed
 printed line = record { text = line_text line; status = status_of line }
 
--- A line to print; a text that is made with the hasher's pairs, and how many of them at most; a
--- script to run over types by their names, with the most bytes of a value; a base, an order and
--- scripts to weave; a type's name, a number from which so many edits are drawn, and the edits; or a
--- script to run over the tree of a value of a type, of which a multiproof knows some nodes.
+-- A text to print that is made with the hasher's pairs, and how many of them at most; a script to
+-- run over types by their names, with the most bytes of a value; a base, an order and scripts to
+-- weave; a type's name, a number from which so many edits are drawn, and the edits; or a script to
+-- run over the tree of a value of a type, of which a multiproof knows some nodes.
 pub data Task : Type 0 where
-  says : Line → Task
   prints : (PairOf → Printed) → ℕ → Task
   plays : (List ℕ → Option SszType) → ℕ → List ℕ → Task
   weaves : (List ℕ → Option SszType) → ℕ → List ℕ → List ℕ → List (List ℕ) → Task
@@ -35,6 +34,14 @@ pub data Task : Type 0 where
   plays_tree : SszType → Multiproof → List ℕ → Task
 
 -- ---- tasks that print one line
+
+-- a line to print, for which nothing is hashed
+abbrev pub says : Line → Task
+says line = prints (λ pair_of. printed line) 0
+
+-- the line that says how the program is used
+abbrev pub shows_usage : Task
+shows_usage = prints (λ pair_of. record { text = usage_text; status = status.Usage }) 0
 
 -- an encoding to print, for which nothing is hashed
 abbrev pub shows : List ℕ → Task
@@ -70,12 +77,6 @@ abbrev pub compares : Multiproof → Multiproof → Task
 compares one other =
     prints (λ pair_of. printed (line.Compared (compared pair_of one other)))
     (2 * sum_by levels (indices_of one.leaves))
-
--- ---- which task it is
-
-abbrev pub is_usage_task : Task → Bool
-is_usage_task (says line) = is_usage line
-is_usage_task other = false
 
 -- whether scripts are run that may read files
 abbrev pub is_script : Task → Bool

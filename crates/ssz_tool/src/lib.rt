@@ -6,17 +6,17 @@
 #![tactic(auto)]
 
 mod clashes;
+mod files;
 mod job;
 mod laws;
 mod line;
 mod partials;
 mod parts;
-mod proof_file;
 mod scripts;
+mod stop;
 mod top;
 mod verifying;
 mod weaving;
-mod words;
 mod working;
 
 pub use laws::{printed_proofs_are_valid, scripts_print_valid_proofs};

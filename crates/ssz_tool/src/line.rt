@@ -1,9 +1,9 @@
 // The lines that the program prints, and its statuses.
-ghost use Rattle.std.specs.Prelude.{◌≡◌, ◌↔◌, IsTrue, IfOk, Ok, Err, string_bytes};
+ghost use Rattle.std.specs.Prelude.{◌≡◌, ◌≢◌, IfOk, Ok, Err, string_bytes};
 ghost use Rattle.ssz_clash.specs.declared.finding.Clash.TheVariants.{Unlike};
 ghost use Rattle.ssz_clash.specs.declared.fault.ClashFault.TheVariants.{OtherRoot};
 ghost use Rattle.ssz_outside.specs.Job.{IsFinished};
-ghost use Rattle.ssz_tool.specs.Lines.{bytes_text, comparison_status, comparison_text, definition_text, fault_text, root_text, unlike_text, line_text, status_of, is_usage};
+ghost use Rattle.ssz_tool.specs.Lines.{bytes_text, comparison_status, comparison_text, definition_text, fault_text, root_text, unlike_text, line_text, status_of};
 
 use ssz_bytes::Fault;
 use ssz_chunk::Chunk;
@@ -16,8 +16,6 @@ use std::alloc::{AllocError, Global};
 /// A line that the program prints.
 #[derive(Clone, Copy, Debug, PartialEq, Eq)]
 pub enum Line {
-    /// The words are not taken.
-    Usage,
     /// The schema file is longer than 2^26 bytes.
     SchemaTooLong,
     /// The schema file is no JSON.
@@ -57,7 +55,6 @@ pub fn line_text(alloc: Global, line: &Line) -> Result<String, AllocError>
     ensures { IfOk result (λ text. string_bytes text ≡ line_text line.now) }
 {
     match line {
-        Line::Usage => String::from_str(alloc, USAGE),
         Line::SchemaTooLong => String::from_str(alloc, "schema S15\n"),
         Line::NotJson => String::from_str(alloc, "schema S1\n"),
         Line::Shape => String::from_str(alloc, "schema S2\n"),
@@ -76,10 +73,6 @@ pub fn line_text(alloc: Global, line: &Line) -> Result<String, AllocError>
         Line::Compared(found) => comparison_text(alloc, found),
     }
 }
-
-const USAGE: &str = "usage: ssz root SCHEMA TYPE FILE | run SCHEMA SCRIPT \
-    | weave SCHEMA BASE ORDER SCRIPT.. | verify ROOT FILE | work SCHEMA TYPE SEED EDITS \
-    | part SCHEMA TYPE FILE PATH | partial SCHEMA TYPE PROOF SCRIPT | clash FILE FILE\n";
 
 fn definition_text(alloc: Global, number: usize, fault: SchemaFault) -> Result<String, AllocError>
     ensures { IfOk result (λ text. string_bytes text ≡ definition_text number fault) }
@@ -170,10 +163,9 @@ fn other_root_text(alloc: Global, a: &Chunk, b: &Chunk) -> Result<String, AllocE
 pub fn status_of(line: &Line) -> Status
     ensures value { result ≡ status_of line.now }
     ensures finished { IsFinished result }
-    ensures usage { (result ≡ Status.Usage) ↔ IsTrue (is_usage line.now) }
+    ensures usage { result ≢ Status.Usage }
 {
     match line {
-        Line::Usage => Status::Usage,
         Line::SchemaTooLong | Line::NotJson | Line::Shape | Line::Definition(_, _) => {
             Status::SchemaFault
         }

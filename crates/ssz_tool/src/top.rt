@@ -1,26 +1,27 @@
 // The top call.
-ghost use Rattle.std.specs.Prelude.{◌≡◌, ◌≢◌, ◌≤◌, ◌+◌, ℕ, List, Bool, false, IsTrue, Some, IsNone, IsSome, sum_by, length};
+ghost use Rattle.std.specs.Prelude.{◌≡◌, ◌≢◌, ◌≤◌, ◌+◌, ℕ, List, Bool, true, Some, IsNone, IsSome, sum_by, length};
 ghost use Rattle.std.specs.List.{AllByRecursion};
 ghost use Rattle.std.specs.Option.{ForSome};
 ghost use Rattle.ssz_chunk.specs.Index.{levels};
 ghost use Rattle.ssz_outside.specs.Content.{Content};
 ghost use Rattle.ssz_outside.specs.Outcome.{Rose};
-ghost use Rattle.ssz_outside.specs.Job.{Ends, Finishes, CountsRun, IsThatOrStopped};
+ghost use Rattle.ssz_outside.specs.Job.{Ends, Finishes, CountsRun, IsThatOrStopped, line_job};
 ghost use Rattle.ssz_proof.specs.Calculation.{indices_of};
 ghost use Rattle.ssz_schema.specs.Unfolding.{type_of};
-ghost use Rattle.ssz_tool.specs.Lines.{is_usage, status_of};
-ghost use Rattle.ssz_tool.specs.Reached.{reached, reached_first, reached_of_task};
-ghost use Rattle.ssz_tool.specs.Runs.{Does, RisesWhere, job_of, job_of_line, job_of_task, job_once_read, least_asked, least_of_task, pairs_allowed, pairs_of_task, turns_of, turns_of_task};
+ghost use Rattle.ssz_tool.specs.Commands.{plan_of, texts};
+ghost use Rattle.ssz_tool.specs.Lines.{status_of};
+ghost use Rattle.ssz_tool.specs.Plans.{AreReadable};
+ghost use Rattle.ssz_tool.specs.Runs.{Does, RisesWhere, job_of, job_of_line, job_of_task, job_once_read, least_asked, least_of_task, pairs_allowed, pairs_of_task, reached, reached_first, reached_of_task, turns_of, turns_of_task};
 ghost use Rattle.ssz_tool.specs.Tasks.{IsFaultless, IsReady, task_view};
-ghost use Rattle.ssz_tool.specs.ToDo.{is_script, is_usage_task, line_of_proof, line_of_value};
-ghost use Rattle.ssz_tool.specs.Words.{AreReadable, taken, texts};
+ghost use Rattle.ssz_tool.specs.ToDo.{is_script, line_of_proof, line_of_value};
 ghost use Rattle.ssz_value.specs.Faults.{why};
 ghost use Rattle.ssz_value.specs.Pairs.{pairs};
 ghost use Rattle.ssz_value.specs.Reading.{value_in};
 
-use crate::job::{Stop, Task, task_of};
+use crate::job::{Task, task_of};
 use crate::line::{Line, line_text, status_of};
 use crate::scripts::run_script;
+use crate::stop::Stop;
 use crate::weaving::run_weave;
 use crate::working::run_work;
 use ssz_chunk::{Chunk, PairHash, ZeroTable};
@@ -32,11 +33,14 @@ use ssz_roots::root_of_bytes;
 use ssz_schema::{Schema, TypeId};
 use std::alloc::Global;
 
+const USAGE: &str = "usage: ssz root SCHEMA TYPE FILE | run SCHEMA SCRIPT \
+    | weave SCHEMA BASE ORDER SCRIPT.. | verify ROOT FILE | work SCHEMA TYPE SEED EDITS \
+    | part SCHEMA TYPE FILE PATH | partial SCHEMA TYPE PROOF SCRIPT | clash FILE FILE\n";
+
 fn line_of_proof<H: PairHash>(root: &Chunk, proof: &Proof, hasher: &mut H) -> Line
     ensures value { result ≡ line_of_proof H.pair_of root.now.0 proof.now }
     ensures pairs { H.pairs hasher.new
         ≤ H.pairs hasher.old + sum_by levels (indices_of proof.now.leaves) }
-    ensures usage { is_usage result ≡ false }
 {
     let made = calc(proof, hasher);
     if made == *root {
@@ -63,6 +67,7 @@ fn print_line<S: Sink>(alloc: Global, line: &Line, out: &mut S) -> Status
     ensures counts { (gets puts : ℕ) → CountsRun result gets gets puts puts
         (S.faults out.old) (S.faults out.new) }
     ensures status { IsThatOrStopped (status_of line.now) result }
+    ensures usage { result ≢ Status.Usage }
     ensures read { result ≢ Status.ReadFault }
 {
     let Ok(text) = line_text(alloc, line) else {
@@ -90,11 +95,9 @@ fn do_task<F: Files, S: Sink, H: PairHash>(
         (F.content files.new))) }
     ensures counts { CountsRun result (F.get_faults files.old) (F.get_faults files.new)
         (F.put_faults files.old) (F.put_faults files.new) (S.faults out.old) (S.faults out.new) }
-    ensures usage { result ≡ Status.Usage → IsTrue (is_usage_task (task_view task)) }
-    ensures says_usage { IsTrue (is_usage_task (task_view task))
-        → IsThatOrStopped Status.Usage result }
-    ensures fails { ((name : List ℕ) → F.readable files.old name) → result ≢ Status.ReadFault }
-    ensures line { is_script (task_view task) ≡ false → result ≢ Status.ReadFault }
+    ensures usage { result ≢ Status.Usage }
+    ensures readable { (is_script (task_view task) ≡ true
+        → (name : List ℕ) → F.readable files.old name) → result ≢ Status.ReadFault }
     ensures reached { ForSome (F.content files.old) (λ held. AllByRecursion (F.readable files.old)
         (reached_of_task H.pair_of held (task_view task)) → result ≢ Status.ReadFault) }
     ensures pairs { ForSome (F.content files.old) (λ held. H.pairs hasher.new
@@ -104,7 +107,6 @@ fn do_task<F: Files, S: Sink, H: PairHash>(
         (H.pairs hasher.new)) }
 {
     match task {
-        Task::Says(line) => print_line(alloc, &line, out),
         Task::Text(text) => say_line(text.as_str(), Status::Accepted, out),
         Task::Root(schema, id, bytes) => {
             let line = line_of_value(&schema, id, &bytes, hasher);
@@ -126,48 +128,6 @@ fn do_task<F: Files, S: Sink, H: PairHash>(
         Task::Partial(schema, mut partial, script) => {
             run_partial(alloc, &schema, &mut partial, script.as_slice(), out, hasher)
         }
-    }
-}
-
-fn run_words<F: Files, S: Sink, H: PairHash>(
-    alloc: Global,
-    words: &[String],
-    files: &mut F,
-    out: &mut S,
-    hasher: &mut H,
-) -> Status
-    ensures ends { ForSome (F.content files.old) (λ held.
-        Does (job_of H.pair_of (texts words.now) held) (turns_of H.pair_of (texts words.now) held)
-        result (H.pairs hasher.old) (H.pairs hasher.new)
-        (λ job. Ends (S.ample out.old) result job (S.pieces out.old) (S.pieces out.new)
-        (F.content files.new))) }
-    ensures in_turn { ForSome (F.content files.old) (λ held.
-        AllByRecursion (F.readable files.old) (reached_first held (texts words.now))
-        → Does (job_once_read H.pair_of (texts words.now) held)
-        (turns_of H.pair_of (texts words.now) held) result
-        (H.pairs hasher.old) (H.pairs hasher.new)
-        (λ job. Ends (S.ample out.old) result job (S.pieces out.old) (S.pieces out.new)
-        (F.content files.new))) }
-    ensures counts { CountsRun result (F.get_faults files.old) (F.get_faults files.new)
-        (F.put_faults files.old) (F.put_faults files.new) (S.faults out.old) (S.faults out.new) }
-    ensures usage { result ≡ Status.Usage → IsNone (taken (texts words.now)) }
-    ensures not_taken { IsNone (taken (texts words.now)) → IsThatOrStopped Status.Usage result }
-    ensures taken { result ≡ Status.ReadFault → IsSome (taken (texts words.now)) }
-    ensures readable { ForSome (taken (texts words.now)) (λ asked.
-        AreReadable (F.readable files.old) asked → result ≢ Status.ReadFault) }
-    ensures reached { ForSome (F.content files.old) (λ held. AllByRecursion (F.readable files.old)
-        (reached H.pair_of held (texts words.now)) → result ≢ Status.ReadFault) }
-    ensures pairs { ForSome (F.content files.old) (λ held. H.pairs hasher.new
-        ≤ H.pairs hasher.old + pairs_allowed H.pair_of (texts words.now) held) }
-    ensures least { ForSome (F.content files.old) (λ held. result ≢ Status.Memory
-        → result ≢ Status.ReadFault
-        → RisesWhere (least_asked H.pair_of (texts words.now) held) (H.pairs hasher.old)
-        (H.pairs hasher.new)) }
-{
-    match task_of(alloc, files, words) {
-        Ok(task) => do_task(alloc, task, files, out, hasher),
-        Err(Stop::Read) => Status::ReadFault,
-        Err(Stop::Memory) => Status::Memory,
     }
 }
 
@@ -215,16 +175,16 @@ pub fn run<F: Files, S: Sink, H: PairHash>(
         (F.put_faults files.old) (F.put_faults files.new) (S.faults out.old) (S.faults out.new) }
 
     // Words that are not taken are refused as such, and no others; no file is read for them.
-    ensures usage { result ≡ Status.Usage → IsNone (taken (texts words.now)) }
-    ensures not_taken { IsNone (taken (texts words.now)) → IsThatOrStopped Status.Usage result }
-    ensures taken { result ≡ Status.ReadFault → IsSome (taken (texts words.now)) }
+    ensures usage { result ≡ Status.Usage → IsNone (plan_of (texts words.now)) }
+    ensures not_taken { IsNone (plan_of (texts words.now)) → IsThatOrStopped Status.Usage result }
+    ensures taken { result ≡ Status.ReadFault → IsSome (plan_of (texts words.now)) }
 
     // A read fails only of the files that the job reaches: no other is read. Where it is not told
     // what the files hold, only of those that the words, or the statements of a script, may name.
     ensures reached { ForSome (F.content files.old) (λ held. AllByRecursion (F.readable files.old)
         (reached H.pair_of held (texts words.now)) → result ≢ Status.ReadFault) }
-    ensures readable { ForSome (taken (texts words.now)) (λ asked.
-        AreReadable (F.readable files.old) asked → result ≢ Status.ReadFault) }
+    ensures readable { ForSome (plan_of (texts words.now)) (λ plan.
+        AreReadable (F.readable files.old) plan → result ≢ Status.ReadFault) }
 
     // The pairs hashed: of a value its own, of scripts and of a work those of the values that they
     // bring in and the levels of the paths that they edit, beyond the zero table; of a proof as
@@ -239,5 +199,11 @@ pub fn run<F: Files, S: Sink, H: PairHash>(
         → RisesWhere (least_asked H.pair_of (texts words.now) held) (H.pairs hasher.old)
         (H.pairs hasher.new)) }
 {
-    run_words(alloc, words, files, out, hasher)
+    match task_of(alloc, files, words) {
+        Ok(task) => do_task(alloc, task, files, out, hasher),
+        Err(Stop::Usage) => say_line(USAGE, Status::Usage, out),
+        Err(Stop::Says(line)) => print_line(alloc, &line, out),
+        Err(Stop::Read) => Status::ReadFault,
+        Err(Stop::Memory) => Status::Memory,
+    }
 }

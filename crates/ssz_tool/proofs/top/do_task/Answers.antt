@@ -8,14 +8,6 @@ use Rattle.ssz_tool.proofs.Beginnings.{line_does, line_does_as}
 use Rattle.ssz_tool.proofs.Trees.{tree_does}
 use Rattle.ssz_tool.proofs.top.do_task.Goals as goal
 
-pub returns-in-Says-clause-ends : goal.returns-in-Says-clause-ends
-returns-in-Says-clause-ends g c = λ reads held told.
-    rw (told, c.in-Says.is) (line_does (g.S.Sink.ample c.args.out.now) held reads
-    (printed c.in-Says.line) c.print_line.result
-    (g.H.PairHash.pairs c.args.hasher.now) (g.H.PairHash.pairs c.args.hasher.now)
-    (g.S.Sink.pieces c.args.out.now) (g.S.Sink.pieces c.print_line.new.out)
-    (c.print_line.ensures.ends held reads))
-
 pub returns-in-Text-clause-ends : goal.returns-in-Text-clause-ends
 returns-in-Text-clause-ends g c = λ reads held told.
     rw (told, c.in-Text.is, sym c.as_str.ensures.value)
@@ -30,12 +22,12 @@ returns-in-Root-clause-ends g c = λ reads held told.
     let t = type_of c.in-Root.schema c.in-Root.id in
     rw (told, c.in-Root.is) (line_does_as (g.S.Sink.ample c.args.out.now) held reads
     c.line_of_value-line.result
-    (line_of_value g.H.PairHash.pair_of t c.in-Root.bytes.items) c.print_line-in-Root.result
+    (line_of_value g.H.PairHash.pair_of t c.in-Root.bytes.items) c.print_line.result
     (g.H.PairHash.pairs c.args.hasher.now) (g.H.PairHash.pairs c.line_of_value-line.new.hasher)
-    (g.S.Sink.pieces c.args.out.now) (g.S.Sink.pieces c.print_line-in-Root.new.out)
+    (g.S.Sink.pieces c.args.out.now) (g.S.Sink.pieces c.print_line.new.out)
     (c.line_of_value-line.ensures.value
     ∙ ap (line_of_value g.H.PairHash.pair_of t) c.deref.ensures.value)
-    (c.print_line-in-Root.ensures.ends held reads))
+    (c.print_line.ensures.ends held reads))
 
 pub returns-in-Verify-clause-ends : goal.returns-in-Verify-clause-ends
 returns-in-Verify-clause-ends g c = λ reads held told.
@@ -69,7 +61,8 @@ returns-in-Partial-clause-ends g c = λ reads held told.
     let t = type_of c.in-Partial.schema c.in-Partial.partial.id in
     rw (told, c.in-Partial.is, sym c.as_slice-in-Partial.ensures.value)
     (tree_does (g.S.Sink.ample c.args.out.now) g.H.PairHash.pair_of t c.in-Partial.partial.proof
-    c.as_slice-in-Partial.result.now held reads c.run_partial.result (g.H.PairHash.pairs c.args.hasher.now)
+    c.as_slice-in-Partial.result.now held reads c.run_partial.result
+    (g.H.PairHash.pairs c.args.hasher.now)
     (g.H.PairHash.pairs c.run_partial.new.hasher) (g.S.Sink.pieces c.args.out.now)
     (g.S.Sink.pieces c.run_partial.new.out) (c.run_partial.ensures.ends held))
 

@@ -1,7 +1,7 @@
 use Rattle.std.proofs.Common.{◌∷◌, map, sym}
 use Rattle.ssz_script.specs.Lines.{statements_in}
 use Rattle.ssz_engine.specs.Scripts.{scene}
-use Rattle.ssz_tool.specs.Weavings.{weaving_view}
+use Rattle.ssz_tool.specs.Tasks.{weaving_view}
 use Rattle.ssz_tool.proofs.Beginnings.{wants_memory_first, zero_table}
 use Rattle.ssz_tool.proofs.Woven.{all_named, weave_does, weave_pairs, weave_reached}
 use Rattle.ssz_tool.proofs.weaving.run_weave.Goals as goal

@@ -1,31 +1,58 @@
-use Rattle.std.proofs.Common.{◌∷◌, ◌∙◌}
-use Rattle.ssz_engine.proofs.Reaching.{all_names}
-use Rattle.ssz_tool.specs.Weaves.{reached_of_scripts}
-use Rattle.ssz_tool.proofs.Weaves.{reached_of_rules-accepted, task_of_rules-accepted}
+use Rattle.std.proofs.Common.{◌≡◌, refl, ◌∙◌}
+use Rattle.std.proofs.lemmas.Result.{err_from_is_err_and}
+use Rattle.ssz_tool.specs.Tasks.{AreItems, HasItems, HasTypes, IsTask}
+use Rattle.ssz_tool.proofs.Steps.{follows_exit, follows_here, follows_stopped, follows_then}
+use Rattle.ssz_tool.proofs.Verdicts.{DoesSame-equal}
+use Rattle.ssz_tool.specs.Commands.{script_files}
+use Rattle.ssz_tool.proofs.Reading.{comes_as, so_many}
+use Rattle.ssz_tool.proofs.Weaves.{weave_of_many}
 use Rattle.ssz_tool.proofs.weaving.task_of_weave.Goals as goal
 
-pub returns-in-Ok-Accepted-clause-read : goal.returns-in-Ok-Accepted-clause-read
-returns-in-Ok-Accepted-clause-read g c = λ held told.
-    let read = rw (c.in-Ok-Accepted.field-0-is, c.as_str.ensures) at
-    (c.in-Ok-Accepted.ensures.read held told) in
-    rw (task_of_rules-accepted held c.args.args.now _ c.in-Ok-Accepted.schema read.0 read.1
-    read.2)
-    (c.task_of_scripts.ensures.read held (c.in-Ok-Accepted.ensures.content ∙ told))
+pub returns-in_err-schema : goal.returns-in_err-schema
+returns-in_err-schema g c =
+    let exit = err_from_is_err_and c.from_residual.result c.from_residual.ensures.1 in
+    follows_exit g.F.Files IsTask _ _ exit.0 c.in_err-schema.field-0.0 _ _ exit.1 exit.2
+    (follows_stopped g.F.Files HasTypes IsTask _ _ c.in_err-schema.field-0.0 _ _
+    (rw c.as_str.ensures at c.in_err-schema.ensures))
 
-pub returns-in-Ok-Accepted-clause-fails : goal.returns-in-Ok-Accepted-clause-fails
-returns-in-Ok-Accepted-clause-fails g c = λ all.
-    c.task_of_scripts.ensures.fails
-    (all_names (g.F.Files.readable c.args.files.now)
-    (g.F.Files.readable c.read_schema_file.new.files) c.in-Ok-Accepted.ensures.readable
-    (c.args.args.now.base ∷ c.args.args.now.scripts) all.1)
+pub returns-in_err-base : goal.returns-in_err-base
+returns-in_err-base g c =
+    let exit = err_from_is_err_and c.from_residual-in_err-base.result
+    c.from_residual-in_err-base.ensures.1 in
+    follows_exit g.F.Files IsTask _ _ exit.0 c.in_err-base.field-0.0 _ _ exit.1 exit.2
+    (follows_then g.F.Files HasTypes IsTask _ _ c.in_ok-schema.schema _ _ _ _
+    (rw c.as_str.ensures at c.in_ok-schema.ensures)
+    (λ types has. follows_stopped g.F.Files HasItems IsTask _ _ c.in_err-base.field-0.0 _ _
+    (rw c.as_str-2.ensures at c.in_err-base.ensures)))
 
-pub returns-in-Ok-Accepted-clause-reached : goal.returns-in-Ok-Accepted-clause-reached
-returns-in-Ok-Accepted-clause-reached g c = λ held told readable.
-    let read = rw (c.in-Ok-Accepted.field-0-is, c.as_str.ensures) at
-    (c.in-Ok-Accepted.ensures.read held told) in
-    let scripts = rw (reached_of_rules-accepted held c.args.args.now _ read.0 read.1) at
-    readable.1 in
-    c.task_of_scripts.ensures.reached held (c.in-Ok-Accepted.ensures.content ∙ told)
-    (all_names (g.F.Files.readable c.args.files.now)
-    (g.F.Files.readable c.read_schema_file.new.files) c.in-Ok-Accepted.ensures.readable
-    (reached_of_scripts held (c.args.args.now.base ∷ c.args.args.now.scripts)) scripts)
+pub returns-in_err-scripts : goal.returns-in_err-scripts
+returns-in_err-scripts g c =
+    let exit = err_from_is_err_and c.from_residual-in_err-scripts.result
+    c.from_residual-in_err-scripts.ensures.1 in
+    follows_exit g.F.Files IsTask _ _ exit.0 c.in_err-scripts.field-0.0 _ _ exit.1 exit.2
+    (follows_then g.F.Files HasTypes IsTask _ _ c.in_ok-schema.schema _ _ _ _
+    (rw c.as_str.ensures at c.in_ok-schema.ensures)
+    (λ types has. follows_then g.F.Files HasItems IsTask _ _ c.in_ok-base.base _ _ _ _
+    (rw c.as_str-2.ensures at c.in_ok-base.ensures)
+    (λ base is. follows_stopped g.F.Files AreItems IsTask _ _ c.in_err-scripts.field-0.0 _ _
+    (rw c.as_slice.ensures at c.in_err-scripts.ensures))))
+
+pub returns : goal.returns
+returns g c =
+    let order : c.in_ok-order.order.items ≡ c.args.args.now.order =
+    c.in_ok-order.ensures.items ∙ c.writers.ensures in
+    let read = rw c.as_slice.ensures at c.in_ok-scripts.ensures in
+    let count = so_many _ _ c.args.args.now.scripts c.in_ok-scripts.scripts.items
+    (comes_as _ _ AreItems (λ meant made. made ≡ meant) (script_files c.args.args.now.scripts)
+    c.in_ok-scripts.scripts c.in_ok-scripts.scripts.items (λ x same. same) read.comes) in
+    follows_then g.F.Files HasTypes IsTask _ _ c.in_ok-schema.schema _ _ _ _
+    (rw c.as_str.ensures at c.in_ok-schema.ensures)
+    (λ types has. follows_then g.F.Files HasItems IsTask _ _ c.in_ok-base.base _ _ _ _
+    (rw c.as_str-2.ensures at c.in_ok-base.ensures)
+    (λ base is. follows_then g.F.Files AreItems IsTask _ _ c.in_ok-scripts.scripts _ _ _ _
+    (rw c.as_slice.ensures at c.in_ok-scripts.ensures)
+    (λ scripts are. follows_here g.F.Files IsTask _ _ _ refl (record {
+      same = DoesSame-equal _ _ (rw (has, is, are, order) refl);
+      ready = rw order (weave_of_many c.args.args.now.scripts c.in_ok-scripts.scripts.items
+          c.args.args.now.order count c.requires);
+    }))))

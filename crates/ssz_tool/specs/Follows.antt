@@ -1,0 +1,77 @@
+-- What an answer says of a plan that was followed.
+use Rattle.std.specs.Prelude.{◌≡◌, ◌≤◌, ◌<◌, ◌⊎◌, ⊤, ℕ, List, length, Option, Some, None, Result, Ok, Err}
+use Rattle.std.specs.Option.{ForSome}
+use Rattle.ssz_outside.specs.Content.{Content, contents}
+use Rattle.ssz_outside.specs.Outcome.{RoseOnce}
+use Rattle.ssz_outside.specs.declared.outside.Files.{Ghosts}
+use Rattle.ssz_tool.specs.Plans.{Plan, gives, refuses, reads}
+use Rattle.ssz_tool.specs.declared.stop.Stop.{Stop}
+use Rattle.ssz_tool.specs.declared.stop.Stop.TheVariants as stop
+
+-- a failed read is counted once, and nothing else is
+abbrev pub CountsStop : {T : Type 0} → Result T Stop → ℕ → ℕ → Type 0
+CountsStop (Ok done) before now = now ≡ before
+CountsStop (Err stop.Usage) before now = now ≡ before
+CountsStop (Err (stop.Says said)) before now = now ≡ before
+CountsStop (Err stop.Read) before now = RoseOnce before now
+CountsStop (Err stop.Memory) before now = now ≡ before
+
+-- files stay as they are, and what can be read stays so
+pub record LeavesFiles {Self T : Type 0} (F : Ghosts Self) (result : Result T Stop)
+    (old new : Self) : Type 0 where
+  pub content : F.content new ≡ F.content old
+  pub readable : (name : List ℕ) → F.readable old name → F.readable new name
+  pub get_faults : CountsStop result (F.get_faults old) (F.get_faults new)
+  pub put_faults : F.put_faults new ≡ F.put_faults old
+
+-- what is so of bytes that were read of a name: those that it holds, where that is told
+abbrev pub Reads : Option Content → List ℕ → ℕ → (List ℕ → Type 0) → Type 0
+Reads told name most Then =
+    (bytes : List ℕ) × (length bytes ≤ most)
+    × ForSome told (λ held. contents held name ≡ bytes) × Then bytes
+
+-- An answer came of a plan, where what is made stands for what the plan gives: at each file bytes
+-- were read, or the file was too long, or the read failed, where it is not known to be readable.
+-- Want of memory may come at any time.
+abbrev pub ComesOf : {A T : Type 0} → Option Content → (List ℕ → Type 0) → (A → T → Type 0)
+    → Plan A → Result T Stop → Type 0
+ComesOf told readable Stands plan (Err stop.Memory) = ⊤
+ComesOf told readable Stands (gives x) (Ok made) = Stands x made
+ComesOf told readable Stands (refuses meant) (Err (stop.Says said)) = said ≡ meant
+ComesOf told readable Stands (reads name most long next) (Ok made) =
+    Reads told name most (λ bytes. ComesOf told readable Stands (next bytes) (Ok made))
+ComesOf told readable Stands (reads name most long next) (Err stop.Read) =
+    (readable name → ⊥)
+    ⊎ Reads told name most (λ bytes. ComesOf told readable Stands (next bytes) (Err stop.Read))
+ComesOf told readable Stands (reads name most long next) (Err (stop.Says said)) =
+    ((said ≡ long) × ForSome told (λ held. most < length (contents held name)))
+    ⊎ Reads told name most
+    (λ bytes. ComesOf told readable Stands (next bytes) (Err (stop.Says said)))
+ComesOf told readable Stands plan result = ⊥
+
+-- the same of a plan that reads no file
+abbrev pub Answers : {A T : Type 0} → (A → T → Type 0) → Plan A → Result T Stop → Type 0
+Answers Stands plan (Err stop.Memory) = ⊤
+Answers Stands (gives x) (Ok made) = Stands x made
+Answers Stands (refuses meant) (Err (stop.Says said)) = said ≡ meant
+Answers Stands plan result = ⊥
+
+-- the answer came of the plan, and files stay as they are
+pub record Follows {Self A T : Type 0} (F : Ghosts Self) (Stands : A → T → Type 0) (plan : Plan A)
+    (result : Result T Stop) (old new : Self) : Type 0 where
+  pub comes : ComesOf (F.content old) (F.readable old) Stands plan result
+  pub leaves : LeavesFiles F result old new
+
+-- words that are not taken are said to be so
+abbrev pub ComesOfWords : {A T : Type 0} → Option Content → (List ℕ → Type 0) → (A → T → Type 0)
+    → Option (Plan A) → Result T Stop → Type 0
+ComesOfWords told readable Stands (Some plan) result = ComesOf told readable Stands plan result
+ComesOfWords told readable Stands None (Err stop.Usage) = ⊤
+ComesOfWords told readable Stands None (Err stop.Memory) = ⊤
+ComesOfWords told readable Stands None result = ⊥
+
+-- the plan of words was followed, if they have one
+pub record FollowsWords {Self A T : Type 0} (F : Ghosts Self) (Stands : A → T → Type 0)
+    (plan : Option (Plan A)) (result : Result T Stop) (old new : Self) : Type 0 where
+  pub comes : ComesOfWords (F.content old) (F.readable old) Stands plan result
+  pub leaves : LeavesFiles F result old new
