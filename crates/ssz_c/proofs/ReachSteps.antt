@@ -44,7 +44,7 @@ module _ (scene : Scene) (statement : Statement) (new : Engine) (after : ℕ)
       → Reaches result statement scene new
   reaches (Ok reply) ok stops err nodes whole = λ versions stands.
       subst (λ files. IsTurn (turn_at sha_pair scene.engine place.Run number 0 scene.line statement
-      versions files) reply new (Some no_files)) (sym ok.tells) (ok.turns versions stands)
+      versions files) reply new (Some no_files)) (sym ok.step.tells) (ok.turns versions stands)
   reaches (Err Read) ok stops err nodes whole =
       (stops.1, stands-kept scene.engine new keeps err (kept nodes whole))
   reaches (Err Write) ok stops err nodes whole = (

@@ -47,7 +47,7 @@ module _ (first mid new : Content) (grows : Grows first mid) (same : SameNodes m
     (before after : ℕ) (writer line : ℕ) (done : Outcome) (told_old told_new : Option Files)
     (out_old out_new : List ℕ) where
   -- an edit is paid for
-  edit-paid : (made : Decision) (versions : Versions) (row : Row) (does : Touch) (name : Name)
+  pub edit-paid : (made : Decision) (versions : Versions) (row : Row) (does : Touch) (name : Name)
       (was is : Held) → CanDo mid writer made → IsOf does made
       → Comes first mid before after writer versions row made
       → IsCarriedOut made writer line mid.entries new.entries done told_old told_new out_old
@@ -128,7 +128,7 @@ module _ (first mid new : Content) (grows : Grows first mid) (same : SameNodes m
       omega arith
 
   -- a node that is put under a name is paid for
-  anew-paid : (made : Decision) (does : Touch) (charge : ℕ) (name : Name) (is : Held)
+  pub anew-paid : (made : Decision) (does : Touch) (charge : ℕ) (name : Name) (is : Held)
       → IsOf does made → IsPaid mid.arena charge made
       → IsCarriedOut made writer line mid.entries new.entries done told_old told_new out_old
       out_new
@@ -154,7 +154,7 @@ module _ (first mid new : Content) (grows : Grows first mid) (same : SameNodes m
       absurd (nothing-put name (sym of ∙ does-put))
 
   -- few nodes are new
-  few-new : (made : Decision) (does : Touch) (charge : ℕ) → IsOf does made
+  pub few-new : (made : Decision) (does : Touch) (charge : ℕ) → IsOf does made
       → MakesFew made charge first.arena mid.arena → done ≡ outcome_of made
       → AddsFew done does charge first.arena new.arena
   few-new made does charge of few is =
@@ -180,12 +180,12 @@ module _ (first mid new : Content) (grows : Grows first mid) (same : SameNodes m
 
   module _ (pair_of : PairOf) (place : Place) (statement : Statement) where
     -- by the flag of the statement
-    paid-anew : (row : Rules → Versions → Row) (flag : Bool) (made : Decision) → flag ≡ true
+    pub paid-anew : (row : Rules → Versions → Row) (flag : Bool) (made : Decision) → flag ≡ true
         → PaysAnew flag pair_of row writer first mid made → Pays pair_of row writer first mid made
     paid-anew row true made some pays = pays
     paid-anew row false made some pays = absurd (false≢true some)
 
-    pub does-step : (made : Decision)
+    unfoldable pub does-step : (made : Decision)
         → Decides pair_of place statement writer (before - first.base) told_old first mid before
         after made
         → IsCarriedOut made writer line mid.entries new.entries done told_old told_new out_old

@@ -1,20 +1,26 @@
 -- What a statement leaves whose reply is answered as a value.
-use Rattle.std.specs.Prelude.{◌≡◌, ◌≤◌, ◌+◌, ◌-◌, ℕ, Option}
+use Rattle.std.specs.Prelude.{◌≡◌, ◌-◌, ℕ, false, [], Option}
 use Rattle.ssz_outside.specs.Content.{Content as Files}
-use Rattle.ssz_arena.specs.Content.{unhashed}
 use Rattle.ssz_proof.specs.Calculation.{PairOf}
 use Rattle.ssz_script.specs.declared.statement.Statement.{Statement}
 use Rattle.ssz_script.specs.declared.reply.Reply.{Reply}
+use Rattle.ssz_script.specs.Texts.{reply_line}
 use Rattle.ssz_versions.specs.Content.{Entries}
 use Rattle.ssz_machine.specs.declared.place.Place.{Place}
 use Rattle.ssz_machine.specs.State.{Versions}
-use Rattle.ssz_machine.specs.Machine.{Turn, charge_of, reply_of, state_of}
+use Rattle.ssz_machine.specs.Machine.{Turn, reply_of, state_of}
+use Rattle.ssz_machine.specs.Changes.{touch}
+use Rattle.ssz_engine.specs.Compacting.{is_compact}
 use Rattle.ssz_decisions.specs.Content.{Content}
 use Rattle.ssz_decisions.specs.Standing.{StandsFor}
 use Rattle.ssz_decisions.specs.Carried.{Does, reply_to, told_after}
-use Rattle.ssz_engine.specs.Steps.{turn_at}
+use Rattle.ssz_decisions.specs.Roots.{LeavesHashed}
+use Rattle.ssz_engine.specs.Steps.{DoesStep, ForksWhere, TouchesWhere, UpgradesWhere, turn_at}
+use Rattle.ssz_engine.specs.Tops.{TopsWhere}
 use Rattle.ssz_decisions.specs.Outside.{Holds}
 use Rattle.ssz_decisions.specs.declared.decision.Decision.{Decision}
+use Rattle.ssz_decisions.specs.declared.outcome.Outcome.{Outcome}
+use Rattle.ssz_decisions.specs.declared.outcome.Outcome.TheVariants.{Refused}
 
 -- A decision was carried out, and this is the reply.
 pub record IsAnswered (made : Decision) (writer line : ℕ) (old new : Entries)
@@ -31,18 +37,32 @@ pub record IsTurn (turn : Turn) (reply : Reply) (engine : Content) (told : Optio
   pub versions : StandsFor engine (state_of turn).versions
   pub files : Holds told (state_of turn).files
 
--- A statement was answered: for some content of the files, the told one where they tell it, and
--- whatever versions the engine stood for, as the turn of the machine says.
+-- What a statement that was done leaves of the names and the nodes, by how it ended.
+pub record Effects (statement : Statement) (writer : ℕ) (old new : Content) (made : Outcome)
+    : Type 0 where
+  -- only what the table of statements names changes; `compact` moves all
+  pub entries : is_compact statement ≡ false
+      → TouchesWhere made (touch statement) writer old.entries new.entries
+  -- a fork holds what its source holds, the same node
+  pub forks : ForksWhere made statement writer old.entries new.entries
+  -- what an upgrade makes has no more to be hashed than what it was made of, and the charge
+  pub upgrades : UpgradesWhere made statement writer old new
+  -- a root leaves nothing to be hashed of what it was asked of
+  pub roots : LeavesHashed statement writer new
+  -- what is edited below its top has a new pair there
+  pub tops : TopsWhere made statement writer old new
+
+-- A statement was answered: it was done as by a step that says the reply's line alone, and the
+-- reply is that of the machine's turn, whatever versions the engine stood for.
 pub record DoesAnswer (pair_of : PairOf) (place : Place) (writer line : ℕ) (statement : Statement)
     (old new : Content) (before after : ℕ) (told_old told_new : Option Files) (reply : Reply)
     : Type 0 where
-  pub files : Files
-  pub tells : Holds told_old files
+  pub made : Outcome
+  pub step : DoesStep pair_of place writer line statement old new before after told_old told_new
+      [] (reply_line reply) made
   pub turns : (versions : ℕ → Versions) → StandsFor old versions
       → IsTurn (turn_at pair_of old place (before - old.base) writer line statement versions
-      files) reply new told_new
-  -- what is hashed, and what is then to be hashed, is at most what was to be hashed and the charge
-  pub spends : (versions : ℕ → Versions) → StandsFor old versions
-      → after + unhashed new.arena ≤ before + unhashed old.arena
-      + charge_of (turn_at pair_of old place (before - old.base) writer line statement
-      versions files)
+      step.files) reply new told_new
+  pub effects : Effects statement writer old new made
+  -- what is refused hashes nothing
+  pub refused : made ≡ Refused → after ≡ before

@@ -8,7 +8,7 @@ ghost use Rattle.ssz_engine.specs.Answered.{DoesAnswer, IsAnswered};
 ghost use Rattle.ssz_engine.specs.Compacting.{is_compact};
 ghost use Rattle.ssz_decisions.specs.Content.{SameNodes};
 ghost use Rattle.ssz_decisions.specs.Decisions.{CanDo};
-ghost use Rattle.ssz_decisions.specs.Roots.{HashesDue};
+ghost use Rattle.ssz_decisions.specs.Roots.{HashesDue, HashesSome};
 ghost use Rattle.ssz_decisions.specs.Outside.{CountsReads, CountsWrites};
 ghost use Rattle.ssz_decisions.specs.Carried.{CanLack, Fails};
 ghost use Rattle.ssz_engine.specs.Steps.{Finds, IsShort, Keeps, Stops, file_read};
@@ -120,6 +120,8 @@ impl<H: PairHash> Engine<H> {
         ensures hashed { H.pairs hasher.new ≤ H.pairs hasher.old + unhashed self.old.arena }
         ensures due { HashesDue statement.now writer.0 self.old (H.pairs hasher.old)
             (H.pairs hasher.new) }
+        ensures some { OnOk result (HashesSome statement.now writer.0 self.old
+            (H.pairs hasher.old) (H.pairs hasher.new)) }
         ensures still { asks_root (Some statement.now) ≡ false → hasher.new ≡ hasher.old }
         ensures fails { (name : List ℕ) → file_read statement.now ≡ Some name
             → F.readable files.old name → result ≢ Err EngineFault.Read }
