@@ -1,6 +1,7 @@
 // What a session answers to a statement that is no line.
 ghost use Rattle.std.specs.Prelude.{◌≡◌, IfOk};
-ghost use Rattle.ssz_engine.specs.Steps.{IsShort, Keeps};
+ghost use Rattle.ssz_engine.specs.Steps.{Keeps};
+ghost use Rattle.ssz_said.specs.Statements.{HasShortLiteral};
 ghost use Rattle.ssz_c.specs.Answering.{Does, Reaches, answer_of, scene_at};
 
 use super::session::Session;
@@ -25,7 +26,7 @@ fn answer_of(reached: Result<Reply, EngineFault>) -> Result<Reply, SszFault>
 impl Session {
     // Does a statement.
     fn reach(&mut self, statement: &Statement) -> Result<Reply, EngineFault>
-        requires { IsShort statement.now }
+        requires { HasShortLiteral statement.now }
         ensures keeps { Keeps self.old.engine self.new.engine }
         ensures lines { self.new.lines ≡ self.old.lines }
         ensures text { self.new.reply ≡ self.old.reply }
@@ -43,7 +44,7 @@ impl Session {
 
     /// Does the statement that arguments say, where they say one.
     pub fn answer(&mut self, said: Result<Statement, SszFault>) -> Result<Reply, SszFault>
-        requires { IfOk said IsShort }
+        requires { IfOk said HasShortLiteral }
         ensures { Does said self.old self.new result }
     {
         match said {

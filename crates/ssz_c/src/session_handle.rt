@@ -1,6 +1,6 @@
 // A handle of C for a session.
 ghost use Rattle.std.specs.Prelude.{◌≡◌, Some, None, IfOk, option_map};
-ghost use Rattle.ssz_engine.specs.Steps.{IsShort};
+ghost use Rattle.ssz_said.specs.Statements.{HasShortLiteral};
 ghost use Rattle.ssz_c.specs.Answering.{DoesIn};
 ghost use Rattle.ssz_c.specs.Held.{live_of};
 ghost use Rattle.ssz_said.specs.declared.status.TheConstants.{SESSION_MARK};
@@ -56,7 +56,7 @@ impl SszSession {
         alloc: Global,
         said: Result<Statement, SszFault>,
     ) -> Result<Reply, SszFault>
-        requires { IfOk said IsShort }
+        requires { IfOk said HasShortLiteral }
         ensures { DoesIn said self.old.held.value self.new.held.value result }
     {
         let Some(mut session) = self.take(alloc) else {

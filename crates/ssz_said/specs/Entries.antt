@@ -51,22 +51,22 @@ lists_said leaves nodes = both (said_behind [] leaves) (said_behind [] nodes)
     both leaves nodes = None
 
 -- two arrays that are the arrays of a multiproof, or of none
-pub record IsSaid (leaves nodes : List SszEntry) (proof : Multiproof) : Type 0 where
+pub record EntriesSay (leaves nodes : List SszEntry) (proof : Multiproof) : Type 0 where
   pub lists : Multiproof
   pub says : lists_said leaves nodes ≡ Some lists
   pub is : IsProofOf lists proof
 
-abbrev pub IsRefused : List SszEntry → List SszEntry → Type 0
-IsRefused leaves nodes =
+abbrev pub EntriesSayNone : List SszEntry → List SszEntry → Type 0
+EntriesSayNone leaves nodes =
     (lists : Multiproof) → lists_said leaves nodes ≡ Some lists → ¬ IsMultiproof lists
 
 -- what a verdict says of a root and two arrays
 abbrev pub JudgesEntries : Verdict → List ℕ → List SszEntry → List SszEntry → Type 0
 JudgesEntries Holds root leaves nodes =
-    (proof : Multiproof) × IsSaid leaves nodes proof × (root_of proof ≡ root)
+    (proof : Multiproof) × EntriesSay leaves nodes proof × (root_of proof ≡ root)
 JudgesEntries Unlike root leaves nodes =
-    (proof : Multiproof) × IsSaid leaves nodes proof × (root_of proof ≢ root)
-JudgesEntries BadProof root leaves nodes = IsRefused leaves nodes
+    (proof : Multiproof) × EntriesSay leaves nodes proof × (root_of proof ≢ root)
+JudgesEntries BadProof root leaves nodes = EntriesSayNone leaves nodes
 JudgesEntries TooLong root leaves nodes = ⊥
 JudgesEntries Memory root leaves nodes = Unit {0}
 

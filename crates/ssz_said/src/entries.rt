@@ -1,9 +1,9 @@
 // Proofs as arrays: chunks with their generalized indices.
 ghost use Rattle.std.specs.Prelude.{◌≡◌, ◌++◌, [], None, Some, Err, IfOk, map};
-ghost use Rattle.ssz_engine.specs.Steps.{IsShort};
 ghost use Rattle.ssz_proof.specs.declared.fault.ProofFault.TheVariants.{BadProof};
-ghost use Rattle.ssz_said.specs.Entries.{IsRefused, IsSaid, JudgesEntries, entry_shown, index_parts, index_whole, numbers_said, prove_all_said, said_behind};
+ghost use Rattle.ssz_said.specs.Entries.{EntriesSay, EntriesSayNone, JudgesEntries, entry_shown, index_parts, index_whole, numbers_said, prove_all_said, said_behind};
 ghost use Rattle.ssz_said.specs.Outcome.{IsUnlessMemory};
+ghost use Rattle.ssz_said.specs.Statements.{HasShortLiteral};
 
 use super::fault::SszFault;
 use super::status;
@@ -87,8 +87,8 @@ fn read_entries(alloc: Global, entries: &[SszEntry]) -> Result<Vec<Entry>, Proof
 
 // The proof of two arrays.
 fn read_arrays(alloc: Global, leaves: &[SszEntry], nodes: &[SszEntry]) -> Result<Proof, ProofFault>
-    ensures ok { IfOk result (IsSaid leaves.now nodes.now) }
-    ensures bad { result ≡ Err BadProof → IsRefused leaves.now nodes.now }
+    ensures ok { IfOk result (EntriesSay leaves.now nodes.now) }
+    ensures bad { result ≡ Err BadProof → EntriesSayNone leaves.now nodes.now }
 {
     let leaves = read_entries(alloc, leaves)?;
     let nodes = read_entries(alloc, nodes)?;
@@ -131,7 +131,7 @@ fn numbers(alloc: Global, indices: &[SszIndex]) -> Result<Vec<Index>, AllocError
 /// `prove V I ..`, of one index or more, each a number.
 pub fn prove_all(alloc: Global, v: &[u8], indices: &[SszIndex]) -> Result<Statement, SszFault>
     ensures said { IsUnlessMemory result (prove_all_said v.now indices.now) }
-    ensures short { IfOk result IsShort }
+    ensures short { IfOk result HasShortLiteral }
 {
     if indices.len() == 0 {
         return Err(SszFault::of(status::SYNTAX));

@@ -1,10 +1,10 @@
 // The chunks from which the root of a version can be calculated.
 ghost use Rattle.std.specs.Prelude.{◌≡◌, [], ◌∷◌, ◌++◌, Ok, IfOk};
 ghost use Rattle.std.specs.Result.{result_map_both};
-ghost use Rattle.ssz_engine.specs.Steps.{IsShort};
 ghost use Rattle.ssz_said.specs.Entries.{IsProofIn, all_shown};
 ghost use Rattle.ssz_said.specs.Outcome.{IsUnlessMemory};
 ghost use Rattle.ssz_said.specs.Proving.{IsBranchIn, chunks_in, prove_said};
+ghost use Rattle.ssz_said.specs.Statements.{HasShortLiteral};
 
 use super::entries::{SszEntry, shown};
 use super::fault::SszFault;
@@ -27,7 +27,7 @@ fn alone(alloc: Global, index: Index) -> Result<Indices, AllocError>
 /// `prove V I`, of one index.
 pub fn prove(alloc: Global, v: &[u8], asked: &[u8]) -> Result<Statement, SszFault>
     ensures said { IsUnlessMemory result (prove_said v.now asked.now) }
-    ensures short { IfOk result IsShort }
+    ensures short { IfOk result HasShortLiteral }
 {
     let index = index_of(alloc, asked)?;
     let v = name_of(alloc, v)?;

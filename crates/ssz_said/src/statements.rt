@@ -1,8 +1,7 @@
 // The statements that the arguments of a call say.
 ghost use Rattle.std.specs.Prelude.{IfOk};
-ghost use Rattle.ssz_engine.specs.Steps.{IsShort};
 ghost use Rattle.ssz_said.specs.Outcome.{IsUnlessMemory};
-ghost use Rattle.ssz_said.specs.Statements.{append_said, bytes_said, choose_default_said, choose_said, compact_said, drop_said, fork_said, gindex_said, json_said, len_said, lit_said, new_said, pop_said, root_said, set_said, upgrade_said};
+ghost use Rattle.ssz_said.specs.Statements.{HasShortLiteral, append_said, bytes_said, choose_default_said, choose_said, compact_said, drop_said, fork_said, gindex_said, json_said, len_said, lit_said, new_said, pop_said, root_said, set_said, upgrade_said};
 
 use super::fault::SszFault;
 use super::texts::{copy_of, name_of, path_of};
@@ -12,7 +11,7 @@ use std::alloc::Global;
 /// `new V T`.
 pub fn new(alloc: Global, v: &[u8], t: &[u8]) -> Result<Statement, SszFault>
     ensures said { IsUnlessMemory result (new_said v.now t.now) }
-    ensures short { IfOk result IsShort }
+    ensures short { IfOk result HasShortLiteral }
 {
     let v = name_of(alloc, v)?;
     let t = name_of(alloc, t)?;
@@ -22,7 +21,7 @@ pub fn new(alloc: Global, v: &[u8], t: &[u8]) -> Result<Statement, SszFault>
 /// `upgrade V W T`.
 pub fn upgrade(alloc: Global, v: &[u8], w: &[u8], t: &[u8]) -> Result<Statement, SszFault>
     ensures said { IsUnlessMemory result (upgrade_said v.now w.now t.now) }
-    ensures short { IfOk result IsShort }
+    ensures short { IfOk result HasShortLiteral }
 {
     let v = name_of(alloc, v)?;
     let w = name_of(alloc, w)?;
@@ -33,7 +32,7 @@ pub fn upgrade(alloc: Global, v: &[u8], w: &[u8], t: &[u8]) -> Result<Statement,
 /// `lit V T LIT`.
 pub fn lit(alloc: Global, v: &[u8], t: &[u8], bytes: &[u8]) -> Result<Statement, SszFault>
     ensures said { IsUnlessMemory result (lit_said v.now t.now bytes.now) }
-    ensures short { IfOk result IsShort }
+    ensures short { IfOk result HasShortLiteral }
 {
     let bytes = copy_of(alloc, bytes)?;
     let v = name_of(alloc, v)?;
@@ -44,7 +43,7 @@ pub fn lit(alloc: Global, v: &[u8], t: &[u8], bytes: &[u8]) -> Result<Statement,
 /// `fork V W`.
 pub fn fork(alloc: Global, v: &[u8], w: &[u8]) -> Result<Statement, SszFault>
     ensures said { IsUnlessMemory result (fork_said v.now w.now) }
-    ensures short { IfOk result IsShort }
+    ensures short { IfOk result HasShortLiteral }
 {
     let v = name_of(alloc, v)?;
     let w = name_of(alloc, w)?;
@@ -54,7 +53,7 @@ pub fn fork(alloc: Global, v: &[u8], w: &[u8]) -> Result<Statement, SszFault>
 /// `drop V`.
 pub fn drop(alloc: Global, v: &[u8]) -> Result<Statement, SszFault>
     ensures said { IsUnlessMemory result (drop_said v.now) }
-    ensures short { IfOk result IsShort }
+    ensures short { IfOk result HasShortLiteral }
 {
     let v = name_of(alloc, v)?;
     Ok(Statement::Drop(v))
@@ -63,7 +62,7 @@ pub fn drop(alloc: Global, v: &[u8]) -> Result<Statement, SszFault>
 /// `root V`.
 pub fn root(alloc: Global, v: &[u8]) -> Result<Statement, SszFault>
     ensures said { IsUnlessMemory result (root_said v.now) }
-    ensures short { IfOk result IsShort }
+    ensures short { IfOk result HasShortLiteral }
 {
     let v = name_of(alloc, v)?;
     Ok(Statement::Root(v))
@@ -72,7 +71,7 @@ pub fn root(alloc: Global, v: &[u8]) -> Result<Statement, SszFault>
 /// `compact`.
 pub fn compact() -> Result<Statement, SszFault>
     ensures said { IsUnlessMemory result compact_said }
-    ensures short { IfOk result IsShort }
+    ensures short { IfOk result HasShortLiteral }
 {
     Ok(Statement::Compact)
 }
@@ -80,7 +79,7 @@ pub fn compact() -> Result<Statement, SszFault>
 /// `bytes V P`.
 pub fn bytes(alloc: Global, v: &[u8], path: &[u8]) -> Result<Statement, SszFault>
     ensures said { IsUnlessMemory result (bytes_said v.now path.now) }
-    ensures short { IfOk result IsShort }
+    ensures short { IfOk result HasShortLiteral }
 {
     let v = name_of(alloc, v)?;
     let path = path_of(alloc, path)?;
@@ -90,7 +89,7 @@ pub fn bytes(alloc: Global, v: &[u8], path: &[u8]) -> Result<Statement, SszFault
 /// `set V P LIT`.
 pub fn set(alloc: Global, v: &[u8], path: &[u8], bytes: &[u8]) -> Result<Statement, SszFault>
     ensures said { IsUnlessMemory result (set_said v.now path.now bytes.now) }
-    ensures short { IfOk result IsShort }
+    ensures short { IfOk result HasShortLiteral }
 {
     let bytes = copy_of(alloc, bytes)?;
     let v = name_of(alloc, v)?;
@@ -101,7 +100,7 @@ pub fn set(alloc: Global, v: &[u8], path: &[u8], bytes: &[u8]) -> Result<Stateme
 /// `append V P LIT`.
 pub fn append(alloc: Global, v: &[u8], path: &[u8], bytes: &[u8]) -> Result<Statement, SszFault>
     ensures said { IsUnlessMemory result (append_said v.now path.now bytes.now) }
-    ensures short { IfOk result IsShort }
+    ensures short { IfOk result HasShortLiteral }
 {
     let bytes = copy_of(alloc, bytes)?;
     let v = name_of(alloc, v)?;
@@ -112,7 +111,7 @@ pub fn append(alloc: Global, v: &[u8], path: &[u8], bytes: &[u8]) -> Result<Stat
 /// `pop V P`.
 pub fn pop(alloc: Global, v: &[u8], path: &[u8]) -> Result<Statement, SszFault>
     ensures said { IsUnlessMemory result (pop_said v.now path.now) }
-    ensures short { IfOk result IsShort }
+    ensures short { IfOk result HasShortLiteral }
 {
     let v = name_of(alloc, v)?;
     let path = path_of(alloc, path)?;
@@ -128,7 +127,7 @@ pub fn choose(
     bytes: &[u8],
 ) -> Result<Statement, SszFault>
     ensures said { IsUnlessMemory result (choose_said v.now path.now selector bytes.now) }
-    ensures short { IfOk result IsShort }
+    ensures short { IfOk result HasShortLiteral }
 {
     let bytes = copy_of(alloc, bytes)?;
     let v = name_of(alloc, v)?;
@@ -144,7 +143,7 @@ pub fn choose_default(
     selector: u8,
 ) -> Result<Statement, SszFault>
     ensures said { IsUnlessMemory result (choose_default_said v.now path.now selector) }
-    ensures short { IfOk result IsShort }
+    ensures short { IfOk result HasShortLiteral }
 {
     let v = name_of(alloc, v)?;
     let path = path_of(alloc, path)?;
@@ -154,7 +153,7 @@ pub fn choose_default(
 /// `len V P`.
 pub fn len(alloc: Global, v: &[u8], path: &[u8]) -> Result<Statement, SszFault>
     ensures said { IsUnlessMemory result (len_said v.now path.now) }
-    ensures short { IfOk result IsShort }
+    ensures short { IfOk result HasShortLiteral }
 {
     let v = name_of(alloc, v)?;
     let path = path_of(alloc, path)?;
@@ -164,7 +163,7 @@ pub fn len(alloc: Global, v: &[u8], path: &[u8]) -> Result<Statement, SszFault>
 /// `json V P`.
 pub fn json(alloc: Global, v: &[u8], path: &[u8]) -> Result<Statement, SszFault>
     ensures said { IsUnlessMemory result (json_said v.now path.now) }
-    ensures short { IfOk result IsShort }
+    ensures short { IfOk result HasShortLiteral }
 {
     let v = name_of(alloc, v)?;
     let path = path_of(alloc, path)?;
@@ -174,7 +173,7 @@ pub fn json(alloc: Global, v: &[u8], path: &[u8]) -> Result<Statement, SszFault>
 /// `gindex T P`.
 pub fn gindex(alloc: Global, t: &[u8], path: &[u8]) -> Result<Statement, SszFault>
     ensures said { IsUnlessMemory result (gindex_said t.now path.now) }
-    ensures short { IfOk result IsShort }
+    ensures short { IfOk result HasShortLiteral }
 {
     let t = name_of(alloc, t)?;
     let path = path_of(alloc, path)?;
