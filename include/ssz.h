@@ -48,7 +48,8 @@ enum {
     SSZ_BAD_SCHEMA = 5,  /* no schema: code 1 to 15 for S1 to S15, and the definition */
     SSZ_SYNTAX = 6,      /* the text spells no path, no name or no index */
     SSZ_BAD_PATH = 7,    /* the path does not fit the type */
-    SSZ_ABSENT = 8,      /* the path fits the type, and the value has no such part */
+    SSZ_ABSENT = 8,      /* the path fits the type, and the value has no such part; the type no such
+                            field, limit or part */
     SSZ_BAD_PROOF = 9,   /* the text, or the chunks, are no proof */
     SSZ_UNLIKE = 10,     /* the proof leads to another root */
     SSZ_NO_MEMORY = 11,  /* out of memory */
@@ -65,6 +66,18 @@ enum {
  * and 256 times the second and the third. */
 #define SSZ_VERSION "0.1.0"
 #define SSZ_VERSION_NUMBER 0x000100
+
+/* The form of a type. */
+enum {
+    SSZ_FORM_BOOLEAN = 1,   /* a truth value */
+    SSZ_FORM_UINT = 2,      /* a number; ssz_size tells of how many bytes */
+    SSZ_FORM_CONTAINER = 3, /* fields, each with its name and type */
+    SSZ_FORM_VECTOR = 4,    /* values of one type, as many as its limit */
+    SSZ_FORM_LIST = 5,      /* values of one type, at most as many as its limit */
+    SSZ_FORM_BITVECTOR = 6, /* bits, as many as its limit */
+    SSZ_FORM_BITLIST = 7,   /* bits, at most as many as its limit */
+    SSZ_FORM_UNION = 8      /* a value of one of its options */
+};
 
 /* How a call ended, written by every call that takes one: the status that it answers, and of
  * SSZ_INVALID, SSZ_BAD_SCHEMA and SSZ_BAD_JSON the code and where the fault lies; of SSZ_REFUSED
@@ -147,6 +160,23 @@ uint32_t ssz_fields(ssz_schema *schema, uint64_t type, uint64_t *count, ssz_faul
  * SSZ_NO_ROOM. */
 uint32_t ssz_field(ssz_schema *schema, uint64_t type, uint64_t place, uint8_t *room,
                    size_t room_len, uint64_t *len, ssz_fault *fault);
+
+/* The form of the type, one of SSZ_FORM_BOOLEAN to SSZ_FORM_UNION. SSZ_NO_HANDLE, SSZ_NO_TYPE. */
+uint32_t ssz_form(ssz_schema *schema, uint64_t type, uint32_t *form, ssz_fault *fault);
+
+/* The length of a vector or bitvector, the limit of a list or bitlist. SSZ_ABSENT of other types.
+ * SSZ_NO_HANDLE, SSZ_NO_TYPE. */
+uint32_t ssz_limit(ssz_schema *schema, uint64_t type, uint64_t *limit, ssz_fault *fault);
+
+/* How many types the type is made of: a container of those of its fields, a union of those of its
+ * options, a vector or a list of one; else 0. SSZ_NO_HANDLE, SSZ_NO_TYPE. */
+uint32_t ssz_parts(ssz_schema *schema, uint64_t type, uint64_t *count, ssz_fault *fault);
+
+/* The number of the type at a place, from 0, of those that the type is made of, as ssz_type gives
+ * it: also of one that has no name. SSZ_ABSENT behind the last, and of a union's None.
+ * SSZ_NO_HANDLE, SSZ_NO_TYPE, SSZ_NO_MEMORY. */
+uint32_t ssz_part_type(ssz_schema *schema, uint64_t type, uint64_t place, uint64_t *part,
+                       ssz_fault *fault);
 
 /* The encoding of the type's default, in room as for ssz_part. SSZ_NO_HANDLE, SSZ_NO_TYPE,
  * SSZ_NO_MEMORY, SSZ_NO_ROOM. */
@@ -691,5 +721,33 @@ static inline uint32_t ssz_session_nodes_given(ssz_session *session, uint64_t *c
     return ssz_session_nodes(session, count, fault);
 }
 #define ssz_session_nodes ssz_session_nodes_given
+
+static inline uint32_t ssz_form_given(ssz_schema *schema, uint64_t type, uint32_t *form,
+                                      ssz_fault *fault) {
+    if (!schema || !form || !fault) return ssz_null(fault);
+    return ssz_form(schema, type, form, fault);
+}
+#define ssz_form ssz_form_given
+
+static inline uint32_t ssz_limit_given(ssz_schema *schema, uint64_t type, uint64_t *limit,
+                                       ssz_fault *fault) {
+    if (!schema || !limit || !fault) return ssz_null(fault);
+    return ssz_limit(schema, type, limit, fault);
+}
+#define ssz_limit ssz_limit_given
+
+static inline uint32_t ssz_parts_given(ssz_schema *schema, uint64_t type, uint64_t *count,
+                                       ssz_fault *fault) {
+    if (!schema || !count || !fault) return ssz_null(fault);
+    return ssz_parts(schema, type, count, fault);
+}
+#define ssz_parts ssz_parts_given
+
+static inline uint32_t ssz_part_type_given(ssz_schema *schema, uint64_t type, uint64_t place,
+                                           uint64_t *part, ssz_fault *fault) {
+    if (!schema || !part || !fault) return ssz_null(fault);
+    return ssz_part_type(schema, type, place, part, fault);
+}
+#define ssz_part_type ssz_part_type_given
 
 #endif

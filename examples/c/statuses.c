@@ -10,7 +10,8 @@
 
 static const char PAIR[] =
     "{\"ssz\":1,\"types\":[[\"P\",{\"container\":[[\"a\",\"uint64\"],[\"b\",\"boolean\"]]}],"
-    "[\"L\",{\"list\":[\"P\",4]}]]}";
+    "[\"L\",{\"list\":[\"P\",4]}],"
+    "[\"U\",{\"union\":[null,{\"vector\":[\"L\",2]},\"boolean\"]}]]}";
 static const char TWICE[] = "{\"ssz\":1,\"types\":[[\"P\",\"uint8\"],[\"P\",\"uint8\"]]}";
 
 /* The proof of both chunks of {a: 7, b: true}, and one more than the bytes of the longest text. */
@@ -52,6 +53,11 @@ static void none_held(void) {
     want("root of none", ssz_root(&schema, 0, value, 9, root, &fault), SSZ_NO_HANDLE);
     want("index of none", ssz_gindex(&schema, 0, TEXT("/a"), &index_of, &fault), SSZ_NO_HANDLE);
     want("part of none", part(0, value, 9, TEXT("/a")), SSZ_NO_HANDLE);
+    uint32_t form;
+    want("form of none", ssz_form(&schema, 0, &form, &fault), SSZ_NO_HANDLE);
+    want("limit of none", ssz_limit(&schema, 0, &len, &fault), SSZ_NO_HANDLE);
+    want("parts of none", ssz_parts(&schema, 0, &len, &fault), SSZ_NO_HANDLE);
+    want("part of none", ssz_part_type(&schema, 0, 0, &len, &fault), SSZ_NO_HANDLE);
     want("type of none", ssz_type(&schema, TEXT("P"), &p, &fault), SSZ_NO_HANDLE);
     want("free of none", ssz_schema_free(&schema), SSZ_NO_HANDLE);
 }
@@ -103,6 +109,45 @@ static void values(void) {
     want("syntax", ssz_gindex(&schema, p, TEXT("a"), &index_of, &fault), SSZ_SYNTAX);
     want("bad path", ssz_gindex(&schema, p, TEXT("/c"), &index_of, &fault), SSZ_BAD_PATH);
     want("as before", index_of.low == 23, 1);
+}
+
+/* A type by its number: its form, its limit and of how many types it is made. */
+static void shape_is(const char *what, uint64_t type, uint32_t form, uint32_t has_limit,
+                     uint64_t limit, uint64_t parts) {
+    uint32_t formed = 0;
+    uint64_t limited = 0, counted = 9;
+    want(what, ssz_form(&schema, type, &formed, &fault), SSZ_OK);
+    want(what, formed, form);
+    want(what, ssz_limit(&schema, type, &limited, &fault), has_limit);
+    want(what, limited == limit, 1);
+    want(what, ssz_parts(&schema, type, &counted, &fault), SSZ_OK);
+    want(what, counted == parts, 1);
+}
+
+/* What the types of a schema are, those that have no name too. */
+static void shapes(void) {
+    uint64_t u, vector, part, count = 9;
+    uint32_t form = 9;
+    shape_is("container", p, SSZ_FORM_CONTAINER, SSZ_ABSENT, 0, 2);
+    shape_is("list", list, SSZ_FORM_LIST, SSZ_OK, 4, 1);
+
+    want("union", ssz_type(&schema, TEXT("U"), &u, &fault), SSZ_OK);
+    shape_is("union", u, SSZ_FORM_UNION, SSZ_ABSENT, 0, 3);
+    want("None", ssz_part_type(&schema, u, 0, &vector, &fault), SSZ_ABSENT);
+    want("option", ssz_part_type(&schema, u, 1, &vector, &fault), SSZ_OK);
+    shape_is("vector", vector, SSZ_FORM_VECTOR, SSZ_OK, 2, 1);
+    want("elements", ssz_part_type(&schema, vector, 0, &part, &fault), SSZ_OK);
+    want("one number", part == list, 1);
+    want("no more", ssz_part_type(&schema, vector, 1, &part, &fault), SSZ_ABSENT);
+    want("field", ssz_part_type(&schema, p, 1, &part, &fault), SSZ_OK);
+    shape_is("boolean", part, SSZ_FORM_BOOLEAN, SSZ_ABSENT, 0, 0);
+    want("no field", ssz_part_type(&schema, p, 2, &part, &fault), SSZ_ABSENT);
+
+    want("no number", ssz_form(&schema, 99, &form, &fault), SSZ_NO_TYPE);
+    want("no number", ssz_limit(&schema, 99, &count, &fault), SSZ_NO_TYPE);
+    want("no number", ssz_parts(&schema, 99, &count, &fault), SSZ_NO_TYPE);
+    want("no number", ssz_part_type(&schema, 99, 0, &count, &fault), SSZ_NO_TYPE);
+    want("as before", form == 9 && count == 9, 1);
 }
 
 /* Parts of bytes. */
@@ -192,6 +237,7 @@ static void sessions(void) {
 /* A null pointer in each place of each call. */
 static void nulls(void) {
     ssz_session session = SSZ_SESSION_NONE;
+    uint32_t form;
     uint64_t n;
     want("null", ssz_schema_read(NULL, TEXT(PAIR), &fault), SSZ_NULL);
     fault_is("null", SSZ_NULL, 0, 0);
@@ -210,6 +256,14 @@ static void nulls(void) {
     want("null", ssz_gindex(NULL, p, TEXT("/a"), &index_of, &fault), SSZ_NULL);
     want("null", ssz_gindex(&schema, p, NULL, 0, &index_of, &fault), SSZ_NULL);
     want("null", ssz_gindex(&schema, p, TEXT("/a"), NULL, &fault), SSZ_NULL);
+    want("null", ssz_form(NULL, p, &form, &fault), SSZ_NULL);
+    want("null", ssz_form(&schema, p, NULL, &fault), SSZ_NULL);
+    want("null", ssz_limit(NULL, p, &n, &fault), SSZ_NULL);
+    want("null", ssz_limit(&schema, p, NULL, &fault), SSZ_NULL);
+    want("null", ssz_parts(NULL, p, &n, &fault), SSZ_NULL);
+    want("null", ssz_parts(&schema, p, NULL, &fault), SSZ_NULL);
+    want("null", ssz_part_type(NULL, p, 0, &n, &fault), SSZ_NULL);
+    want("null", ssz_part_type(&schema, p, 0, NULL, &fault), SSZ_NULL);
     want("null", ssz_verify(NULL, TEXT(PROOF)), SSZ_NULL);
     want("null", ssz_verify(root, NULL, 0), SSZ_NULL);
     want("null", part(p, NULL, 0, TEXT("/a")), SSZ_NULL);
@@ -257,6 +311,7 @@ int main(void) {
     schemas();
     types();
     values();
+    shapes();
     parts();
     proofs();
     sessions();

@@ -53,6 +53,7 @@ _CALLS = {
     "ssz_root": _HANDLE + _NUMBER + _BYTES + _CHUNK + _FAULT,
     "ssz_gindex": _HANDLE + _NUMBER + _BYTES + [ctypes.POINTER(Index)] + _FAULT,
     "ssz_part": _HANDLE + _NUMBER + _BYTES * 2 + _ROOM + _FAULT,
+    "ssz_limit": _HANDLE + _NUMBER + _LENGTH + _FAULT,
     "ssz_verify_all": [ctypes.c_char_p] + _ENTRIES * 2,
     "ssz_session_start": _HANDLE + _BYTES + _FAULT,
     "ssz_session_end": _HANDLE,

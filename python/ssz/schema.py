@@ -70,6 +70,15 @@ class Type:
         self._call("ssz_part", data, *_word(path), room, len(room), ctypes.byref(count), path=path)
         return ctypes.string_at(room, count.value)
 
+    @property
+    def limit(self) -> int | None:
+        """The length of a vector, the limit of a list, and so of bits; None of other types."""
+        limit = ctypes.c_uint64()
+        status, fault = self.schema._status("ssz_limit", self._number, ctypes.byref(limit))
+        if status not in (Status.OK, Status.ABSENT):
+            raise error_of(status, fault.code, fault.position, type=self.name)
+        return None if status else limit.value
+
     def decode_bytes(self, data: bytes) -> Any:
         """The plain Python object that the bytes encode: numbers, bytes, lists and dicts."""
         data = bytes(data)

@@ -48,6 +48,13 @@ extern "C" {
         schema: *mut Handle, number: u64, data: Bytes, len: usize, path: Bytes, path_len: usize, room: Room, room_len: usize,
         part_len: *mut u64, fault: *mut Fault,
     ) -> u32;
+    pub fn ssz_size(schema: *mut Handle, number: u64, size: *mut u64, fault: *mut Fault) -> u32;
+    pub fn ssz_fields(schema: *mut Handle, number: u64, count: *mut u64, fault: *mut Fault) -> u32;
+    pub fn ssz_field(schema: *mut Handle, number: u64, place: u64, room: Room, room_len: usize, len: *mut u64, fault: *mut Fault) -> u32;
+    pub fn ssz_form(schema: *mut Handle, number: u64, form: *mut u32, fault: *mut Fault) -> u32;
+    pub fn ssz_limit(schema: *mut Handle, number: u64, limit: *mut u64, fault: *mut Fault) -> u32;
+    pub fn ssz_parts(schema: *mut Handle, number: u64, count: *mut u64, fault: *mut Fault) -> u32;
+    pub fn ssz_part_type(schema: *mut Handle, number: u64, place: u64, part: *mut u64, fault: *mut Fault) -> u32;
     pub fn ssz_verify_all(root: *const [u8; 32], leaves: *const Entry, leaves_len: usize, nodes: *const Entry, nodes_len: usize) -> u32;
     pub fn ssz_session_start(session: *mut Handle, schema: Bytes, len: usize, fault: *mut Fault) -> u32;
     pub fn ssz_session_end(session: *mut Handle) -> u32;

@@ -1,7 +1,8 @@
 //! SimpleSerialize (SSZ), the encoding and the hash tree of Ethereum's consensus layer, over a library each function of which is
 //! proved.
 //!
-//! - [`Schema`] reads the types of a schema file, and [`Type`] tells what holds of bytes: `check`, `root`, `gindex`, `part`.
+//! - [`Schema`] reads the types of a schema file, and [`Type`] tells what it is ([`Form`]), and what holds of bytes: `check`, `root`,
+//!   `gindex`, `part`.
 //! - [`Session`] edits values in place, keeps versions that share what is equal, and hashes what no root before did.
 //! - [`Proof`] is a multiproof, to and from a branch as light clients have it.
 //!
@@ -28,5 +29,5 @@ mod session;
 
 pub use error::{Error, Result};
 pub use proof::Proof;
-pub use schema::{Schema, Type};
+pub use schema::{Form, Schema, Type};
 pub use session::Session;

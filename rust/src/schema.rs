@@ -1,7 +1,7 @@
 use std::sync::{Mutex, PoisonError};
 
 use crate::calls::*;
-use crate::error::{ended, Result, NO_ROOM};
+use crate::error::{ended, Error, Result, NO_ROOM};
 
 /// What a handle holds; boxed, so that it does not move.
 pub(crate) struct Held {
@@ -80,6 +80,34 @@ impl Schema {
     fn call(&self, call: impl FnOnce(*mut Handle, *mut Fault) -> u32) -> Result<()> {
         self.held.lock().unwrap_or_else(PoisonError::into_inner).call(call)
     }
+
+    /// A name that a call copies.
+    fn name_by(&self, call: impl Fn(*mut Handle, *mut u8, usize, *mut u64, *mut Fault) -> u32) -> Result<String> {
+        let name = self.held.lock().unwrap_or_else(PoisonError::into_inner).filled(64, call)?;
+        Ok(String::from_utf8_lossy(&name).into_owned())
+    }
+}
+
+/// The form of a type, with the types that it is made of.
+#[derive(Clone)]
+#[non_exhaustive]
+pub enum Form<'s> {
+    /// A truth value.
+    Boolean,
+    /// A number; the size of the type tells of how many bytes.
+    Uint,
+    /// Fields in order, each with its name.
+    Container(Vec<(String, Type<'s>)>),
+    /// So many values of a type.
+    Vector(Type<'s>, u64),
+    /// At most so many values of a type.
+    List(Type<'s>, u64),
+    /// So many bits.
+    Bitvector(u64),
+    /// At most so many bits.
+    Bitlist(u64),
+    /// Options in order, None as `None`.
+    Union(Vec<Option<Type<'s>>>),
 }
 
 /// A type of a schema: what holds of the bytes of its values.
@@ -89,7 +117,52 @@ pub struct Type<'s> {
     number: u64,
 }
 
-impl Type<'_> {
+impl<'s> Type<'s> {
+    /// How many bytes each value has; `None` where they differ.
+    pub fn size(&self) -> Result<Option<u64>> {
+        let size = self.number_of(ssz_size)?;
+        Ok(Some(size).filter(|size| *size > 0))
+    }
+
+    /// What the type is.
+    pub fn form(&self) -> Result<Form<'s>> {
+        let mut form = 0;
+        self.schema.call(|handle, fault| unsafe { ssz_form(handle, self.number, &mut form, fault) })?;
+        Ok(match form {
+            1 => Form::Boolean,
+            2 => Form::Uint,
+            3 => Form::Container(self.fields()?),
+            4 => Form::Vector(self.part_type(0)?, self.number_of(ssz_limit)?),
+            5 => Form::List(self.part_type(0)?, self.number_of(ssz_limit)?),
+            6 => Form::Bitvector(self.number_of(ssz_limit)?),
+            7 => Form::Bitlist(self.number_of(ssz_limit)?),
+            8 => Form::Union((0..self.number_of(ssz_parts)?).map(|place| present(self.part_type(place))).collect::<Result<_>>()?),
+            form => return Err(Error::Other { status: form }),
+        })
+    }
+
+    fn fields(&self) -> Result<Vec<(String, Type<'s>)>> {
+        let name = |place| {
+            self.schema.name_by(|handle, room, room_len, len, fault| unsafe {
+                ssz_field(handle, self.number, place, room, room_len, len, fault)
+            })
+        };
+        (0..self.number_of(ssz_fields)?).map(|place| Ok((name(place)?, self.part_type(place)?))).collect()
+    }
+
+    /// The type at a place of those that this one is made of.
+    fn part_type(&self, place: u64) -> Result<Type<'s>> {
+        let mut number = 0;
+        self.schema.call(|handle, fault| unsafe { ssz_part_type(handle, self.number, place, &mut number, fault) })?;
+        Ok(Type { schema: self.schema, number })
+    }
+
+    fn number_of(&self, call: unsafe extern "C" fn(*mut Handle, u64, *mut u64, *mut Fault) -> u32) -> Result<u64> {
+        let mut found = 0;
+        self.schema.call(|handle, fault| unsafe { call(handle, self.number, &mut found, fault) })?;
+        Ok(found)
+    }
+
     /// Whether the bytes encode a value: the first fault where they do not.
     pub fn check(&self, data: &[u8]) -> Result<()> {
         self.schema.call(|handle, fault| unsafe { ssz_check(handle, self.number, data.as_ptr(), data.len(), fault) })
@@ -116,5 +189,13 @@ impl Type<'_> {
         held.filled(data.len().max(8), |handle, room, room_len, len, fault| unsafe {
             ssz_part(handle, self.number, data.as_ptr(), data.len(), path.as_ptr(), path.len(), room, room_len, len, fault)
         })
+    }
+}
+
+/// What there is, where it is not absent.
+fn present<T>(found: Result<T>) -> Result<Option<T>> {
+    match found {
+        Err(Error::Absent) => Ok(None),
+        found => found.map(Some),
     }
 }

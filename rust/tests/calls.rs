@@ -2,7 +2,7 @@
 
 use std::thread;
 
-use ssz::{Error, Proof, Schema, Session};
+use ssz::{Error, Form, Proof, Schema, Session};
 
 const TYPES: &[u8] = br#"{"ssz":1,"types":[
     ["Pair",{"container":[["a","uint16"],["b",{"list":["uint8",4]}]]}],
@@ -47,6 +47,29 @@ fn parts_have_indices_and_bytes() {
     assert_eq!(pair.gindex("/c"), Err(Error::BadPath));
     assert_eq!(pair.gindex("b"), Err(Error::Syntax));
     assert_eq!(pair.part(&data, "/b/2").unwrap_err(), Error::Absent);
+}
+
+#[test]
+fn types_tell_their_forms() {
+    let schema = schema();
+    let pair = schema.find("Pair").unwrap();
+    assert_eq!(pair.size().unwrap(), None);
+    let fields = match pair.form().unwrap() {
+        Form::Container(fields) => fields,
+        _ => panic!("no container"),
+    };
+    assert_eq!(fields.iter().map(|field| field.0.as_str()).collect::<Vec<_>>(), ["a", "b"]);
+    assert_eq!(fields[0].1.size().unwrap(), Some(2));
+    let element = match fields[1].1.form().unwrap() {
+        Form::List(element, 4) => element,
+        _ => panic!("no list of 4"),
+    };
+    assert_eq!(element.size().unwrap(), Some(1));
+    let options = match schema.find("Choice").unwrap().form().unwrap() {
+        Form::Union(options) => options,
+        _ => panic!("no union"),
+    };
+    assert!(options[0].is_none() && matches!(options[1].as_ref().unwrap().form().unwrap(), Form::Uint));
 }
 
 #[test]

@@ -3,7 +3,9 @@ use Rattle.std.specs.Prelude.{◌≡◌, ℕ, List, Option, None, Some, Ok, Err}
 use Rattle.ssz_said.specs.declared.fault.SszFault.{SszFault}
 use Rattle.ssz_typed.specs.declared.library.Library.{Library}
 use Rattle.ssz_said.specs.declared.status.TheConstants.{OK, NO_HANDLE}
+use Rattle.ssz_typed.specs.Forms.{part_type_in}
 use Rattle.ssz_typed.specs.Library.{ReadsLibrary, Names}
+use Rattle.ssz_typed.specs.Parts.{PartIsNumbered}
 use Rattle.ssz_typed.specs.Texts.{MakesIn}
 use Rattle.ssz_said.specs.Outcome.{Outcome, IsCopied, IsGiven, done, refused}
 
@@ -30,6 +32,16 @@ IsNumbered name (Some old) None before number fault = ⊥
 IsNumbered name (Some old) (Some new) before number fault =
     (new.schema ≡ old.schema)
     × ((answer : Outcome ℕ) × Names name old new answer × IsGiven before number fault answer)
+
+-- the same of the number of a type that a type is made of
+abbrev pub IsPartNumbered : ℕ → ℕ → Option Library → Option Library → ℕ → ℕ → SszFault → Type 0
+IsPartNumbered number place None new before part fault =
+    (new ≡ None) × (part ≡ before) × (fault ≡ refused NO_HANDLE)
+IsPartNumbered number place (Some old) None before part fault = ⊥
+IsPartNumbered number place (Some old) (Some new) before part fault =
+    (new.schema ≡ old.schema)
+    × ((answer : Outcome ℕ) × PartIsNumbered (part_type_in old number place) old new answer
+    × IsGiven before part fault answer)
 
 -- the encoding of the value whose JSON text some bytes are, or why there is none
 abbrev pub MakesHeld : Option Library → ℕ → List ℕ → Outcome (List ℕ) → Type 0

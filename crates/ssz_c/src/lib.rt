@@ -1,6 +1,6 @@
-//! The calls of C (`include/ssz.h`): schemas, first faults, roots, generalized indices, proofs and
-//! parts of encoded bytes; and sessions, which do the statements of scripts, said as a line or by
-//! the arguments of a call.
+//! The calls of C (`include/ssz.h`): schemas and what their types are, first faults, roots,
+//! generalized indices, proofs and parts of encoded bytes; and sessions, which do the statements of
+//! scripts, said as a line or by the arguments of a call.
 //!
 //! Each export takes what its handle holds, calls a library of this repository, and puts it back.
 //! A handle is a struct of two words that C keeps and hands in by its address; the second is a
@@ -29,6 +29,7 @@ mod sessions;
 mod showing;
 #[cfg(test)]
 mod tests;
+mod types;
 mod verifying;
 
 pub use editing::{
@@ -51,6 +52,7 @@ pub use showing::{
 };
 pub use ssz_said::{SszEntry, SszFault, SszIndex};
 pub use ssz_typed::SszStretch;
+pub use types::{ssz_form, ssz_limit, ssz_part_type, ssz_parts};
 pub use verifying::{ssz_verify, ssz_verify_all, ssz_verify_branch};
 
 // The version of the library: 65536 times the first number, 256 times the second, and the third.

@@ -5,14 +5,14 @@ use super::held::Held;
 use super::held_session::HeldSession;
 use super::session_handle::SszSession;
 use super::{
-    ssz_check, ssz_default, ssz_field, ssz_fields, ssz_gindex, ssz_of_json, ssz_part, ssz_place,
-    ssz_root, ssz_schema_free, ssz_schema_read, ssz_session_append, ssz_session_bytes,
-    ssz_session_choose, ssz_session_choose_default, ssz_session_compact, ssz_session_drop,
-    ssz_session_end, ssz_session_fork, ssz_session_gindex, ssz_session_json, ssz_session_len,
-    ssz_session_load, ssz_session_new, ssz_session_nodes, ssz_session_pop, ssz_session_prove,
-    ssz_session_prove_all, ssz_session_reply, ssz_session_root, ssz_session_run, ssz_session_set,
-    ssz_session_start, ssz_session_upgrade, ssz_size, ssz_to_json, ssz_type, ssz_verify,
-    ssz_verify_all, ssz_verify_branch, ssz_version,
+    ssz_check, ssz_default, ssz_field, ssz_fields, ssz_form, ssz_gindex, ssz_limit, ssz_of_json,
+    ssz_part, ssz_part_type, ssz_parts, ssz_place, ssz_root, ssz_schema_free, ssz_schema_read,
+    ssz_session_append, ssz_session_bytes, ssz_session_choose, ssz_session_choose_default,
+    ssz_session_compact, ssz_session_drop, ssz_session_end, ssz_session_fork, ssz_session_gindex,
+    ssz_session_json, ssz_session_len, ssz_session_load, ssz_session_new, ssz_session_nodes,
+    ssz_session_pop, ssz_session_prove, ssz_session_prove_all, ssz_session_reply, ssz_session_root,
+    ssz_session_run, ssz_session_set, ssz_session_start, ssz_session_upgrade, ssz_size,
+    ssz_to_json, ssz_type, ssz_verify, ssz_verify_all, ssz_verify_branch, ssz_version,
 };
 use ssz_said::{SszEntry, SszFault, SszIndex, status};
 use ssz_typed::SszStretch;
@@ -364,6 +364,54 @@ fn a_session_is_edited_and_proved(rt: HostRuntime) {
     assert!(rt; chooses(rt.alloc(), &mut session));
     assert!(rt; upgrades(rt.alloc(), &mut session));
     assert!(rt; proves_both(rt.alloc(), &mut session));
+}
+
+// The form, the limit and the parts of a type; zeros where it has none.
+fn shape(alloc: Global, schema: &mut SszSchema, number: u64) -> (u32, u64, u64) {
+    let mut fault = SszFault::none();
+    let (mut form, mut limit, mut parts) = (0, 0, 0);
+    let _formed = ssz_form(alloc, schema, number, &mut form, &mut fault);
+    let _limited = ssz_limit(alloc, schema, number, &mut limit, &mut fault);
+    let _counted = ssz_parts(alloc, schema, number, &mut parts, &mut fault);
+    (form, limit, parts)
+}
+
+// The number of the type of a name, or of a part of a type.
+fn named(alloc: Global, schema: &mut SszSchema, name: &[u8]) -> u64 {
+    let mut number = 99;
+    let _named = ssz_type(alloc, schema, name, &mut number, &mut SszFault::none());
+    number
+}
+
+fn part_of(alloc: Global, schema: &mut SszSchema, number: u64, place: u64) -> (u32, u64) {
+    let mut part = 99;
+    let mut fault = SszFault::none();
+    let status = ssz_part_type(alloc, schema, number, place, &mut part, &mut fault);
+    (status, part)
+}
+
+// Whether the elements of L and the option of U are numbers, and U's first option is no type.
+fn is_made_of(alloc: Global, schema: &mut SszSchema) -> bool {
+    let (list, union) = (named(alloc, schema, b"L"), named(alloc, schema, b"U"));
+    let (found, element) = part_of(alloc, schema, list, 0);
+    let (chosen, option) = part_of(alloc, schema, union, 1);
+    found == status::OK
+        && chosen == status::OK
+        && shape(alloc, schema, list) == (5, 4, 1)
+        && shape(alloc, schema, union) == (8, 0, 2)
+        && shape(alloc, schema, element) == (2, 0, 0)
+        && element == named(alloc, schema, b"uint64")
+        && option == named(alloc, schema, b"byte")
+        && part_of(alloc, schema, union, 0) == (status::ABSENT, 99)
+        && part_of(alloc, schema, list, 1) == (status::ABSENT, 99)
+}
+
+#[test]
+fn types_are_told(rt: HostRuntime) {
+    let mut schema = no_schema(rt.alloc());
+    let mut fault = SszFault::none();
+    assert!(rt; ssz_schema_read(rt.alloc(), &mut schema, FORMS, &mut fault) == status::OK);
+    assert!(rt; is_made_of(rt.alloc(), &mut schema));
 }
 
 // What may go to another thread.

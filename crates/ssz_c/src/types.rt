@@ -1,0 +1,99 @@
+// The calls that tell what the types of a schema are.
+ghost use Rattle.std.specs.Prelude.{◌≡◌};
+ghost use Rattle.ssz_said.specs.Outcome.{IsGiven};
+ghost use Rattle.ssz_typed.specs.Forms.{form_in, limit_in, parts_in};
+ghost use Rattle.ssz_c.specs.Reading.{IsPartNumbered, held_in};
+
+use super::giving::{fail, give};
+use super::handle::SszSchema;
+use ssz_said::{SszFault, status};
+use ssz_typed::forms;
+use std::alloc::Global;
+
+/// The form of the type, by its number.
+#[unsafe(no_mangle)]
+pub extern "C" fn ssz_form(
+    alloc: Global,
+    handle: &mut SszSchema,
+    number: u64,
+    form: &mut u32,
+    fault: &mut SszFault,
+) -> u32
+    ensures held { handle.new.held.value ≡ handle.old.held.value }
+    ensures answer { IsGiven form.old form.new fault.new
+        (held_in (λ library. form_in library number) handle.old.held.value) }
+    ensures status { result ≡ fault.new.status }
+{
+    let Some(library) = handle.take(alloc) else {
+        return fail(status::NO_HANDLE, fault);
+    };
+    let answer = forms::form(&library, number);
+    handle.put(library);
+    give(answer, form, fault)
+}
+
+/// The length of a vector or bitvector, or the limit of a list or bitlist.
+#[unsafe(no_mangle)]
+pub extern "C" fn ssz_limit(
+    alloc: Global,
+    handle: &mut SszSchema,
+    number: u64,
+    limit: &mut u64,
+    fault: &mut SszFault,
+) -> u32
+    ensures held { handle.new.held.value ≡ handle.old.held.value }
+    ensures answer { IsGiven limit.old limit.new fault.new
+        (held_in (λ library. limit_in library number) handle.old.held.value) }
+    ensures status { result ≡ fault.new.status }
+{
+    let Some(library) = handle.take(alloc) else {
+        return fail(status::NO_HANDLE, fault);
+    };
+    let answer = forms::limit(&library, number);
+    handle.put(library);
+    give(answer, limit, fault)
+}
+
+/// How many types the type is made of: its fields, its options, or the one of its elements.
+#[unsafe(no_mangle)]
+pub extern "C" fn ssz_parts(
+    alloc: Global,
+    handle: &mut SszSchema,
+    number: u64,
+    count: &mut u64,
+    fault: &mut SszFault,
+) -> u32
+    ensures held { handle.new.held.value ≡ handle.old.held.value }
+    ensures answer { IsGiven count.old count.new fault.new
+        (held_in (λ library. parts_in library number) handle.old.held.value) }
+    ensures status { result ≡ fault.new.status }
+{
+    let Some(library) = handle.take(alloc) else {
+        return fail(status::NO_HANDLE, fault);
+    };
+    let answer = forms::parts(&library, number);
+    handle.put(library);
+    give(answer, count, fault)
+}
+
+/// The number of the type at a place of those that a type is made of.
+#[unsafe(no_mangle)]
+pub extern "C" fn ssz_part_type(
+    alloc: Global,
+    handle: &mut SszSchema,
+    number: u64,
+    place: u64,
+    part: &mut u64,
+    fault: &mut SszFault,
+) -> u32
+    ensures numbered { IsPartNumbered number place handle.old.held.value handle.new.held.value
+        part.old part.new fault.new }
+    ensures status { result ≡ fault.new.status }
+{
+    let Some(mut library) = handle.take(alloc) else {
+        return fail(status::NO_HANDLE, fault);
+    };
+    let answer = library.number_of_part(number, place);
+    handle.put(library);
+    give(answer, part, fault)
+}
