@@ -22,7 +22,7 @@ use Rattle.ssz_machine.proofs.Endings.{ends_without_memory, ends_unread, ends_to
 use Rattle.ssz_decisions.specs.Content.{Content, rules_of}
 use Rattle.ssz_engine.specs.Steps.{Keeps, SavesPart, is_refusal}
 use Rattle.ssz_decisions.specs.Standing.{StaysFor}
-use Rattle.ssz_engine.specs.Scripts.{IsStopped, Scene, files_reached}
+use Rattle.ssz_engine.specs.Scripts.{IsStopped, Scene, files_reached, point_of}
 use Rattle.ssz_engine.specs.Points.{Course, Comes, IsCutShort, Pays, turns_of}
 use Rattle.ssz_engine.specs.Lines.{Makes, Missed}
 use Rattle.ssz_decisions.specs.declared.outcome.Outcome.{Outcome}
@@ -189,8 +189,9 @@ module _ (pair_of : PairOf) (place : Place) (course : Course) where
         (passes.stays c.state.versions c.at.versions)
         (owed_still before after c.done c.at.pays passes)
 
-    pub line_unread : Missed course.rules turn before after → after.pieces ≡ before.pieces
-        → Passes before after → IsCutShort place course status.ReadFault before after
+    pub line_unread : Missed course.rules turn (point_of before) (point_of after)
+        → after.pieces ≡ before.pieces → Passes before after
+        → IsCutShort place course status.ReadFault before after
     line_unread missed pieces passes =
         let printed = pieces ∙ c.at.printed in
         let held = missed.files ∙ c.at.files in
@@ -246,7 +247,8 @@ module _ (pair_of : PairOf) (place : Place) (course : Course) where
         no_memory (says writer line ∷ left) was before after c told pieces passes
 
     module _ (made : Outcome) (text piece : List ℕ)
-        (makes : Makes course.rules course.base turn made before after text piece)
+        (makes : Makes course.rules course.base turn made (point_of before) (point_of after) text
+        piece)
         (fronted : text ≡ front place writer) where
       is_shown : piece ≡ shown place turn
       is_shown = makes.line ∙ ap (λ t. t ++ reply_line (reply_of turn)) fronted

@@ -19,7 +19,7 @@ use Rattle.ssz_engine.specs.Compacting.{compacted, is_compact}
 use Rattle.ssz_decisions.specs.Content.{Content, rules_of}
 use Rattle.ssz_decisions.specs.Outside.{Holds}
 use Rattle.ssz_engine.specs.Steps.{DoesStep, Finds, Leaves, SavesPart, Stops, TouchesWhere, file_read, is_refusal, turn_at}
-use Rattle.ssz_engine.specs.Scripts.{Scene, file_named, name_before}
+use Rattle.ssz_engine.specs.Scripts.{Point, file_named, name_before}
 use Rattle.ssz_engine.specs.Lines.{DoesLine, LeavesOthers, type_held}
 use Rattle.ssz_decisions.specs.declared.outcome.Outcome.{Outcome}
 use Rattle.ssz_decisions.specs.declared.outcome.Outcome.TheVariants.{Accepted, Refused}
@@ -83,7 +83,7 @@ both-true : (a b : Bool) → a ≡ true → b ≡ true → (a && b) ≡ true
 both-true a b one two = rw (one, two) refl
 
 module _ (pair_of : PairOf) (place : Place) (writer line : ℕ) (statement : Statement)
-    (before after : Scene) (text more : List ℕ) where
+    (before after : Point) (text more : List ℕ) where
   abbrev number : ℕ
   number = before.hashed - before.engine.base
 

@@ -22,10 +22,10 @@ pub mod Comings
 pub mod LineSteps
 pub mod EngineSteps
 pub mod Leading
-pub mod Scripts
+pub mod Trying
+pub mod LinesDone
 pub mod Going
-pub mod NamedFiles
-pub mod Uncompacted
+pub mod Scripts
 pub mod TakenOver
 pub mod Weaving
 pub mod Isolating

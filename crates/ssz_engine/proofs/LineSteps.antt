@@ -1,6 +1,6 @@
 -- What a line that was done, or was not, makes of a run.
-use Rattle.std.proofs.Common.{ℕ, ◌-◌, ◌≡◌, Bool, false, List, [], ◌∷◌, refl, subst}
-use Rattle.std.specs.Prelude.{Result, Ok, Err, ◌||◌}
+use Rattle.std.proofs.Common.{ℕ, ◌-◌, ◌≡◌, Bool, false, List, [], ◌∷◌, refl, subst, ◌+◌, ◌≤◌, ap, inl, inr}
+use Rattle.std.specs.Prelude.{Result, Ok, Err, ◌||◌, IfErr}
 use Rattle.ssz_outside.specs.declared.status.Status.{Status}
 use Rattle.ssz_outside.specs.declared.status.Status.TheVariants as status
 use Rattle.ssz_proof.specs.Calculation.{PairOf}
@@ -9,34 +9,53 @@ use Rattle.ssz_machine.specs.Rules.{Rules}
 use Rattle.ssz_machine.specs.Machine.{Line, step}
 use Rattle.ssz_machine.specs.Plays.{Event, says, front}
 use Rattle.ssz_engine.specs.Steps.{Keeps, is_refusal}
-use Rattle.ssz_engine.specs.Scripts.{Scene}
-use Rattle.ssz_engine.specs.Points.{Course, Comes, Goes}
-use Rattle.ssz_engine.specs.Lines.{Does, DoesLine, Prints, ended_by}
+use Rattle.ssz_engine.specs.Scripts.{Scene, point_of}
+use Rattle.ssz_engine.specs.Points.{Course, Comes, Goes, Counts, Runs}
+use Rattle.ssz_engine.specs.Lines.{Does, DoesLine, Prints, ended_by, CountsPrint, Tries}
 use Rattle.ssz_decisions.specs.declared.outcome.Outcome.{Outcome}
 use Rattle.ssz_decisions.specs.declared.fault.EngineFault.{EngineFault}
 use Rattle.ssz_decisions.specs.declared.fault.EngineFault.TheVariants.{Read, Write, Memory}
 use Rattle.ssz_engine.proofs.Comings.{Passes, line_ahead, line_cut, line_done, line_memory, line_unread, line_unwritten}
+use Rattle.ssz_arena.specs.Content.{unhashed}
+use Rattle.ssz_outside.specs.Job.{IsFinished}
+use Rattle.ssz_decisions.specs.Standing.{StaysFor}
+
+-- a status that a fault ends a run with
+abbrev stopped : Status → Result (Unit {0}) Status
+stopped ended = Err ended
+
+unread-by : (fault : EngineFault) → stopped (ended_by fault) ≡ stopped status.ReadFault
+    → fault ≡ Read
+unread-by Read same = refl
+unread-by Write same = cc
+unread-by Memory same = cc
+
+broken-by : (fault : EngineFault) → IsFinished (ended_by fault) → ⊥
+broken-by Read done = done
+broken-by Write done = done
+broken-by Memory done = done
 
 module _ (pair_of : PairOf) (place : Place) (writer : ℕ) (line : Line) (was : Bool)
     (before after : Scene) (text more : List ℕ) where
   -- what a line does, by the rules and the base of the run
   line_does : (result : Result Outcome EngineFault) (course : Course) (left : List Event)
       (c : Comes pair_of place course (says writer line ∷ left) was before)
-      → DoesLine pair_of place writer line result before after text more
+      → DoesLine pair_of place writer line result (point_of before) (point_of after) text more
       → Does course.rules course.base
-      (step course.rules place (before.hashed - course.base) c.state writer line) result before
-      after text more
+      (step course.rules place (before.hashed - course.base) c.state writer line) result
+      (point_of before) (point_of after) text more
   line_does result course left c does =
       subst (λ base. Does course.rules base
-      (step course.rules place (before.hashed - base) c.state writer line) result before after text
-      more) c.at.base
+      (step course.rules place (before.hashed - base) c.state writer line) result
+      (point_of before) (point_of after) text more) c.at.base
       (subst (λ (rules : Rules). Does rules before.engine.base
-      (step rules place (before.hashed - before.engine.base) c.state writer line) result before
-      after text more) c.at.rules (does c.state c.at.versions c.at.files))
+      (step rules place (before.hashed - before.engine.base) c.state writer line) result
+      (point_of before) (point_of after) text more) c.at.rules
+      (does c.state c.at.versions c.at.files))
 
   -- it was not done
   pub stop_goes : (fault : EngineFault)
-      → DoesLine pair_of place writer line (Err fault) before after text more
+      → DoesLine pair_of place writer line (Err fault) (point_of before) (point_of after) text more
       → after.pieces ≡ before.pieces → Passes before after
       → Goes pair_of place (says writer line ∷ []) (Err (ended_by fault)) was was before after
   stop_goes Read does pieces passes course left c =
@@ -51,7 +70,7 @@ module _ (pair_of : PairOf) (place : Place) (writer : ℕ) (line : Line) (was : 
 
   -- it was done, and was printed or not
   pub print_goes : (printed : Result (Unit {0}) Status) (made : Outcome)
-      → DoesLine pair_of place writer line (Ok made) before after text more
+      → DoesLine pair_of place writer line (Ok made) (point_of before) (point_of after) text more
       → text ≡ front place writer → Prints printed more before.pieces after.pieces
       → Keeps before.engine after.engine → (printed ≡ Err status.Memory → before.ample ≡ false)
       → after.ample ≡ before.ample
@@ -65,8 +84,77 @@ module _ (pair_of : PairOf) (place : Place) (writer : ℕ) (line : Line) (was : 
   print_goes (Err status.Memory) made does fronted prints keeps memory ample course left c =
       line_ahead pair_of place course writer line left was before after c made text more
       (line_does (Ok made) course left c does) fronted (memory refl) prints
-  print_goes (Err status.Accepted) made does fronted prints keeps memory ample course left c = absurd prints
-  print_goes (Err status.Refused) made does fronted prints keeps memory ample course left c = absurd prints
-  print_goes (Err status.Usage) made does fronted prints keeps memory ample course left c = absurd prints
-  print_goes (Err status.SchemaFault) made does fronted prints keeps memory ample course left c = absurd prints
-  print_goes (Err status.ReadFault) made does fronted prints keeps memory ample course left c = absurd prints
+  print_goes (Err status.Accepted) made does fronted prints keeps memory ample course left c =
+      absurd prints
+  print_goes (Err status.Refused) made does fronted prints keeps memory ample course left c =
+      absurd prints
+  print_goes (Err status.Usage) made does fronted prints keeps memory ample course left c =
+      absurd prints
+  print_goes (Err status.SchemaFault) made does fronted prints keeps memory ample course left c =
+      absurd prints
+  print_goes (Err status.ReadFault) made does fronted prints keeps memory ample course left c =
+      absurd prints
+
+  -- the faults that were counted
+  stop-counts : (fault : EngineFault)
+      → Tries {T = Outcome} (line ∷ []) (Err fault) (point_of before) (point_of after)
+      → after.sink_faults ≡ before.sink_faults → Counts (Err (ended_by fault)) before after
+  stop-counts Read tries sinks = (tries.gets, tries.puts, sinks)
+  stop-counts Write tries sinks = (tries.gets, inl (tries.puts, sinks))
+  stop-counts Memory tries sinks = (tries.gets, tries.puts, sinks)
+
+  print-counts : (printed : Result (Unit {0}) Status) (made : Outcome)
+      → Tries {T = Outcome} (line ∷ []) (Ok made) (point_of before) (point_of after)
+      → Prints printed more before.pieces after.pieces
+      → CountsPrint printed before.sink_faults after.sink_faults → Counts printed before after
+  print-counts (Ok x) made tries prints sinks = (tries.gets, tries.puts, sinks)
+  print-counts (Err status.WriteFault) made tries prints sinks =
+      (tries.gets, inr (tries.puts, sinks))
+  print-counts (Err status.Memory) made tries prints sinks = (tries.gets, tries.puts, sinks)
+  print-counts (Err status.Accepted) made tries prints sinks = absurd prints
+  print-counts (Err status.Refused) made tries prints sinks = absurd prints
+  print-counts (Err status.Usage) made tries prints sinks = absurd prints
+  print-counts (Err status.SchemaFault) made tries prints sinks = absurd prints
+  print-counts (Err status.ReadFault) made tries prints sinks = absurd prints
+
+  -- a line that was not done, as a part of a run
+  pub stop_runs : (fault : EngineFault)
+      → Tries {T = Outcome} (line ∷ []) (Err fault) (point_of before) (point_of after)
+      → DoesLine pair_of place writer line (Err fault) (point_of before) (point_of after) text more
+      → after.pieces ≡ before.pieces → after.sink_faults ≡ before.sink_faults
+      → after.hashed ≤ before.hashed + unhashed before.engine.arena
+      → StaysFor before.engine after.engine
+      → Runs pair_of place (says writer line ∷ []) (Err (ended_by fault)) was was before after
+  stop_runs fault tries does pieces sinks most stays = record {
+    goes = stop_goes fault does pieces
+        (record { rises = tries.rises; most = most; stays = stays });
+    keeps = tries.keeps;
+    nodes = tries.nodes;
+    rises = tries.rises;
+    readable = tries.readable;
+    counts = stop-counts fault tries sinks;
+    stops = broken-by fault;
+    fails = λ all same. tries.fails all (ap Err (unread-by fault same));
+  }
+
+  -- and one that was, printed or not
+  pub print_runs : (printed : Result (Unit {0}) Status) (made : Outcome)
+      → Tries {T = Outcome} (line ∷ []) (Ok made) (point_of before) (point_of after)
+      → DoesLine pair_of place writer line (Ok made) (point_of before) (point_of after) text more
+      → text ≡ front place writer → Prints printed more before.pieces after.pieces
+      → CountsPrint printed before.sink_faults after.sink_faults
+      → IfErr printed (λ ended. ¬ IsFinished ended)
+      → (printed ≡ Err status.Memory → before.ample ≡ false) → after.ample ≡ before.ample
+      → Runs pair_of place (says writer line ∷ []) printed was (is_refusal made || was) before
+      after
+  print_runs printed made tries does fronted prints sinks stops memory ample = record {
+    goes = print_goes printed made does fronted prints tries.keeps memory ample;
+    keeps = tries.keeps;
+    nodes = tries.nodes;
+    rises = tries.rises;
+    readable = tries.readable;
+    counts = print-counts printed made tries prints sinks;
+    stops = stops;
+    fails = λ all same. subst (λ (r : Result (Unit {0}) Status).
+        Prints r more before.pieces after.pieces) same prints;
+  }

@@ -10,7 +10,7 @@ use Rattle.ssz_machine.specs.State.{Name, State}
 use Rattle.ssz_machine.specs.Rules.{Rules}
 use Rattle.ssz_machine.specs.Machine.{Line, Turn, step, state_of, charge_of, reads_file}
 use Rattle.ssz_machine.specs.Plays.{Event, says, adopts, adopted, charges, next_number, numbers_after, play}
-use Rattle.ssz_engine.specs.Scripts.{file_named, file_reached, files_named, files_reached, name_before}
+use Rattle.ssz_engine.specs.Scripts.{file_named, file_reached, files_reached, name_before}
 
 -- names of which more is so
 pub all_names : (P Q : Name → Type 0) → ((name : Name) → P name → Q name) → (names : List Name)
@@ -34,27 +34,6 @@ first_of_names P (Some other) names name is all = subst P (same is) all.0
   where
     same : Some other ≡ Some name → other ≡ name
     same e = cc
-
--- what the first of some lines names, and what those behind it name
-pub named_first : (P : Name → Type 0) (line : Line) (lines more : List Line)
-    → lines ≡ line ∷ more → AllByRecursion P (files_named lines)
-    → AllByRecursion P (files_named (line ∷ []))
-named_first P line lines more taken all =
-    first (file_named line.1) (files_named more)
-    (subst (λ (ls : List Line). AllByRecursion P (files_named ls)) taken all)
-  where
-    first : (o : Option Name) (names : List Name) → AllByRecursion P (name_before o names)
-        → AllByRecursion P (name_before o [])
-    first None names all = tt
-    first (Some name) names all = (all.0, tt)
-
-pub named_behind : (P Q : Name → Type 0) → ((name : Name) → P name → Q name) → (line : Line)
-    (lines more : List Line) → lines ≡ line ∷ more → AllByRecursion P (files_named lines)
-    → AllByRecursion Q (files_named more)
-named_behind P Q more_so line lines more taken all =
-    all_names P Q more_so (files_named more)
-    (behind P (file_named line.1) (files_named more)
-    (subst (λ (ls : List Line). AllByRecursion P (files_named ls)) taken all))
 
 -- a file that a step reads is one of those that all read
 pub reached_at : (P : Name → Type 0) (rules : Rules) (done : List Turn) (turn : Turn)

@@ -1,12 +1,10 @@
 -- Writers that take over what the base's writer holds.
 use Rattle.std.proofs.Common.{ℕ, zero, suc, ◌+◌, ◌<◌, ◌≤◌, ◌≡◌, ◌≢◌, ◌==◌, Bool, true, false, cond, List, [], ◌∷◌, ◌++◌, length, take, Option, Some, refl, sym, ap, ◌∙◌, subst, arith, append_assoc}
-use Rattle.std.specs.Prelude.{nat_lt}
+use Rattle.std.specs.Prelude.{nat_lt, Ok, Err}
 use Rattle.std.proofs.lemmas.Bool.Decides.{nat_tests, Decides-eqb}
 use Rattle.std.proofs.lemmas.List.{append-nil}
 use Rattle.ssz_schema.specs.Unfolding.{Types}
-use Rattle.ssz_arena.specs.Content.{Content as Nodes, unhashed}
-use Rattle.ssz_outside.specs.Content.{Content as Files}
-use Rattle.ssz_outside.specs.Pieces.{Told}
+use Rattle.ssz_arena.specs.Content.{Content as Nodes, unhashed, KeepsNodes}
 use Rattle.ssz_outside.specs.declared.status.Status.TheVariants as status
 use Rattle.ssz_proof.specs.Calculation.{PairOf}
 use Rattle.ssz_versions.specs.Content.{Entries, Held, held_at}
@@ -21,11 +19,12 @@ use Rattle.ssz_machine.specs.Runs.{IsUnderWay}
 use Rattle.ssz_machine.proofs.UnderWay.{under_way_adopts}
 use Rattle.ssz_decisions.specs.Content.{Content, SameNodes, rules_of}
 use Rattle.ssz_decisions.specs.Standing.{Match, StandsFor, StandsForVersions, HoldsNone}
-use Rattle.ssz_engine.specs.Scripts.{scene}
 use Rattle.ssz_engine.proofs.Comings.{no_memory, passes_none}
 use Rattle.ssz_engine.proofs.Leading.{earlier}
-use Rattle.ssz_engine.specs.Points.{Comes, Course, IsCutShort, Pays}
+use Rattle.ssz_engine.specs.Points.{Comes, Course, IsCutShort, Pays, Runs}
 use Rattle.ssz_engine.specs.Weaves.{AdoptsAll, AdoptsSome}
+use Rattle.ssz_arena.proofs.Keeping.{keeps_same}
+use Rattle.ssz_engine.specs.Scripts.{Scene}
 
 -- the next writer holds nothing yet
 pub next_holds_none : (count : ℕ) (old new : Entries) → AdoptsAll count old new
@@ -187,15 +186,14 @@ first_adopt n (suc k) (script ∷ scripts) =
 
 -- the adoptions of a run were done
 pub comes_adopted : (pair_of : PairOf) (course : Course) (scripts : List (List Line))
-    (left : List Event) (refused : Bool) (old new : Content) (hashed : ℕ) (told : Option Files)
-    (readable : Name → Type 0) (pieces : Told) (ample : Bool)
-    → length scripts ≤ base_writer → SameNodes old new
-    → AdoptsAll (length scripts) old.entries new.entries
-    → Comes pair_of Weave course (adoptions 0 scripts ++ left) refused
-    (scene old hashed told readable pieces ample)
-    → Comes pair_of Weave course left refused (scene new hashed told readable pieces ample)
-comes_adopted pair_of course scripts left refused old new hashed told readable pieces ample few nodes
-    adopts c = record {
+    (left : List Event) (refused : Bool) (before : Scene) (new : Content)
+    → length scripts ≤ base_writer → SameNodes before.engine new
+    → AdoptsAll (length scripts) before.engine.entries new.entries
+    → Comes pair_of Weave course (adoptions 0 scripts ++ left) refused before
+    → Comes pair_of Weave course left refused (record before { engine = new })
+comes_adopted pair_of course scripts left refused before new few nodes adopts c =
+    let old : Content = before.engine in
+    record {
       done = c.done;
       state = after_all 0 scripts c.state;
       at = record {
@@ -216,7 +214,7 @@ comes_adopted pair_of course scripts left refused old new hashed told readable p
         answer = c.at.answer;
         found = c.at.found;
         pays = subst (λ (arena : Nodes). Pays course.base c.done
-            course.hashed course.left hashed (unhashed arena)) (sym nodes.arena) c.at.pays;
+            course.hashed course.left before.hashed (unhashed arena)) (sym nodes.arena) c.at.pays;
       };
     }
 
@@ -228,19 +226,14 @@ length_first (suc k) (script ∷ scripts) few = ap suc (length_first k scripts (
 
 -- some of them were done, and there was no memory for the others
 pub cut_adopting : (pair_of : PairOf) (course : Course) (scripts : List (List Line))
-    (left : List Event) (refused : Bool) (old new : Content) (hashed : ℕ) (told : Option Files)
-    (readable : Name → Type 0) (pieces : Told) (ample : Bool)
-    → length scripts ≤ base_writer → SameNodes old new
-    → AdoptsSome (length scripts) old.entries new.entries
-    → Comes pair_of Weave course (adoptions 0 scripts ++ left) refused
-    (scene old hashed told readable pieces ample)
-    → IsCutShort Weave course status.Memory (scene old hashed told readable pieces ample)
-    (scene new hashed told readable pieces ample)
-cut_adopting pair_of course scripts left refused old new hashed told readable pieces ample few nodes
-    adopts c =
+    (left : List Event) (refused : Bool) (before : Scene) (new : Content)
+    → length scripts ≤ base_writer → SameNodes before.engine new
+    → AdoptsSome (length scripts) before.engine.entries new.entries
+    → Comes pair_of Weave course (adoptions 0 scripts ++ left) refused before
+    → IsCutShort Weave course status.Memory before (record before { engine = new })
+cut_adopting pair_of course scripts left refused before new few nodes adopts c =
     let k = adopts.0 in
-    let before = scene old hashed told readable pieces ample in
-    let after = scene new hashed told readable pieces ample in
+    let after : Scene = record before { engine = new } in
     let first = first_adopt 0 k scripts in
     let count = length_first k scripts adopts.1 in
     let begun : Comes pair_of Weave course (adoptions 0 (take k scripts) ++ (first.left ++ left))
@@ -250,7 +243,45 @@ cut_adopting pair_of course scripts left refused old new hashed told readable pi
     ∙ append_assoc (adoptions 0 (take k scripts)) first.left left) c in
     earlier Weave course status.Memory before after after (λ name is. is)
     (no_memory pair_of Weave course (first.left ++ left) refused after after
-    (comes_adopted pair_of course (take k scripts) (first.left ++ left) refused old new hashed told
-    readable pieces ample (let all = adopts.1 in omega arith) nodes
-    (subst (λ n. AdoptsAll n old.entries new.entries) (sym count) adopts.2) begun)
+    (comes_adopted pair_of course (take k scripts) (first.left ++ left) refused before new
+    (let all = adopts.1 in omega arith) nodes
+    (subst (λ n. AdoptsAll n before.engine.entries new.entries) (sym count) adopts.2) begun)
     refl refl (passes_none after))
+
+adopted-kept : (old new : Content) → SameNodes old new → KeepsNodes old.arena new.arena
+adopted-kept old new nodes =
+    subst (λ (arena : Nodes). KeepsNodes old.arena arena) (sym nodes.arena) (keeps_same _ _ refl)
+
+module _ {pair_of : PairOf} {was : Bool} (scripts : List (List Line)) (before : Scene)
+    (new : Content) (few : length scripts ≤ base_writer) (nodes : SameNodes before.engine new) where
+  -- the adoptions, as a part of a run
+  pub runs_adopted : AdoptsAll (length scripts) before.engine.entries new.entries
+      → Runs pair_of Weave (adoptions 0 scripts) (Ok tt) was was before
+      (record before { engine = new })
+  runs_adopted adopts = record {
+    goes = λ course left comes.
+        comes_adopted pair_of course scripts left was before new few nodes adopts comes;
+    keeps = record { types = nodes.types; most = nodes.most; base = nodes.base };
+    nodes = λ none. adopted-kept before.engine new nodes;
+    rises = omega arith;
+    readable = λ name is. is;
+    counts = (refl, refl, refl);
+    stops = tt;
+    fails = λ all same. cc;
+  }
+
+  -- there was no memory for all of them
+  pub runs_unadopted : AdoptsSome (length scripts) before.engine.entries new.entries
+      → Runs pair_of Weave (adoptions 0 scripts) (Err status.Memory) was was before
+      (record before { engine = new })
+  runs_unadopted adopts = record {
+    goes = λ course left comes.
+        cut_adopting pair_of course scripts left was before new few nodes adopts comes;
+    keeps = record { types = nodes.types; most = nodes.most; base = nodes.base };
+    nodes = λ none. adopted-kept before.engine new nodes;
+    rises = omega arith;
+    readable = λ name is. is;
+    counts = (refl, refl, refl);
+    stops = λ done. done;
+    fails = λ all same. cc;
+  }

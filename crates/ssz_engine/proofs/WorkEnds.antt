@@ -18,9 +18,9 @@ use Rattle.ssz_script.specs.declared.statement.Statement.TheVariants.{Root}
 use Rattle.ssz_decisions.specs.Content.{rules_of}
 use Rattle.ssz_engine.specs.Lines.{Prints, ended_by}
 use Rattle.ssz_decisions.specs.Outside.{CountsWrites}
-use Rattle.ssz_engine.specs.Scripts.{Scene}
+use Rattle.ssz_engine.specs.Scripts.{Point, Scene, point_of}
 use Rattle.ssz_decisions.specs.Roots.{RisesBy}
-use Rattle.ssz_engine.specs.Works.{AreBroken, AreDone, EndsWorkFrom, Point, Replies, point, two_lines_job, whole_work}
+use Rattle.ssz_engine.specs.Works.{AreBroken, AreDone, EndsWorkFrom, Replies, two_lines_job, whole_work}
 use Rattle.ssz_decisions.specs.declared.fault.EngineFault.{EngineFault}
 use Rattle.ssz_decisions.specs.declared.fault.EngineFault.TheVariants.{Read, Write, Memory}
 use Rattle.ssz_engine.proofs.Scripts.{told_append-none}
@@ -112,10 +112,10 @@ module _ (pair_of : PairOf) (type_name : Name) (seed count : ℕ) (before after 
   whole = whole_work rules first type_name seed count
 
   abbrev old : Point
-  old = point before.engine before.hashed before.told
+  old = point_of before
 
   abbrev new : Point
-  new = point after.engine after.hashed after.told
+  new = point_of after
 
   -- there was no memory for the work
   pub work_broken : (fault : EngineFault) → AreBroken whole.turns fault old new

@@ -12,7 +12,8 @@ use Rattle.ssz_decisions.specs.Content.{Content, rules_of}
 use Rattle.ssz_machine.specs.Work.{Worked, done, round}
 use Rattle.ssz_decisions.specs.Standing.{StandsFor}
 use Rattle.ssz_engine.specs.Steps.{Keeps}
-use Rattle.ssz_engine.specs.Works.{AreBroken, AreDone, Point, Works}
+use Rattle.ssz_engine.specs.Scripts.{Point}
+use Rattle.ssz_engine.specs.Works.{AreBroken, AreDone, Works}
 use Rattle.ssz_decisions.specs.declared.fault.EngineFault.{EngineFault}
 use Rattle.ssz_decisions.specs.declared.fault.EngineFault.TheVariants.{Memory}
 use Rattle.ssz_engine.proofs.Comings.{same_rules}

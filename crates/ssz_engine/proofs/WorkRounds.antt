@@ -9,7 +9,8 @@ use Rattle.ssz_machine.specs.Runs.{IsWorking}
 use Rattle.ssz_machine.specs.Work.{Worked, joined, round, walk_from, worked_on}
 use Rattle.ssz_machine.proofs.Working.{works_ends, works_on}
 use Rattle.ssz_decisions.specs.Roots.{RisesBy}
-use Rattle.ssz_engine.specs.Works.{AreBroken, AreDone, IsAtState, Point}
+use Rattle.ssz_engine.specs.Scripts.{Point}
+use Rattle.ssz_engine.specs.Works.{AreBroken, AreDone, IsAtState}
 use Rattle.ssz_decisions.specs.declared.fault.EngineFault.{EngineFault}
 use Rattle.ssz_engine.proofs.WorkLeast.{rises-then}
 use Rattle.ssz_engine.proofs.WorkSteps.{broken_early, broken_then, done_then}

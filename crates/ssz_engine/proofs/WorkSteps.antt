@@ -21,11 +21,11 @@ use Rattle.ssz_engine.specs.Compacting.{is_compact}
 use Rattle.ssz_decisions.specs.Content.{rules_of}
 use Rattle.ssz_engine.specs.Lines.{Does, DoesLine}
 use Rattle.ssz_decisions.specs.Outside.{CountsReads}
-use Rattle.ssz_engine.specs.Scripts.{Scene, name_before}
+use Rattle.ssz_engine.specs.Scripts.{Point, name_before}
 use Rattle.ssz_decisions.specs.Standing.{StandsFor, StaysFor}
 use Rattle.ssz_decisions.specs.Roots.{LeavesHashed}
 use Rattle.ssz_engine.specs.Steps.{file_read, is_refusal}
-use Rattle.ssz_engine.specs.Works.{AreBroken, AreDone, IsAtState, IsOfWork, Point, Replies, Works, one_step, point}
+use Rattle.ssz_engine.specs.Works.{AreBroken, AreDone, IsAtState, IsOfWork, Replies, Works, one_step}
 use Rattle.ssz_decisions.specs.declared.outcome.Outcome.{Outcome}
 use Rattle.ssz_decisions.specs.declared.fault.EngineFault.{EngineFault}
 use Rattle.ssz_decisions.specs.declared.fault.EngineFault.TheVariants.{Read, Write, Memory}
@@ -97,32 +97,26 @@ module _ (rules : Rules) (state : State) (statement : Statement) (is : IsOfWork 
   same_files = row_keeps_files state (effect rules Run 0 (view_of 0 state) statement) no_save
 
 module _ (pair_of : PairOf) (statement : Statement) (is : IsOfWork statement)
-    (before after : Scene) (reply : List ℕ) (state : State) where
+    (old new : Point) (reply : List ℕ) (state : State) where
   abbrev rules : Rules
-  rules = rules_of pair_of before.engine
+  rules = rules_of pair_of old.engine
 
   abbrev turn : Turn
   turn = done rules state statement
 
-  abbrev old : Point
-  old = point before.engine before.hashed before.told
-
-  abbrev new : Point
-  new = point after.engine after.hashed after.told
-
   does : (result : Result Outcome EngineFault)
-      → DoesLine pair_of Run 0 (0, Some statement) result before after [] reply
-      → IsAtState state old → Does rules before.engine.base turn result before after [] reply
+      → DoesLine pair_of Run 0 (0, Some statement) result old new [] reply
+      → IsAtState state old → Does rules old.engine.base turn result old new [] reply
   does result line at =
-      subst (λ (t : Turn). Does rules before.engine.base t result before after [] reply)
-      (same_step rules (before.hashed - before.engine.base) state statement is)
+      subst (λ (t : Turn). Does rules old.engine.base t result old new [] reply)
+      (same_step rules (old.hashed - old.engine.base) state statement is)
       (line state at.versions at.files)
 
   -- a statement was done
   statement_done : (made : Outcome)
-      → DoesLine pair_of Run 0 (0, Some statement) (Ok made) before after [] reply
-      → IsAtState state old → KeepsNodes before.engine.arena after.engine.arena
-      → LeavesHashed statement 0 after.engine
+      → DoesLine pair_of Run 0 (0, Some statement) (Ok made) old new [] reply
+      → IsAtState state old → KeepsNodes old.engine.arena new.engine.arena
+      → LeavesHashed statement 0 new.engine
       → AreDone (turn ∷ []) (state_of turn) old new × Replies turn reply
   statement_done made line at nodes roots =
       let makes = does (Ok made) line at in (
@@ -130,7 +124,7 @@ module _ (pair_of : PairOf) (statement : Statement) (is : IsOfWork statement)
           at = record { versions = makes.versions; files = makes.files };
           nodes = nodes;
           roots = (
-            root-made after.engine 0 statement ((state_of turn).versions 0)
+            root-made new.engine 0 statement ((state_of turn).versions 0)
                 (makes.versions.each 0) roots,
             tt,
           );
@@ -142,10 +136,10 @@ module _ (pair_of : PairOf) (statement : Statement) (is : IsOfWork statement)
 
   -- or there was no memory for it
   statement_broken : (fault : EngineFault)
-      → DoesLine pair_of Run 0 (0, Some statement) (Err fault) before after [] reply
+      → DoesLine pair_of Run 0 (0, Some statement) (Err fault) old new [] reply
       → IsAtState state old
-      → after.hashed ≤ before.hashed + unhashed before.engine.arena
-      → StaysFor before.engine after.engine → AreBroken (turn ∷ []) fault old new
+      → new.hashed ≤ old.hashed + unhashed old.engine.arena
+      → StaysFor old.engine new.engine → AreBroken (turn ∷ []) fault old new
   statement_broken Read line at most stays =
       let missed = does (Err Read) line at in
       not-some missed.name _ (sym (names_none statement is) ∙ missed.named)
@@ -165,11 +159,11 @@ module _ (pair_of : PairOf) (statement : Statement) (is : IsOfWork statement)
 
   -- whatever became of it
   pub statement_works : (result : Result Outcome EngineFault)
-      → DoesLine pair_of Run 0 (0, Some statement) result before after [] reply
-      → IsAtState state old → after.hashed ≤ before.hashed + unhashed before.engine.arena
-      → KeepsNodes before.engine.arena after.engine.arena
-      → IfOk result (λ made. LeavesHashed statement 0 after.engine)
-      → OnErr result (StaysFor before.engine after.engine)
+      → DoesLine pair_of Run 0 (0, Some statement) result old new [] reply
+      → IsAtState state old → new.hashed ≤ old.hashed + unhashed old.engine.arena
+      → KeepsNodes old.engine.arena new.engine.arena
+      → IfOk result (λ made. LeavesHashed statement 0 new.engine)
+      → OnErr result (StaysFor old.engine new.engine)
       → Works result (one_step turn) (λ made. Replies turn reply) old new
   statement_works (Ok made) line at most nodes roots stays =
       statement_done made line at nodes roots
@@ -178,7 +172,7 @@ module _ (pair_of : PairOf) (statement : Statement) (is : IsOfWork statement)
 
   -- it is refused where the machine refuses it
   pub statement_outcome : (result : Result Outcome EngineFault)
-      → DoesLine pair_of Run 0 (0, Some statement) result before after [] reply
+      → DoesLine pair_of Run 0 (0, Some statement) result old new [] reply
       → IsAtState state old → IfOk result (λ made. is_refusal made ≡ is_refused turn)
   statement_outcome (Ok made) line at = (does (Ok made) line at).outcome
   statement_outcome (Err fault) line at = tt

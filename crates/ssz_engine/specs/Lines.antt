@@ -1,6 +1,6 @@
 -- What a line of a script does, as the plain machine does it.
-use Rattle.std.specs.Prelude.{◌≡◌, ◌≢◌, ℕ, ◌-◌, true, false, List, [], ◌∷◌, ◌++◌, take, Option, Some, None, Result, Ok, Err}
-use Rattle.ssz_arena.specs.Content.{unhashed}
+use Rattle.std.specs.Prelude.{◌≡◌, ◌≢◌, ℕ, ◌-◌, true, false, List, [], ◌∷◌, ◌++◌, take, Option, Some, None, Result, Ok, Err, ◌≤◌}
+use Rattle.ssz_arena.specs.Content.{unhashed, KeepsNodes}
 use Rattle.ssz_outside.specs.Outcome.{RoseOnce}
 use Rattle.ssz_outside.specs.Pieces.{Told, told_append}
 use Rattle.ssz_outside.specs.declared.status.Status.{Status}
@@ -14,16 +14,18 @@ use Rattle.ssz_machine.specs.Rules.{Rules}
 use Rattle.ssz_machine.specs.Machine.{Line, Turn, step, reply_of, state_of, is_refused, may_stop, misses, reads_file}
 use Rattle.ssz_decisions.specs.Content.{rules_of}
 use Rattle.ssz_decisions.specs.Standing.{StandsFor}
-use Rattle.ssz_engine.specs.Steps.{SavesPart, is_refusal}
-use Rattle.ssz_engine.specs.Scripts.{Scene, file_named}
+use Rattle.ssz_engine.specs.Steps.{SavesPart, is_refusal, Keeps}
+use Rattle.ssz_engine.specs.Scripts.{AreNamedReadable, Point, file_named}
 use Rattle.ssz_engine.specs.Points.{PaysStep}
 use Rattle.ssz_decisions.specs.declared.outcome.Outcome.{Outcome}
 use Rattle.ssz_decisions.specs.declared.fault.EngineFault.{EngineFault}
 use Rattle.ssz_decisions.specs.declared.fault.EngineFault.TheVariants.{Read, Write, Memory}
+use Rattle.ssz_engine.specs.Compacting.{NoneCompacts}
+use Rattle.ssz_decisions.specs.Outside.{CountsReads, CountsWrites}
 
 -- The turn was made and paid for: its line is appended, and what is there stands for the state
 -- after it.
-pub record Makes (rules : Rules) (base : ℕ) (turn : Turn) (made : Outcome) (before after : Scene)
+pub record Makes (rules : Rules) (base : ℕ) (turn : Turn) (made : Outcome) (before after : Point)
     (text more : List ℕ) : Type 0 where
   pub outcome : is_refusal made ≡ is_refused turn
   pub found : misses rules turn ≡ false
@@ -34,7 +36,7 @@ pub record Makes (rules : Rules) (base : ℕ) (turn : Turn) (made : Outcome) (be
       (unhashed after.engine.arena)
 
 -- a file that was to be read was not, and the files stay
-pub record Missed (rules : Rules) (turn : Turn) (before after : Scene) : Type 0 where
+pub record Missed (rules : Rules) (turn : Turn) (before after : Point) : Type 0 where
   pub reads : reads_file rules turn ≡ true
   pub stops : may_stop rules turn ≡ true
   pub files : after.told ≡ before.told
@@ -43,7 +45,7 @@ pub record Missed (rules : Rules) (turn : Turn) (before after : Scene) : Type 0 
   pub unread : before.readable name → ⊥
 
 -- What a line comes to at a turn of the machine, by an engine with this base.
-abbrev pub Does : Rules → ℕ → Turn → Result Outcome EngineFault → Scene → Scene → List ℕ → List ℕ
+abbrev pub Does : Rules → ℕ → Turn → Result Outcome EngineFault → Point → Point → List ℕ → List ℕ
     → Type 0
 Does rules base turn (Ok made) before after text more =
     Makes rules base turn made before after text more
@@ -53,13 +55,26 @@ Does rules base turn (Err Memory) before after text more = after.told ≡ before
 
 -- So it does from whatever state is stood for, where the files tell what they hold. A number that
 -- `hashes` prints is the hasher's count less the base.
-abbrev pub DoesLine : PairOf → Place → ℕ → Line → Result Outcome EngineFault → Scene → Scene
+abbrev pub DoesLine : PairOf → Place → ℕ → Line → Result Outcome EngineFault → Point → Point
     → List ℕ → List ℕ → Type 0
 DoesLine pair_of place writer line result before after text more =
     (state : State) → StandsFor before.engine state.versions → before.told ≡ Some state.files
     → Does (rules_of pair_of before.engine) before.engine.base
     (step (rules_of pair_of before.engine) place (before.hashed - before.engine.base) state writer
     line) result before after text more
+
+-- What is so of lines that were tried, whatever they came to: types, limit and base stay, and so do
+-- the nodes, where no line gives them up; what could be read can be read; and a fault is counted. A
+-- read fails only of a file that a line names.
+pub record Tries {T : Type 0} (lines : List Line) (result : Result T EngineFault)
+    (before after : Point) : Type 0 where
+  pub keeps : Keeps before.engine after.engine
+  pub nodes : NoneCompacts lines → KeepsNodes before.engine.arena after.engine.arena
+  pub rises : before.hashed ≤ after.hashed
+  pub readable : (name : Name) → before.readable name → after.readable name
+  pub gets : CountsReads result before.get_faults after.get_faults
+  pub puts : CountsWrites result before.put_faults after.put_faults
+  pub fails : AreNamedReadable before.readable lines → result ≢ Err Read
 
 -- the type of an entry, without its node
 abbrev pub type_held : Option Held → Option ℕ

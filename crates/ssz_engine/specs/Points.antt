@@ -1,22 +1,24 @@
 -- Points of a run, and what leads from one to another.
-use Rattle.std.specs.Prelude.{◌≡◌, ◌≢◌, ◌≤◌, ℕ, ◌+◌, ◌-◌, Bool, false, if◌then◌else◌, List, [], ◌∷◌, ◌++◌, Some, Result, Ok, Err}
+use Rattle.std.specs.Prelude.{◌≡◌, ◌≢◌, ◌≤◌, ℕ, ◌+◌, ◌-◌, Bool, false, if◌then◌else◌, List, [], ◌∷◌, ◌++◌, Some, Result, Ok, Err, IfErr}
 use Rattle.std.specs.List.{AllByRecursion, list_any}
-use Rattle.ssz_arena.specs.Content.{unhashed}
+use Rattle.ssz_arena.specs.Content.{unhashed, KeepsNodes}
 use Rattle.ssz_outside.specs.Job.{CountsRun, CountsNone, Ends, IsFinished}
 use Rattle.ssz_outside.specs.Pieces.{Told, told_append}
 use Rattle.ssz_outside.specs.declared.status.Status.{Status}
 use Rattle.ssz_outside.specs.declared.status.Status.TheVariants as status
 use Rattle.ssz_proof.specs.Calculation.{PairOf}
 use Rattle.ssz_machine.specs.declared.place.Place.{Place}
-use Rattle.ssz_machine.specs.State.{State}
+use Rattle.ssz_machine.specs.State.{State, Name}
 use Rattle.ssz_machine.specs.Rules.{Rules}
-use Rattle.ssz_machine.specs.Machine.{Turn, reply_of, charge_of, is_refused, misses}
-use Rattle.ssz_machine.specs.Plays.{Event, play, shown_all}
+use Rattle.ssz_machine.specs.Machine.{Turn, reply_of, charge_of, is_refused, misses, Line}
+use Rattle.ssz_machine.specs.Plays.{Event, play, shown_all, says, adopts}
 use Rattle.ssz_machine.specs.Counts.{may_hash, number_said}
 use Rattle.ssz_machine.specs.Runs.{IsUnderWay, job_from, steps_done}
 use Rattle.ssz_decisions.specs.Content.{rules_of}
 use Rattle.ssz_decisions.specs.Standing.{StandsFor}
-use Rattle.ssz_engine.specs.Scripts.{IsStopped, Scene, files_reached}
+use Rattle.ssz_engine.specs.Scripts.{IsStopped, Scene, files_reached, AreNamedReadable}
+use Rattle.ssz_engine.specs.Compacting.{NoneCompacts}
+use Rattle.ssz_engine.specs.Steps.{Keeps}
 
 -- A step was paid for. Before it `was` pairs were hashed and `left` were to be hashed, behind it
 -- `now` and `rest`; where it prints a number, that is what was hashed since the count was `base`.
@@ -112,26 +114,50 @@ Goes pair_of place these result was refused before after =
     (course : Course) (left : List Event) → Comes pair_of place course (these ++ left) was before
     → GoesTo pair_of place course left result refused before after
 
--- Whatever run had come to these events has come to those, or it has ended.
-abbrev pub GoesOn : PairOf → Place → List Event → List Event → Result (Unit {0}) Status
-    → Bool → Bool → Scene → Scene → Type 0
-GoesOn pair_of place these those result was refused before after =
-    (course : Course) (left : List Event) → Comes pair_of place course (these ++ left) was before
-    → GoesTo pair_of place course (those ++ left) result refused before after
-
--- Whatever run had come to some events has come to others.
-abbrev pub LeadsTo : PairOf → Place → List Event → List Event → Bool → Bool → Scene → Scene → Type 0
-LeadsTo pair_of place these those was refused before after =
-    (course : Course) (left : List Event) → Comes pair_of place course (these ++ left) was before
-    → Comes pair_of place course (those ++ left) refused after
-
 -- the status of a run that no fault ended
 abbrev pub finished : Bool → Status
 finished refused = if refused then status.Refused else status.Accepted
 
--- the counts of faults, of reads, of writes and of the sink
-abbrev pub Counts : Result (Unit {0}) Status → ℕ → ℕ → ℕ → ℕ → ℕ → ℕ → Type 0
-Counts (Ok x) gets gets_now puts puts_now sinks sinks_now =
-    CountsNone gets gets_now puts puts_now sinks sinks_now
-Counts (Err ended) gets gets_now puts puts_now sinks sinks_now =
-    CountsRun ended gets gets_now puts puts_now sinks sinks_now
+-- no fault was counted but the one that ended it
+abbrev pub Counts : Result (Unit {0}) Status → Scene → Scene → Type 0
+Counts (Ok x) before after =
+    CountsNone before.get_faults after.get_faults before.put_faults after.put_faults
+    before.sink_faults after.sink_faults
+Counts (Err ended) before after =
+    CountsRun ended before.get_faults after.get_faults before.put_faults after.put_faults
+    before.sink_faults after.sink_faults
+
+-- the lines among some events
+abbrev pub lines_in : List Event → List Line
+lines_in [] = []
+lines_in (says writer line ∷ events) = line ∷ lines_in events
+lines_in (adopts writer ∷ events) = lines_in events
+
+-- What is so of a part of a run that does these events, to the last or to one that ends it: types,
+-- limit and base stay, and so do the nodes, where no line gives them up; what could be read can be
+-- read; and a fault ends it and is counted. A read fails only of a file that a line names.
+pub record Runs (pair_of : PairOf) (place : Place) (events : List Event)
+    (result : Result (Unit {0}) Status) (was refused : Bool) (before after : Scene) : Type 0 where
+  pub goes : Goes pair_of place events result was refused before after
+  pub keeps : Keeps before.engine after.engine
+  pub nodes : NoneCompacts (lines_in events) → KeepsNodes before.engine.arena after.engine.arena
+  pub rises : before.hashed ≤ after.hashed
+  pub readable : (name : Name) → before.readable name → after.readable name
+  pub counts : Counts result before after
+  pub stops : IfErr result (λ ended. ¬ IsFinished ended)
+  pub fails : AreNamedReadable before.readable (lines_in events) → result ≢ Err status.ReadFault
+
+-- the first of these events were done, and those are left
+pub record RunsSome (pair_of : PairOf) (place : Place) (these those : List Event)
+    (was refused : Bool) (before after : Scene) : Type 0 where
+  pub first : List Event
+  pub all : these ≡ first ++ those
+  pub runs : Runs pair_of place first (Ok tt) was refused before after
+
+-- they were, or one of these ended the run
+abbrev pub RunsUpTo : PairOf → Place → List Event → List Event → Result (Unit {0}) Status → Bool
+    → Bool → Scene → Scene → Type 0
+RunsUpTo pair_of place these those (Ok x) was refused before after =
+    RunsSome pair_of place these those was refused before after
+RunsUpTo pair_of place these those (Err ended) was refused before after =
+    Runs pair_of place these (Err ended) was refused before after

@@ -2,9 +2,12 @@
 use Rattle.std.specs.Prelude.{◌≡◌, ◌≢◌, ◌≤◌, ℕ, ◌+◌, ◌-◌, if◌then◌else◌, Bool, List, [], ◌∷◌, ◌++◌, length, Option, Some, None}
 use Rattle.std.specs.List.{AllByRecursion}
 use Rattle.ssz_arena.specs.Content.{unhashed}
+use Rattle.ssz_chunk.specs.declared.PairHash as hash
 use Rattle.ssz_outside.specs.Content.{Content as Files}
 use Rattle.ssz_outside.specs.Job.{Ends, IsFinished}
 use Rattle.ssz_outside.specs.Pieces.{Told}
+use Rattle.ssz_outside.specs.declared.outside.Files as files
+use Rattle.ssz_outside.specs.declared.outside.Sink as sink
 use Rattle.ssz_outside.specs.declared.status.Status.{Status}
 use Rattle.ssz_outside.specs.declared.status.Status.TheVariants as status
 use Rattle.ssz_proof.specs.Calculation.{PairOf}
@@ -52,24 +55,64 @@ files_reached rules [] = []
 files_reached rules (turn ∷ turns) =
     name_before (file_reached rules turn) (files_reached rules turns)
 
--- What is there before or after a run: the engine, the hasher's count, what the files tell, which
--- of them can be read, the pieces that the sink has, and whether it always finds memory.
+-- What is there before or after a line: the engine, the hasher's count, what the files tell, which
+-- of them can be read, and how many of their reads and writes have failed.
+pub record Point : Type 1 where
+  pub engine : Content
+  pub hashed : ℕ
+  pub told : Option Files
+  pub readable : Name → Type 0
+  pub get_faults : ℕ
+  pub put_faults : ℕ
+
+-- that of an engine with these files and this hasher
+abbrev pub point : {F H : Type 0} → files.Ghosts F → hash.Ghosts H → Content → F → H → Point
+point of_files of_hash engine its_files its_hasher = record {
+  engine = engine;
+  hashed = of_hash.pairs its_hasher;
+  told = of_files.content its_files;
+  readable = of_files.readable its_files;
+  get_faults = of_files.get_faults its_files;
+  put_faults = of_files.put_faults its_files;
+}
+
+-- What is there before or after a run: that, and of the sink the pieces that it has, whether it
+-- always finds memory, and how many puts have failed.
 pub record Scene : Type 1 where
   pub engine : Content
   pub hashed : ℕ
   pub told : Option Files
   pub readable : Name → Type 0
+  pub get_faults : ℕ
+  pub put_faults : ℕ
   pub pieces : Told
   pub ample : Bool
+  pub sink_faults : ℕ
 
-abbrev pub scene : Content → ℕ → Option Files → (Name → Type 0) → Told → Bool → Scene
-scene engine hashed told readable pieces ample = record {
+-- that of an engine with these files, this sink and this hasher
+abbrev pub scene : {F S H : Type 0} → files.Ghosts F → sink.Ghosts S → hash.Ghosts H → Content → F
+    → S → H → Scene
+scene of_files of_sink of_hash engine its_files its_sink its_hasher = record {
   engine = engine;
-  hashed = hashed;
-  told = told;
-  readable = readable;
-  pieces = pieces;
-  ample = ample;
+  hashed = of_hash.pairs its_hasher;
+  told = of_files.content its_files;
+  readable = of_files.readable its_files;
+  get_faults = of_files.get_faults its_files;
+  put_faults = of_files.put_faults its_files;
+  pieces = of_sink.pieces its_sink;
+  ample = of_sink.ample its_sink;
+  sink_faults = of_sink.faults its_sink;
+}
+
+-- what is there beside the sink
+abbrev pub point_of : Scene → Point
+point_of scene = record {
+  engine = scene.engine;
+  hashed = scene.hashed;
+  told = scene.told;
+  readable = scene.readable;
+  get_faults = scene.get_faults;
+  put_faults = scene.put_faults;
 }
 
 -- as behind `start`: nothing is left to be hashed, and `hashes` prints 0

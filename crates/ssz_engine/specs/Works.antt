@@ -18,9 +18,9 @@ use Rattle.ssz_machine.specs.Machine.{Turn, reply_of, state_of}
 use Rattle.ssz_machine.specs.Plays.{charges}
 use Rattle.ssz_machine.specs.Drawing.{worked}
 use Rattle.ssz_machine.specs.Work.{Worked, done, joined, walk_from, work_job, work_of}
-use Rattle.ssz_decisions.specs.Content.{Content, rules_of}
+use Rattle.ssz_decisions.specs.Content.{rules_of}
 use Rattle.ssz_decisions.specs.Standing.{StandsFor}
-use Rattle.ssz_engine.specs.Scripts.{IsThrough, Scene}
+use Rattle.ssz_engine.specs.Scripts.{IsThrough, Point, Scene}
 use Rattle.ssz_decisions.specs.Roots.{RisesBy}
 use Rattle.ssz_decisions.specs.declared.fault.EngineFault.{EngineFault}
 use Rattle.ssz_decisions.specs.declared.fault.EngineFault.TheVariants.{Memory}
@@ -44,15 +44,6 @@ abbrev pub whole_work : Rules → State → Name → ℕ → ℕ → Worked
 whole_work rules state type_name seed count =
     let work = work_of rules state type_name seed count in
     joined work (one_step (done rules work.state (Root worked)))
-
--- What is there at a point of a work: the engine, the hasher's count, and what the files tell.
-pub record Point : Type 0 where
-  pub engine : Content
-  pub hashed : ℕ
-  pub told : Option Files
-
-abbrev pub point : Content → ℕ → Option Files → Point
-point engine hashed told = record { engine = engine; hashed = hashed; told = told }
 
 -- what is there stands for a state of the machine
 pub record IsAtState (state : State) (point : Point) : Type 0 where

@@ -1,21 +1,17 @@
 // One line of a script.
-ghost use Rattle.std.specs.Prelude.{◌≡◌, ◌≢◌, ◌≤◌, ◌<◌, ◌+◌, ◌^◌, ◌∷◌, ◌++◌, [], ℕ, List, Bool, true, false, length, Some, None, Err, IfOk, IfErr, IfSome, OnOk, OnErr};
-ghost use Rattle.std.specs.List.{AllByRecursion};
-ghost use Rattle.ssz_arena.specs.Content.{KeepsNodes, unhashed};
+ghost use Rattle.std.specs.Prelude.{◌≡◌, ◌≤◌, ◌<◌, ◌+◌, ◌^◌, ◌∷◌, ◌++◌, [], true, false, length, Some, None, Err, IfOk, IfErr, IfSome, OnOk, OnErr};
+ghost use Rattle.ssz_arena.specs.Content.{unhashed};
 ghost use Rattle.ssz_outside.specs.Job.{IsFinished};
-ghost use Rattle.ssz_outside.specs.Pieces.{Told};
 ghost use Rattle.ssz_script.specs.Texts.{reply_line};
 ghost use Rattle.ssz_script.specs.declared.reply.TheConstants.Reply.{SYNTAX};
 ghost use Rattle.ssz_machine.specs.Plays.{front, mark, says};
-ghost use Rattle.ssz_engine.specs.Compacting.{compacts};
-ghost use Rattle.ssz_engine.specs.Lines.{CountsPrint, DoesLine, LeavesOthers, Prints, ended_by};
-ghost use Rattle.ssz_decisions.specs.Outside.{CountsReads, CountsWrites};
-ghost use Rattle.ssz_engine.specs.Points.{Counts, Goes};
-ghost use Rattle.ssz_engine.specs.Scripts.{files_named};
+ghost use Rattle.ssz_engine.specs.Lines.{CountsPrint, DoesLine, LeavesOthers, Prints, ended_by, Tries};
 ghost use Rattle.ssz_decisions.specs.Standing.{StaysFor};
-ghost use Rattle.ssz_engine.specs.Steps.{IsShort, Keeps, is_refusal};
+ghost use Rattle.ssz_engine.specs.Steps.{IsShort, is_refusal};
 ghost use Rattle.ssz_decisions.specs.Roots.{LeavesHashed, HashesSome};
 ghost use Rattle.ssz_engine.specs.Tops.{TopsWhere};
+ghost use Rattle.ssz_engine.specs.Points.{Runs};
+ghost use Rattle.ssz_engine.specs.Scripts.{point, scene};
 
 use super::engine::Engine;
 use ssz_chunk::PairHash;
@@ -98,30 +94,13 @@ pub(crate) fn reply_to<F: Files, H: PairHash>(
     hasher: &mut H,
     out: &mut Vec<u8>,
 ) -> Result<Outcome, EngineFault>
-    ensures keeps { Keeps engine.old engine.new }
-    ensures nodes { compacts line.now.statement ≡ false
-        → KeepsNodes engine.old.arena engine.new.arena }
-    ensures rises { H.pairs hasher.old ≤ H.pairs hasher.new }
+    ensures tries { Tries ((line.now.line, line.now.statement) ∷ []) result
+        (point F.Files H.PairHash engine.old files.old hasher.old)
+        (point F.Files H.PairHash engine.new files.new hasher.new) }
     ensures hashed { H.pairs hasher.new ≤ H.pairs hasher.old + unhashed engine.old.arena }
-    ensures does { (was is : Told) (had has : Bool) → DoesLine H.pair_of place writer.0
-        (line.now.line, line.now.statement) result
-        (record {
-          engine = engine.old;
-          hashed = H.pairs hasher.old;
-          told = F.content files.old;
-          readable = F.readable files.old;
-          pieces = was;
-          ample = had;
-        })
-        (record {
-          engine = engine.new;
-          hashed = H.pairs hasher.new;
-          told = F.content files.new;
-          readable = F.readable files.new;
-          pieces = is;
-          ample = has;
-        })
-        out.old.items out.new.items }
+    ensures does { DoesLine H.pair_of place writer.0 (line.now.line, line.now.statement) result
+        (point F.Files H.PairHash engine.old files.old hasher.old)
+        (point F.Files H.PairHash engine.new files.new hasher.new) out.old.items out.new.items }
     ensures others { LeavesOthers writer.0 engine.old.entries engine.new.entries }
     ensures stays { OnErr result (StaysFor engine.old engine.new) }
     ensures roots { IfOk result (λ made. IfSome line.now.statement (λ statement.
@@ -130,11 +109,6 @@ pub(crate) fn reply_to<F: Files, H: PairHash>(
         TopsWhere made statement writer.0 engine.old engine.new)) }
     ensures some { OnOk result (IfSome line.now.statement (λ statement.
         HashesSome statement writer.0 engine.old (H.pairs hasher.old) (H.pairs hasher.new))) }
-    ensures fails { AllByRecursion (F.readable files.old)
-        (files_named ((line.now.line, line.now.statement) ∷ [])) → result ≢ Err EngineFault.Read }
-    ensures readable { (other : List ℕ) → F.readable files.old other → F.readable files.new other }
-    ensures gets { CountsReads result (F.get_faults files.old) (F.get_faults files.new) }
-    ensures puts { CountsWrites result (F.put_faults files.old) (F.put_faults files.new) }
 {
     let Some(statement) = &line.statement else {
         return refuse(line.line, out);
@@ -193,35 +167,11 @@ pub(crate) fn run_line<F: Files, S: Sink, H: PairHash>(
     hasher: &mut H,
     refused: &mut bool,
 ) -> Result<(), Status>
-    ensures keeps { Keeps engine.old engine.new }
-    ensures nodes { compacts line.now.statement ≡ false
-        → KeepsNodes engine.old.arena engine.new.arena }
-    ensures rises { H.pairs hasher.old ≤ H.pairs hasher.new }
-    ensures goes { Goes H.pair_of place (says writer.0 (line.now.line, line.now.statement) ∷ [])
+    ensures runs { Runs H.pair_of place (says writer.0 (line.now.line, line.now.statement) ∷ [])
         result refused.old refused.new
-        (record {
-          engine = engine.old;
-          hashed = H.pairs hasher.old;
-          told = F.content files.old;
-          readable = F.readable files.old;
-          pieces = S.pieces out.old;
-          ample = S.ample out.old;
-        })
-        (record {
-          engine = engine.new;
-          hashed = H.pairs hasher.new;
-          told = F.content files.new;
-          readable = F.readable files.new;
-          pieces = S.pieces out.new;
-          ample = S.ample out.new;
-        }) }
+        (scene F.Files S.Sink H.PairHash engine.old files.old out.old hasher.old)
+        (scene F.Files S.Sink H.PairHash engine.new files.new out.new hasher.new) }
     ensures others { LeavesOthers writer.0 engine.old.entries engine.new.entries }
-    ensures counts { Counts result (F.get_faults files.old) (F.get_faults files.new)
-        (F.put_faults files.old) (F.put_faults files.new) (S.faults out.old) (S.faults out.new) }
-    ensures stops { IfErr result (λ ended. ¬ IsFinished ended) }
-    ensures fails { AllByRecursion (F.readable files.old)
-        (files_named ((line.now.line, line.now.statement) ∷ [])) → result ≢ Err Status.ReadFault }
-    ensures readable { (other : List ℕ) → F.readable files.old other → F.readable files.new other }
 {
     let mut text = Vec::new(engine.store.alloc);
     if push_front(place, writer, &mut text).is_err() {

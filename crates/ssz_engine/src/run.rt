@@ -1,14 +1,14 @@
 // Scripts that run alone, line after line.
-ghost use Rattle.std.specs.Prelude.{◌≡◌, ◌≢◌, ◌≤◌, ℕ, List, false, Err, IfErr};
+ghost use Rattle.std.specs.Prelude.{◌≡◌, ◌≢◌, ◌≤◌, ℕ, List};
 ghost use Rattle.std.specs.List.{AllByRecursion};
 ghost use Rattle.ssz_arena.specs.Content.{KeepsNodes};
-ghost use Rattle.ssz_outside.specs.Job.{CountsRun, IsFinished};
+ghost use Rattle.ssz_outside.specs.Job.{CountsRun};
 ghost use Rattle.ssz_script.specs.Lines.{statements_in};
 ghost use Rattle.ssz_machine.specs.Plays.{all_of};
 ghost use Rattle.ssz_engine.specs.Compacting.{NoneCompacts};
 ghost use Rattle.ssz_engine.specs.Lines.{LeavesOthers};
-ghost use Rattle.ssz_engine.specs.Points.{Counts, Goes, finished};
-ghost use Rattle.ssz_engine.specs.Scripts.{EndsScript, files_named};
+ghost use Rattle.ssz_engine.specs.Points.{Runs, finished};
+ghost use Rattle.ssz_engine.specs.Scripts.{EndsScript, files_named, scene};
 ghost use Rattle.ssz_engine.specs.Steps.{Keeps};
 
 use super::engine::Engine;
@@ -30,33 +30,10 @@ pub(crate) fn run_lines<F: Files, S: Sink, H: PairHash>(
     hasher: &mut H,
     refused: &mut bool,
 ) -> Result<(), Status>
-    ensures keeps { Keeps engine.old engine.new }
-    ensures nodes { NoneCompacts lines.old → KeepsNodes engine.old.arena engine.new.arena }
-    ensures rises { H.pairs hasher.old ≤ H.pairs hasher.new }
-    ensures goes { Goes H.pair_of place (all_of writer.0 lines.old) result refused.old refused.new
-        (record {
-          engine = engine.old;
-          hashed = H.pairs hasher.old;
-          told = F.content files.old;
-          readable = F.readable files.old;
-          pieces = S.pieces out.old;
-          ample = S.ample out.old;
-        })
-        (record {
-          engine = engine.new;
-          hashed = H.pairs hasher.new;
-          told = F.content files.new;
-          readable = F.readable files.new;
-          pieces = S.pieces out.new;
-          ample = S.ample out.new;
-        }) }
+    ensures runs { Runs H.pair_of place (all_of writer.0 lines.old) result refused.old refused.new
+        (scene F.Files S.Sink H.PairHash engine.old files.old out.old hasher.old)
+        (scene F.Files S.Sink H.PairHash engine.new files.new out.new hasher.new) }
     ensures others { LeavesOthers writer.0 engine.old.entries engine.new.entries }
-    ensures counts { Counts result (F.get_faults files.old) (F.get_faults files.new)
-        (F.put_faults files.old) (F.put_faults files.new) (S.faults out.old) (S.faults out.new) }
-    ensures stops { IfErr result (λ ended. ¬ IsFinished ended) }
-    ensures fails { AllByRecursion (F.readable files.old) (files_named lines.old)
-        → result ≢ Err Status.ReadFault }
-    ensures readable { (other : List ℕ) → F.readable files.old other → F.readable files.new other }
 {
     loop {
         match lines.next(engine.store.alloc) {
@@ -105,22 +82,8 @@ impl<H: PairHash> Engine<H> {
         // for some numbers that `hashes` prints, the run ended as the script's job does; and where it
         // was stopped, the engine stands for the versions after the lines that were done.
         ensures ends { EndsScript H.pair_of script.now result
-            (record {
-              engine = self.old;
-              hashed = H.pairs hasher.old;
-              told = F.content files.old;
-              readable = F.readable files.old;
-              pieces = S.pieces out.old;
-              ample = S.ample out.old;
-            })
-            (record {
-              engine = self.new;
-              hashed = H.pairs hasher.new;
-              told = F.content files.new;
-              readable = F.readable files.new;
-              pieces = S.pieces out.new;
-              ample = S.ample out.new;
-            }) }
+            (scene F.Files S.Sink H.PairHash self.old files.old out.old hasher.old)
+            (scene F.Files S.Sink H.PairHash self.new files.new out.new hasher.new) }
         // The fault that the status names was counted, and no other: none is passed over.
         ensures counts { CountsRun result (F.get_faults files.old) (F.get_faults files.new)
             (F.put_faults files.old) (F.put_faults files.new) (S.faults out.old)

@@ -1,14 +1,14 @@
 // Scripts of several writers that take turns.
-ghost use Rattle.std.specs.Prelude.{◌≡◌, ◌≢◌, ◌≤◌, ◌<◌, ◌∷◌, ◌++◌, ℕ, List, All, length, map, Err, IfOk, IfErr};
+ghost use Rattle.std.specs.Prelude.{◌≡◌, ◌≢◌, ◌≤◌, ◌<◌, ◌∷◌, ◌++◌, ℕ, List, All, length, map, IfOk};
 ghost use Rattle.std.specs.List.{AllByRecursion};
 ghost use Rattle.ssz_arena.specs.Content.{KeepsNodes};
-ghost use Rattle.ssz_outside.specs.Job.{CountsRun, IsFinished};
+ghost use Rattle.ssz_outside.specs.Job.{CountsRun};
 ghost use Rattle.ssz_script.specs.Lines.{statements_in};
 ghost use Rattle.ssz_machine.specs.Machine.{Line};
 ghost use Rattle.ssz_machine.specs.Plays.{adoptions, all_of, base_writer, weaving};
 ghost use Rattle.ssz_machine.specs.declared.place.Place.TheVariants.{Weave};
 ghost use Rattle.ssz_engine.specs.Compacting.{NoneCompacts};
-ghost use Rattle.ssz_engine.specs.Points.{Counts, Goes};
+ghost use Rattle.ssz_engine.specs.Points.{Runs};
 ghost use Rattle.ssz_engine.specs.Scripts.{AreNamedReadable, scene};
 ghost use Rattle.ssz_engine.specs.Steps.{Keeps};
 ghost use Rattle.ssz_engine.specs.Weaves.{EndsWeave, IsolatesWriters};
@@ -52,23 +52,11 @@ fn run_base<F: Files, S: Sink, H: PairHash>(
 ) -> Result<(), Status>
     requires few { count ≤ base_writer }
     requires none { (writer : ℕ) → writer < count → HoldsNone engine.old.entries writer }
-    ensures keeps { Keeps engine.old engine.new }
-    ensures nodes { NoneCompacts (statements_in base.now)
-        → KeepsNodes engine.old.arena engine.new.arena }
-    ensures rises { H.pairs hasher.old ≤ H.pairs hasher.new }
-    ensures goes { (scripts : List (List Line)) → length scripts ≡ count
-        → Goes H.pair_of Weave (all_of base_writer (statements_in base.now) ++ adoptions 0 scripts)
+    ensures { (scripts : List (List Line)) → length scripts ≡ count
+        → Runs H.pair_of Weave (all_of base_writer (statements_in base.now) ++ adoptions 0 scripts)
         result refused.old refused.new
-        (scene engine.old (H.pairs hasher.old) (F.content files.old) (F.readable files.old)
-        (S.pieces out.old) (S.ample out.old))
-        (scene engine.new (H.pairs hasher.new) (F.content files.new) (F.readable files.new)
-        (S.pieces out.new) (S.ample out.new)) }
-    ensures counts { Counts result (F.get_faults files.old) (F.get_faults files.new)
-        (F.put_faults files.old) (F.put_faults files.new) (S.faults out.old) (S.faults out.new) }
-    ensures stops { IfErr result (λ ended. ¬ IsFinished ended) }
-    ensures fails { AreNamedReadable (F.readable files.old) (statements_in base.now)
-        → result ≢ Err Status.ReadFault }
-    ensures readable { (other : List ℕ) → F.readable files.old other → F.readable files.new other }
+        (scene F.Files S.Sink H.PairHash engine.old files.old out.old hasher.old)
+        (scene F.Files S.Sink H.PairHash engine.new files.new out.new hasher.new) }
 {
     let mut lines = Statements::new(base);
     let weave = Place::Weave;
@@ -95,23 +83,11 @@ fn run_weave<F: Files, S: Sink, H: PairHash>(
     requires known { All (λ writer. writer < length scripts.now) order.now }
     requires none { (writer : ℕ) → writer < length scripts.now
         → HoldsNone engine.old.entries writer }
-    ensures keeps { Keeps engine.old engine.new }
-    ensures nodes { AllByRecursion NoneCompacts (map statements_in (base.now ∷ scripts.now))
-        → KeepsNodes engine.old.arena engine.new.arena }
-    ensures rises { H.pairs hasher.old ≤ H.pairs hasher.new }
-    ensures goes { Goes H.pair_of Weave
+    ensures { Runs H.pair_of Weave
         (weaving (statements_in base.now) order.now (map statements_in scripts.now)) result
         refused.old refused.new
-        (scene engine.old (H.pairs hasher.old) (F.content files.old) (F.readable files.old)
-        (S.pieces out.old) (S.ample out.old))
-        (scene engine.new (H.pairs hasher.new) (F.content files.new) (F.readable files.new)
-        (S.pieces out.new) (S.ample out.new)) }
-    ensures counts { Counts result (F.get_faults files.old) (F.get_faults files.new)
-        (F.put_faults files.old) (F.put_faults files.new) (S.faults out.old) (S.faults out.new) }
-    ensures stops { IfErr result (λ ended. ¬ IsFinished ended) }
-    ensures fails { AllByRecursion (AreNamedReadable (F.readable files.old))
-        (map statements_in (base.now ∷ scripts.now)) → result ≢ Err Status.ReadFault }
-    ensures readable { (other : List ℕ) → F.readable files.old other → F.readable files.new other }
+        (scene F.Files S.Sink H.PairHash engine.old files.old out.old hasher.old)
+        (scene F.Files S.Sink H.PairHash engine.new files.new out.new hasher.new) }
 {
     let Ok(mut lines) = statements_of(engine.store.alloc, scripts) else {
         return Err(Status::Memory);
@@ -155,18 +131,14 @@ impl<H: PairHash> Engine<H> {
         // the run ended as the weave's job does; and where it was stopped, the engine stands for the
         // versions after the lines that were done.
         ensures ends { EndsWeave H.pair_of base.now order.now scripts.now result
-            (scene self.old (H.pairs hasher.old) (F.content files.old) (F.readable files.old)
-            (S.pieces out.old) (S.ample out.old))
-            (scene self.new (H.pairs hasher.new) (F.content files.new) (F.readable files.new)
-            (S.pieces out.new) (S.ample out.new)) }
+            (scene F.Files S.Sink H.PairHash self.old files.old out.old hasher.old)
+            (scene F.Files S.Sink H.PairHash self.new files.new out.new hasher.new) }
         // Of what the sink was given, the lines with the mark of a script's writer are those that
         // its script prints alone, from the base's versions and with no other writer there: a front
         // of them, and all where no fault or want of memory ended the run.
         ensures isolated { IsolatesWriters H.pair_of base.now scripts.now result
-            (scene self.old (H.pairs hasher.old) (F.content files.old) (F.readable files.old)
-            (S.pieces out.old) (S.ample out.old))
-            (scene self.new (H.pairs hasher.new) (F.content files.new) (F.readable files.new)
-            (S.pieces out.new) (S.ample out.new)) }
+            (scene F.Files S.Sink H.PairHash self.old files.old out.old hasher.old)
+            (scene F.Files S.Sink H.PairHash self.new files.new out.new hasher.new) }
         // The fault that the status names was counted, and no other: none is passed over.
         ensures counts { CountsRun result (F.get_faults files.old) (F.get_faults files.new)
             (F.put_faults files.old) (F.put_faults files.new) (S.faults out.old)

@@ -68,10 +68,8 @@ impl<H: PairHash> Engine<H> {
         // Whatever state of the machine the engine stood for, where the files tell what they hold,
         // it ended as the job of the work does.
         ensures ends { EndsWork H.pair_of type_name.now seed edits result
-            (scene self.old (H.pairs hasher.old) (F.content files.old) (F.readable files.old)
-            (S.pieces out.old) (S.ample out.old))
-            (scene self.new (H.pairs hasher.new) (F.content files.new) (F.readable files.new)
-            (S.pieces out.new) (S.ample out.new)) }
+            (scene F.Files S.Sink H.PairHash self.old files.old out.old hasher.old)
+            (scene F.Files S.Sink H.PairHash self.new files.new out.new hasher.new) }
         // The fault that the status names was counted, and no other: none is passed over.
         ensures counts { CountsRun result (F.get_faults files.old) (F.get_faults files.new)
             (F.put_faults files.old) (F.put_faults files.new) (S.faults out.old)

@@ -1,19 +1,19 @@
 // The statements of a work, one after another.
-ghost use Rattle.std.specs.Prelude.{◌≡◌, ◌≢◌, ◌≤◌, ◌∷◌, [], ℕ, List, Err, IfOk, IfSome, OnOk};
-ghost use Rattle.ssz_arena.specs.Content.{KeepsNodes};
+ghost use Rattle.std.specs.Prelude.{◌≡◌, ◌≤◌, ◌∷◌, [], IfOk, IfSome, OnOk};
 ghost use Rattle.ssz_machine.specs.Drawing.{worked};
 ghost use Rattle.ssz_draws.specs.Walked.{IsEdit};
-ghost use Rattle.ssz_machine.specs.Machine.{is_refused, reply_of};
+ghost use Rattle.ssz_machine.specs.Machine.{is_refused};
 ghost use Rattle.ssz_machine.specs.State.{State, Versions, version_of};
 ghost use Rattle.ssz_machine.specs.Work.{done, round, tops_of, walk_from, work_of, worked_on};
 ghost use Rattle.ssz_script.specs.declared.statement.Statement.TheVariants.{New, Root};
 ghost use Rattle.ssz_decisions.specs.Content.{rules_of};
-ghost use Rattle.ssz_decisions.specs.Outside.{CountsWrites};
 ghost use Rattle.ssz_decisions.specs.Standing.{StandsForWriter};
-ghost use Rattle.ssz_engine.specs.Steps.{Keeps, is_refusal};
+ghost use Rattle.ssz_engine.specs.Steps.{is_refusal};
 ghost use Rattle.ssz_decisions.specs.Roots.{HashesSome, RisesBy};
 ghost use Rattle.ssz_engine.specs.Tops.{TopsWhere};
-ghost use Rattle.ssz_engine.specs.Works.{Draws, IsAtState, IsOfWork, Replies, Works, one_step, point, whole_work};
+ghost use Rattle.ssz_engine.specs.Scripts.{point};
+ghost use Rattle.ssz_engine.specs.Works.{Draws, IsAtState, IsOfWork, Replies, Works, one_step, whole_work};
+ghost use Rattle.ssz_engine.specs.Lines.{Tries};
 
 use super::engine::Engine;
 use super::line::reply_to;
@@ -51,25 +51,20 @@ fn answer<F: Files, H: PairHash>(
     reply: &mut Vec<u8>,
 ) -> Result<Outcome, EngineFault>
     requires { IsOfWork statement }
-    ensures keeps { Keeps engine.old engine.new }
-    ensures nodes { KeepsNodes engine.old.arena engine.new.arena }
-    ensures rises { H.pairs hasher.old ≤ H.pairs hasher.new }
+    ensures tries { Tries [] result (point F.Files H.PairHash engine.old files.old hasher.old)
+        (point F.Files H.PairHash engine.new files.new hasher.new) }
     ensures works { (state : State) →
-        let before = point engine.old (H.pairs hasher.old) (F.content files.old) in
+        let before = point F.Files H.PairHash engine.old files.old hasher.old in
         let turn = done (rules_of H.pair_of engine.old) state statement in IsAtState state before
         → Works result (one_step turn) (λ made. Replies turn reply.new.items) before
-        (point engine.new (H.pairs hasher.new) (F.content files.new)) }
+        (point F.Files H.PairHash engine.new files.new hasher.new) }
     ensures outcome { (state : State)
-        → IsAtState state (point engine.old (H.pairs hasher.old) (F.content files.old))
+        → IsAtState state (point F.Files H.PairHash engine.old files.old hasher.old)
         → IfOk result (λ made. is_refusal made
         ≡ is_refused (done (rules_of H.pair_of engine.old) state statement)) }
     ensures tops { IfOk result (λ made. TopsWhere made statement 0 engine.old engine.new) }
     ensures some { OnOk result (HashesSome statement 0 engine.old (H.pairs hasher.old)
         (H.pairs hasher.new)) }
-    ensures read { result ≢ Err EngineFault.Read }
-    ensures gets { F.get_faults files.new ≡ F.get_faults files.old }
-    ensures puts { CountsWrites result (F.put_faults files.old) (F.put_faults files.new) }
-    ensures readable { (other : List ℕ) → F.readable files.old other → F.readable files.new other }
 {
     reply.clear();
     // No script holds it: it is of line 0.
@@ -89,21 +84,16 @@ fn answer_root<F: Files, H: PairHash>(
     hasher: &mut H,
     reply: &mut Vec<u8>,
 ) -> Result<Outcome, EngineFault>
-    ensures keeps { Keeps engine.old engine.new }
-    ensures nodes { KeepsNodes engine.old.arena engine.new.arena }
-    ensures rises { H.pairs hasher.old ≤ H.pairs hasher.new }
+    ensures tries { Tries [] result (point F.Files H.PairHash engine.old files.old hasher.old)
+        (point F.Files H.PairHash engine.new files.new hasher.new) }
     ensures works { (state : State) →
-        let before = point engine.old (H.pairs hasher.old) (F.content files.old) in
+        let before = point F.Files H.PairHash engine.old files.old hasher.old in
         let turn = done (rules_of H.pair_of engine.old) state (Root worked) in
         IsAtState state before
         → Works result (one_step turn) (λ made. Replies turn reply.new.items) before
-        (point engine.new (H.pairs hasher.new) (F.content files.new)) }
+        (point F.Files H.PairHash engine.new files.new hasher.new) }
     ensures some { OnOk result (HashesSome (Root worked) 0 engine.old (H.pairs hasher.old)
         (H.pairs hasher.new)) }
-    ensures read { result ≢ Err EngineFault.Read }
-    ensures gets { F.get_faults files.new ≡ F.get_faults files.old }
-    ensures puts { CountsWrites result (F.put_faults files.old) (F.put_faults files.new) }
-    ensures readable { (other : List ℕ) → F.readable files.old other → F.readable files.new other }
 {
     let Ok(asked) = root_w(engine.store.alloc) else {
         return Err(EngineFault::Memory);
@@ -136,25 +126,20 @@ fn work_round<F: Files, H: PairHash>(
     hasher: &mut H,
     reply: &mut Vec<u8>,
 ) -> Result<u32, EngineFault>
-    ensures keeps { Keeps engine.old engine.new }
-    ensures nodes { KeepsNodes engine.old.arena engine.new.arena }
-    ensures rises { H.pairs hasher.old ≤ H.pairs hasher.new }
+    ensures tries { Tries [] result (point F.Files H.PairHash engine.old files.old hasher.old)
+        (point F.Files H.PairHash engine.new files.new hasher.new) }
     ensures works { (state : State) →
-        let before = point engine.old (H.pairs hasher.old) (F.content files.old) in
+        let before = point F.Files H.PairHash engine.old files.old hasher.old in
         let way = walk_from (version_of worked (state.versions 0)) generator.old in
         let whole = round (rules_of H.pair_of engine.old) state way.edit in IsAtState state before
         → Works result whole (λ edits. (edits ≡ whole.edits) × (generator.new ≡ way.seed)) before
-        (point engine.new (H.pairs hasher.new) (F.content files.new)) }
+        (point F.Files H.PairHash engine.new files.new hasher.new) }
     ensures least { (state : State)
-        → IsAtState state (point engine.old (H.pairs hasher.old) (F.content files.old))
+        → IsAtState state (point F.Files H.PairHash engine.old files.old hasher.old)
         → let way = walk_from (version_of worked (state.versions 0)) generator.old in
         OnOk result (RisesBy (tops_of (rules_of H.pair_of engine.old) state way.edit)
         (H.pairs hasher.old) (H.pairs hasher.new)) }
     ensures few { IfOk result (λ edits. edits ≤ 1) }
-    ensures read { result ≢ Err EngineFault.Read }
-    ensures gets { F.get_faults files.new ≡ F.get_faults files.old }
-    ensures puts { CountsWrites result (F.put_faults files.old) (F.put_faults files.new) }
-    ensures readable { (other : List ℕ) → F.readable files.old other → F.readable files.new other }
 {
     match draw_edit(&engine.store, generator) {
         Err(_) => Err(EngineFault::Memory),
@@ -179,22 +164,17 @@ fn work_rounds<F: Files, H: PairHash>(
     hasher: &mut H,
     reply: &mut Vec<u8>,
 ) -> Result<u32, EngineFault>
-    ensures keeps { Keeps engine.old engine.new }
-    ensures nodes { KeepsNodes engine.old.arena engine.new.arena }
-    ensures rises { H.pairs hasher.old ≤ H.pairs hasher.new }
+    ensures tries { Tries [] result (point F.Files H.PairHash engine.old files.old hasher.old)
+        (point F.Files H.PairHash engine.new files.new hasher.new) }
     ensures works { (state : State) →
-        let before = point engine.old (H.pairs hasher.old) (F.content files.old) in
+        let before = point F.Files H.PairHash engine.old files.old hasher.old in
         let whole = worked_on (rules_of H.pair_of engine.old) count seed state in
         IsAtState state before → Works result whole (λ edits. edits ≡ whole.edits) before
-        (point engine.new (H.pairs hasher.new) (F.content files.new)) }
+        (point F.Files H.PairHash engine.new files.new hasher.new) }
     ensures least { (state : State)
-        → IsAtState state (point engine.old (H.pairs hasher.old) (F.content files.old))
+        → IsAtState state (point F.Files H.PairHash engine.old files.old hasher.old)
         → OnOk result (RisesBy (worked_on (rules_of H.pair_of engine.old) count seed state).tops
         (H.pairs hasher.old) (H.pairs hasher.new)) }
-    ensures read { result ≢ Err EngineFault.Read }
-    ensures gets { F.get_faults files.new ≡ F.get_faults files.old }
-    ensures puts { CountsWrites result (F.put_faults files.old) (F.put_faults files.new) }
-    ensures readable { (other : List ℕ) → F.readable files.old other → F.readable files.new other }
 {
     let mut generator = Generator::new(seed);
     let mut edits = 0;
@@ -215,25 +195,20 @@ pub(crate) fn work_through<F: Files, H: PairHash>(
     hasher: &mut H,
     reply: &mut Vec<u8>,
 ) -> Result<u32, EngineFault>
-    ensures keeps { Keeps engine.old engine.new }
-    ensures nodes { KeepsNodes engine.old.arena engine.new.arena }
-    ensures rises { H.pairs hasher.old ≤ H.pairs hasher.new }
+    ensures tries { Tries [] result (point F.Files H.PairHash engine.old files.old hasher.old)
+        (point F.Files H.PairHash engine.new files.new hasher.new) }
     ensures works { (state : State) →
-        let before = point engine.old (H.pairs hasher.old) (F.content files.old) in
+        let before = point F.Files H.PairHash engine.old files.old hasher.old in
         let rules = rules_of H.pair_of engine.old in
         let work = work_of rules state type_name.now seed count in IsAtState state before
         → Works result (whole_work rules state type_name.now seed count)
         (λ edits. (edits ≡ work.edits)
         × Replies (done rules work.state (Root worked)) reply.new.items) before
-        (point engine.new (H.pairs hasher.new) (F.content files.new)) }
+        (point F.Files H.PairHash engine.new files.new hasher.new) }
     ensures least { (state : State)
-        → IsAtState state (point engine.old (H.pairs hasher.old) (F.content files.old))
+        → IsAtState state (point F.Files H.PairHash engine.old files.old hasher.old)
         → OnOk result (RisesBy (whole_work (rules_of H.pair_of engine.old) state type_name.now seed
         count).tops (H.pairs hasher.old) (H.pairs hasher.new)) }
-    ensures read { result ≢ Err EngineFault.Read }
-    ensures gets { F.get_faults files.new ≡ F.get_faults files.old }
-    ensures puts { CountsWrites result (F.put_faults files.old) (F.put_faults files.new) }
-    ensures readable { (other : List ℕ) → F.readable files.old other → F.readable files.new other }
 {
     let Ok(made) = new_w(engine.store.alloc, type_name) else {
         return Err(EngineFault::Memory);

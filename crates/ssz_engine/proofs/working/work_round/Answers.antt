@@ -1,4 +1,4 @@
-use Rattle.std.proofs.Common.{◌≡◌, ◌∷◌, [], ℕ, Option, Some, subst, sym}
+use Rattle.std.proofs.Common.{◌≡◌, ◌∷◌, [], ℕ, Option, Some, subst, sym, refl}
 use Rattle.std.specs.Prelude.{IfSome}
 use Rattle.std.proofs.lemmas.Result.{err_from_is_err_and}
 use Rattle.ssz_draws.specs.Walked.{IsEdit}
@@ -11,12 +11,14 @@ use Rattle.ssz_machine.specs.Drawing.{Walk, worked}
 use Rattle.ssz_machine.specs.Work.{done, round, walk_from}
 use Rattle.ssz_decisions.specs.Content.{Content as Engine, rules_of}
 use Rattle.ssz_decisions.specs.Standing.{StandsForWriter}
-use Rattle.ssz_engine.specs.Works.{AreBroken, AreDone, Draws, Point, point}
+use Rattle.ssz_engine.specs.Scripts.{Point, point}
+use Rattle.ssz_engine.specs.Works.{AreBroken, AreDone, Draws}
 use Rattle.ssz_decisions.specs.declared.fault.EngineFault.{EngineFault}
 use Rattle.ssz_engine.proofs.WorkLeast.{round-least}
 use Rattle.ssz_engine.proofs.WorkPoints.{by_first_rules, round_done, round_here, works_exit}
 use Rattle.ssz_engine.proofs.WorkSteps.{broken_early, broken_then}
 use Rattle.ssz_engine.proofs.working.work_round.Goals as goal
+use Rattle.ssz_engine.proofs.Trying.{tries_exit, tries_ok, tries_still, tries_then}
 
 pub returns-in-Err-clause-works : goal.returns-in-Err-clause-works
 returns-in-Err-clause-works g c = λ state at.
@@ -38,20 +40,19 @@ round_broken rules state way edit seed fault before mid after is first then =
 pub returns-in_err-answer_root-in-Ok-Some-clause-works :
     goal.returns-in_err-answer_root-in-Ok-Some-clause-works
 returns-in_err-answer_root-in-Ok-Some-clause-works g c = λ state at.
-    let before : Point = point c.args.engine.now (g.H.PairHash.pairs c.args.hasher.now)
-    (g.F.Files.content c.args.files.now) in
-    let mid : Point = point c.answer.new.engine (g.H.PairHash.pairs c.answer.new.hasher)
-    (g.F.Files.content c.answer.new.files) in
-    let after : Point = point c.answer_root-in-Ok-Some.new.engine
-    (g.H.PairHash.pairs c.answer_root-in-Ok-Some.new.hasher)
-    (g.F.Files.content c.answer_root-in-Ok-Some.new.files) in
+    let before : Point = point g.F.Files g.H.PairHash c.args.engine.now c.args.files.now
+    c.args.hasher.now in
+    let mid : Point = point g.F.Files g.H.PairHash c.answer.new.engine c.answer.new.files
+    c.answer.new.hasher in
+    let after : Point = point g.F.Files g.H.PairHash c.answer_root-in-Ok-Some.new.engine
+    c.answer_root-in-Ok-Some.new.files c.answer_root-in-Ok-Some.new.hasher in
     let rules : Rules = rules_of g.H.PairHash.pair_of c.args.engine.now in
     let edit : Statement = c.in-Ok-Some.edit in
     let first = c.in_ok-answer-in-Ok-Some.ensures.works state at in
     let middle : State = state_of (done rules state edit) in
     let fault : EngineFault = c.in_err-answer_root-in-Ok-Some.field-0.0 in
     let second = by_first_rules g.H.PairHash.pair_of c.args.engine.now c.answer.new.engine
-    c.in_ok-answer-in-Ok-Some.ensures.keeps
+    c.in_ok-answer-in-Ok-Some.ensures.tries.keeps
     (λ r. AreBroken (done r middle (Root worked) ∷ []) fault mid after)
     (c.in_err-answer_root-in-Ok-Some.ensures.works middle first.0.at) in
     let exit = err_from_is_err_and c.from_residual-in_err-answer_root-in-Ok-Some.result
@@ -70,21 +71,19 @@ returns-in_err-answer_root-in-Ok-Some-clause-works g c = λ state at.
 pub returns-in_ok-answer_root-in-Ok-Some-clause-works :
     goal.returns-in_ok-answer_root-in-Ok-Some-clause-works
 returns-in_ok-answer_root-in-Ok-Some-clause-works g c = λ state at.
-    let before : Point = point c.args.engine.now (g.H.PairHash.pairs c.args.hasher.now)
-    (g.F.Files.content c.args.files.now) in
-    let mid : Point = point c.answer.new.engine
-    (g.H.PairHash.pairs c.answer.new.hasher)
-    (g.F.Files.content c.answer.new.files) in
-    let after : Point = point c.answer_root-in-Ok-Some.new.engine
-    (g.H.PairHash.pairs c.answer_root-in-Ok-Some.new.hasher)
-    (g.F.Files.content c.answer_root-in-Ok-Some.new.files) in
+    let before : Point = point g.F.Files g.H.PairHash c.args.engine.now c.args.files.now
+    c.args.hasher.now in
+    let mid : Point = point g.F.Files g.H.PairHash c.answer.new.engine c.answer.new.files
+    c.answer.new.hasher in
+    let after : Point = point g.F.Files g.H.PairHash c.answer_root-in-Ok-Some.new.engine
+    c.answer_root-in-Ok-Some.new.files c.answer_root-in-Ok-Some.new.hasher in
     let rules : Rules = rules_of g.H.PairHash.pair_of c.args.engine.now in
     let edit : Statement = c.in-Ok-Some.edit in
     let first = c.in_ok-answer-in-Ok-Some.ensures.works state at in
     let middle : State = state_of (done rules state edit) in
     let asked = (c.in_ok-answer_root-in-Ok-Some.ensures.works middle first.0.at).0 in
     let second = by_first_rules g.H.PairHash.pair_of c.args.engine.now
-    c.answer.new.engine c.in_ok-answer-in-Ok-Some.ensures.keeps
+    c.answer.new.engine c.in_ok-answer-in-Ok-Some.ensures.tries.keeps
     (λ r. AreDone (done r middle (Root worked) ∷ []) (state_of (done r middle (Root worked))) mid
     after)
     asked in
@@ -111,10 +110,10 @@ round_first rules state way edit seed fault before mid is first =
 pub returns-in_err-answer-in-Ok-Some-clause-works :
     goal.returns-in_err-answer-in-Ok-Some-clause-works
 returns-in_err-answer-in-Ok-Some-clause-works g c = λ state at.
-    let before : Point = point c.args.engine.now (g.H.PairHash.pairs c.args.hasher.now)
-    (g.F.Files.content c.args.files.now) in
-    let mid : Point = point c.answer.new.engine (g.H.PairHash.pairs c.answer.new.hasher)
-    (g.F.Files.content c.answer.new.files) in
+    let before : Point = point g.F.Files g.H.PairHash c.args.engine.now c.args.files.now
+    c.args.hasher.now in
+    let mid : Point = point g.F.Files g.H.PairHash c.answer.new.engine c.answer.new.files
+    c.answer.new.hasher in
     let rules : Rules = rules_of g.H.PairHash.pair_of c.args.engine.now in
     let edit : Statement = c.in-Ok-Some.edit in
     let fault : EngineFault = c.in_err-answer-in-Ok-Some.field-0.0 in
@@ -149,5 +148,29 @@ returns-in_ok-answer_root-in-Ok-Some-clause-least g c = λ state at.
     (subst (λ (e : Option Statement). IfSome e IsEdit) c.in-Ok-Some.field-0-is
     c.in-Ok-Some.ensures.named)
     ((at.versions.each 0).each worked) (c.in_ok-answer-in-Ok-Some.ensures.outcome state at)
-    c.in_ok-answer-in-Ok-Some.ensures.tops c.in_ok-answer-in-Ok-Some.ensures.rises
-    c.in_ok-answer_root-in-Ok-Some.ensures.rises c.in_ok-answer_root-in-Ok-Some.ensures.some
+    c.in_ok-answer-in-Ok-Some.ensures.tops c.in_ok-answer-in-Ok-Some.ensures.tries.rises
+    c.in_ok-answer_root-in-Ok-Some.ensures.tries.rises c.in_ok-answer_root-in-Ok-Some.ensures.some
+
+pub returns-in-Err-clause-tries : goal.returns-in-Err-clause-tries
+returns-in-Err-clause-tries g c = tries_still refl
+
+pub returns-in_err-answer_root-in-Ok-Some-clause-tries :
+    goal.returns-in_err-answer_root-in-Ok-Some-clause-tries
+returns-in_err-answer_root-in-Ok-Some-clause-tries g c =
+    let exit = err_from_is_err_and c.from_residual-in_err-answer_root-in-Ok-Some.result
+    c.from_residual-in_err-answer_root-in-Ok-Some.ensures.1 in
+    tries_exit exit.1 exit.2 (tries_then c.in_ok-answer-in-Ok-Some.ensures.tries
+    c.in_err-answer_root-in-Ok-Some.ensures.tries)
+
+pub returns-in_ok-answer_root-in-Ok-Some-clause-tries :
+    goal.returns-in_ok-answer_root-in-Ok-Some-clause-tries
+returns-in_ok-answer_root-in-Ok-Some-clause-tries g c =
+    tries_ok 1 (tries_then c.in_ok-answer-in-Ok-Some.ensures.tries
+    c.in_ok-answer_root-in-Ok-Some.ensures.tries)
+
+pub returns-in_err-answer-in-Ok-Some-clause-tries :
+    goal.returns-in_err-answer-in-Ok-Some-clause-tries
+returns-in_err-answer-in-Ok-Some-clause-tries g c =
+    let exit = err_from_is_err_and c.from_residual-in_err-answer-in-Ok-Some.result
+    c.from_residual-in_err-answer-in-Ok-Some.ensures.1 in
+    tries_exit exit.1 exit.2 c.in_err-answer-in-Ok-Some.ensures.tries

@@ -1,25 +1,25 @@
-use Rattle.std.proofs.Common.{◌≡◌, ◌+◌, ◌-◌, ◌∙◌, ℕ, suc, refl, sym, subst, arith}
+use Rattle.std.proofs.Common.{◌≡◌, ◌+◌, ◌-◌, ℕ, suc, sym, subst, arith}
 use Rattle.std.specs.Prelude.{Err, Ok}
 use Rattle.std.proofs.lemmas.Result.{err_from_is_err_and}
-use Rattle.ssz_arena.proofs.Keeping.{keeps_same, keeps_trans}
 use Rattle.ssz_machine.specs.Rules.{Rules}
 use Rattle.ssz_machine.specs.Work.{round, tops_of, walk_from, worked_on}
 use Rattle.ssz_machine.specs.State.{version_of}
 use Rattle.ssz_machine.specs.Drawing.{worked}
 use Rattle.ssz_decisions.specs.Content.{rules_of}
 use Rattle.ssz_decisions.specs.Roots.{RisesBy}
-use Rattle.ssz_engine.specs.Works.{Point, Works, point}
-use Rattle.ssz_engine.proofs.Leading.{keeps_on}
+use Rattle.ssz_engine.specs.Scripts.{Point, point}
+use Rattle.ssz_engine.specs.Works.{Works}
 use Rattle.ssz_engine.proofs.WorkPoints.{by_first_rules, works_exit}
 use Rattle.ssz_engine.proofs.WorkRounds.{AreRounds, rounds_begin, rounds_broken, rounds_end, rounds_least, rounds_on}
 use Rattle.ssz_engine.proofs.working.work_rounds.Goals as goal
+use Rattle.ssz_engine.proofs.Trying.{tries_exit, tries_ok, tries_still, tries_then}
 
 pub returns-clause-works : goal.returns-clause-works
 returns-clause-works g c = λ state at.
-    let before : Point = point c.args.engine.now (g.H.PairHash.pairs c.args.hasher.now)
-    (g.F.Files.content c.args.files.now) in
-    let here : Point = point c.loop-round.engine (g.H.PairHash.pairs c.loop-round.hasher)
-    (g.F.Files.content c.loop-round.files) in
+    let before : Point = point g.F.Files g.H.PairHash c.args.engine.now c.args.files.now
+    c.args.hasher.now in
+    let here : Point = point g.F.Files g.H.PairHash c.loop-round.engine c.loop-round.files
+    c.loop-round.hasher in
     let rules : Rules = rules_of g.H.PairHash.pair_of c.args.engine.now in
     let none : c.args.count - c.loop-round._round ≡ 0 = omega (arith, c.loop-round-test.false) in
     rounds_end rules c.args.count c.args.seed state c.loop-round.generator c.loop-round.edits
@@ -29,10 +29,10 @@ returns-clause-works g c = λ state at.
 
 pub returns-clause-least : goal.returns-clause-least
 returns-clause-least g c = λ state at.
-    let before : Point = point c.args.engine.now (g.H.PairHash.pairs c.args.hasher.now)
-    (g.F.Files.content c.args.files.now) in
-    let here : Point = point c.loop-round.engine (g.H.PairHash.pairs c.loop-round.hasher)
-    (g.F.Files.content c.loop-round.files) in
+    let before : Point = point g.F.Files g.H.PairHash c.args.engine.now c.args.files.now
+    c.args.hasher.now in
+    let here : Point = point g.F.Files g.H.PairHash c.loop-round.engine c.loop-round.files
+    c.loop-round.hasher in
     let rules : Rules = rules_of g.H.PairHash.pair_of c.args.engine.now in
     let none : c.args.count - c.loop-round._round ≡ 0 = omega (arith, c.loop-round-test.false) in
     rounds_least rules c.args.count c.args.seed state c.loop-round.generator c.loop-round.edits
@@ -42,33 +42,28 @@ returns-clause-least g c = λ state at.
 
 pub loop-round-init : goal.loop-round-init
 loop-round-init g c = record {
-  keeps = record { types = refl; most = refl; base = refl };
-  nodes = keeps_same _ _ refl;
-  rises = omega arith;
+  tries = tries_still tt;
   few = omega arith;
   rounds = λ state at.
       let rules : Rules = rules_of g.H.PairHash.pair_of c.args.engine.now in
-      let here : Point = point c.args.engine.now (g.H.PairHash.pairs c.args.hasher.now)
-      (g.F.Files.content c.args.files.now) in
+      let here : Point = point g.F.Files g.H.PairHash c.args.engine.now c.args.files.now
+      c.args.hasher.now in
       let all : c.args.count ≡ c.args.count - 0 = omega arith in
       subst (λ left. AreRounds rules c.args.count c.args.seed state left c.new-generator.result 0
       here here) all
       (subst (λ x. AreRounds rules c.args.count c.args.seed state c.args.count x 0 here here)
       (sym {A = ℕ} c.new-generator.ensures)
       (rounds_begin rules c.args.count c.args.seed state here at));
-  readable = λ other is. is;
-  gets = refl;
-  puts = refl;
 }
 
 pub returns-in_err-edits-clause-works : goal.returns-in_err-edits-clause-works
 returns-in_err-edits-clause-works g c = λ state at.
-    let before : Point = point c.args.engine.now (g.H.PairHash.pairs c.args.hasher.now)
-    (g.F.Files.content c.args.files.now) in
-    let mid : Point = point c.loop-round.engine (g.H.PairHash.pairs c.loop-round.hasher)
-    (g.F.Files.content c.loop-round.files) in
-    let after : Point = point c.work_round.new.engine (g.H.PairHash.pairs c.work_round.new.hasher)
-    (g.F.Files.content c.work_round.new.files) in
+    let before : Point = point g.F.Files g.H.PairHash c.args.engine.now c.args.files.now
+    c.args.hasher.now in
+    let mid : Point = point g.F.Files g.H.PairHash c.loop-round.engine c.loop-round.files
+    c.loop-round.hasher in
+    let after : Point = point g.F.Files g.H.PairHash c.work_round.new.engine c.work_round.new.files
+    c.work_round.new.hasher in
     let rules : Rules = rules_of g.H.PairHash.pair_of c.args.engine.now in
     let left = c.args.count - suc c.loop-round._round in
     let next : c.args.count - c.loop-round._round ≡ suc left =
@@ -81,7 +76,7 @@ returns-in_err-edits-clause-works g c = λ state at.
     let way = walk_from (version_of worked (so_far.state.versions 0)) c.loop-round.generator in
     let exit = err_from_is_err_and c.from_residual.result c.from_residual.ensures.1 in
     let broken = by_first_rules g.H.PairHash.pair_of c.args.engine.now c.loop-round.engine
-    c.loop-round.invariant.keeps
+    c.loop-round.invariant.tries.keeps
     (λ r. Works (Err c.in_err-edits.field-0.0) (round r so_far.state way.edit)
     (λ edits. (edits ≡ (round r so_far.state way.edit).edits)
     × (c.work_round.new.generator ≡ way.seed)) mid after)
@@ -96,17 +91,16 @@ loop-round-preserved g c =
     let so_far = c.loop-round.invariant in
     let made = c.in_ok-edits.ensures in
     record {
-      keeps = keeps_on so_far.keeps made.keeps;
-      nodes = keeps_trans so_far.nodes made.nodes;
-      rises = omega (arith, so_far.rises, made.rises);
+      tries = tries_ok (c.loop-round.edits + c.in_ok-edits.field-0)
+          (tries_then so_far.tries made.tries);
       few = omega (arith, so_far.few, made.few);
       rounds = λ state at.
-          let before : Point = point c.args.engine.now (g.H.PairHash.pairs c.args.hasher.now)
-          (g.F.Files.content c.args.files.now) in
-          let mid : Point = point c.loop-round.engine (g.H.PairHash.pairs c.loop-round.hasher)
-          (g.F.Files.content c.loop-round.files) in
-          let after : Point = point c.work_round.new.engine
-          (g.H.PairHash.pairs c.work_round.new.hasher) (g.F.Files.content c.work_round.new.files) in
+          let before : Point = point g.F.Files g.H.PairHash c.args.engine.now c.args.files.now
+          c.args.hasher.now in
+          let mid : Point = point g.F.Files g.H.PairHash c.loop-round.engine c.loop-round.files
+          c.loop-round.hasher in
+          let after : Point = point g.F.Files g.H.PairHash c.work_round.new.engine
+          c.work_round.new.files c.work_round.new.hasher in
           let rules : Rules = rules_of g.H.PairHash.pair_of c.args.engine.now in
           let left = c.args.count - (c.loop-round._round + 1) in
           let next : c.args.count - c.loop-round._round ≡ suc left =
@@ -118,7 +112,7 @@ loop-round-preserved g c =
           let here = rounds.so_far in
           let way = walk_from (version_of worked (here.state.versions 0)) c.loop-round.generator in
           let done = by_first_rules g.H.PairHash.pair_of c.args.engine.now c.loop-round.engine
-          so_far.keeps
+          so_far.tries.keeps
           (λ r. Works (Ok c.in_ok-edits.field-0) (round r here.state way.edit)
           (λ edits. (edits ≡ (round r here.state way.edit).edits)
           × (c.work_round.new.generator ≡ way.seed)) mid after)
@@ -126,11 +120,17 @@ loop-round-preserved g c =
           rounds_on rules c.args.count c.args.seed state left c.loop-round.generator
           c.loop-round.edits before mid after rounds c.in_ok-edits.field-0
           c.work_round.new.generator done.0 done.1.0 done.1.1
-          (by_first_rules g.H.PairHash.pair_of c.args.engine.now c.loop-round.engine so_far.keeps
+          (by_first_rules g.H.PairHash.pair_of c.args.engine.now c.loop-round.engine
+          so_far.tries.keeps
           (λ r. RisesBy (tops_of r here.state way.edit) (g.H.PairHash.pairs c.loop-round.hasher)
           (g.H.PairHash.pairs c.work_round.new.hasher))
           (made.least here.state rounds.done.at));
-      readable = λ other is. made.readable other (so_far.readable other is);
-      gets = made.gets ∙ so_far.gets;
-      puts = made.puts ∙ so_far.puts;
     }
+
+pub returns-clause-tries : goal.returns-clause-tries
+returns-clause-tries g c = c.loop-round.invariant.tries
+
+pub returns-in_err-edits-clause-tries : goal.returns-in_err-edits-clause-tries
+returns-in_err-edits-clause-tries g c =
+    let exit = err_from_is_err_and c.from_residual.result c.from_residual.ensures.1 in
+    tries_exit exit.1 exit.2 (tries_then c.loop-round.invariant.tries c.in_err-edits.ensures.tries)

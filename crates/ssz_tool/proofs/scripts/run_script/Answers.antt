@@ -1,4 +1,5 @@
 use Rattle.ssz_schema.specs.Unfolding.{known_in}
+use Rattle.ssz_engine.specs.Scripts.{scene}
 use Rattle.ssz_tool.specs.ToDo.{plays}
 use Rattle.ssz_tool.proofs.Beginnings.{all_readable, script_does, script_pairs, script_reached, wants_memory_first, zero_table}
 use Rattle.ssz_tool.proofs.scripts.run_script.Goals as goal
@@ -7,22 +8,10 @@ pub returns-in-Ok-clause-ends : goal.returns-in-Ok-clause-ends
 returns-in-Ok-clause-ends g c = λ reads held told.
     script_does g.H.PairHash.pair_of c.args.schema c.args.max held c.args.script.now
     c.run_script.result
-    (record {
-      engine = c.in-Ok.engine;
-      hashed = g.H.PairHash.pairs c.start.new.hasher;
-      told = g.F.Files.content c.args.files.now;
-      readable = g.F.Files.readable c.args.files.now;
-      pieces = g.S.Sink.pieces c.args.out.now;
-      ample = g.S.Sink.ample c.args.out.now;
-    })
-    (record {
-      engine = c.run_script.new.self;
-      hashed = g.H.PairHash.pairs c.run_script.new.hasher;
-      told = g.F.Files.content c.run_script.new.files;
-      readable = g.F.Files.readable c.run_script.new.files;
-      pieces = g.S.Sink.pieces c.run_script.new.out;
-      ample = g.S.Sink.ample c.run_script.new.out;
-    })
+    (scene g.F.Files g.S.Sink g.H.PairHash c.in-Ok.engine c.args.files.now c.args.out.now
+    c.start.new.hasher)
+    (scene g.F.Files g.S.Sink g.H.PairHash c.run_script.new.self c.run_script.new.files
+    c.run_script.new.out c.run_script.new.hasher)
     c.in-Ok.ensures.types c.in-Ok.ensures.most c.in-Ok.ensures.stands told
     (record { base = c.in-Ok.ensures.base; left = c.in-Ok.ensures.unhashed })
     c.run_script.ensures.ends reads _ c.in-Ok.ensures.counts
@@ -34,22 +23,10 @@ pub returns-in-Ok-clause-reached : goal.returns-in-Ok-clause-reached
 returns-in-Ok-clause-reached g c = λ held told all.
     script_reached g.H.PairHash.pair_of c.args.schema c.args.max held c.args.script.now
     c.run_script.result
-    (record {
-      engine = c.in-Ok.engine;
-      hashed = g.H.PairHash.pairs c.start.new.hasher;
-      told = g.F.Files.content c.args.files.now;
-      readable = g.F.Files.readable c.args.files.now;
-      pieces = g.S.Sink.pieces c.args.out.now;
-      ample = g.S.Sink.ample c.args.out.now;
-    })
-    (record {
-      engine = c.run_script.new.self;
-      hashed = g.H.PairHash.pairs c.run_script.new.hasher;
-      told = g.F.Files.content c.run_script.new.files;
-      readable = g.F.Files.readable c.run_script.new.files;
-      pieces = g.S.Sink.pieces c.run_script.new.out;
-      ample = g.S.Sink.ample c.run_script.new.out;
-    })
+    (scene g.F.Files g.S.Sink g.H.PairHash c.in-Ok.engine c.args.files.now c.args.out.now
+    c.start.new.hasher)
+    (scene g.F.Files g.S.Sink g.H.PairHash c.run_script.new.self c.run_script.new.files
+    c.run_script.new.out c.run_script.new.hasher)
     c.in-Ok.ensures.types c.in-Ok.ensures.most c.in-Ok.ensures.stands told
     (record { base = c.in-Ok.ensures.base; left = c.in-Ok.ensures.unhashed })
     c.run_script.ensures.ends all
@@ -58,22 +35,10 @@ pub returns-in-Ok-clause-pairs : goal.returns-in-Ok-clause-pairs
 returns-in-Ok-clause-pairs g c = λ held told.
     script_pairs g.H.PairHash.pair_of c.args.schema c.args.max held c.args.script.now
     c.run_script.result
-    (record {
-      engine = c.in-Ok.engine;
-      hashed = g.H.PairHash.pairs c.start.new.hasher;
-      told = g.F.Files.content c.args.files.now;
-      readable = g.F.Files.readable c.args.files.now;
-      pieces = g.S.Sink.pieces c.args.out.now;
-      ample = g.S.Sink.ample c.args.out.now;
-    })
-    (record {
-      engine = c.run_script.new.self;
-      hashed = g.H.PairHash.pairs c.run_script.new.hasher;
-      told = g.F.Files.content c.run_script.new.files;
-      readable = g.F.Files.readable c.run_script.new.files;
-      pieces = g.S.Sink.pieces c.run_script.new.out;
-      ample = g.S.Sink.ample c.run_script.new.out;
-    })
+    (scene g.F.Files g.S.Sink g.H.PairHash c.in-Ok.engine c.args.files.now c.args.out.now
+    c.start.new.hasher)
+    (scene g.F.Files g.S.Sink g.H.PairHash c.run_script.new.self c.run_script.new.files
+    c.run_script.new.out c.run_script.new.hasher)
     c.in-Ok.ensures.types c.in-Ok.ensures.most c.in-Ok.ensures.stands told
     (record { base = c.in-Ok.ensures.base; left = c.in-Ok.ensures.unhashed })
     c.run_script.ensures.ends _ c.in-Ok.ensures.counts

@@ -15,12 +15,10 @@ returns-in-Ok-clause-ends g c = λ reads held told.
     )
     (weave_does g.H.PairHash.pair_of c.args.weaving.schema c.args.weaving.max held
     c.deref.result.now c.deref-in-Ok.result.now c.deref-in-Ok-2.result.now c.weave.result
-    (scene c.in-Ok.engine (g.H.PairHash.pairs c.start.new.hasher)
-    (g.F.Files.content c.args.files.now) (g.F.Files.readable c.args.files.now)
-    (g.S.Sink.pieces c.args.out.now) (g.S.Sink.ample c.args.out.now))
-    (scene c.weave.new.self (g.H.PairHash.pairs c.weave.new.hasher)
-    (g.F.Files.content c.weave.new.files) (g.F.Files.readable c.weave.new.files)
-    (g.S.Sink.pieces c.weave.new.out) (g.S.Sink.ample c.weave.new.out))
+    (scene g.F.Files g.S.Sink g.H.PairHash c.in-Ok.engine c.args.files.now c.args.out.now
+    c.start.new.hasher)
+    (scene g.F.Files g.S.Sink g.H.PairHash c.weave.new.self c.weave.new.files c.weave.new.out
+    c.weave.new.hasher)
     c.in-Ok.ensures.types c.in-Ok.ensures.most c.in-Ok.ensures.stands told
     (record { base = c.in-Ok.ensures.base; left = c.in-Ok.ensures.unhashed })
     c.weave.ensures.ends reads (g.H.PairHash.pairs c.args.hasher.now) c.in-Ok.ensures.counts)
@@ -39,12 +37,10 @@ returns-in-Ok-clause-reached g c = λ held told.
     )
     (weave_reached g.H.PairHash.pair_of c.args.weaving.schema c.args.weaving.max held
     c.deref.result.now c.deref-in-Ok.result.now c.deref-in-Ok-2.result.now c.weave.result
-    (scene c.in-Ok.engine (g.H.PairHash.pairs c.start.new.hasher)
-    (g.F.Files.content c.args.files.now) (g.F.Files.readable c.args.files.now)
-    (g.S.Sink.pieces c.args.out.now) (g.S.Sink.ample c.args.out.now))
-    (scene c.weave.new.self (g.H.PairHash.pairs c.weave.new.hasher)
-    (g.F.Files.content c.weave.new.files) (g.F.Files.readable c.weave.new.files)
-    (g.S.Sink.pieces c.weave.new.out) (g.S.Sink.ample c.weave.new.out))
+    (scene g.F.Files g.S.Sink g.H.PairHash c.in-Ok.engine c.args.files.now c.args.out.now
+    c.start.new.hasher)
+    (scene g.F.Files g.S.Sink g.H.PairHash c.weave.new.self c.weave.new.files c.weave.new.out
+    c.weave.new.hasher)
     c.in-Ok.ensures.types c.in-Ok.ensures.most c.in-Ok.ensures.stands told
     (record { base = c.in-Ok.ensures.base; left = c.in-Ok.ensures.unhashed })
     c.weave.ensures.ends)
@@ -58,12 +54,10 @@ returns-in-Ok-clause-pairs g c = λ held told.
     )
     (weave_pairs g.H.PairHash.pair_of c.args.weaving.schema c.args.weaving.max held
     c.deref.result.now c.deref-in-Ok.result.now c.deref-in-Ok-2.result.now c.weave.result
-    (scene c.in-Ok.engine (g.H.PairHash.pairs c.start.new.hasher)
-    (g.F.Files.content c.args.files.now) (g.F.Files.readable c.args.files.now)
-    (g.S.Sink.pieces c.args.out.now) (g.S.Sink.ample c.args.out.now))
-    (scene c.weave.new.self (g.H.PairHash.pairs c.weave.new.hasher)
-    (g.F.Files.content c.weave.new.files) (g.F.Files.readable c.weave.new.files)
-    (g.S.Sink.pieces c.weave.new.out) (g.S.Sink.ample c.weave.new.out))
+    (scene g.F.Files g.S.Sink g.H.PairHash c.in-Ok.engine c.args.files.now c.args.out.now
+    c.start.new.hasher)
+    (scene g.F.Files g.S.Sink g.H.PairHash c.weave.new.self c.weave.new.files c.weave.new.out
+    c.weave.new.hasher)
     c.in-Ok.ensures.types c.in-Ok.ensures.most c.in-Ok.ensures.stands told
     (record { base = c.in-Ok.ensures.base; left = c.in-Ok.ensures.unhashed })
     c.weave.ensures.ends (g.H.PairHash.pairs c.args.hasher.now) c.in-Ok.ensures.counts)

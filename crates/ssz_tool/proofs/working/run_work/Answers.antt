@@ -8,12 +8,10 @@ pub returns-in-Ok-clause-ends : goal.returns-in-Ok-clause-ends
 returns-in-Ok-clause-ends g c = λ reads held told.
     work_does g.H.PairHash.pair_of c.args.work.schema held c.args.work.type_name c.args.work.seed
     c.args.work.edits c.work.result
-    (scene c.in-Ok.engine (g.H.PairHash.pairs c.start.new.hasher)
-    (g.F.Files.content c.args.files.now) (g.F.Files.readable c.args.files.now)
-    (g.S.Sink.pieces c.args.out.now) (g.S.Sink.ample c.args.out.now))
-    (scene c.work.new.self (g.H.PairHash.pairs c.work.new.hasher)
-    (g.F.Files.content c.work.new.files) (g.F.Files.readable c.work.new.files)
-    (g.S.Sink.pieces c.work.new.out) (g.S.Sink.ample c.work.new.out))
+    (scene g.F.Files g.S.Sink g.H.PairHash c.in-Ok.engine c.args.files.now c.args.out.now
+    c.start.new.hasher)
+    (scene g.F.Files g.S.Sink g.H.PairHash c.work.new.self c.work.new.files c.work.new.out
+    c.work.new.hasher)
     c.in-Ok.ensures.types c.in-Ok.ensures.most c.in-Ok.ensures.stands told
     (record { base = c.in-Ok.ensures.base; left = c.in-Ok.ensures.unhashed })
     c.work.ensures.ends reads (g.H.PairHash.pairs c.args.hasher.now) c.in-Ok.ensures.counts
@@ -22,12 +20,10 @@ pub returns-in-Ok-clause-pairs : goal.returns-in-Ok-clause-pairs
 returns-in-Ok-clause-pairs g c = λ held told.
     work_pairs g.H.PairHash.pair_of c.args.work.schema held c.args.work.type_name c.args.work.seed
     c.args.work.edits c.work.result
-    (scene c.in-Ok.engine (g.H.PairHash.pairs c.start.new.hasher)
-    (g.F.Files.content c.args.files.now) (g.F.Files.readable c.args.files.now)
-    (g.S.Sink.pieces c.args.out.now) (g.S.Sink.ample c.args.out.now))
-    (scene c.work.new.self (g.H.PairHash.pairs c.work.new.hasher)
-    (g.F.Files.content c.work.new.files) (g.F.Files.readable c.work.new.files)
-    (g.S.Sink.pieces c.work.new.out) (g.S.Sink.ample c.work.new.out))
+    (scene g.F.Files g.S.Sink g.H.PairHash c.in-Ok.engine c.args.files.now c.args.out.now
+    c.start.new.hasher)
+    (scene g.F.Files g.S.Sink g.H.PairHash c.work.new.self c.work.new.files c.work.new.out
+    c.work.new.hasher)
     c.in-Ok.ensures.types c.in-Ok.ensures.most c.in-Ok.ensures.stands told
     (record { base = c.in-Ok.ensures.base; left = c.in-Ok.ensures.unhashed })
     c.work.ensures.ends (g.H.PairHash.pairs c.args.hasher.now) c.in-Ok.ensures.counts
@@ -36,12 +32,10 @@ pub returns-in-Ok-clause-least : goal.returns-in-Ok-clause-least
 returns-in-Ok-clause-least g c = λ held told through.
     work_least g.H.PairHash.pair_of c.args.work.schema held c.args.work.type_name c.args.work.seed
     c.args.work.edits c.work.result
-    (scene c.in-Ok.engine (g.H.PairHash.pairs c.start.new.hasher)
-    (g.F.Files.content c.args.files.now) (g.F.Files.readable c.args.files.now)
-    (g.S.Sink.pieces c.args.out.now) (g.S.Sink.ample c.args.out.now))
-    (scene c.work.new.self (g.H.PairHash.pairs c.work.new.hasher)
-    (g.F.Files.content c.work.new.files) (g.F.Files.readable c.work.new.files)
-    (g.S.Sink.pieces c.work.new.out) (g.S.Sink.ample c.work.new.out))
+    (scene g.F.Files g.S.Sink g.H.PairHash c.in-Ok.engine c.args.files.now c.args.out.now
+    c.start.new.hasher)
+    (scene g.F.Files g.S.Sink g.H.PairHash c.work.new.self c.work.new.files c.work.new.out
+    c.work.new.hasher)
     c.in-Ok.ensures.types c.in-Ok.ensures.most c.in-Ok.ensures.stands told
     (record { base = c.in-Ok.ensures.base; left = c.in-Ok.ensures.unhashed })
     c.work.ensures.ends (g.H.PairHash.pairs c.args.hasher.now) c.in-Ok.ensures.counts through
