@@ -1,7 +1,7 @@
 #!/bin/sh
 # Calls of C that take and give bytes beside what they are made of, in one run: the bytes of a state of deneb
 # in, beside the statement `load`; an element of a list of numbers set and the root, beside ssz_edit::set and
-# Arena::root; the bytes of the state out, beside ssz_reading::write_encoding; and alone a session over the text
+# Arena::root; the bytes of the state out, beside ssz_writing::write_encoding; and alone a session over the text
 # of deneb's types, and a small call, which checks a boolean. As instructions, which callgrind counts and which
 # do not depend on what else the machine does, or, with the word `time`, as processor time, the least of some
 # rounds in turn. What a run takes without the calls is taken off. Wants a C compiler, and the two programs
