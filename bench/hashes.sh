@@ -1,8 +1,9 @@
 #!/bin/sh
 # What hashing takes, in one run: roots of numbers, of validators and of a whole state of deneb, a load with its root, a
 # million balances set and then one root, and single edits with a root after each; each beside as many bare pairs of
-# `ShaPair`, and as many of OpenSSL's low-level SHA-256. For the default processor, and for x86-64-v3 where FOLDER has what
-# ./build-v3 FOLDER puts there.
+# `ShaPair`, as many that `sha2` makes of both halves, and as many of OpenSSL's low-level SHA-256. For the default processor,
+# and for x86-64-v3 where FOLDER has what ./build-v3 FOLDER puts there. Seconds are those of the user and of the system; of the
+# last column the user's alone.
 # Run it after 'rt run' in crates/ssz_cli and in crates/bench: bench/hashes.sh ROUNDS [FOLDER [VALIDATORS]].
 # It needs gcc and, of Debian, libssl-dev.
 set -eu
@@ -76,23 +77,24 @@ def hashed(program, name):
 print_load()
 counts = {name: hashed(SSZ, name) for name in ("load", "epoch", "at_once")}
 wanted = "root 0x" + root(TYPES["BeaconState"], FILES["state"]).hex() if COUNT <= 1 << 17 else None
-print("%-8s %-32s %9s %10s %9s %7s %9s %7s %8s"
-      % ("build", "what", "seconds", "pairs", "ShaPair", "ratio", "OpenSSL", "ratio", "peak MiB"))
+print("%-8s %-32s %9s %10s %9s %7s %9s %7s %9s %7s %8s %9s"
+      % ("build", "what", "seconds", "pairs", "ShaPair", "ratio", "sha2", "ratio", "OpenSSL", "ratio", "peak MiB", "user's"))
 for build, (program, bench) in BUILDS.items():
     for what, words, before, pairs in jobs(program, bench):
         if pairs in counts:
             pairs = counts[pairs] + 126 if pairs == "load" else counts[pairs] - counts["load"]
-        taken = {"job": [], "before": [], "bare": [], "openssl": []}
+        taken = {"job": [], "before": [], "bare": [], "sha2": [], "openssl": []}
         for _ in range(rounds):  # in turns, so that all see the same machine
             taken["job"].append(run(*words))
             taken["before"].append(run(*before).seconds if before else 0.0)
             taken["bare"].append(run(bench, "pairs", pairs).seconds)
+            taken["sha2"].append(run(bench, "pairs", "sha2", pairs).seconds)
             taken["openssl"].append(run("./openssl", "pairs", pairs).seconds)
         seconds = min(one.seconds for one in taken["job"]) - min(taken["before"])
-        bare, openssl = min(taken["bare"]), min(taken["openssl"])
-        print("%-8s %-32s %9.3f %10d %9.3f %7.3f %9.3f %7.3f %8.1f" % (
-            build, what, seconds, pairs, bare, seconds / bare, openssl, seconds / openssl,
-            taken["job"][0].peak / 2 ** 20), flush=True)
+        bare, sha2, openssl = (min(taken[name]) for name in ("bare", "sha2", "openssl"))
+        print("%-8s %-32s %9.3f %10d %9.3f %7.3f %9.3f %7.3f %9.3f %7.3f %8.1f %9.3f" % (
+            build, what, seconds, pairs, bare, seconds / bare, sha2, seconds / sha2, openssl, seconds / openssl,
+            taken["job"][0].peak / 2 ** 20, min(one.user for one in taken["job"])), flush=True)
         if wanted and what.endswith("BeaconState") and taken["job"][0].last != wanted:
             sys.exit("another root than hashlib's: %s" % taken["job"][0].last)
 print_load()
