@@ -19,3 +19,4 @@ pub mod WalkFields
 pub mod WalkOptions
 pub mod RepeatLemmas
 pub mod FormLemmas
+pub mod CopyLemmas

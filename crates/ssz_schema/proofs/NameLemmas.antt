@@ -1,5 +1,10 @@
 -- Names in an ordered map.
-use Rattle.std.proofs.Common.{ℕ, ◌≡◌, Bool, true, false, cond, List, [], ◌∷◌, map, Some, Vec, Global, bytes_eq, refl, sym, ap, ap₂, ◌∙◌}
+use Rattle.std.proofs.Common.{ℕ, ◌≡◌, ◌<◌, Bool, true, false, cond, List, [], ◌∷◌, length, map, Some, Ok, Err, Vec, Global, bytes_eq, refl, sym, ap, ap₂, subst, ◌∙◌}
+use Rattle.std.specs.Prelude.{Result, IfOk}
+use Rattle.std.specs.declared.alloc.AllocError.{AllocError}
+use Rattle.std.specs.List.{All, AllByRecursion, AllZip}
+use Rattle.std.specs.List.Sorted.{IsStrictlySortedBy}
+use Rattle.std.proofs.lemmas.List.Elements.{recursion_from_All}
 use Rattle.std.specs.Ordering.{is_eq, nat_cmp, match_ordering}
 use Rattle.std.specs.declared.cmp.Ordering.{Ordering}
 use Rattle.std.specs.declared.cmp.Ordering.TheVariants.{Less, Equal, Greater}
@@ -10,6 +15,9 @@ use Rattle.std.specs.Map.{lookup}
 use Rattle.std.specs.BTreeMap.{insert_entry}
 use Rattle.std.proofs.lemmas.Map.Text.{is_eq-slice_cmp}
 use Rattle.ssz_schema.specs.Lookup.{lookup_name}
+use Rattle.ssz_schema.specs.NameTables.{IsInOrder, AreFound}
+use Rattle.ssz_schema.specs.Unfolding.{Types}
+use Rattle.ssz_schema.specs.Inside.{IsWhole}
 
 abbrev pub Key : Type 0
 Key = Vec ℕ Global
@@ -81,3 +89,63 @@ insert-named (e ∷ es) k id other =
       where
         absurd_order : true ≡ false → ⊥
         absurd_order wrong = cc
+
+abbrev pub key_cmp : Key → Key → Ordering
+key_cmp a b = slice_cmp nat_cmp a.items b.items
+
+below_named : (k : Key) (es : List (Key × ℕ))
+    → AllByRecursion (λ other. key_cmp k other ≡ Less) (map (λ e. e.0) es)
+    → AllByRecursion (λ other. slice_cmp nat_cmp k.items other ≡ Less) (map (λ e. e.0) (named es))
+below_named k [] below = tt
+below_named k (e ∷ es) below = (below.0, below_named k es below.1)
+
+-- names in a map's order are in byte order
+pub in_order-named : (es : List (Key × ℕ)) → IsStrictlySortedBy key_cmp (map (λ e. e.0) es)
+    → IsInOrder (named es)
+unfolding IsStrictlySortedBy
+in_order-named [] ordered = tt
+in_order-named (e ∷ es) ordered = (below_named e.0 es ordered.0, in_order-named es ordered.1)
+
+found_among : (all es : List (Key × ℕ))
+    → AllByRecursion (λ e. lookup (λ k. is_eq (key_cmp e.0 k)) all ≡ Some e.1) es
+    → AllByRecursion (λ e. lookup_name (named all) e.0 ≡ Some e.1) (named es)
+found_among all [] found = tt
+found_among all (e ∷ es) found =
+    (sym (lookup-named all e.0.items) ∙ found.0, found_among all es found.1)
+
+-- each name of a map is found for its own number
+pub found-named : (es : List (Key × ℕ))
+    → All (λ e. lookup (λ k. is_eq (key_cmp e.0 k)) es ≡ Some e.1) es → AreFound (named es)
+found-named es found =
+    found_among es es (recursion_from_All
+    (λ e. lookup (λ k. is_eq (key_cmp e.0 k)) es ≡ Some e.1) es found)
+
+-- a map whose keys have the same bytes has the same names
+pub named-copied : (IsCopy : Key × ℕ → Key × ℕ → Type 0)
+    → ((e f : Key × ℕ) → IsCopy e f → (f.0.items ≡ e.0.items) × (f.1 ≡ e.1))
+    → (es fs : List (Key × ℕ)) → AllZip IsCopy es fs → named fs ≡ named es
+named-copied IsCopy same [] [] copies = refl
+named-copied IsCopy same [] (f ∷ fs) copies = absurd copies
+named-copied IsCopy same (e ∷ es) [] copies = absurd copies
+named-copied IsCopy same (e ∷ es) (f ∷ fs) copies =
+    let first = same e f copies.0 in
+    ap₂ (λ (n : List ℕ × ℕ) ns. n ∷ ns)
+    (ap₂ (λ (name : List ℕ) (id : ℕ). (name, id)) first.0 first.1) (named-copied IsCopy same es fs copies.1)
+
+known_among : (types : Types) → IsWhole types → (names : List (List ℕ × ℕ))
+    → AllByRecursion (λ n. lookup_name types.names n.0 ≡ Some n.1) names
+    → AllByRecursion (λ n. n.1 < length types.trees) names
+known_among types whole [] found = tt
+known_among types whole (n ∷ names) found =
+    (whole.names n.0 n.1 found.0, known_among types whole names found.1)
+
+-- each listed name of a schema is that of one of its types
+pub names_known : (types : Types) → IsWhole types
+    → (listed : Result (Vec (List ℕ × ℕ) Global) AllocError)
+    → IfOk listed (λ names. names.items ≡ types.names)
+    → IfOk listed (λ names. AreFound names.items)
+    → IfOk listed (λ names. AllByRecursion (λ n. n.1 < length types.trees) names.items)
+names_known types whole (Ok names) same found =
+    known_among types whole names.items (subst (λ (ns : List (List ℕ × ℕ)).
+    AllByRecursion (λ n. lookup_name ns n.0 ≡ Some n.1) names.items) same found)
+names_known types whole (Err e) same found = tt

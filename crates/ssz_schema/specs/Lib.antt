@@ -18,3 +18,4 @@ pub mod Inside
 pub mod Steps
 pub mod Sums
 pub mod Repeats
+pub mod Copies

@@ -6,6 +6,7 @@
 #![tactic(auto)]
 
 mod adding;
+mod copying;
 mod depth;
 mod entry;
 mod expr;

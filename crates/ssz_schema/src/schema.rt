@@ -1,10 +1,14 @@
-ghost use Rattle.std.specs.Prelude.{◌≡◌, ◌<◌, ◌≤◌, ◌^◌, [], ◌∷◌, ◌++◌, length, take, IfOk, OnOk, OnErr};
+ghost use Rattle.std.specs.Prelude.{◌≡◌, ◌<◌, ◌≤◌, ◌^◌, [], ◌∷◌, ◌++◌, length, take, option_map, IfOk, OnOk, OnErr};
+ghost use Rattle.std.specs.List.{AllByRecursion};
 ghost use Rattle.std.specs.Option.{ForSome};
 ghost use Rattle.ssz_schema.specs.Unfolding.{type_of, tree_over, AreBelow, number_of};
 ghost use Rattle.ssz_schema.specs.Sizes.{is_variable, fixed_size, basic_size, chunk_count, depth, levels, default_length};
 ghost use Rattle.ssz_schema.specs.Types.{uint, boolean};
 ghost use Rattle.ssz_schema.specs.Legal.{IsLegal, IsSize, most_levels};
+ghost use Rattle.ssz_schema.specs.Lookup.{name_for};
+ghost use Rattle.ssz_schema.specs.NameTables.{IsInOrder};
 
+use super::copying::copied_entries;
 use super::entry::Entry;
 use super::format::Format;
 use super::name::Name;
@@ -214,6 +218,34 @@ impl Schema {
         ensures known { ForSome result (λ id. id < length self.now.trees) }
     {
         self.names.find(name)
+    }
+
+    /// Every name, the built-in ones too, in byte order, each with its type.
+    pub fn names(&self, alloc: Global) -> Result<Vec<(Name, TypeId)>, AllocError>
+        ensures exact { IfOk result (λ names. names.items ≡ self.now.names) }
+        ensures order { IfOk result (λ names. IsInOrder names.items) }
+        ensures known { IfOk result (λ names.
+            AllByRecursion (λ name. name.1 < length self.now.trees) names.items) }
+    {
+        self.names.listed(alloc)
+    }
+
+    /// The first name in byte order of the type, or None exactly where no name is its.
+    pub fn name_of(&self, id: TypeId) -> Option<&[u8]>
+        ensures { option_map (λ name. name.now) result ≡ name_for self.now.names id }
+    {
+        self.names.name_of(id)
+    }
+
+    /// A schema of its own with the same format, types and names.
+    pub fn copied(&self, alloc: Global) -> Result<Schema, AllocError>
+        ensures { IfOk result (λ schema. schema ≡ self.now) }
+    {
+        Ok(Schema {
+            format: self.format,
+            entries: copied_entries(alloc, self.entries.as_slice())?,
+            names: self.names.copied(alloc)?,
+        })
     }
 
     /// The form of the type, with types before it as parts.
