@@ -9,7 +9,7 @@ use Rattle.ssz_schema.specs.declared.ty.Ty.TheVariants.{Container, Union}
 use Rattle.ssz_schema.specs.Types.{SszType, container, union}
 use Rattle.ssz_schema.specs.Unfolding.{Types, tree_at, type_of, tree_over, fields_over, options_over, IsBelow, AreBelow}
 use Rattle.ssz_schema.specs.Paths.{step_type, field_type, field_number, option_type}
-use Rattle.ssz_schema.specs.Steps.{LeadsTo}
+use Rattle.ssz_schema.specs.Steps.{LeadsTo, lead_number, IsLead}
 
 abbrev pub Part : Type 0
 Part = List ℕ × ℕ
@@ -157,4 +157,21 @@ LeadsTo-no_field types id ty parts name form is missing =
       exact = sym (missing_field types.trees parts.items name missing)
           ∙ ap (λ t. step_type t (Field name)) tree;
       known = λ n e. absurd (none-some n e);
+    }
+
+-- the field of the name is the part of this number
+pub IsLead-field : (types : Types) (id k : ℕ) (ty : Ty) (parts : Vec Part Global) (part : Part)
+    (name : List ℕ) → id < length types.trees → tree_over types.trees ty ≡ type_of types id
+    → AreBelow id ty → ty ≡ Container parts
+    → position_from (has_name name) 0 parts.items ≡ Some k → part ≡ get_or parts.items k part
+    → IsLead types id (Field name) (record { part = part.1; number = k })
+IsLead-field types id k ty parts part name known form below is found at =
+    let tree : container (fields_over types.trees parts.items) ≡ type_of types id =
+    sym (ap (tree_over types.trees) is) ∙ form in
+    let there = LeadsTo-field types id k ty parts part name known form below is found at in
+    record {
+      known = there.known part.1 refl;
+      typed = sym there.exact;
+      number = sym (found_field types.trees parts.items name k found).number
+          ∙ ap (lead_number (Field name)) tree;
     }

@@ -1,12 +1,13 @@
 // The types of the parts that steps and paths lead to.
-ghost use Rattle.std.specs.Prelude.{◌≡◌, ◌<◌, ℕ, length, option_map, bytes_eq, Some, None, nat_lt, if◌then◌else◌, slice_index_or};
+ghost use Rattle.std.specs.Prelude.{◌≡◌, ◌<◌, ℕ, length, option_map, bytes_eq, Some, None, IfSome, IfNone, nat_lt, if◌then◌else◌, slice_index_or};
 ghost use Rattle.std.specs.List.{position_from};
 ghost use Rattle.std.specs.Option.{ForSome};
 ghost use Rattle.ssz_schema.specs.declared.path.PathStep.TheVariants.{Field, Index, Len, Selector, Option as Chosen};
 ghost use Rattle.ssz_schema.specs.Unfolding.{type_of};
 ghost use Rattle.ssz_schema.specs.Paths.{step_type, path_type};
-ghost use Rattle.ssz_schema.specs.Steps.{LeadsTo};
+ghost use Rattle.ssz_schema.specs.Steps.{LeadsTo, IsLead};
 
+use super::lead::{Lead, unnumbered};
 use super::name::Name;
 use super::path::PathStep;
 use super::schema::Schema;
@@ -18,11 +19,51 @@ use super::width::Width;
 pub fn field_at(fields: &[(Name, TypeId)], name: &Name) -> Option<usize>
     ensures { result ≡ position_from (λ field. bytes_eq field.0 name.now) 0 fields.now }
 {
-    let name = name.as_bytes();
+    field_number(fields, name.as_bytes())
+}
+
+// The same of a name that is lent.
+fn field_number(fields: &[(Name, TypeId)], name: &[u8]) -> Option<usize>
+    ensures { result ≡ position_from (λ field. bytes_eq field.0 name.now) 0 fields.now }
+{
     fields.iter().position(|field| field.0.as_bytes() == name)
 }
 
 impl Schema {
+    /// The part that the step leads to from a value of the type, or None exactly where the step
+    /// does not fit the type. The names of a container's fields are looked through once.
+    pub fn lead(&self, id: TypeId, step: &PathStep) -> Option<Lead>
+        requires { id < length self.now.trees }
+        ensures led { IfSome result (IsLead self.now id step.now) }
+        ensures unfit { IfNone result (step_type (type_of self.now id) step.now ≡ None) }
+    {
+        match step {
+            PathStep::Field(name) => self.field_lead(id, name.as_bytes()),
+            PathStep::Index(i) => unnumbered(self.element_type(id, *i)),
+            PathStep::Len => unnumbered(self.len_type(id)),
+            PathStep::Selector => unnumbered(self.selector_type(id)),
+            PathStep::Option(selector) => unnumbered(self.option_type(id, *selector)),
+        }
+    }
+
+    /// The same of the step to the field of this name, which is here only lent.
+    pub fn field_lead(&self, id: TypeId, name: &[u8]) -> Option<Lead>
+        requires { id < length self.now.trees }
+        ensures led { IfSome result (IsLead self.now id (Field name.now)) }
+        ensures unfit { IfNone result (step_type (type_of self.now id) (Field name.now) ≡ None) }
+    {
+        let Ty::Container(fields) = self.ty(id) else {
+            return None;
+        };
+        match field_number(fields.as_slice(), name) {
+            Some(number) => Some(Lead {
+                part: fields[number].1,
+                number: number as u64,
+            }),
+            None => None,
+        }
+    }
+
     /// The type of the part that the step leads to from a value of the type, or None exactly
     /// where the step does not fit the type.
     pub fn step_type(&self, id: TypeId, step: &PathStep) -> Option<TypeId>
@@ -31,12 +72,9 @@ impl Schema {
             ≡ step_type (type_of self.now id) step.now }
         ensures known { ForSome result (λ part. part < length self.now.trees) }
     {
-        match step {
-            PathStep::Field(name) => self.field_type(id, name),
-            PathStep::Index(i) => self.element_type(id, *i),
-            PathStep::Len => self.len_type(id),
-            PathStep::Selector => self.selector_type(id),
-            PathStep::Option(selector) => self.option_type(id, *selector),
+        match self.lead(id, step) {
+            Some(lead) => Some(lead.part),
+            None => None,
         }
     }
 
@@ -56,19 +94,6 @@ impl Schema {
             }
         }
         Some(part)
-    }
-
-    fn field_type(&self, id: TypeId, name: &Name) -> Option<TypeId>
-        requires { id < length self.now.trees }
-        ensures { LeadsTo self.now id (Field name.now) result }
-    {
-        let Ty::Container(fields) = self.ty(id) else {
-            return None;
-        };
-        match field_at(fields.as_slice(), name) {
-            Some(number) => Some(fields[number].1),
-            None => None,
-        }
     }
 
     fn element_type(&self, id: TypeId, i: u64) -> Option<TypeId>
