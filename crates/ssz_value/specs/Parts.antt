@@ -48,3 +48,7 @@ or_absent None = Err Absent
 abbrev pub part_or_fault : SszType → SszValue → Path → Result SszValue PathFault
 part_or_fault t v path =
     if is_some (path_type t path) then or_absent (part t v path) else Err BadPath
+
+-- why there is none at a path at which no part is
+abbrev pub fault_without : SszType → Path → PathFault
+fault_without t path = if is_some (path_type t path) then Absent else BadPath
