@@ -19,7 +19,7 @@ use Rattle.ssz_schema.specs.Legal.{IsLegal, IsWithinLimits}
 use Rattle.ssz_schema.specs.Unfolding.{Types, type_of, tree_over, fields_over}
 use Rattle.ssz_schema.specs.Paths.{Path, step_type}
 use Rattle.ssz_schema.specs.Indices.{step_levels, step_position, step_index, generalized_index, generalized_index_from}
-use Rattle.ssz_schema.proofs.StepLemmas.{Part, found_field, missing_field}
+use Rattle.ssz_schema.specs.Steps.{lead_number}
 use Rattle.ssz_gindex.proofs.StepRoom.{step_room}
 
 few_levels : (format : Format) (t : SszType) → IsWithinLimits format t → levels t ≤ 126
@@ -75,77 +75,46 @@ along-none t path index u step rest along misfits =
     sym (along.same ∙ ap (option_and_then
     (λ p. generalized_index_from (step_index index u step) p rest)) misfits)
 
--- The number of a field.
+named_position : (t : SszType) (name : List ℕ)
+    → lead_number (Field name) t ≡ step_position t (Field name)
+named_position (uint w) name = refl
+named_position boolean name = refl
+named_position (container fs) name = refl
+named_position (vector elem n) name = refl
+named_position (list elem limit) name = refl
+named_position (bitvector n) name = refl
+named_position (bitlist limit) name = refl
+named_position (union os) name = refl
 
-abbrev pub has_name : List ℕ → Part → Bool
-has_name name part = bytes_eq part.0 name
+-- a field lies at its number
+pub field_position : (t : SszType) (step : PathStep) (name : List ℕ) → step ≡ Field name
+    → lead_number step t ≡ step_position t step
+field_position t step name is =
+    ap (λ (s : PathStep). lead_number s t) is ∙ named_position t name
+    ∙ ap (step_position t) (sym is)
 
-pub found_position : (types : Types) (id : ℕ) (ty : Ty) (parts : Vec Part Global)
-    (found : List Part) (name : List ℕ) (k : ℕ)
-    → tree_over types.trees ty ≡ type_of types id → ty ≡ Container parts → found ≡ parts.items
-    → position_from (has_name name) 0 found ≡ Some k
-    → k ≡ step_position (type_of types id) (Field name)
-found_position types id ty parts found name k form is items at =
-    let tree : container (fields_over types.trees parts.items) ≡ type_of types id =
-    sym (ap (tree_over types.trees) is) ∙ form in
-    sym (found_field types.trees parts.items name k
-    (ap (position_from (has_name name) 0) (sym items) ∙ at)).number
-    ∙ ap (λ t. step_position t (Field name)) tree
+-- The loop over a path's steps.
 
-pub missing_position : (types : Types) (id : ℕ) (ty : Ty) (parts : Vec Part Global)
-    (found : List Part) (name : List ℕ) (answer : ℕ)
-    → tree_over types.trees ty ≡ type_of types id → ty ≡ Container parts → found ≡ parts.items
-    → position_from (has_name name) 0 found ≡ None
-    → IsSome (step_type (type_of types id) (Field name))
-    → answer ≡ step_position (type_of types id) (Field name)
-missing_position types id ty parts found name answer form is items at fits =
-    let tree : container (fields_over types.trees parts.items) ≡ type_of types id =
-    sym (ap (tree_over types.trees) is) ∙ form in
-    let none : step_type (type_of types id) (Field name) ≡ None =
-    ap (λ t. step_type t (Field name)) (sym tree)
-    ∙ missing_field types.trees parts.items name
-    (ap (position_from (has_name name) 0) (sym items) ∙ at) in
-    absurd (false≢true (ap is_some (sym none) ∙ fits))
-
--- The loop over a path's steps: what is known of one that a schema answers.
-pub record GoesOn (t : SszType) (path : Path) (index : ℕ) (u : SszType) (step : PathStep)
-    (rest : Path) (part : SszType) : Type 0 where
-  pub fits : IsSome (step_type u step)
-  pub along : IsAlong t path (step_index index u step) part rest
-
-pub next-along : (types : Types) (t : SszType) (path : Path) (index id i : ℕ) (step : PathStep)
-    (answer : Option ℕ) (next : ℕ)
-    → IsAlong t path index (type_of types id) (drop i path) → i < length path
-    → step ≡ get_or path i step
-    → option_map (type_of types) answer ≡ step_type (type_of types id) step → answer ≡ Some next
-    → GoesOn t path index (type_of types id) step (drop (i + 1) path) (type_of types next)
-next-along types t path index id i step answer next along below item exact is =
-    let u : SszType = type_of types id in
-    let rest : drop i path ≡ step ∷ drop (i + 1) path =
+rest-at : (path : Path) (i : ℕ) (step : PathStep) → i < length path → step ≡ get_or path i step
+    → drop i path ≡ step ∷ drop (i + 1) path
+rest-at path i step below item =
     drop-cons path i step below
     ∙ ap₂ (λ s ss. s ∷ ss) (sym item)
-    (ap (λ n. drop n path) (let e : suc i ≡ i + 1 = omega arith in e)) in
-    let here : IsAlong t path index (type_of types id) (step ∷ drop (i + 1) path) =
-    subst (IsAlong t path index (type_of types id)) rest along in
-    let fits : step_type (type_of types id) step ≡ Some (type_of types next) = sym exact
-    ∙ ap (option_map (type_of types)) is in
-    record {
-      fits = ap is_some fits;
-      along = along-step t path index (type_of types id) step (drop (i + 1) path)
-          (type_of types next) here fits;
-    }
+    (ap (λ n. drop n path) (let e : suc i ≡ i + 1 = omega arith in e))
 
-pub ends-along : (types : Types) (t : SszType) (path : Path) (index id i : ℕ) (step : PathStep)
-    (answer : Option ℕ)
-    → IsAlong t path index (type_of types id) (drop i path) → i < length path
-    → step ≡ get_or path i step
-    → option_map (type_of types) answer ≡ step_type (type_of types id) step → answer ≡ None
-    → None ≡ generalized_index t path
-ends-along types t path index id i step answer along below item exact is =
-    let rest : drop i path ≡ step ∷ drop (i + 1) path =
-    drop-cons path i step below
-    ∙ ap₂ (λ s ss. s ∷ ss) (sym item)
-    (ap (λ n. drop n path) (let e : suc i ≡ i + 1 = omega arith in e)) in
-    along-none t path index (type_of types id) step (drop (i + 1) path)
-    (subst (IsAlong t path index (type_of types id)) rest along)
-    (sym exact ∙ ap (option_map (type_of types)) is)
+-- a step that fits goes on
+pub next-along : (t : SszType) (path : Path) (index : ℕ) (u : SszType) (i : ℕ) (step : PathStep)
+    (part : SszType) → IsAlong t path index u (drop i path) → i < length path
+    → step ≡ get_or path i step → step_type u step ≡ Some part
+    → IsAlong t path (step_index index u step) part (drop (i + 1) path)
+next-along t path index u i step part along below item fits =
+    along-step t path index u step (drop (i + 1) path) part
+    (subst (IsAlong t path index u) (rest-at path i step below item) along) fits
+
+-- one that does not fit ends it
+pub ends-along : (t : SszType) (path : Path) (index : ℕ) (u : SszType) (i : ℕ) (step : PathStep)
+    → IsAlong t path index u (drop i path) → i < length path → step ≡ get_or path i step
+    → step_type u step ≡ None → None ≡ generalized_index t path
+ends-along t path index u i step along below item misfits =
+    along-none t path index u step (drop (i + 1) path)
+    (subst (IsAlong t path index u) (rest-at path i step below item) along) misfits

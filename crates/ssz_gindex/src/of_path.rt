@@ -3,12 +3,13 @@ ghost use Rattle.std.specs.Prelude.{◌≡◌, ◌+◌, ◌*◌, ◌<◌, ◌≤
 ghost use Rattle.std.specs.Option.{ForSome};
 ghost use Rattle.ssz_schema.specs.Unfolding.{type_of};
 ghost use Rattle.ssz_schema.specs.Sizes.{levels};
-ghost use Rattle.ssz_schema.specs.declared.path.PathStep.TheVariants.{Field, Index};
+ghost use Rattle.ssz_schema.specs.declared.path.PathStep.TheVariants.{Index};
 ghost use Rattle.ssz_schema.specs.Paths.{step_type};
+ghost use Rattle.ssz_schema.specs.Steps.{lead_number};
 ghost use Rattle.ssz_schema.specs.Indices.{element_position, step_levels, step_position, step_index, generalized_index};
 
 use super::gindex::Gindex;
-use ssz_schema::{Name, PathStep, Schema, Ty, TypeId, field_at};
+use ssz_schema::{PathStep, Schema, Ty, TypeId};
 
 impl Gindex {
     /// The place, in the tree of a value of this type of the schema, of the part at the path: its
@@ -23,11 +24,11 @@ impl Gindex {
         let mut index = Gindex::root();
         let mut part = id;
         for step in path {
-            let Some(next) = schema.step_type(part, step) else {
+            let Some(lead) = schema.lead(part, step) else {
                 return None;
             };
-            index = index.step(schema, part, step);
-            part = next;
+            index = index.placed(schema, part, step, lead.number);
+            part = lead.part;
         }
         Some(index)
     }
@@ -41,9 +42,26 @@ impl Gindex {
         requires room { (self + 1) * 2 ^ levels (type_of schema.now id) ≤ 2 ^ 127 }
         ensures { result ≡ step_index self (type_of schema.now id) step.now }
     {
+        match schema.lead(id, step) {
+            Some(lead) => self.placed(schema, id, step, lead.number),
+            None => self,
+        }
+    }
+
+    /// The same place, where this is the number that `Schema::lead` has of the step: no names are
+    /// looked through.
+    ///
+    /// Conditions: the step fits the type, and the levels of the type have room below this index.
+    pub fn placed(self, schema: &Schema, id: TypeId, step: &PathStep, number: u64) -> Gindex
+        requires known { id < length schema.now.trees }
+        requires fits { IsSome (step_type (type_of schema.now id) step.now) }
+        requires number { number ≡ lead_number step.now (type_of schema.now id) }
+        requires room { (self + 1) * 2 ^ levels (type_of schema.now id) ≤ 2 ^ 127 }
+        ensures { result ≡ step_index self (type_of schema.now id) step.now }
+    {
         let levels = step_levels(schema, id, step);
-        let number = self.get() * 2u128.pow(levels);
-        Gindex::behind(number, step_position(schema, id, step))
+        let upper = self.get() * 2u128.pow(levels);
+        Gindex::behind(upper, step_position(schema, id, step, number))
     }
 }
 
@@ -62,31 +80,17 @@ fn step_levels(schema: &Schema, id: TypeId, step: &PathStep) -> u32
     }
 }
 
-// To which of the nodes so many levels down the step leads, where it fits.
-fn step_position(schema: &Schema, id: TypeId, step: &PathStep) -> u64
+// To which of the nodes so many levels down the step leads, where a field has this number.
+fn step_position(schema: &Schema, id: TypeId, step: &PathStep, number: u64) -> u64
     requires known { id < length schema.now.trees }
-    requires fits { IsSome (step_type (type_of schema.now id) step.now) }
+    requires number { number ≡ lead_number step.now (type_of schema.now id) }
     ensures { result ≡ step_position (type_of schema.now id) step.now }
 {
     match step {
-        PathStep::Field(name) => field_position(schema, id, name),
+        PathStep::Field(_) => number,
         PathStep::Index(i) => index_position(schema, id, *i),
         PathStep::Len | PathStep::Selector => 1,
         PathStep::Option(_) => 0,
-    }
-}
-
-fn field_position(schema: &Schema, id: TypeId, name: &Name) -> u64
-    requires known { id < length schema.now.trees }
-    requires fits { IsSome (step_type (type_of schema.now id) (Field name.now)) }
-    ensures { result ≡ step_position (type_of schema.now id) (Field name.now) }
-{
-    let Ty::Container(fields) = schema.ty(id) else {
-        return 0;
-    };
-    match field_at(fields.as_slice(), name) {
-        Some(number) => number as u64,
-        None => 0,
     }
 }
 

@@ -1,6 +1,6 @@
-use Rattle.std.proofs.Common.{refl}
+use Rattle.std.proofs.Common.{ap, is_some}
 use Rattle.ssz_schema.specs.Unfolding.{type_of}
-use Rattle.ssz_gindex.proofs.PathWalk.{legal_levels, along-start, next-along}
+use Rattle.ssz_gindex.proofs.PathWalk.{legal_levels, along-start, next-along, ends-along}
 use Rattle.ssz_gindex.proofs.gindex.Gindex.of_path.Goals as goal
 
 pub loop-step-init : goal.loop-step-init
@@ -11,20 +11,23 @@ loop-step-init c = record {
       (type_of c.args.schema.now c.args.id) c.ty-legal.ensures.legal));
 }
 
-pub step-index-requires-clause-fits : goal.step-index-requires-clause-fits
-step-index-requires-clause-fits c =
-    (next-along c.args.schema.now (type_of c.args.schema.now c.args.id) c.args.path.now
-    c.loop-step.index c.loop-step.part c.loop-step.step-index c.step-item.result
-    c.step_type.result c.in-Some.next c.loop-step.invariant.along c.loop-step-test.true
-    c.step-item.is c.step_type.ensures.exact c.in-Some.is).fits
+pub placed-index-requires-clause-fits : goal.placed-index-requires-clause-fits
+placed-index-requires-clause-fits c = ap is_some c.in-Some.ensures.led.typed
+
+pub returns-in_default : goal.returns-in_default
+returns-in_default c =
+    ends-along (type_of c.args.schema.now c.args.id) c.args.path.now c.loop-step.index
+    (type_of c.args.schema.now c.loop-step.part) c.loop-step.step-index c.step-item.result
+    c.loop-step.invariant.along c.loop-step-test.true c.step-item.is c.in_default.ensures.unfit
 
 pub loop-step-preserved : goal.loop-step-preserved
 loop-step-preserved c =
-    let next = next-along c.args.schema.now (type_of c.args.schema.now c.args.id)
-    c.args.path.now c.loop-step.index c.loop-step.part c.loop-step.step-index c.step-item.result
-    c.step_type.result c.in-Some.next c.loop-step.invariant.along c.loop-step-test.true
-    c.step-item.is c.step_type.ensures.exact c.in-Some.is in
+    let led = c.in-Some.ensures.led in
     record {
-      known = c.in-Some.ensures.known c.in-Some.next refl;
-      along = rw c.step-index.ensures next.along;
+      known = led.known;
+      along = rw c.placed-index.ensures (next-along (type_of c.args.schema.now c.args.id)
+          c.args.path.now c.loop-step.index (type_of c.args.schema.now c.loop-step.part)
+          c.loop-step.step-index c.step-item.result
+          (type_of c.args.schema.now c.in-Some.lead.part) c.loop-step.invariant.along
+          c.loop-step-test.true c.step-item.is led.typed);
     }
