@@ -1,7 +1,7 @@
 ghost use Rattle.std.specs.Prelude.{◌≡◌, ◌<◌, [], ◌∷◌, length, IfOk, IfErr, IfSome, IfNone};
 ghost use Rattle.ssz_schema.specs.Sizes.{basic_size};
 ghost use Rattle.ssz_schema.specs.Unfolding.{type_of};
-ghost use Rattle.ssz_schema.specs.Paths.{step_type};
+ghost use Rattle.ssz_schema.specs.Steps.{IsLead};
 ghost use Rattle.ssz_schema.specs.Indices.{step_spot, element_spot};
 ghost use Rattle.ssz_arena.specs.Content.{IsNodeOf};
 ghost use Rattle.ssz_walk.specs.Found.{IsFound, IsAbsent, IsLed, IsLost, LeadsNowhere, spot_of};
@@ -11,9 +11,8 @@ use super::present::is_present;
 use ssz_arena::{Arena, NodeId};
 use ssz_chunk::PairHash;
 use ssz_gindex::Gindex;
-use ssz_schema::{PathStep, Schema, Ty, TypeId};
+use ssz_schema::{Lead, PathStep, Schema, Ty, TypeId};
 use ssz_value::PathFault;
-use std::slice;
 
 /// The place of the part at the path, from the node of a value of the type. `BadPath` exactly where
 /// the path does not fit the type, and else `Absent` exactly where the value has no such part.
@@ -29,18 +28,20 @@ pub fn find<H: PairHash>(
     ensures found { IfOk result (IsFound schema.now arena.now id node path.now) }
     ensures lost { IfErr result (IsLost schema.now arena.now id node path.now) }
 {
-    let Some(index) = Gindex::of_path(schema, id, path) else {
-        return Err(PathFault::BadPath);
-    };
     // By the type it is known that the tree of a value has its parts.
     let _legal = schema.ty(id);
+    let mut index = Gindex::root();
     let mut part = id;
     let mut here = node;
     let mut spot = Spot::Whole;
     for step in path {
-        let Some(next) = next_place(arena, schema, part, here, step) else {
-            return Err(PathFault::Absent);
+        let Some(lead) = schema.lead(part, step) else {
+            return Err(PathFault::BadPath);
         };
+        let Some(next) = next_place(arena, schema, part, here, step, &lead) else {
+            return Err(PathFault::without(schema, id, path));
+        };
+        index = index.placed(schema, part, step, lead.number);
         part = next.id;
         here = next.node;
         spot = next.spot;
@@ -53,16 +54,18 @@ pub fn find<H: PairHash>(
     })
 }
 
-// The place of the part that the step leads to, if it fits and the part is there.
+// The place of the part that the step leads to, if the part is there.
 fn next_place<H: PairHash>(
     arena: &Arena<H>,
     schema: &Schema,
     id: TypeId,
     node: NodeId,
     step: &PathStep,
+    lead: &Lead,
 ) -> Option<Place>
     requires known { id < length schema.now.trees }
     requires node { IsNodeOf arena.now node }
+    requires lead { IsLead schema.now id step.now lead.now }
     ensures found { IfSome result (IsFound schema.now arena.now id node (step.now ∷ [])) }
     ensures absent { IfNone result (IsAbsent schema.now arena.now id node (step.now ∷ [])) }
 {
@@ -70,7 +73,7 @@ fn next_place<H: PairHash>(
     if !is_present(arena, schema, id, node, step) {
         return None;
     }
-    step_place(arena, schema, id, node, step)
+    led_place(arena, schema, id, node, step, lead)
 }
 
 /// The place that the step leads to by the type alone, whether a part is there or not. None exactly
@@ -87,17 +90,35 @@ pub fn step_place<H: PairHash>(
     ensures led { IfSome result (IsLed schema.now arena.now id node (step.now ∷ [])) }
     ensures none { IfNone result (LeadsNowhere schema.now arena.now id node (step.now ∷ [])) }
 {
-    let Some(index) = Gindex::of_path(schema, id, slice::from_ref(step)) else {
-        return None;
-    };
-    let Some(part) = schema.step_type(id, step) else {
-        return None;
-    };
+    match schema.lead(id, step) {
+        Some(lead) => led_place(arena, schema, id, node, step, &lead),
+        None => None,
+    }
+}
+
+// The same of a step that is known to lead there.
+fn led_place<H: PairHash>(
+    arena: &Arena<H>,
+    schema: &Schema,
+    id: TypeId,
+    node: NodeId,
+    step: &PathStep,
+    lead: &Lead,
+) -> Option<Place>
+    requires known { id < length schema.now.trees }
+    requires node { IsNodeOf arena.now node }
+    requires lead { IsLead schema.now id step.now lead.now }
+    ensures led { IfSome result (IsLed schema.now arena.now id node (step.now ∷ [])) }
+    ensures none { IfNone result (LeadsNowhere schema.now arena.now id node (step.now ∷ [])) }
+{
+    // A legal type has at most 126 levels, so that the index fits.
+    let _legal = schema.ty(id);
+    let index = Gindex::root().placed(schema, id, step, lead.number);
     let Some(found) = arena.down(node, index) else {
         return None;
     };
     Some(Place {
-        id: part,
+        id: lead.part,
         node: found,
         index,
         spot: step_spot(schema, id, step),
