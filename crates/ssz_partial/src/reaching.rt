@@ -50,15 +50,15 @@ pub fn reach(
     let mut part = id;
     let mut spot = Spot::Whole;
     for step in path {
-        let Some(next) = schema.step_type(part, step) else {
+        let Some(lead) = schema.lead(part, step) else {
             return Err(PartialFault::BadPath);
         };
         if let Some(fault) = step_fault(proof, schema, part, index, step) {
             return Err(fault);
         }
         spot = step_spot(schema, part, step);
-        index = index.step(schema, part, step);
-        part = next;
+        index = index.placed(schema, part, step, lead.number);
+        part = lead.part;
     }
     match proof.chunk(index) {
         Some(chunk) => Ok(Reached { index, spot, chunk }),
