@@ -1,9 +1,14 @@
 -- The head of fields: how long it is, and its first fault.
-use Rattle.std.proofs.Common.{ℕ, ◌+◌, ◌<◌, ◌≤◌, ◌≡◌, List, [], ◌∷◌, length, get_or, drop, Option, Some, None, refl, sym, ap, ◌∙◌, arith, le-ltb, lt-ltb, eq-eqb, eqb-true, eqb, ltb, cond}
+use Rattle.std.proofs.Common.{ℕ, ◌+◌, ◌^◌, ◌<◌, ◌≤◌, ◌≡◌, List, [], ◌∷◌, length, get_or, drop, Option, Some, None, refl, sym, ap, ◌∙◌, arith, le-ltb, lt-ltb, eq-eqb, eqb-true, eqb, ltb, cond}
 use Rattle.std.proofs.lemmas.Bool.{cond-true, cond-false}
 use Rattle.std.proofs.lemmas.List.{drop_all}
-use Rattle.ssz_schema.specs.Types.{SszType}
-use Rattle.ssz_schema.specs.Sizes.{head_size, total_size}
+use Rattle.ssz_schema.specs.declared.format.Format.{Format}
+use Rattle.ssz_schema.specs.Types.{SszType, Fields, container, no_fields, field}
+use Rattle.ssz_schema.specs.Sizes.{head_size, total_size, fixed_size, part_sizes, part_length, default_length, default_fields_length}
+use Rattle.ssz_schema.specs.Legal.{IsLegal}
+use Rattle.ssz_schema.specs.Unfolding.{fields_over}
+use Rattle.ssz_schema.proofs.SizeLemmas.{default_length-fixed}
+use Rattle.ssz_schema.proofs.WalkFields.{drop_at}
 use Rattle.ssz_bytes.specs.declared.fault.Fault.{Fault}
 use Rattle.ssz_value.specs.Encoding.{heads_length}
 use Rattle.ssz_value.specs.Faults.{offset_at, head_fault, first_fault, later_fault}
@@ -38,36 +43,52 @@ abbrev pub rest_fault : Option ℕ → List (Option ℕ) → ℕ → ℕ → ℕ
 rest_fault None sizes place end s b = first_fault sizes place end s b
 rest_fault (Some before) sizes place end s b = later_fault sizes place before s b
 
--- the lengths of the fixed parts so far, and of those from i on
-pub record HeadsFrom (trees : List SszType) (parts : List Part) (limit i sum : ℕ) : Type 0 where
-  pub all : sum + heads_length (sizes_of trees (drop i parts)) ≡ heads_length (sizes_of trees parts)
-  pub within : sum ≤ limit
+-- fixed parts are no longer than the encoding of the default
 
-pub HeadsFrom-start : (trees : List SszType) (parts : List Part) (limit : ℕ)
-    → HeadsFrom trees parts limit 0 0
-HeadsFrom-start trees parts limit = record { all = omega arith; within = omega arith }
+head_default : (size : Option ℕ) (n : ℕ) → ((z : ℕ) → size ≡ Some z → n ≡ z)
+    → head_size size ≤ part_length size n
+head_default None n h = omega arith
+head_default (Some z) n h = let is : n ≡ z = h z refl in omega arith
 
-pub HeadsFrom-more : (trees : List SszType) (parts : List Part) (limit i sum more : ℕ) (part : Part)
-    → HeadsFrom trees parts limit i sum → i < length parts → part ≡ get_or parts i part
-    → more ≡ head_size (size_at trees part)
-    → sum + more ≤ limit → HeadsFrom trees parts limit (i + 1) (sum + more)
-HeadsFrom-more trees parts limit i sum more part h below e is fits = record {
-  all = omega (arith, h.all, is, ap heads_length (sizes_from trees parts i part below e));
-  within = fits;
-}
+heads_default : (fs : Fields) → heads_length (part_sizes fs) ≤ default_fields_length fs
+heads_default no_fields = omega arith
+heads_default (field name t fs) =
+    let first = head_default (fixed_size t) (default_length t) (default_length-fixed t) in
+    let rest = heads_default fs in
+    omega arith
 
-pub HeadsFrom-past : (trees : List SszType) (parts : List Part) (limit i sum more : ℕ) (part : Part)
-    → HeadsFrom trees parts limit i sum → i < length parts → part ≡ get_or parts i part
-    → more ≡ head_size (size_at trees part)
-    → limit < sum + more → limit < heads_length (sizes_of trees parts)
-HeadsFrom-past trees parts limit i sum more part h below e is past =
-    omega (arith, h.all, is, past, ap heads_length (sizes_from trees parts i part below e))
+-- those of a legal container are few
+pub heads_few : (format : Format) (fs : Fields) → IsLegal format (container fs)
+    → heads_length (part_sizes fs) < 2 ^ 32
+heads_few format fs legal = omega (arith, heads_default fs, legal.3.default_length)
 
-pub HeadsFrom-end : (trees : List SszType) (parts : List Part) (limit i sum : ℕ)
-    → HeadsFrom trees parts limit i sum → length parts ≤ i
-    → sum ≡ heads_length (sizes_of trees parts)
-HeadsFrom-end trees parts limit i sum h all =
-    omega (arith, h.all, ap (λ ps. heads_length (sizes_of trees ps)) (drop_all i parts all))
+-- the fixed parts' lengths so far, and those of the fields from i on
+pub record HeadSum (trees : List SszType) (fields : List Part) (i sum : ℕ) : Type 0 where
+  pub all : sum + heads_length (part_sizes (fields_over trees (drop i fields)))
+      ≡ heads_length (part_sizes (fields_over trees fields))
+
+pub HeadSum-more : (trees : List SszType) (fields : List Part) (i sum : ℕ) (part : Part)
+    → HeadSum trees fields i sum → i < length fields → part ≡ get_or fields i part
+    → (sum + head_size (size_at trees part) ≤ heads_length
+    (part_sizes (fields_over trees fields))) × HeadSum trees fields (i + 1)
+    (sum + head_size (size_at trees part))
+HeadSum-more trees fields i sum part h below e =
+    let here : heads_length (part_sizes (fields_over trees (drop i fields)))
+    ≡ head_size (size_at trees part) + heads_length
+    (part_sizes (fields_over trees (drop (i + 1) fields))) =
+    ap (λ fs. heads_length (part_sizes (fields_over trees fs))) (drop_at fields i part below e) in
+    (omega (arith, h.all, here), record { all = omega (arith, h.all, here) })
+
+pub HeadSum-end : (trees : List SszType) (fields : List Part) (i sum : ℕ)
+    → HeadSum trees fields i sum → length fields ≤ i
+    → sum ≡ heads_length (part_sizes (fields_over trees fields))
+HeadSum-end trees fields i sum h all =
+    omega (
+      arith,
+      h.all,
+      ap (λ fs. heads_length (part_sizes (fields_over trees fs)))
+          (drop_all i fields all),
+    )
 
 -- fixed parts that are longer than the bytes
 pub head_short : (trees : List SszType) (parts : List Part) (s : ℕ) (b : List ℕ)

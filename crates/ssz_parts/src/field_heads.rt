@@ -1,4 +1,4 @@
-ghost use Rattle.std.specs.Prelude.{◌≡◌, ◌+◌, ◌<◌, ◌≤◌, ◌^◌, length, Some, Option, IfSome, IfNone};
+ghost use Rattle.std.specs.Prelude.{◌≡◌, ◌+◌, ◌<◌, ◌≤◌, ◌^◌, length, Some, Option};
 ghost use Rattle.std.specs.List.{AllByRecursion};
 ghost use Rattle.ssz_schema.specs.Types.{container};
 ghost use Rattle.ssz_schema.specs.Sizes.{part_sizes, fixed_size};
@@ -11,24 +11,17 @@ use super::offsets::{head_len, offset_at};
 use ssz_bytes::Fault;
 use ssz_schema::{Name, Schema, TypeId};
 
-// The length of all fixed parts of these fields, or None where it is above the limit.
-fn heads_within(schema: &Schema, fields: &[(Name, TypeId)], limit: u64) -> Option<u64>
+/// The length of all fixed parts of these fields.
+pub fn heads_len(schema: &Schema, fields: &[(Name, TypeId)]) -> usize
     requires known { AllByRecursion (λ part. part.1 < length schema.now.trees) fields.now }
-    requires few { limit < 2 ^ 32 }
-    ensures exact { let sizes = part_sizes (fields_over schema.now.trees fields.now) in
-        IfSome result (λ n. n ≡ heads_length sizes) }
-    ensures within { IfSome result (λ n. n ≤ limit) }
-    ensures none { let sizes = part_sizes (fields_over schema.now.trees fields.now) in
-        IfNone result (limit < heads_length sizes) }
+    requires short { heads_length (part_sizes (fields_over schema.now.trees fields.now)) < 2 ^ 32 }
+    ensures { result ≡ heads_length (part_sizes (fields_over schema.now.trees fields.now)) }
 {
-    let mut heads = 0u64;
+    let mut len = 0usize;
     for field in fields {
-        heads += head_len(schema.fixed_size(field.1));
-        if limit < heads {
-            return None;
-        }
+        len += head_len(schema.fixed_size(field.1)) as usize;
     }
-    Some(heads)
+    len
 }
 
 /// The first fault of the head of the container type, whose fields these are.
@@ -50,16 +43,38 @@ pub fn fields_head_fault(
     if let Some(size) = schema.fixed_size(id) {
         return length_fault(size, start, bytes);
     }
-    match heads_within(schema, fields, bytes.len() as u64) {
-        Some(heads) => fields_offsets_fault(schema, fields, heads, start, bytes),
-        None => Some(Fault {
+    // Every type of a schema is legal.
+    let _legal = schema.ty(id);
+    variable_head_fault(schema, fields, heads_len(schema, fields), start, bytes)
+}
+
+/// The same by the fields, whose fixed parts have this length.
+#[inline(always)]
+pub fn variable_head_fault(
+    schema: &Schema,
+    fields: &[(Name, TypeId)],
+    heads: usize,
+    start: u64,
+    bytes: &[u8],
+) -> Option<Fault>
+    requires known { AllByRecursion (λ part. part.1 < length schema.now.trees) fields.now }
+    requires heads { let sizes = part_sizes (fields_over schema.now.trees fields.now) in
+        heads ≡ heads_length sizes }
+    requires short { start + length bytes.now < 2 ^ 32 }
+    ensures { let sizes = part_sizes (fields_over schema.now.trees fields.now) in
+        result ≡ head_fault sizes start bytes.now }
+{
+    if bytes.len() < heads {
+        return Some(Fault {
             code: Fault::SHORT,
             position: start,
-        }),
+        });
     }
+    fields_offsets_fault(schema, fields, heads as u64, start, bytes)
 }
 
 // The same, where the fixed parts end at heads, within the bytes.
+#[inline(always)]
 fn fields_offsets_fault(
     schema: &Schema,
     fields: &[(Name, TypeId)],

@@ -5,7 +5,8 @@
 //! A head is what the fixed parts take: the parts of fixed size themselves, and the offsets of the
 //! others. `count_of` answers how many elements a list has, or what is wrong with their number;
 //! `length_fault`, `offsets_fault`, `fields_head_fault`, `union_head` and `none_fault` answer the
-//! first fault of a head. Behind a head without a fault, `element_at`, `end_of_part` and
+//! first fault of a head; `variable_head_fault` is told how long the fixed parts are, by
+//! `heads_len`, which many elements ask once. Behind a head without a fault, `element_at`, `end_of_part` and
 //! `part_range` find the parts. That elements, and what a union holds, have no fault where the
 //! whole has none is no clause of these calls: it is what the lemmas `element_faultless` and
 //! `union_rest` of proofs/ say. No call takes memory.
@@ -19,7 +20,7 @@ mod offsets;
 mod unions;
 
 pub use elements::{element_at, element_count, end_of_part};
-pub use field_heads::fields_head_fault;
+pub use field_heads::{fields_head_fault, heads_len, variable_head_fault};
 pub use fields::part_range;
 pub use heads::{count_of, length_fault, none_fault, offsets_fault};
 pub use offsets::{head_len, offset_at};
