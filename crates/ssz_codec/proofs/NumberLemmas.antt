@@ -1,15 +1,19 @@
 -- Fields that are numbers.
-use Rattle.std.proofs.Common.{ℕ, ◌+◌, ◌<◌, ◌≡◌, List, length, get_or, drop, slice_range, None, sym, ap, ◌∙◌, subst}
+use Rattle.std.proofs.Common.{ℕ, ◌+◌, ◌*◌, ◌/◌, ◌%◌, ◌<◌, ◌≡◌, List, length, get_or, drop, slice_range, Option, Some, None, sym, ap, ◌∙◌, subst, arith, eqb, ltb, eqb-true, refl}
+use Rattle.std.proofs.lemmas.Bool.{not-false}
+use Rattle.std.proofs.lemmas.Nat.{div-add-mod'}
+use Rattle.ssz_bytes.specs.Bytes.{IsBytes}
 use Rattle.ssz_schema.specs.declared.width.Width.{Width}
-use Rattle.ssz_schema.specs.Types.{SszType, uint}
+use Rattle.ssz_schema.specs.Types.{SszType, uint, list}
 use Rattle.ssz_schema.specs.Sizes.{byte_count, head_size, fixed_size}
 use Rattle.ssz_schema.specs.Unfolding.{tree_at}
-use Rattle.ssz_value.specs.Faults.{why}
-use Rattle.ssz_value.proofs.Agree.{right_length}
+use Rattle.ssz_value.specs.Faults.{why, count_fault}
+use Rattle.ssz_value.proofs.Agree.{right_length, no_fault}
+use Rattle.ssz_value.proofs.Cut.{passes}
 use Rattle.ssz_value.proofs.PartLemmas.{Part, sizes_of, size_at}
 use Rattle.ssz_parts.specs.Ranges.{part_range}
 use Rattle.ssz_parts.proofs.FieldLemmas.{FieldsFrom, FieldsFrom-more}
-use Rattle.ssz_codec.proofs.PlainLemmas.{range_length}
+use Rattle.ssz_codec.proofs.PlainLemmas.{range_length, clean_of, elements_clean}
 use Rattle.ssz_codec.proofs.ReadLemmas.{field_range}
 
 -- where its part lies
@@ -39,3 +43,24 @@ FieldsFrom-number trees parts s b i place part w h below e is =
     (ap (λ (t : SszType). head_size (fixed_size t)) is)
     (FieldsFrom-more trees parts s b i place place (place + byte_count w) part h below e range
     clean)
+
+-- numbers of a list have no fault where their number has none
+list_clean : (w : Width) (limit s : ℕ) (b : List ℕ) → IsBytes b
+    → count_fault (Some (byte_count w)) limit s b ≡ None → why (list (uint w) limit) s b ≡ None
+list_clean w limit s b bytes e =
+    let z = byte_count w in
+    let whole : length b % byte_count w ≡ 0 =
+    eqb-true (length b % byte_count w) 0
+    (not-false (eqb (length b % byte_count w) 0) (passes _ _ _ e).0) in
+    let long : length b ≡ length b / byte_count w * byte_count w =
+    omega (arith, div-add-mod' (length b) (byte_count w), whole) in
+    no_fault _ _ e (elements_clean (uint w) (byte_count w) (length b / byte_count w) s b
+    (clean_of (uint w) refl) refl bytes long)
+
+pub numbers_list : (t : SszType) (w : Width) (size : Option ℕ) (limit s : ℕ) (b : List ℕ)
+    → t ≡ uint w → size ≡ fixed_size t → IsBytes b → count_fault size limit s b ≡ None
+    → why (list t limit) s b ≡ None
+numbers_list t w size limit s b is same bytes e =
+    ap (λ (elem : SszType). why (list elem limit) s b) is
+    ∙ list_clean w limit s b bytes
+    (ap (λ z. count_fault z limit s b) (sym (same ∙ ap fixed_size is)) ∙ e)

@@ -24,34 +24,6 @@ use Rattle.ssz_value.proofs.FitLemmas.{fit_fields}
 use Rattle.ssz_value.specs.Shapes.{AreFields}
 use Rattle.ssz_codec.specs.Writing.{Writes, PutsPart, Place}
 
--- the fixed parts' lengths so far, and those of the fields from i on
-pub record HeadSum (trees : List SszType) (fields : List Part) (i sum : ℕ) : Type 0 where
-  pub all : sum + heads_length (part_sizes (fields_over trees (drop i fields)))
-      ≡ heads_length (part_sizes (fields_over trees fields))
-
-pub HeadSum-more : (trees : List SszType) (fields : List Part) (i sum : ℕ) (part : Part)
-    → HeadSum trees fields i sum → i < length fields → part ≡ get_or fields i part
-    → (sum + head_size (size_at trees part) ≤ heads_length
-    (part_sizes (fields_over trees fields))) × HeadSum trees fields (i + 1)
-    (sum + head_size (size_at trees part))
-HeadSum-more trees fields i sum part h below e =
-    let here : heads_length (part_sizes (fields_over trees (drop i fields)))
-    ≡ head_size (size_at trees part) + heads_length
-    (part_sizes (fields_over trees (drop (i + 1) fields))) =
-    ap (λ fs. heads_length (part_sizes (fields_over trees fs))) (drop_at fields i part below e) in
-    (omega (arith, h.all, here), record { all = omega (arith, h.all, here) })
-
-pub HeadSum-end : (trees : List SszType) (fields : List Part) (i sum : ℕ)
-    → HeadSum trees fields i sum → length fields ≤ i
-    → sum ≡ heads_length (part_sizes (fields_over trees fields))
-HeadSum-end trees fields i sum h all =
-    omega (
-      arith,
-      h.all,
-      ap (λ fs. heads_length (part_sizes (fields_over trees fs)))
-          (drop_all i fields all),
-    )
-
 -- room behind a place
 
 take_both : (xs ys : List ℕ) (m : ℕ) → take (length xs + m) (xs ++ ys) ≡ xs ++ take m ys

@@ -15,7 +15,7 @@ ghost use Rattle.ssz_codec.specs.Writing.{Writes, PutsPart, PutsAll};
 use super::measuring::encoded_len;
 use ssz_basic::{put_bits, put_uint};
 use ssz_bytes::BitRun;
-use ssz_parts::head_len;
+use ssz_parts::{head_len, heads_len};
 use ssz_schema::{Name, Schema, Ty, TypeId, Width};
 use ssz_value::{EncodeFault, Value, option_at, wide_bytes};
 
@@ -303,19 +303,6 @@ fn write_chosen(
         }
         _ => 0,
     }
-}
-
-// The length of all fixed parts.
-fn heads_len(schema: &Schema, fields: &[(Name, TypeId)]) -> usize
-    requires known { AllByRecursion (λ part. part.1 < length schema.now.trees) fields.now }
-    requires short { heads_length (part_sizes (fields_over schema.now.trees fields.now)) < 2 ^ 32 }
-    ensures { result ≡ heads_length (part_sizes (fields_over schema.now.trees fields.now)) }
-{
-    let mut len = 0usize;
-    for field in fields {
-        len += head_len(schema.fixed_size(field.1)) as usize;
-    }
-    len
 }
 
 // Of a container of these fields, whose types stand before id.

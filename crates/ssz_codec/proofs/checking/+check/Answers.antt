@@ -9,7 +9,8 @@ use Rattle.ssz_schema.proofs.SizeLemmas.{vector_few}
 use Rattle.ssz_value.specs.Faults.{why}
 use Rattle.ssz_value.proofs.Agree.{length_from_fault}
 use Rattle.ssz_codec.proofs.SoundLemmas.{elements_sound}
-use Rattle.ssz_codec.proofs.NumberLemmas.{FieldsFrom-number}
+use Rattle.ssz_codec.proofs.NumberLemmas.{FieldsFrom-number, numbers_list}
+use Rattle.ssz_parts.proofs.HeadLemmas.{heads_few}
 use Rattle.ssz_parts.proofs.ElementFaults.{FixedFrom-more, FixedFrom-found, FixedFrom-end, VariableFrom-start, VariableFrom-part, VariableFrom-more, VariableFrom-found, fixed_found_head}
 use Rattle.ssz_parts.proofs.FieldLemmas.{FieldsFrom, FieldsFrom-start, FieldsFrom-found, FieldsFrom-more, FieldsFrom-end}
 use Rattle.ssz_value.proofs.PartLemmas.{known_weaker, part_known}
@@ -102,25 +103,25 @@ variable_elements-loop-i-preserved t c =
     (omega arith)
     (sym same ∙ sym c.in_default-scope.ensures)
 
-pub container-loop-i-init : goal.container-loop-i-init
-container-loop-i-init t c =
+pub fields_behind-loop-i-init : goal.fields_behind-loop-i-init
+fields_behind-loop-i-init t c =
     FieldsFrom-start c.args.schema.now.trees c.args.fields.now c.args.start c.args.bytes.now
-    (sym c.in_default.ensures)
+    c.requires.head
 
 pub
-    container-part_range-from-requires-clause-known :
-    goal.container-part_range-from-requires-clause-known
-container-part_range-from-requires-clause-known t c =
+    fields_behind-part_range-from-requires-clause-known :
+    goal.fields_behind-part_range-from-requires-clause-known
+fields_behind-part_range-from-requires-clause-known t c =
     known_weaker c.args.id (length c.args.schema.now.trees) c.args.fields.now c.requires.known
     c.requires.before
 
-pub container-returns-in-Some-scope : goal.container-returns-in-Some-scope
-container-returns-in-Some-scope t c =
+pub fields_behind-returns-in-Some : goal.fields_behind-returns-in-Some
+fields_behind-returns-in-Some t c =
     sym (FieldsFrom-found c.args.schema.now.trees c.args.fields.now c.args.start c.args.bytes.now
     c.loop-i.i c.loop-i.place c.part_range-from.result.0 c.part_range-from.result.1
-    c.index-fields-i.result c.in-Some-scope.fault
+    c.index-fields-i.result c.in-Some.fault
     c.loop-i.invariant c.loop-i-test.true c.index-fields-i.is c.part_range-from.ensures
-    (sym c.in-Some-scope.ensures))
+    (sym c.in-Some.ensures))
 
 pub scope-scope-requires : goal.scope-scope-requires
 scope-scope-requires t c =
@@ -128,8 +129,8 @@ scope-scope-requires t c =
     subst (AreBelow c.args.id) c.in-Union.is c.ty.ensures.before in
     let known : AllByRecursion (IsBelow c.args.id) c.as_slice.result.now =
     subst (AllByRecursion (IsBelow c.args.id)) (sym c.as_slice.ensures.value) all in
-    let below : c.in-Ok-union_head.option < c.args.id =
-    c.in-Ok-union_head.ensures.below c.args.id known in
+    let below : c.in-Ok.option < c.args.id =
+    c.in-Ok.ensures.below c.args.id known in
     search rules
 
 pub scope-container-requires : goal.scope-container-requires
@@ -154,56 +155,56 @@ container-fields_head_fault-requires-clause-known t c =
     known_weaker c.args.id (length c.args.schema.now.trees) c.args.fields.now c.requires.known
     c.requires.before
 
-pub container-fixed_size-requires : goal.container-fixed_size-requires
-container-fixed_size-requires t c =
+pub fields_behind-fixed_size-requires : goal.fields_behind-fixed_size-requires
+fields_behind-fixed_size-requires t c =
     let below : c.index-fields-i.result.1 < c.args.id =
     part_known c.args.id c.args.fields.now c.loop-i.i c.index-fields-i.result c.loop-i-test.true
     c.index-fields-i.is c.requires.before in
     omega (arith, below, c.requires.known)
 
 pub
-    container-part_range-from-requires-clause-field :
-    goal.container-part_range-from-requires-clause-field
-container-part_range-from-requires-clause-field t c =
+    fields_behind-part_range-from-requires-clause-field :
+    goal.fields_behind-part_range-from-requires-clause-field
+fields_behind-part_range-from-requires-clause-field t c =
     let below : c.index-fields-i.result.1 < c.args.id =
     part_known c.args.id c.args.fields.now c.loop-i.i c.index-fields-i.result c.loop-i-test.true
     c.index-fields-i.is c.requires.before in
     omega (arith, below, c.requires.known)
 
 pub
-    container-part_range-from-requires-clause-room :
-    goal.container-part_range-from-requires-clause-room
-container-part_range-from-requires-clause-room t c =
+    fields_behind-part_range-from-requires-clause-room :
+    goal.fields_behind-part_range-from-requires-clause-room
+fields_behind-part_range-from-requires-clause-room t c =
     field_room c.args.schema.now.trees c.args.fields.now c.args.start c.args.bytes.now
     c.loop-i.i c.loop-i.place c.index-fields-i.result c.loop-i.invariant c.loop-i-test.true
     c.index-fields-i.is
 
-pub container-slice_bounds-part-count : goal.container-slice_bounds-part-count
-container-slice_bounds-part-count t c =
+pub fields_behind-slice_bounds-part-count : goal.fields_behind-slice_bounds-part-count
+fields_behind-slice_bounds-part-count t c =
     let range = field_range c.args.schema.now.trees c.args.fields.now c.args.start
     c.args.bytes.now c.loop-i.i c.loop-i.place c.part_range-from.result.0
     c.part_range-from.result.1 c.index-fields-i.result c.loop-i.invariant c.loop-i-test.true
     c.index-fields-i.is c.part_range-from.ensures in
     omega (arith, range.0, range.1)
 
-pub container-slice_bounds-part-end : goal.container-slice_bounds-part-end
-container-slice_bounds-part-end t c =
+pub fields_behind-slice_bounds-part-end : goal.fields_behind-slice_bounds-part-end
+fields_behind-slice_bounds-part-end t c =
     let range = field_range c.args.schema.now.trees c.args.fields.now c.args.start
     c.args.bytes.now c.loop-i.i c.loop-i.place c.part_range-from.result.0
     c.part_range-from.result.1 c.index-fields-i.result c.loop-i.invariant c.loop-i-test.true
     c.index-fields-i.is c.part_range-from.ensures in
     omega (arith, range.0, range.1)
 
-pub container-slice_bounds-part-start : goal.container-slice_bounds-part-start
-container-slice_bounds-part-start t c =
+pub fields_behind-slice_bounds-part-start : goal.fields_behind-slice_bounds-part-start
+fields_behind-slice_bounds-part-start t c =
     let range = field_range c.args.schema.now.trees c.args.fields.now c.args.start
     c.args.bytes.now c.loop-i.i c.loop-i.place c.part_range-from.result.0
     c.part_range-from.result.1 c.index-fields-i.result c.loop-i.invariant c.loop-i-test.true
     c.index-fields-i.is c.part_range-from.ensures in
     omega (arith, range.0, range.1)
 
-pub container-overflow_add-start : goal.container-overflow_add-start
-container-overflow_add-start t c =
+pub fields_behind-overflow_add-start : goal.fields_behind-overflow_add-start
+fields_behind-overflow_add-start t c =
     let range = field_range c.args.schema.now.trees c.args.fields.now c.args.start
     c.args.bytes.now c.loop-i.i c.loop-i.place c.part_range-from.result.0
     c.part_range-from.result.1 c.index-fields-i.result c.loop-i.invariant c.loop-i-test.true
@@ -212,8 +213,8 @@ container-overflow_add-start t c =
     omega (arith, range.0, range.1) in
     search rules
 
-pub container-scope-requires : goal.container-scope-requires
-container-scope-requires t c =
+pub fields_behind-field_fault-requires : goal.fields_behind-field_fault-requires
+fields_behind-field_fault-requires t c =
     let below : c.index-fields-i.result.1 < c.args.id =
     part_known c.args.id c.args.fields.now c.loop-i.i c.index-fields-i.result c.loop-i-test.true
     c.index-fields-i.is c.requires.before in
@@ -225,40 +226,122 @@ container-scope-requires t c =
     let within : c.part_range-from.result.1 ≤ length c.args.bytes.now = range.1 in
     search rules
 
-pub container-loop-i-preserved : goal.container-loop-i-preserved
-container-loop-i-preserved t c =
+pub fields_behind-loop-i-preserved : goal.fields_behind-loop-i-preserved
+fields_behind-loop-i-preserved t c =
     let size : head_size (fixed_size (tree_at c.args.schema.now.trees c.index-fields-i.result.1))
-    ≡ c.head_len.result = sym (c.head_len.ensures ∙ ap head_size c.fixed_size.ensures.exact) in
+    ≡ c.head_len-in-loop-i.result = sym (c.head_len-in-loop-i.ensures ∙ ap head_size c.fixed_size-in-loop-i.ensures.exact) in
     subst (FieldsFrom c.args.schema.now.trees c.args.fields.now c.args.start c.args.bytes.now
     (c.loop-i.i + 1)) (ap (λ n. c.loop-i.place + n) size)
     (FieldsFrom-more c.args.schema.now.trees c.args.fields.now c.args.start c.args.bytes.now
     c.loop-i.i c.loop-i.place c.part_range-from.result.0 c.part_range-from.result.1
     c.index-fields-i.result c.loop-i.invariant c.loop-i-test.true c.index-fields-i.is
-    c.part_range-from.ensures (sym c.in_default-scope.ensures))
+    c.part_range-from.ensures (sym c.in_default-field_fault.ensures))
 
-pub container-returns : goal.container-returns
-container-returns t c =
+pub fields_behind-returns : goal.fields_behind-returns
+fields_behind-returns t c =
     sym (FieldsFrom-end c.args.schema.now.trees c.args.fields.now c.args.start c.args.bytes.now
     c.loop-i.i c.loop-i.place c.loop-i.invariant (omega arith))
 
-pub scope-returns-in-Ok-union_head : goal.scope-returns-in-Ok-union_head
-scope-returns-in-Ok-union_head t c =
+pub scope-returns-in-Ok : goal.scope-returns-in-Ok
+scope-returns-in-Ok t c =
     let form : union (options_over c.args.schema.now.trees c.as_slice.result.now)
     ≡ type_of c.args.schema.now c.args.id =
     ap (λ os. union (options_over c.args.schema.now.trees os)) c.as_slice.ensures.value
     ∙ ap (tree_over c.args.schema.now.trees) (sym c.in-Union.is) ∙ c.ty.ensures.form in
     c.scope.ensures
-    ∙ ap (why (type_of c.args.schema.now c.in-Ok-union_head.option) (c.args.start + 1))
+    ∙ ap (why (type_of c.args.schema.now c.in-Ok.option) (c.args.start + 1))
     (take_rest c.args.bytes.now 1)
-    ∙ sym (c.in-Ok-union_head.ensures.ok c.args.schema.now.trees)
+    ∙ sym (c.in-Ok.ensures.ok c.args.schema.now.trees)
     ∙ ap (λ (ty : SszType). why ty c.args.start c.args.bytes.now) form
 
 -- a number of the right size has no fault
-pub container-loop-i-preserved-in-Uint : goal.container-loop-i-preserved-in-Uint
-container-loop-i-preserved-in-Uint t c =
+pub fields_behind-loop-i-preserved-in-Uint : goal.fields_behind-loop-i-preserved-in-Uint
+fields_behind-loop-i-preserved-in-Uint t c =
+    let is = sym c.ty.ensures.form ∙ ap (tree_over c.args.schema.now.trees) c.in-Uint.is in
     subst (λ (n : ℕ). FieldsFrom c.args.schema.now.trees c.args.fields.now c.args.start
-    c.args.bytes.now (c.loop-i.i + 1) (c.loop-i.place + n)) (sym c.byte_count.ensures.exact)
+    c.args.bytes.now (c.loop-i.i + 1) (c.loop-i.place + n))
+    (sym (c.head_len.ensures ∙ ap head_size (c.fixed_size.ensures.exact ∙ ap fixed_size is)))
     (FieldsFrom-number c.args.schema.now.trees c.args.fields.now c.args.start c.args.bytes.now
-    c.loop-i.i c.loop-i.place c.index-fields-i.result c.in-Uint.width c.loop-i.invariant
-    c.loop-i-test.true c.index-fields-i.is
-    (sym c.ty.ensures.form ∙ ap (tree_over c.args.schema.now.trees) c.in-Uint.is))
+    c.loop-i.i c.loop-i.place c.index-fields-i.result c.in-Uint.field-0 c.loop-i.invariant
+    c.loop-i-test.true c.index-fields-i.is is)
+
+-- a list of numbers has no fault but that of their number
+pub list-returns-in-Uint : goal.list-returns-in-Uint
+list-returns-in-Uint t c =
+    sym (numbers_list (type_of c.args.schema.now c.args.elem) c.in-Uint.field-0 c.fixed_size.result
+    c.args.limit c.args.start c.args.bytes.now
+    (sym c.ty.ensures.form ∙ ap (tree_over c.args.schema.now.trees) c.in-Uint.is)
+    c.fixed_size.ensures.exact (λ i. omega (arith, c.type_inv.bytes i))
+    (sym c.in-Ok.ensures.fault))
+
+pub containers-loop-i-init : goal.containers-loop-i-init
+containers-loop-i-init t c =
+    VariableFrom-start (why (type_of c.args.schema.now c.args.id)) c.args.count c.args.start
+    c.args.bytes.now c.requires.head
+
+pub containers-slice_bounds-part-count : goal.containers-slice_bounds-part-count
+containers-slice_bounds-part-count t c =
+    let part = VariableFrom-part
+    (why (type_of c.args.schema.now c.args.id)) c.args.count c.args.start c.args.bytes.now
+    c.loop-i.i c.loop-i.invariant (omega arith) in
+    omega (arith, c.offset_at-from.ensures, c.end_of_part.ensures, part.up)
+
+pub containers-slice_bounds-part-start : goal.containers-slice_bounds-part-start
+containers-slice_bounds-part-start t c =
+    let part = VariableFrom-part
+    (why (type_of c.args.schema.now c.args.id)) c.args.count c.args.start c.args.bytes.now
+    c.loop-i.i c.loop-i.invariant (omega arith) in
+    omega (arith, c.offset_at-from.ensures, c.end_of_part.ensures, part.up)
+
+pub containers-slice_bounds-part-end : goal.containers-slice_bounds-part-end
+containers-slice_bounds-part-end t c =
+    let part = VariableFrom-part
+    (why (type_of c.args.schema.now c.args.id)) c.args.count c.args.start c.args.bytes.now
+    c.loop-i.i c.loop-i.invariant (omega arith) in
+    omega (arith, c.end_of_part.ensures, part.inside)
+
+pub containers-returns-in-Some : goal.containers-returns-in-Some
+containers-returns-in-Some t c =
+    let child = why (type_of c.args.schema.now c.args.id) in
+    let same = ap₂ (λ (from to : ℕ).
+    child (c.args.start + from) (slice_range c.args.bytes.now from to)) c.offset_at-from.ensures
+    c.end_of_part.ensures in
+    sym (VariableFrom-found child c.args.count c.args.start c.args.bytes.now c.loop-i.i
+    c.in-Some.fault c.loop-i.invariant (omega arith)
+    (sym same ∙ ap (λ (ty : SszType). why ty (c.args.start + c.offset_at-from.result)
+    (slice_range c.args.bytes.now c.offset_at-from.result c.end_of_part.result)) c.requires.form
+    ∙ sym c.in-Some.ensures))
+
+pub containers-loop-i-preserved : goal.containers-loop-i-preserved
+containers-loop-i-preserved t c =
+    let child = why (type_of c.args.schema.now c.args.id) in
+    let same = ap₂ (λ (from to : ℕ).
+    child (c.args.start + from) (slice_range c.args.bytes.now from to)) c.offset_at-from.ensures
+    c.end_of_part.ensures in
+    VariableFrom-more child c.args.count c.args.start c.args.bytes.now c.loop-i.i c.loop-i.invariant
+    (omega arith)
+    (sym same ∙ ap (λ (ty : SszType). why ty (c.args.start + c.offset_at-from.result)
+    (slice_range c.args.bytes.now c.offset_at-from.result c.end_of_part.result)) c.requires.form
+    ∙ sym c.in_default.ensures)
+
+pub
+    containers-heads_len-heads-requires-clause-known :
+    goal.containers-heads_len-heads-requires-clause-known
+containers-heads_len-heads-requires-clause-known t c =
+    known_weaker c.args.id (length c.args.schema.now.trees) c.args.fields.now c.requires.known
+    c.requires.before
+
+pub
+    containers-heads_len-heads-requires-clause-short :
+    goal.containers-heads_len-heads-requires-clause-short
+containers-heads_len-heads-requires-clause-short t c =
+    heads_few c.args.schema.now.format
+    (fields_over c.args.schema.now.trees c.args.fields.now)
+    (subst (IsLegal c.args.schema.now.format) c.requires.form c.ty-legal.ensures.legal)
+
+pub
+    variable_container-variable_head_fault-requires-clause-known :
+    goal.variable_container-variable_head_fault-requires-clause-known
+variable_container-variable_head_fault-requires-clause-known t c =
+    known_weaker c.args.id (length c.args.schema.now.trees) c.args.fields.now c.requires.known
+    c.requires.before

@@ -1,5 +1,0 @@
-use Rattle.ssz_codec.proofs.RoomLemmas.{HeadSum}
-use Rattle.ssz_codec.proofs.encoding.heads_len.Given as goal
-
-abbrev pub invariant-loop-field : goal.invariant-loop-field
-invariant-loop-field l = HeadSum l.schema.trees l.fields l.field-index l.len
