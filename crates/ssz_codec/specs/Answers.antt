@@ -26,10 +26,16 @@ Decodes fault P (Err e) = Faulty fault e
 abbrev pub DecodesTo : SszType → ℕ → List ℕ → Result Value DecodeFault → Type 0
 DecodesTo t start b = Decodes (why t start b) (Stands t (value_in t b))
 
--- the value is put behind the others, or memory ran out
-abbrev pub Keeps : List Value → Value → List Value → Result Unit DecodeFault → Type 0
-Keeps old value new (Ok done) = new ≡ old ++ value ∷ []
-Keeps old value new (Err e) = e ≡ Memory
+-- the value of the type which the bytes stand for is put behind the others
+pub record IsPut (t : SszType) (b : List ℕ) (old new : List Value) : Type 0 where
+  pub value : Value
+  pub items : new ≡ old ++ value ∷ []
+  pub stands : Stands t (value_in t b) value
+
+-- the same of bytes that begin at start, or it is their first fault
+abbrev pub PutsTo : SszType → ℕ → List ℕ → List Value → List Value → Result Unit DecodeFault
+    → Type 0
+PutsTo t start b old new = Decodes (why t start b) (λ done. IsPut t b old new)
 
 -- these are count numbers of this width one after another
 abbrev pub AreNumbers : Width → ℕ → List ℕ → List Value → Type 0

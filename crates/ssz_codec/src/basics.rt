@@ -36,6 +36,8 @@ fn number_in(width: Width, bytes: &[u8]) -> Value
     ensures { Stands (uint width) (value_in (uint width) bytes.now) result }
 {
     match width {
+        // The commonest, by a reader that knows the width.
+        Width::W64 => narrow_in(Width::W64, bytes),
         Width::W256 => wide_in(bytes),
         _ => narrow_in(width, bytes),
     }

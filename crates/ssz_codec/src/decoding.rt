@@ -1,6 +1,6 @@
-ghost use Rattle.std.specs.Prelude.{◌≡◌, ◌+◌, ◌*◌, ◌<◌, ◌≤◌, ◌^◌, length, map, Some, None, Option, IfOk, nat_lt, if◌then◌else◌};
+ghost use Rattle.std.specs.Prelude.{◌≡◌, ◌+◌, ◌*◌, ◌<◌, ◌≤◌, ◌^◌, length, map, Some, None, Option, IfOk, OnOk, vec_len, vec_capacity, nat_lt, if◌then◌else◌};
 ghost use Rattle.std.specs.List.{AllByRecursion};
-ghost use Rattle.ssz_schema.specs.Types.{Options, boolean, container, vector, bitvector, bitlist, union};
+ghost use Rattle.ssz_schema.specs.Types.{Options, boolean, container, vector, list, bitvector, bitlist, union};
 ghost use Rattle.ssz_schema.specs.Sizes.{fixed_size};
 ghost use Rattle.ssz_schema.specs.Legal.{IsSize};
 ghost use Rattle.ssz_bytes.specs.Faults.{extra};
@@ -12,7 +12,7 @@ ghost use Rattle.ssz_value.specs.Laws.{Encodes};
 ghost use Rattle.ssz_value.specs.Standing.{value_of, IsValue, Stands};
 ghost use Rattle.ssz_value.specs.Shapes.{StandAlike};
 ghost use Rattle.ssz_codec.specs.declared.fault.DecodeFault.TheVariants.{Bad};
-ghost use Rattle.ssz_codec.specs.Answers.{Decodes, DecodesTo, Keeps};
+ghost use Rattle.ssz_codec.specs.Answers.{Decodes, DecodesTo, PutsTo};
 
 use super::basics::{bitlist, bitvector, boolean, byte_elements, number, numbers};
 use super::fault::DecodeFault;
@@ -63,19 +63,84 @@ fn scope(
         Ty::Bitvector(n) => bitvector(alloc, *n, start, bytes),
         Ty::Bitlist(limit) => bitlist(alloc, *limit, start, bytes),
         Ty::Vector(elem, count) => elements(alloc, schema, *elem, *count, start, bytes),
-        Ty::List(elem, limit) => {
-            match count_of(schema.fixed_size(*elem), *limit, start, bytes) {
-                Ok(count) => elements(alloc, schema, *elem, count, start, bytes),
-                Err(fault) => Err(DecodeFault::Bad(fault)),
-            }
-        }
+        Ty::List(elem, limit) => list(alloc, schema, *elem, *limit, start, bytes),
         Ty::Union(options) => chosen(alloc, schema, id, options.as_slice(), start, bytes),
         Ty::Container(fields) => container(alloc, schema, id, fields.as_slice(), start, bytes),
     }
 }
 
+// Puts the value of the bytes, which begin at start, behind the others, for which there is room. A
+// form that is known here is built in its place.
+#[cycle(scope)]
+fn put(
+    alloc: Global,
+    schema: &Schema,
+    id: TypeId,
+    start: u64,
+    bytes: &[u8],
+    parts: &mut Vec<Value>,
+) -> Result<(), DecodeFault>
+    requires known { id < length schema.now.trees }
+    requires short { start + length bytes.now < 2 ^ 32 }
+    requires room { vec_len parts.old < vec_capacity parts.old }
+    ensures put { let t = type_of schema.now id in
+        PutsTo t start bytes.now parts.old.items parts.new.items result }
+    ensures len { OnOk result (vec_len parts.new ≡ vec_len parts.old + 1) }
+    ensures capacity { OnOk result (vec_capacity parts.new ≡ vec_capacity parts.old) }
+{
+    match schema.ty(id) {
+        Ty::Uint(width) => {
+            let value = number(*width, start, bytes)?;
+            parts.push_reserved(value);
+            Ok(())
+        }
+        Ty::Vector(elem, count) => {
+            let value = elements(alloc, schema, *elem, *count, start, bytes)?;
+            parts.push_reserved(value);
+            Ok(())
+        }
+        Ty::List(elem, limit) => {
+            let value = list(alloc, schema, *elem, *limit, start, bytes)?;
+            parts.push_reserved(value);
+            Ok(())
+        }
+        Ty::Container(fields) => {
+            let value = container(alloc, schema, id, fields.as_slice(), start, bytes)?;
+            parts.push_reserved(value);
+            Ok(())
+        }
+        _ => {
+            let value = scope(alloc, schema, id, start, bytes)?;
+            parts.push_reserved(value);
+            Ok(())
+        }
+    }
+}
+
+// Of a list of so many elements at most.
+#[cycle(scope)]
+#[inline(always)]
+fn list(
+    alloc: Global,
+    schema: &Schema,
+    elem: TypeId,
+    limit: u64,
+    start: u64,
+    bytes: &[u8],
+) -> Result<Value, DecodeFault>
+    requires known { elem < length schema.now.trees }
+    requires short { start + length bytes.now < 2 ^ 32 }
+    ensures { DecodesTo (list (type_of schema.now elem) limit) start bytes.now result }
+{
+    match count_of(schema.fixed_size(elem), limit, start, bytes) {
+        Ok(count) => elements(alloc, schema, elem, count, start, bytes),
+        Err(fault) => Err(DecodeFault::Bad(fault)),
+    }
+}
+
 // Of count elements.
 #[cycle(scope)]
+#[inline(always)]
 fn elements(
     alloc: Global,
     schema: &Schema,
@@ -110,6 +175,7 @@ fn elements(
 
 // Of count elements of this size.
 #[cycle(scope)]
+#[inline(never)]
 fn fixed_elements(
     alloc: Global,
     schema: &Schema,
@@ -140,14 +206,14 @@ fn fixed_elements(
     for i in 0..count {
         let place = (i * size) as usize;
         let part = &bytes[place..place + size as usize];
-        let value = scope(alloc, schema, elem, start + place as u64, part)?;
-        keep(&mut parts, value)?;
+        put(alloc, schema, elem, start + place as u64, part, &mut parts)?;
     }
     Ok(parts)
 }
 
 // Of count elements of a variable-size type.
 #[cycle(scope)]
+#[inline(never)]
 fn variable_elements(
     alloc: Global,
     schema: &Schema,
@@ -172,20 +238,9 @@ fn variable_elements(
     for i in 0..count {
         let from = offset_at(bytes, (4 * i) as usize) as usize;
         let part = &bytes[from..end_of_part(count, i, bytes)];
-        let value = scope(alloc, schema, elem, start + from as u64, part)?;
-        keep(&mut parts, value)?;
+        put(alloc, schema, elem, start + from as u64, part, &mut parts)?;
     }
     Ok(parts)
-}
-
-// Puts the value behind the others.
-fn keep(parts: &mut Vec<Value>, value: Value) -> Result<(), DecodeFault>
-    ensures { Keeps parts.old.items value parts.new.items result }
-{
-    match parts.push(value) {
-        Ok(()) => Ok(()),
-        Err(_) => Err(DecodeFault::Memory),
-    }
 }
 
 // Of a union of these options, whose types stand before id.
@@ -242,6 +297,7 @@ fn no_value(selector: u8, start: u64, rest: &[u8]) -> Result<Value, DecodeFault>
 
 // Of a container of these fields, whose types stand before id.
 #[cycle(scope)]
+#[inline(always)]
 fn container(
     alloc: Global,
     schema: &Schema,
@@ -265,8 +321,14 @@ fn container(
     for (i, field) in fields.iter().enumerate() {
         let (from, to) = part_range(schema, field.1, fields, i, place, bytes);
         let part = &bytes[from..to];
-        let value = scope(alloc, schema, field.1, start + from as u64, part)?;
-        keep(&mut parts, value)?;
+        put(
+            alloc,
+            schema,
+            field.1,
+            start + from as u64,
+            part,
+            &mut parts,
+        )?;
         place += head_len(schema.fixed_size(field.1)) as usize;
     }
     Ok(Value::Seq(parts))

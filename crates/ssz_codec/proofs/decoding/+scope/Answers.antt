@@ -43,16 +43,12 @@ scope-returns-in-Vector t c =
     Decodes (why ty c.args.start c.args.bytes.now)
     (Stands ty (value_in ty c.args.bytes.now)) c.elements.result) (sym is) c.elements.ensures
 
-pub scope-returns-in-Ok : goal.scope-returns-in-Ok
-scope-returns-in-Ok t c =
-    let is = sym c.ty.ensures.form ∙ ap (tree_over c.args.schema.now.trees) c.in-List.is in
-    subst (λ (ty : SszType).
-    Decodes (why ty c.args.start c.args.bytes.now)
-    (Stands ty (value_in ty c.args.bytes.now)) c.elements-in-Ok.result) (sym is)
-    (list_decodes (tree_at c.args.schema.now.trees c.in-List.elem) c.in-List.limit c.in-Ok.count
-    c.args.start c.args.bytes.now c.fixed_size.result c.elements-in-Ok.result
+pub list-returns-in-Ok : goal.list-returns-in-Ok
+list-returns-in-Ok t c =
+    list_decodes (type_of c.args.schema.now c.args.elem) c.args.limit c.in-Ok.count
+    c.args.start c.args.bytes.now c.fixed_size.result c.elements.result
     c.fixed_size.ensures.exact c.in-Ok.ensures.ok c.in-Ok.ensures.fault
-    c.elements-in-Ok.ensures)
+    c.elements.ensures
 
 pub scope-container-requires : goal.scope-container-requires
 scope-container-requires t c =
@@ -145,7 +141,9 @@ container-loop-i-init t c = record {
   formed = subst (FieldsFormed (fields_over c.args.schema.now.trees c.args.fields.now))
       (sym c.in_ok-parts.ensures.items)
       (no_fields_formed (fields_over c.args.schema.now.trees c.args.fields.now));
-  count = ap length c.in_ok-parts.ensures.items;
+  items = ap length c.in_ok-parts.ensures.items;
+  count = c.in_ok-parts.ensures.len;
+  room = c.in_ok-parts.ensures.capacity;
 }
 
 pub
@@ -155,11 +153,11 @@ container-part_range-from-requires-clause-known t c =
     known_weaker c.args.id (length c.args.schema.now.trees) c.args.fields.now c.requires.known
     c.requires.before
 
-pub container-returns-in_err-value : goal.container-returns-in_err-value
-container-returns-in_err-value t c =
-    let p = err_from_is_err_and c.from_residual-in_err-value.result
-    c.from_residual-in_err-value.ensures.1 in
-    rw (p.1, p.2) (error_of_part _ _ _ c.in_err-value.ensures
+pub container-returns-in_err-put : goal.container-returns-in_err-put
+container-returns-in_err-put t c =
+    let p = err_from_is_err_and c.from_residual-in_err-put.result
+    c.from_residual-in_err-put.ensures.1 in
+    rw (p.1, p.2) (error_of_part _ _ _ c.in_err-put.ensures.put
     (λ f found. FieldsFrom-found c.args.schema.now.trees c.args.fields.now c.args.start
     c.args.bytes.now c.loop-i.i c.loop-i.place c.part_range-from.result.0
     c.part_range-from.result.1 c.index-fields-i.result f
@@ -179,28 +177,30 @@ container-loop-i-preserved t c =
           c.loop-i.i c.loop-i.place c.part_range-from.result.0 c.part_range-from.result.1
           c.index-fields-i.result
           c.loop-i.invariant.faultless c.loop-i-test.true c.index-fields-i.is
-          c.part_range-from.ensures c.in_ok-value.ensures.0);
+          c.part_range-from.ensures c.in_ok-put.ensures.put.0);
       read = subst (λ (place : ℕ).
           FieldsRead c.args.schema.now.trees c.args.fields.now c.args.bytes.now
-          (c.loop-i.i + 1) place (map value_of c.keep.new.parts.items)) next
+          (c.loop-i.i + 1) place (map value_of c.put.new.parts.items)) next
           (subst (FieldsRead c.args.schema.now.trees c.args.fields.now c.args.bytes.now
           (c.loop-i.i + 1) (c.loop-i.place + head_size
           (fixed_size (tree_at c.args.schema.now.trees c.index-fields-i.result.1))))
-          (sym (values_push _ _ c.in_ok-value.value c.in_ok-keep.ensures))
+          (sym (values_push _ _ c.in_ok-put.ensures.put.1.value c.in_ok-put.ensures.put.1.items))
           (FieldsRead-more c.args.schema.now.trees c.args.fields.now c.args.bytes.now c.loop-i.i
           c.loop-i.place c.part_range-from.result.0 c.part_range-from.result.1
           c.index-fields-i.result _ _
           c.loop-i.invariant.read c.loop-i-test.true c.index-fields-i.is c.part_range-from.ensures
-          c.in_ok-value.ensures.1.value));
+          c.in_ok-put.ensures.put.1.stands.value));
       formed = subst (FieldsFormed (fields_over c.args.schema.now.trees c.args.fields.now))
-          (sym c.in_ok-keep.ensures)
+          (sym c.in_ok-put.ensures.put.1.items)
           (fields_push c.args.schema.now.trees c.args.fields.now c.loop-i.parts.items c.loop-i.i
-          c.index-fields-i.result c.in_ok-value.value c.loop-i.invariant.formed
-          c.loop-i.invariant.count c.loop-i-test.true c.index-fields-i.is
-          c.in_ok-value.ensures.1.formed);
-      count = ap length c.in_ok-keep.ensures
-          ∙ length_push c.loop-i.parts.items c.in_ok-value.value
-          ∙ ap (λ n. n + 1) c.loop-i.invariant.count;
+          c.index-fields-i.result c.in_ok-put.ensures.put.1.value c.loop-i.invariant.formed
+          c.loop-i.invariant.items c.loop-i-test.true c.index-fields-i.is
+          c.in_ok-put.ensures.put.1.stands.formed);
+      items = ap length c.in_ok-put.ensures.put.1.items
+          ∙ length_push c.loop-i.parts.items c.in_ok-put.ensures.put.1.value
+          ∙ ap (λ n. n + 1) c.loop-i.invariant.items;
+      count = omega (arith, c.in_ok-put.ensures.len, c.loop-i.invariant.count);
+      room = omega (arith, c.in_ok-put.ensures.capacity, c.loop-i.invariant.room);
     }
 
 pub container-returns : goal.container-returns
@@ -246,11 +246,11 @@ fixed_elements-returns-in-Uint t c =
           c.in_ok-numbers.field-0.items) same c.in_ok-numbers.ensures),
     )
 
-pub fixed_elements-returns-in_err-value : goal.fixed_elements-returns-in_err-value
-fixed_elements-returns-in_err-value t c =
-    let p = err_from_is_err_and c.from_residual-in_err-value.result
-    c.from_residual-in_err-value.ensures.1 in
-    rw (p.1, p.2) (error_of_part _ _ _ c.in_err-value.ensures
+pub fixed_elements-returns-in_err-put : goal.fixed_elements-returns-in_err-put
+fixed_elements-returns-in_err-put t c =
+    let p = err_from_is_err_and c.from_residual-in_err-put.result
+    c.from_residual-in_err-put.ensures.1 in
+    rw (p.1, p.2) (error_of_part _ _ _ c.in_err-put.ensures.put
     (λ f found. FixedFrom-found
     (why (type_of c.args.schema.now c.args.elem)) c.args.size c.args.count c.args.start
     c.args.bytes.now c.loop-i.i f c.loop-i.invariant.faultless (omega arith) found))
@@ -261,18 +261,20 @@ fixed_elements-loop-i-preserved t c =
       faultless = FixedFrom-more
           (why (type_of c.args.schema.now c.args.elem)) c.args.size c.args.count c.args.start
           c.args.bytes.now c.loop-i.i c.loop-i.invariant.faultless
-          (omega arith) c.in_ok-value.ensures.0;
+          (omega arith) c.in_ok-put.ensures.put.0;
       read = subst (ReadFrom (type_of c.args.schema.now c.args.elem)
           (Some c.args.size) c.args.count c.args.bytes.now (c.loop-i.i + 1)
           ((c.loop-i.i + 1) * c.args.size))
-          (sym (values_push _ _ c.in_ok-value.value c.in_ok-keep.ensures))
+          (sym (values_push _ _ c.in_ok-put.ensures.put.1.value c.in_ok-put.ensures.put.1.items))
           (ReadFrom-fixed (type_of c.args.schema.now c.args.elem) c.args.size c.args.count
           c.args.bytes.now c.loop-i.i _ _ c.loop-i.invariant.read c.loop-i-test.true
-          c.in_ok-value.ensures.1.value);
+          c.in_ok-put.ensures.put.1.stands.value);
       formed = subst (AllByRecursion (IsFormed (type_of c.args.schema.now c.args.elem)))
-          (sym c.in_ok-keep.ensures)
+          (sym c.in_ok-put.ensures.put.1.items)
           (formed_push (type_of c.args.schema.now c.args.elem) c.loop-i.parts.items
-          c.in_ok-value.value c.loop-i.invariant.formed c.in_ok-value.ensures.1.formed);
+          c.in_ok-put.ensures.put.1.value c.loop-i.invariant.formed c.in_ok-put.ensures.put.1.stands.formed);
+      count = omega (arith, c.in_ok-put.ensures.len, c.loop-i.invariant.count);
+      room = omega (arith, c.in_ok-put.ensures.capacity, c.loop-i.invariant.room);
     }
 
 pub fixed_elements-returns : goal.fixed_elements-returns
@@ -310,6 +312,8 @@ variable_elements-loop-i-init t c = record {
       (4 * 0) c.args.bytes.now (omega arith));
   formed = subst (AllByRecursion (IsFormed (type_of c.args.schema.now c.args.elem)))
       (sym c.in_ok-parts.ensures.items) tt;
+  count = c.in_ok-parts.ensures.len;
+  room = c.in_ok-parts.ensures.capacity;
 }
 
 pub variable_elements-slice_bounds-part-count : goal.variable_elements-slice_bounds-part-count
@@ -333,15 +337,15 @@ variable_elements-slice_bounds-part-end t c =
     c.loop-i.i c.loop-i.invariant.faultless (omega arith) in
     omega (arith, c.end_of_part.ensures, part.inside)
 
-pub variable_elements-returns-in_err-value : goal.variable_elements-returns-in_err-value
-variable_elements-returns-in_err-value t c =
-    let p = err_from_is_err_and c.from_residual-in_err-value.result
-    c.from_residual-in_err-value.ensures.1 in
+pub variable_elements-returns-in_err-put : goal.variable_elements-returns-in_err-put
+variable_elements-returns-in_err-put t c =
+    let p = err_from_is_err_and c.from_residual-in_err-put.result
+    c.from_residual-in_err-put.ensures.1 in
     let child = why (type_of c.args.schema.now c.args.elem) in
     let same = ap₂ (λ (from to : ℕ).
     child (c.args.start + from) (slice_range c.args.bytes.now from to)) c.offset_at-from.ensures
     c.end_of_part.ensures in
-    rw (p.1, p.2) (error_of_part _ _ _ c.in_err-value.ensures
+    rw (p.1, p.2) (error_of_part _ _ _ c.in_err-put.ensures.put
     (λ f found. VariableFrom-found
     (why (type_of c.args.schema.now c.args.elem)) c.args.count c.args.start c.args.bytes.now
     c.loop-i.i f c.loop-i.invariant.faultless (omega arith) (sym same ∙ found)))
@@ -359,17 +363,19 @@ variable_elements-loop-i-preserved t c =
       faultless = VariableFrom-more
           (why (type_of c.args.schema.now c.args.elem)) c.args.count c.args.start c.args.bytes.now
           c.loop-i.i c.loop-i.invariant.faultless (omega arith) (sym same
-          ∙ c.in_ok-value.ensures.0);
+          ∙ c.in_ok-put.ensures.put.0);
       read = subst (ReadFrom (type_of c.args.schema.now c.args.elem) None c.args.count
           c.args.bytes.now (c.loop-i.i + 1) (4 * (c.loop-i.i + 1)))
-          (sym (values_push _ _ c.in_ok-value.value c.in_ok-keep.ensures))
+          (sym (values_push _ _ c.in_ok-put.ensures.put.1.value c.in_ok-put.ensures.put.1.items))
           (ReadFrom-variable (type_of c.args.schema.now c.args.elem) c.args.count c.args.bytes.now
           c.loop-i.i _ _ c.loop-i.invariant.read c.loop-i-test.true
-          (c.in_ok-value.ensures.1.value ∙ value));
+          (c.in_ok-put.ensures.put.1.stands.value ∙ value));
       formed = subst (AllByRecursion (IsFormed (type_of c.args.schema.now c.args.elem)))
-          (sym c.in_ok-keep.ensures)
+          (sym c.in_ok-put.ensures.put.1.items)
           (formed_push (type_of c.args.schema.now c.args.elem) c.loop-i.parts.items
-          c.in_ok-value.value c.loop-i.invariant.formed c.in_ok-value.ensures.1.formed);
+          c.in_ok-put.ensures.put.1.value c.loop-i.invariant.formed c.in_ok-put.ensures.put.1.stands.formed);
+      count = omega (arith, c.in_ok-put.ensures.len, c.loop-i.invariant.count);
+      room = omega (arith, c.in_ok-put.ensures.capacity, c.loop-i.invariant.room);
     }
 
 pub
@@ -437,8 +443,8 @@ container-overflow_add-start t c =
     omega (arith, range.0, range.1) in
     search rules
 
-pub container-scope-requires : goal.container-scope-requires
-container-scope-requires t c =
+pub container-put-requires : goal.container-put-requires
+container-put-requires t c =
     let below : c.index-fields-i.result.1 < c.args.id =
     part_known c.args.id c.args.fields.now c.loop-i.i c.index-fields-i.result c.loop-i-test.true
     c.index-fields-i.is c.requires.before in
@@ -457,8 +463,8 @@ chosen-scope-requires t c =
     (ap Some (sym c.in-Some-Some.field-0-is) ∙ c.in-Some-Some.ensures) c.requires.before in
     search rules
 
-pub variable_elements-scope-requires : goal.variable_elements-scope-requires
-variable_elements-scope-requires t c =
+pub variable_elements-put-requires : goal.variable_elements-put-requires
+variable_elements-put-requires t c =
     let part = VariableFrom-part
     (why (type_of c.args.schema.now c.args.elem)) c.args.count c.args.start c.args.bytes.now
     c.loop-i.i c.loop-i.invariant.faultless (omega arith) in
@@ -504,26 +510,27 @@ elements-returns-in_ok-parts-in-None t c =
       },
     )
 
-pub container-returns-in_err-keep : goal.container-returns-in_err-keep
-container-returns-in_err-keep t c =
-    let p = err_from_is_err_and c.from_residual-in_err-keep.result
-    c.from_residual-in_err-keep.ensures.1 in
-    rw (p.1, p.2) (subst (Faulty (why
-    (container (fields_over c.args.schema.now.trees c.args.fields.now)) c.args.start
-    c.args.bytes.now)) (sym c.in_err-keep.ensures) tt)
+-- of the form that the type is found to have, the value is put
+pub put-elements-requires : goal.put-elements-requires
+put-elements-requires t c =
+    let is = sym c.ty.ensures.form ∙ ap (tree_over c.args.schema.now.trees) c.in-Vector.is in
+    let few : c.in-Vector.count ≤ 2 ^ 24 =
+    vector_few c.args.schema.now.format
+    (tree_at c.args.schema.now.trees c.in-Vector.elem) c.in-Vector.count
+    (subst (IsLegal c.args.schema.now.format) is c.ty.ensures.legal) in
+    search rules
 
-pub fixed_elements-returns-in_err-keep : goal.fixed_elements-returns-in_err-keep
-fixed_elements-returns-in_err-keep t c =
-    let p = err_from_is_err_and c.from_residual-in_err-keep.result
-    c.from_residual-in_err-keep.ensures.1 in
-    rw (p.1, p.2) (subst (Faulty (elements_fault
-    (why (type_of c.args.schema.now c.args.elem)) (Some c.args.size) c.args.count c.args.start
-    c.args.bytes.now)) (sym c.in_err-keep.ensures) tt)
-
-pub variable_elements-returns-in_err-keep : goal.variable_elements-returns-in_err-keep
-variable_elements-returns-in_err-keep t c =
-    let p = err_from_is_err_and c.from_residual-in_err-keep.result
-    c.from_residual-in_err-keep.ensures.1 in
-    rw (p.1, p.2) (subst (Faulty (elements_fault
-    (why (type_of c.args.schema.now c.args.elem)) None c.args.count c.args.start
-    c.args.bytes.now)) (sym c.in_err-keep.ensures) tt)
+pub put-container-requires : goal.put-container-requires
+put-container-requires t c =
+    let P : List (List ℕ × ℕ) → Type 0 =
+    AllByRecursion (λ (part : List ℕ × ℕ). part.1 < c.args.id) in
+    let all : P c.in-Container.fields.items =
+    subst (AreBelow c.args.id) c.in-Container.is c.ty.ensures.before in
+    let known : P c.as_slice.result.now =
+    subst P (sym c.as_slice.ensures.value) all in
+    let form : type_of c.args.schema.now c.args.id
+    ≡ container (fields_over c.args.schema.now.trees c.as_slice.result.now) =
+    sym c.ty.ensures.form ∙ ap (tree_over c.args.schema.now.trees) c.in-Container.is
+    ∙ ap (λ fs. container (fields_over c.args.schema.now.trees fs))
+    (sym c.as_slice.ensures.value) in
+    search rules
