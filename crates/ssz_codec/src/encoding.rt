@@ -126,6 +126,7 @@ fn write_bitlist(limit: u64, value: &Value, room: &mut [u8]) -> usize
     }
 }
 
+#[inline(never)]
 fn write_bits(run: &BitRun, delimiter: bool, room: &mut [u8]) -> usize
     requires room { bits_size delimiter (length run.now) ≤ length room.old }
     requires short { length room.old < 2 ^ 32 }
@@ -150,6 +151,7 @@ fn bits_len(count: usize, delimiter: bool) -> usize
 
 // Of elements of this type.
 #[cycle(write)]
+#[inline(always)]
 fn write_sequence(schema: &Schema, elem: TypeId, value: &Value, room: &mut [u8]) -> usize
     requires known { elem < length schema.now.trees }
     requires value { IsSequence (type_of schema.now elem) value.now }
@@ -169,6 +171,7 @@ fn write_sequence(schema: &Schema, elem: TypeId, value: &Value, room: &mut [u8])
 }
 
 #[cycle(write)]
+#[inline(never)]
 fn write_elements(schema: &Schema, elem: TypeId, parts: &[Value], room: &mut [u8]) -> usize
     requires known { elem < length schema.now.trees }
     requires parts { AllByRecursion (IsValue (type_of schema.now elem)) parts.now }
@@ -189,6 +192,7 @@ fn write_elements(schema: &Schema, elem: TypeId, parts: &[Value], room: &mut [u8
 
 // Writes the fixed parts and the variable parts, and answers the length of these.
 #[cycle(write)]
+#[inline(always)]
 fn put_elements(
     schema: &Schema,
     elem: TypeId,
@@ -236,6 +240,7 @@ fn put_numbers(width: Width, parts: &[Value], front: &mut [u8])
 
 // Writes a part behind those before it.
 #[cycle(write)]
+#[inline(always)]
 fn put_part(
     schema: &Schema,
     id: TypeId,
@@ -273,6 +278,7 @@ fn put_part(
 
 // Of a union of these options, whose types stand before id.
 #[cycle(write)]
+#[inline(never)]
 fn write_chosen(
     schema: &Schema,
     id: TypeId,
@@ -307,6 +313,7 @@ fn write_chosen(
 
 // Of a container of these fields, whose types stand before id.
 #[cycle(write)]
+#[inline(always)]
 fn write_container(
     schema: &Schema,
     id: TypeId,
@@ -333,6 +340,7 @@ fn write_container(
 }
 
 #[cycle(write)]
+#[inline(never)]
 fn write_fields(
     schema: &Schema,
     id: TypeId,
@@ -359,6 +367,7 @@ fn write_fields(
 }
 
 #[cycle(write)]
+#[inline(always)]
 fn put_fields(
     schema: &Schema,
     id: TypeId,
