@@ -24,7 +24,23 @@ pub fn heads_len(schema: &Schema, fields: &[(Name, TypeId)]) -> usize
     len
 }
 
+/// The length of all fixed parts of the container type, whose fields these are.
+pub fn container_heads_len(schema: &Schema, id: TypeId, fields: &[(Name, TypeId)]) -> usize
+    requires container { id < length schema.now.trees }
+    requires form { type_of schema.now id ≡ container (fields_over schema.now.trees fields.now) }
+    requires known { AllByRecursion (λ part. part.1 < length schema.now.trees) fields.now }
+    requires short { heads_length (part_sizes (fields_over schema.now.trees fields.now)) < 2 ^ 32 }
+    ensures { result ≡ heads_length (part_sizes (fields_over schema.now.trees fields.now)) }
+{
+    // With no offset among them, they are the whole.
+    match schema.fixed_size(id) {
+        Some(size) => size as usize,
+        None => heads_len(schema, fields),
+    }
+}
+
 /// The first fault of the head of the container type, whose fields these are.
+#[inline(always)]
 pub fn fields_head_fault(
     schema: &Schema,
     id: TypeId,
@@ -43,6 +59,25 @@ pub fn fields_head_fault(
     if let Some(size) = schema.fixed_size(id) {
         return length_fault(size, start, bytes);
     }
+    offsets_head_fault(schema, id, fields, start, bytes)
+}
+
+// The same, with an offset or more among the fixed parts.
+#[inline(never)]
+fn offsets_head_fault(
+    schema: &Schema,
+    id: TypeId,
+    fields: &[(Name, TypeId)],
+    start: u64,
+    bytes: &[u8],
+) -> Option<Fault>
+    requires container { id < length schema.now.trees }
+    requires form { type_of schema.now id ≡ container (fields_over schema.now.trees fields.now) }
+    requires known { AllByRecursion (λ part. part.1 < length schema.now.trees) fields.now }
+    requires short { start + length bytes.now < 2 ^ 32 }
+    ensures { let sizes = part_sizes (fields_over schema.now.trees fields.now) in
+        result ≡ head_fault sizes start bytes.now }
+{
     // Every type of a schema is legal.
     let _legal = schema.ty(id);
     variable_head_fault(schema, fields, heads_len(schema, fields), start, bytes)

@@ -20,7 +20,7 @@ mod offsets;
 mod unions;
 
 pub use elements::{element_at, element_count, end_of_part};
-pub use field_heads::{fields_head_fault, heads_len, variable_head_fault};
+pub use field_heads::{container_heads_len, fields_head_fault, heads_len, variable_head_fault};
 pub use fields::part_range;
 pub use heads::{count_of, length_fault, none_fault, offsets_fault};
 pub use offsets::{head_len, offset_at};

@@ -1,8 +1,7 @@
-use Rattle.std.proofs.Common.{◌∙◌, ◌≡◌, Some, ap, sym, subst}
-use Rattle.ssz_schema.specs.Legal.{IsLegal}
+use Rattle.std.proofs.Common.{◌∙◌, ◌≡◌, Some, ap, sym}
 use Rattle.ssz_schema.specs.Sizes.{fixed_size, part_sizes, total_size}
 use Rattle.ssz_schema.specs.Unfolding.{fields_over}
-use Rattle.ssz_parts.proofs.HeadLemmas.{head_fault-fixed, heads_few}
+use Rattle.ssz_parts.proofs.HeadLemmas.{head_fault-fixed}
 use Rattle.ssz_parts.proofs.field_heads.fields_head_fault.Goals as goal
 
 pub returns-in-Some : goal.returns-in-Some
@@ -13,9 +12,3 @@ returns-in-Some c =
     sym (ap fixed_size c.requires.form) ∙ sym c.fixed_size.ensures.exact ∙ c.in-Some.is in
     c.length_fault.ensures
     ∙ sym (head_fault-fixed (part_sizes fs) c.in-Some.size c.args.start c.args.bytes.now total)
-
-pub heads_len-requires-clause-short : goal.heads_len-requires-clause-short
-heads_len-requires-clause-short c =
-    heads_few c.args.schema.now.format
-    (fields_over c.args.schema.now.trees c.args.fields.now)
-    (subst (IsLegal c.args.schema.now.format) c.requires.form c.ty-legal.ensures.legal)

@@ -1,0 +1,13 @@
+use Rattle.std.proofs.Common.{◌∙◌, ◌≡◌, Some, ap, sym}
+use Rattle.ssz_schema.specs.Sizes.{fixed_size, part_sizes, total_size}
+use Rattle.ssz_schema.specs.Unfolding.{fields_over}
+use Rattle.ssz_value.proofs.Sequences.{total_size-heads}
+use Rattle.ssz_parts.proofs.field_heads.container_heads_len.Goals as goal
+
+pub returns-in-Some : goal.returns-in-Some
+returns-in-Some c =
+    let fs = fields_over c.args.schema.now.trees c.args.fields.now in
+    let total : total_size (part_sizes (fields_over c.args.schema.now.trees c.args.fields.now))
+    ≡ Some c.in-Some.size =
+    sym (ap fixed_size c.requires.form) ∙ sym c.fixed_size.ensures.exact ∙ c.in-Some.is in
+    sym (total_size-heads (part_sizes fs) c.in-Some.size total)
