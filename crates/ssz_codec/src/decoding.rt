@@ -94,6 +94,11 @@ fn put(
             parts.push_reserved(value);
             Ok(())
         }
+        Ty::Boolean => {
+            let value = boolean(start, bytes)?;
+            parts.push_reserved(value);
+            Ok(())
+        }
         Ty::Vector(elem, count) => {
             let value = elements(alloc, schema, *elem, *count, start, bytes)?;
             parts.push_reserved(value);
@@ -115,6 +120,33 @@ fn put(
             Ok(())
         }
     }
+}
+
+// The same of a field: a number, the commonest, without a call.
+#[cycle(scope)]
+#[inline(always)]
+fn put_field(
+    alloc: Global,
+    schema: &Schema,
+    id: TypeId,
+    start: u64,
+    bytes: &[u8],
+    parts: &mut Vec<Value>,
+) -> Result<(), DecodeFault>
+    requires known { id < length schema.now.trees }
+    requires short { start + length bytes.now < 2 ^ 32 }
+    requires room { vec_len parts.old < vec_capacity parts.old }
+    ensures put { let t = type_of schema.now id in
+        PutsTo t start bytes.now parts.old.items parts.new.items result }
+    ensures len { OnOk result (vec_len parts.new ≡ vec_len parts.old + 1) }
+    ensures capacity { OnOk result (vec_capacity parts.new ≡ vec_capacity parts.old) }
+{
+    if let Ty::Uint(width) = schema.ty(id) {
+        let value = number(*width, start, bytes)?;
+        parts.push_reserved(value);
+        return Ok(());
+    }
+    put(alloc, schema, id, start, bytes, parts)
 }
 
 // Of a list of so many elements at most.
@@ -321,7 +353,7 @@ fn container(
     for (i, field) in fields.iter().enumerate() {
         let (from, to) = part_range(schema, field.1, fields, i, place, bytes);
         let part = &bytes[from..to];
-        put(
+        put_field(
             alloc,
             schema,
             field.1,

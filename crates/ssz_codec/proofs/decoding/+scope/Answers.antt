@@ -153,11 +153,11 @@ container-part_range-from-requires-clause-known t c =
     known_weaker c.args.id (length c.args.schema.now.trees) c.args.fields.now c.requires.known
     c.requires.before
 
-pub container-returns-in_err-put : goal.container-returns-in_err-put
-container-returns-in_err-put t c =
-    let p = err_from_is_err_and c.from_residual-in_err-put.result
-    c.from_residual-in_err-put.ensures.1 in
-    rw (p.1, p.2) (error_of_part _ _ _ c.in_err-put.ensures.put
+pub container-returns-in_err-put_field : goal.container-returns-in_err-put_field
+container-returns-in_err-put_field t c =
+    let p = err_from_is_err_and c.from_residual-in_err-put_field.result
+    c.from_residual-in_err-put_field.ensures.1 in
+    rw (p.1, p.2) (error_of_part _ _ _ c.in_err-put_field.ensures.put
     (λ f found. FieldsFrom-found c.args.schema.now.trees c.args.fields.now c.args.start
     c.args.bytes.now c.loop-i.i c.loop-i.place c.part_range-from.result.0
     c.part_range-from.result.1 c.index-fields-i.result f
@@ -177,30 +177,30 @@ container-loop-i-preserved t c =
           c.loop-i.i c.loop-i.place c.part_range-from.result.0 c.part_range-from.result.1
           c.index-fields-i.result
           c.loop-i.invariant.faultless c.loop-i-test.true c.index-fields-i.is
-          c.part_range-from.ensures c.in_ok-put.ensures.put.0);
+          c.part_range-from.ensures c.in_ok-put_field.ensures.put.0);
       read = subst (λ (place : ℕ).
           FieldsRead c.args.schema.now.trees c.args.fields.now c.args.bytes.now
-          (c.loop-i.i + 1) place (map value_of c.put.new.parts.items)) next
+          (c.loop-i.i + 1) place (map value_of c.put_field.new.parts.items)) next
           (subst (FieldsRead c.args.schema.now.trees c.args.fields.now c.args.bytes.now
           (c.loop-i.i + 1) (c.loop-i.place + head_size
           (fixed_size (tree_at c.args.schema.now.trees c.index-fields-i.result.1))))
-          (sym (values_push _ _ c.in_ok-put.ensures.put.1.value c.in_ok-put.ensures.put.1.items))
+          (sym (values_push _ _ c.in_ok-put_field.ensures.put.1.value c.in_ok-put_field.ensures.put.1.items))
           (FieldsRead-more c.args.schema.now.trees c.args.fields.now c.args.bytes.now c.loop-i.i
           c.loop-i.place c.part_range-from.result.0 c.part_range-from.result.1
           c.index-fields-i.result _ _
           c.loop-i.invariant.read c.loop-i-test.true c.index-fields-i.is c.part_range-from.ensures
-          c.in_ok-put.ensures.put.1.stands.value));
+          c.in_ok-put_field.ensures.put.1.stands.value));
       formed = subst (FieldsFormed (fields_over c.args.schema.now.trees c.args.fields.now))
-          (sym c.in_ok-put.ensures.put.1.items)
+          (sym c.in_ok-put_field.ensures.put.1.items)
           (fields_push c.args.schema.now.trees c.args.fields.now c.loop-i.parts.items c.loop-i.i
-          c.index-fields-i.result c.in_ok-put.ensures.put.1.value c.loop-i.invariant.formed
+          c.index-fields-i.result c.in_ok-put_field.ensures.put.1.value c.loop-i.invariant.formed
           c.loop-i.invariant.items c.loop-i-test.true c.index-fields-i.is
-          c.in_ok-put.ensures.put.1.stands.formed);
-      items = ap length c.in_ok-put.ensures.put.1.items
-          ∙ length_push c.loop-i.parts.items c.in_ok-put.ensures.put.1.value
+          c.in_ok-put_field.ensures.put.1.stands.formed);
+      items = ap length c.in_ok-put_field.ensures.put.1.items
+          ∙ length_push c.loop-i.parts.items c.in_ok-put_field.ensures.put.1.value
           ∙ ap (λ n. n + 1) c.loop-i.invariant.items;
-      count = omega (arith, c.in_ok-put.ensures.len, c.loop-i.invariant.count);
-      room = omega (arith, c.in_ok-put.ensures.capacity, c.loop-i.invariant.room);
+      count = omega (arith, c.in_ok-put_field.ensures.len, c.loop-i.invariant.count);
+      room = omega (arith, c.in_ok-put_field.ensures.capacity, c.loop-i.invariant.room);
     }
 
 pub container-returns : goal.container-returns
@@ -443,8 +443,8 @@ container-overflow_add-start t c =
     omega (arith, range.0, range.1) in
     search rules
 
-pub container-put-requires : goal.container-put-requires
-container-put-requires t c =
+pub container-put_field-requires : goal.container-put_field-requires
+container-put_field-requires t c =
     let below : c.index-fields-i.result.1 < c.args.id =
     part_known c.args.id c.args.fields.now c.loop-i.i c.index-fields-i.result c.loop-i-test.true
     c.index-fields-i.is c.requires.before in

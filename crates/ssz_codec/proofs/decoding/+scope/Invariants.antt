@@ -20,6 +20,9 @@ decreases-container l = 8 * l.id + 3
 abbrev pub decreases-put : goal.decreases-put
 decreases-put l = 8 * l.id + 5
 
+abbrev pub decreases-put_field : goal.decreases-put_field
+decreases-put_field l = 8 * l.id + 6
+
 abbrev pub decreases-elements : goal.decreases-elements
 decreases-elements l = 8 * l.elem + 7
 
