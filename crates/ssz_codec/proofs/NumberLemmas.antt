@@ -1,5 +1,5 @@
 -- Fields that are numbers.
-use Rattle.std.proofs.Common.{ℕ, ◌+◌, ◌*◌, ◌/◌, ◌%◌, ◌<◌, ◌≡◌, List, length, get_or, drop, slice_range, Option, Some, None, sym, ap, ◌∙◌, subst, arith, eqb, ltb, eqb-true, refl}
+use Rattle.std.proofs.Common.{ℕ, ◌+◌, ◌*◌, ◌/◌, ◌%◌, ◌<◌, ◌≡◌, List, length, get_or, drop, slice_range, Option, Some, None, sym, ap, ◌∙◌, subst, arith, eqb, eqb-true, refl}
 use Rattle.std.proofs.lemmas.Bool.{not-false}
 use Rattle.std.proofs.lemmas.Nat.{div-add-mod'}
 use Rattle.ssz_bytes.specs.Bytes.{IsBytes}

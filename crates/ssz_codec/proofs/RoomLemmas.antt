@@ -1,13 +1,12 @@
 -- What is written at a place in room, and the lengths of what is to be written.
-use Rattle.std.proofs.Common.{ℕ, zero, suc, ◌≡◌, ◌<◌, ◌≤◌, ◌+◌, ◌-◌, ◌*◌, List, [], ◌∷◌, ◌++◌, length, map, take, drop, get_or, replicate, Option, Some, None, refl, sym, ap, subst, ◌∙◌, arith, length-append}
+use Rattle.std.proofs.Common.{ℕ, zero, suc, ◌≡◌, ◌≤◌, ◌+◌, ◌-◌, ◌*◌, List, [], ◌∷◌, ◌++◌, length, map, take, drop, replicate, Option, Some, None, refl, sym, ap, subst, ◌∙◌, arith, length-append}
 use Rattle.std.specs.List.{AllByRecursion}
 use Rattle.std.proofs.Math.Seq.{take-length}
-use Rattle.std.proofs.lemmas.List.{append-nil, drop_all, length-map, length-take, length-drop, take-append-le}
+use Rattle.std.proofs.lemmas.List.{append-nil, length-map, length-take, length-drop, take-append-le}
 use Rattle.ssz_schema.specs.Types.{SszType, Fields}
 use Rattle.ssz_schema.specs.Sizes.{fixed_size, head_size, part_sizes}
 use Rattle.ssz_schema.specs.declared.format.Format.{Format}
 use Rattle.ssz_schema.specs.Legal.{IsLegal, AreLegalFields}
-use Rattle.ssz_schema.specs.Unfolding.{fields_over}
 use Rattle.ssz_value.specs.declared.value.Value.{Value}
 use Rattle.ssz_value.specs.Standing.{value_of, IsValue}
 use Rattle.ssz_bytes.specs.Bytes.{le_bytes}
@@ -18,8 +17,6 @@ use Rattle.ssz_parts.proofs.PartSizes.{heads_alike}
 use Rattle.ssz_value.proofs.Cut.{AreParts, length-heads}
 use Rattle.ssz_value.proofs.Sequences.{AreParts-alike}
 use Rattle.ssz_value.proofs.ExactLaw.{agrees, fields_agree}
-use Rattle.ssz_schema.proofs.WalkFields.{drop_at}
-use Rattle.ssz_value.proofs.PartLemmas.{Part, size_at}
 use Rattle.ssz_value.proofs.FitLemmas.{fit_fields}
 use Rattle.ssz_value.specs.Shapes.{AreFields}
 use Rattle.ssz_codec.specs.Writing.{Writes, PutsPart, Place}

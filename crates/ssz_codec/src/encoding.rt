@@ -15,7 +15,7 @@ ghost use Rattle.ssz_codec.specs.Writing.{Writes, PutsPart, PutsAll};
 use super::measuring::encoded_len;
 use ssz_basic::{put_bits, put_uint};
 use ssz_bytes::BitRun;
-use ssz_parts::{head_len, heads_len};
+use ssz_parts::{container_heads_len, head_len};
 use ssz_schema::{Name, Schema, Ty, TypeId, Width};
 use ssz_value::{EncodeFault, Value, option_at, wide_bytes};
 
@@ -64,6 +64,7 @@ fn write_value(schema: &Schema, id: TypeId, value: &Value, room: &mut [u8]) -> u
     }
 }
 
+#[inline(always)]
 fn write_number(width: Width, value: &Value, room: &mut [u8]) -> usize
     requires value { IsValue (uint width) value.now }
     requires room { length (enc (uint width) (value_of value.now)) ≤ length room.old }
@@ -232,6 +233,21 @@ fn put_numbers(width: Width, parts: &[Value], front: &mut [u8])
     ensures { PutsAll (replicate (length parts.now) (Some (byte_count width)))
         (map (enc (uint width)) (map value_of parts.now)) 0 front.new [] }
 {
+    match width {
+        // The commonest, in a loop that knows the width.
+        Width::W64 => put_each(Width::W64, parts, front),
+        _ => put_each(width, parts, front),
+    }
+}
+
+#[inline(always)]
+fn put_each(width: Width, parts: &[Value], front: &mut [u8])
+    requires parts { AllByRecursion (IsValue (uint width)) parts.now }
+    requires front { length front.old
+        ≡ heads_length (replicate (length parts.now) (Some (byte_count width))) }
+    ensures { PutsAll (replicate (length parts.now) (Some (byte_count width)))
+        (map (enc (uint width)) (map value_of parts.now)) 0 front.new [] }
+{
     let mut place = 0usize;
     for part in parts {
         place += write_number(width, part, &mut front[place..]);
@@ -322,6 +338,7 @@ fn write_container(
     room: &mut [u8],
 ) -> usize
     requires known { id < length schema.now.trees }
+    requires form { type_of schema.now id ≡ container (fields_over schema.now.trees fields.now) }
     requires before { AllByRecursion (λ part. part.1 < id) fields.now }
     requires legal { let fs = fields_over schema.now.trees fields.now in
         IsLegal schema.now.format (container fs) }
@@ -349,6 +366,7 @@ fn write_fields(
     room: &mut [u8],
 ) -> usize
     requires known { id < length schema.now.trees }
+    requires form { type_of schema.now id ≡ container (fields_over schema.now.trees fields.now) }
     requires before { AllByRecursion (λ part. part.1 < id) fields.now }
     requires legal { let fs = fields_over schema.now.trees fields.now in
         IsLegal schema.now.format (container fs) }
@@ -361,7 +379,7 @@ fn write_fields(
         Writes (joined (part_sizes fs) (field_encodings fs (map value_of parts.now))) result
         room.new }
 {
-    let heads = heads_len(schema, fields);
+    let heads = container_heads_len(schema, id, fields);
     let (front, back) = room.split_at_mut(heads);
     heads + put_fields(schema, id, fields, parts, front, back)
 }

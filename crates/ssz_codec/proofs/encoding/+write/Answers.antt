@@ -194,9 +194,9 @@ write_elements-returns t c =
     (omega (arith, c.put_elements.auto.front, c.split_at_mut-front.ensures.front_len)))
 
 pub
-    write_fields-heads_len-heads-requires-clause-short :
-    goal.write_fields-heads_len-heads-requires-clause-short
-write_fields-heads_len-heads-requires-clause-short t c =
+    write_fields-container_heads_len-heads-requires-clause-short :
+    goal.write_fields-container_heads_len-heads-requires-clause-short
+write_fields-container_heads_len-heads-requires-clause-short t c =
     let size = fields_length c.args.schema.now.format
     (fields_over c.args.schema.now.trees c.args.fields.now) c.args.parts.now c.requires.legal.1
     c.requires.parts in
@@ -207,7 +207,7 @@ write_fields-split_at_mut-front-requires t c =
     let size = fields_length c.args.schema.now.format
     (fields_over c.args.schema.now.trees c.args.fields.now) c.args.parts.now c.requires.legal.1
     c.requires.parts in
-    omega (arith, size, c.requires.room, c.heads_len-heads.ensures)
+    omega (arith, size, c.requires.room, c.container_heads_len-heads.ensures)
 
 pub write_fields-put_fields-requires : goal.write_fields-put_fields-requires
 write_fields-put_fields-requires t c =
@@ -216,14 +216,14 @@ write_fields-put_fields-requires t c =
     c.requires.parts in
     let front : length c.split_at_mut-front.result.0.now
     ≡ heads_length (part_sizes (fields_over c.args.schema.now.trees c.args.fields.now)) =
-    c.split_at_mut-front.ensures.front_len ∙ c.heads_len-heads.ensures in
+    c.split_at_mut-front.ensures.front_len ∙ c.container_heads_len-heads.ensures in
     let back : length (bodies (part_sizes (fields_over c.args.schema.now.trees c.args.fields.now))
     (field_encodings (fields_over c.args.schema.now.trees c.args.fields.now)
     (map value_of c.args.parts.now))) ≤ length c.split_at_mut-front.result.1.now =
     omega (
       arith,
       size,
-      c.heads_len-heads.ensures,
+      c.container_heads_len-heads.ensures,
       c.requires.room,
       c.split_at_mut-front.ensures.back_len,
     ) in
@@ -245,7 +245,7 @@ write_fields-returns t c =
       arith,
       c.put_fields.auto.front,
       c.split_at_mut-front.ensures.front_len,
-      c.heads_len-heads.ensures,
+      c.container_heads_len-heads.ensures,
     ))
     (omega (arith, c.put_fields.auto.front, c.split_at_mut-front.ensures.front_len))
 
@@ -489,9 +489,9 @@ write_value-write_container-requires t c =
     omega (arith, c.requires.room, ap (λ ty. length (enc ty (value_of c.args.value.now))) is) in
     search rules
 
-pub write_fields-heads_len-heads-requires-clause-known :
-    goal.write_fields-heads_len-heads-requires-clause-known
-write_fields-heads_len-heads-requires-clause-known t c =
+pub write_fields-container_heads_len-heads-requires-clause-known :
+    goal.write_fields-container_heads_len-heads-requires-clause-known
+write_fields-container_heads_len-heads-requires-clause-known t c =
     known_weaker c.args.id (length c.args.schema.now.trees) c.args.fields.now c.requires.known
     c.requires.before
 

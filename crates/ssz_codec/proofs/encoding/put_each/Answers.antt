@@ -8,7 +8,7 @@ use Rattle.ssz_value.proofs.ExactLaw.{agrees}
 use Rattle.ssz_value.proofs.FormLemmas.{element_at}
 use Rattle.ssz_codec.proofs.WritingLemmas.{ElementsLeft-start, ElementsLeft-room, ElementsLeft-more}
 use Rattle.ssz_codec.proofs.RoomLemmas.{no_bodies, room_behind, puts_fixed, length-put}
-use Rattle.ssz_codec.proofs.encoding.put_numbers.Goals as goal
+use Rattle.ssz_codec.proofs.encoding.put_each.Goals as goal
 
 pub loop-part-init : goal.loop-part-init
 loop-part-init c =
