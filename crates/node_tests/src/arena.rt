@@ -183,8 +183,8 @@ fn room_is_made_once(rt: HostRuntime) -> Result<(), Fail> {
     arena.reserve_exact(5)?;
     arena.reserve(5)?;
     assert!(rt; arena.spare() == 5);
-    // 2^32 nodes are the most, and 127 are there.
-    assert!(rt; arena.reserve((1 << 32) - 126).is_err());
+    // 2^31 nodes are the most, and 127 are there.
+    assert!(rt; arena.reserve((1 << 31) - 126).is_err());
     Ok(())
 }
 

@@ -4,11 +4,12 @@ ghost use Rattle.ssz_arena.specs.Batches.{LeadsTo};
 ghost use Rattle.ssz_arena.specs.Invariant.{IsArena};
 
 use super::batch::{children_of, is_due};
-use super::node::{Node, NodeId};
+use super::node::NodeId;
+use super::slot::Slot;
 use ssz_chunk::PairHash;
 
 // The child of an unhashed pair beside which nothing is to be hashed.
-fn next_down<H: PairHash>(nodes: &[Node], id: NodeId) -> Option<NodeId>
+fn next_down<H: PairHash>(nodes: &[Slot], id: NodeId) -> Option<NodeId>
     requires arena { IsArena H.pair_of nodes.now }
     requires inside { id.0 < length nodes.now }
     ensures lower { IfSome result (λ next. next.0 < id.0) }
@@ -28,7 +29,7 @@ fn next_down<H: PairHash>(nodes: &[Node], id: NodeId) -> Option<NodeId>
 }
 
 // Where the way down from a node parts, or ends.
-pub(crate) fn fork_of<H: PairHash>(nodes: &[Node], id: NodeId) -> NodeId
+pub(crate) fn fork_of<H: PairHash>(nodes: &[Slot], id: NodeId) -> NodeId
     requires arena { IsArena H.pair_of nodes.now }
     requires inside { id.0 < length nodes.now }
     ensures { LeadsTo nodes.now id result }

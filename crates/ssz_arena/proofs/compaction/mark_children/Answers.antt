@@ -9,11 +9,13 @@ returns-in-Pair c roots were =
     omega (arith, c.requires.inside, c.requires.count) in
     down_pair c.args.nodes.now roots c.args.marks.now.items c.args.i c.in-Pair.left c.in-Pair.right
     c.in-Pair.field-2 c.requires.ordered were
-    (slice_get-get_or _ _ _ c.requires.inside ∙ ap Some c.in-Pair.is)
+    (slice_get-get_or _ _ _ c.requires.inside
+    ∙ ap Some (sym c.index-nodes-i.is ∙ sym c.node.ensures.node ∙ c.in-Pair.is))
     (slice_get-get_or _ _ _ marks_in ∙ ap Some (sym c.index.ensures ∙ c.if-not-index.false))
 
 pub returns-in_default : goal.returns-in_default
 returns-in_default c roots were =
     down_step c.args.nodes.now roots c.args.marks.now.items c.args.i were
     (children_leaf _ _ _ c.in_default.field-0
-    (slice_get-get_or _ _ _ c.requires.inside ∙ ap Some c.in_default.is))
+    (slice_get-get_or _ _ _ c.requires.inside
+    ∙ ap Some (sym c.index-nodes-i.is ∙ sym c.node.ensures.node ∙ c.in_default.is)))

@@ -1,0 +1,92 @@
+// Where a node is kept, in 40 bytes.
+ghost use Rattle.std.specs.Prelude.{◌≡◌, Some};
+ghost use Rattle.ssz_chunk.specs.declared.Chunk.{Chunk};
+ghost use Rattle.ssz_arena.specs.Slots.{IsShort, chunk_of};
+
+use super::node::{MARK, Node, NodeId};
+use ssz_chunk::Chunk;
+use std::marker::Model;
+
+// The chunk of a leaf, or the root of a pair, and the places of the pair's children. All of these
+// are below MARK: a leaf has MARK in place of the left one, and MARK is added to the right one
+// where the pair has no root yet.
+#[derive(Clone, Copy, Debug)]
+pub(crate) struct Slot {
+    chunk: Chunk,
+    left: u32,
+    right: u32,
+}
+
+// The node that is kept.
+impl Model for Slot {
+    ghost use Rattle.ssz_arena.specs.declared.node.Node.{Node};
+
+    ghost Value = { Node };
+
+    ghost use Rattle.std.specs.Prelude.{◌≡◌};
+    ghost use Rattle.ssz_arena.specs.Slots.{node_in, slot_of};
+
+    ghost view = { node_in };
+
+    ghost invariant = { λ slot. slot_of (node_in slot) ≡ slot };
+
+    ghost inverse = { slot_of };
+
+    ghost inverse_ok = { λ slot same. same };
+}
+
+// A slot takes 40 bytes.
+const _: () = prove!(size_of::<Slot>() == 40);
+
+impl Slot {
+    // For a node whose children's places are below MARK.
+    #[inline(always)]
+    pub(crate) fn new(node: Node) -> Self
+        requires { IsShort node }
+        ensures { result ≡ node }
+    {
+        match node {
+            Node::Leaf(chunk) => Slot {
+                chunk,
+                left: MARK,
+                right: 0,
+            },
+            Node::Pair(left, right, cached) => match cached {
+                Some(chunk) => Slot {
+                    chunk,
+                    left: left.0,
+                    right: right.0,
+                },
+                None => Slot {
+                    chunk: Chunk::ZERO,
+                    left: left.0,
+                    right: right.0 + MARK,
+                },
+            },
+        }
+    }
+
+    // The node that is kept.
+    #[inline(always)]
+    pub(crate) fn node(&self) -> Node
+        ensures node { result ≡ self.now }
+        ensures short { IsShort self.now }
+    {
+        if self.left >= MARK {
+            return Node::Leaf(self.chunk);
+        }
+        let left = NodeId(self.left);
+        if self.right >= MARK {
+            return Node::Pair(left, NodeId(self.right - MARK), None);
+        }
+        Node::Pair(left, NodeId(self.right), Some(self.chunk))
+    }
+
+    // The chunk of a leaf, or the root of a pair that has one.
+    #[inline(always)]
+    pub(crate) fn chunk(&self) -> &Chunk
+        ensures { (chunk : Chunk) → chunk_of self.now ≡ Some chunk → result.now ≡ chunk }
+    {
+        &self.chunk
+    }
+}
