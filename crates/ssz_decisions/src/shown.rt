@@ -3,7 +3,7 @@ ghost use Rattle.std.specs.Prelude.{◌≡◌, ◌<◌, Ok, Err, length, IfOk, I
 ghost use Rattle.ssz_schema.specs.Unfolding.{type_of};
 ghost use Rattle.ssz_value.specs.Values.{SszValue, Fits};
 ghost use Rattle.ssz_value.specs.Encoding.{enc};
-ghost use Rattle.ssz_value_json.specs.Text.{json as json_text};
+ghost use Rattle.ssz_json_text.specs.Text.{json as json_text};
 ghost use Rattle.ssz_value.specs.Written.{Appends};
 ghost use Rattle.ssz_arena.specs.Content.{IsNodeOf, tree_of};
 ghost use Rattle.ssz_places.specs.Spots.{HasPart, LiesWithin};

@@ -17,7 +17,7 @@ use Rattle.ssz_schema.specs.Lookup.{lookup_name}
 use Rattle.ssz_script.specs.Grammar.{alone, one, two, three, three_or_four, one_and_more}
 use Rattle.ssz_value.specs.Values.{chosen, number}
 use Rattle.ssz_value_json.specs.Faults.{why_json, value_spelled}
-use Rattle.ssz_value_json.proofs.OneLine.{text_computes}
+use Rattle.ssz_json_text.proofs.OneLine.{text_computes}
 use Rattle.ssz_machine.specs.declared.place.Place.TheVariants.{Run, Weave}
 use Rattle.ssz_machine.specs.State.{Name, fresh}
 use Rattle.ssz_machine.specs.Rules.{Rules}

@@ -6,8 +6,8 @@ use Rattle.ssz_schema.specs.Types.{SszType}
 use Rattle.ssz_script.specs.OneLine.{is_no_feed}
 use Rattle.ssz_script.proofs.OneLineLemmas.{both, no_feed}
 use Rattle.ssz_value.specs.Values.{SszValue}
-use Rattle.ssz_value_json.specs.Text.{json}
-use Rattle.ssz_value_json.proofs.OneLine.{texts_are_one_line_lem}
+use Rattle.ssz_json_text.specs.Text.{json}
+use Rattle.ssz_json_text.proofs.OneLine.{texts_are_one_line_lem}
 
 byte_no_feed : (b : ℕ) → 32 ≤ b → is_no_feed b ≡ true
 byte_no_feed b high = grind (arith, nat_tests)

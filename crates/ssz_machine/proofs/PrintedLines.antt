@@ -28,7 +28,7 @@ use Rattle.ssz_machine.specs.Changes.{IsChange, Changes, Touch, puts, takes, not
 use Rattle.ssz_machine.specs.OneLine.{AreNamed, PutsName, IsNamed, IsNamedLine, PrintedLinesAreLines}
 use Rattle.ssz_machine.proofs.Rowwise.{Does, given, passed, edited}
 use Rattle.ssz_machine.proofs.Moves.{statements_change_their_entry_lem}
-use Rattle.ssz_value_json.specs.Text.{json}
+use Rattle.ssz_json_text.specs.Text.{json}
 use Rattle.ssz_machine.proofs.ProofLines.{proof_is_line, is_line-behind, plain_front}
 use Rattle.ssz_machine.proofs.JsonLines.{json_no_feed}
 

@@ -21,7 +21,7 @@ use Rattle.ssz_script.specs.declared.reply.TheConstants.Reply.{NO_TYPE, NO_VERSI
 use Rattle.ssz_value.specs.Encoding.{enc}
 use Rattle.ssz_value.specs.Parts.{part}
 use Rattle.ssz_value.specs.Trees.{tree, hash_tree_root}
-use Rattle.ssz_value_json.specs.Text.{json}
+use Rattle.ssz_json_text.specs.Text.{json}
 use Rattle.ssz_machine.specs.declared.place.Place.{Place}
 use Rattle.ssz_machine.specs.declared.place.Place.TheVariants.{Run, Weave}
 use Rattle.ssz_machine.specs.State.{Name, Versions, version_of}

@@ -7,7 +7,7 @@ use Rattle.ssz_value.specs.Faults.{why}
 use Rattle.ssz_value.specs.Reading.{value_in}
 use Rattle.ssz_value.specs.Values.{SszValue}
 use Rattle.ssz_value_json.specs.Faults.{why_json}
-use Rattle.ssz_value_json.specs.Text.{json}
+use Rattle.ssz_json_text.specs.Text.{json}
 use Rattle.ssz_said.specs.declared.fault.SszFault.{SszFault}
 use Rattle.ssz_said.specs.declared.json.NoBytes.{NoBytes}
 use Rattle.ssz_said.specs.declared.json.NoBytes.TheVariants.{Bad, TooLong, Memory}

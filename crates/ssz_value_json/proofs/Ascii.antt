@@ -9,8 +9,8 @@ use Rattle.std.proofs.lemmas.Str.{IsUtf8-from_ascii}
 use Rattle.hex.specs.Hex.{lower_digits}
 use Rattle.ssz_bytes.specs.Bytes.{IsBytes}
 use Rattle.ssz_schema.specs.Names.{is_letter, is_name_byte, IsName}
-use Rattle.ssz_value_json.specs.Strings.{hex_text, bits_text}
-use Rattle.ssz_value_json.proofs.Digits.{all_passed, hex_pass}
+use Rattle.ssz_json_text.specs.Strings.{hex_text, bits_text}
+use Rattle.ssz_json_text.proofs.Digits.{all_passed, hex_pass}
 
 abbrev IsAsciiByte : ℕ → Type 0
 IsAsciiByte b = b < 128

@@ -16,11 +16,11 @@ use Rattle.ssz_schema.specs.Sizes.{nesting, field_nesting}
 use Rattle.ssz_schema.specs.Types.{SszType, Fields, container, no_fields, field}
 use Rattle.ssz_value.specs.Values.{SszValue, sequence, values, items, Fits, FitFields}
 use Rattle.ssz_value.proofs.Sequences.{values-items}
-use Rattle.ssz_value_json.specs.Text.{json_of, members_json}
+use Rattle.ssz_json_text.specs.Text.{json_of, members_json}
 use Rattle.ssz_value_json.specs.Steps.{◌>>=◌, where_holds, next, bad_member}
 use Rattle.ssz_value_json.specs.Walk.{walk, fields_at, field_walked}
 use Rattle.ssz_value_json.proofs.Ascii.{name_utf8}
-use Rattle.ssz_value_json.proofs.Lengths.{IsNoField, unlike, distinct_fields, absent, rest_absent}
+use Rattle.ssz_json_text.proofs.Lengths.{IsNoField, unlike, distinct_fields, absent, rest_absent}
 use Rattle.ssz_value_json.proofs.ReadBack.{ReadsBack, MembersReadBack, AreInOrder, object_back, in_order_put, back_put}
 use Rattle.ssz_value_json.proofs.BackWords.{BackLaw, WalksTo, deeper}
 

@@ -17,8 +17,8 @@ use Rattle.ssz_value.proofs.FormLemmas.{byte_type}
 use Rattle.ssz_value.proofs.Sequences.{values-items}
 use Rattle.ssz_value_json.specs.declared.count.Count.{Count}
 use Rattle.ssz_value_json.specs.declared.count.Count.TheVariants.{Exactly, AtMost}
-use Rattle.ssz_value_json.specs.Strings.{hex_text}
-use Rattle.ssz_value_json.specs.Text.{json_of, sequence_json, byte_of}
+use Rattle.ssz_json_text.specs.Strings.{hex_text}
+use Rattle.ssz_json_text.specs.Text.{json_of, sequence_json, byte_of}
 use Rattle.ssz_value_json.specs.Steps.{◌>>=◌, where_holds, leaf, next, allows, bad_text, bad_count}
 use Rattle.ssz_value_json.specs.Walk.{walk, bytes_at, sequence_at, elements_at, array_at}
 use Rattle.ssz_value_json.proofs.Ascii.{hex_utf8}

@@ -15,8 +15,9 @@ use Rattle.ssz_schema.specs.Types.{uint, boolean, bitvector, bitlist}
 use Rattle.ssz_value.specs.Values.{SszValue, number, wide, truth, bits, Fits, FitsWidth}
 use Rattle.ssz_value_json.specs.declared.count.Count.{Count}
 use Rattle.ssz_value_json.specs.declared.count.Count.TheVariants.{Exactly, AtMost}
-use Rattle.ssz_value_json.specs.Strings.{hex_text, bit_digit, bits_text, text_bits}
-use Rattle.ssz_value_json.specs.Text.{json_of}
+use Rattle.ssz_json_text.specs.Strings.{hex_text, bit_digit, bits_text}
+use Rattle.ssz_value_json.specs.Strings.{text_bits}
+use Rattle.ssz_json_text.specs.Text.{json_of}
 use Rattle.ssz_value_json.specs.Steps.{◌>>=◌, where_holds, leaf, next, allows, bad_text, bad_range, bad_count}
 use Rattle.ssz_value_json.specs.Walk.{walk, number_at, decimal_at, bits_at}
 use Rattle.ssz_value_json.proofs.Ascii.{decimal_utf8, hex_utf8, bits_utf8}

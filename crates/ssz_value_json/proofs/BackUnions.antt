@@ -10,7 +10,7 @@ use Rattle.ssz_schema.specs.Legal.{most_options}
 use Rattle.ssz_schema.specs.Sizes.{nesting, option_nesting, option_count}
 use Rattle.ssz_schema.specs.Types.{SszType, Options, union, no_options, none_option, option}
 use Rattle.ssz_value.specs.Values.{SszValue, chosen, chosen_none, Fits, FitsOption, IsNoneOption}
-use Rattle.ssz_value_json.specs.Text.{json_of, option_json}
+use Rattle.ssz_json_text.specs.Text.{json_of, option_json}
 use Rattle.ssz_value_json.specs.Steps.{◌>>=◌, next, bad_kind}
 use Rattle.ssz_value_json.specs.Walk.{walk, option_at, selected}
 use Rattle.ssz_value_json.proofs.Ascii.{decimal_utf8}

@@ -4,7 +4,7 @@ use Rattle.serde_json.specs.Data.{Data}
 use Rattle.ssz_schema.specs.Sizes.{nesting}
 use Rattle.ssz_schema.specs.Types.{SszType}
 use Rattle.ssz_value.specs.Values.{SszValue, Fits}
-use Rattle.ssz_value_json.specs.Text.{json_of}
+use Rattle.ssz_json_text.specs.Text.{json_of}
 use Rattle.ssz_value_json.specs.Steps.{Walked}
 use Rattle.ssz_value_json.specs.Walk.{walk}
 use Rattle.ssz_value_json.proofs.ReadBack.{ReadsBack}

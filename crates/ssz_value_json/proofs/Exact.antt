@@ -10,7 +10,7 @@ use Rattle.ssz_schema_json.specs.Schema.{json_of as json_read}
 use Rattle.ssz_schema_json.proofs.Json.{json_of-text}
 use Rattle.ssz_value.specs.Values.{SszValue, Fits}
 use Rattle.ssz_value_json.specs.declared.fault.JsonFault.{JsonFault}
-use Rattle.ssz_value_json.specs.Text.{json, json_of}
+use Rattle.ssz_json_text.specs.Text.{json, json_of}
 use Rattle.ssz_value_json.specs.Steps.{Walked, bad_spelling}
 use Rattle.ssz_value_json.specs.Walk.{walk}
 use Rattle.ssz_value_json.specs.Faults.{walked_fault, read_fault, why_json, value_read, value_spelled, walked_value}

@@ -1,13 +1,6 @@
-pub mod Digits
-pub mod Plain
 pub mod Ascii
-pub mod Keeping
-pub mod NameOrder
-pub mod Lengths
-pub mod Pieces
 pub mod Names
 pub mod Walking
-pub mod Forms
 pub mod ReadBack
 pub mod RoundTrip
 pub mod FoundLemmas
@@ -19,5 +12,3 @@ pub mod BackContainers
 pub mod BackUnions
 pub mod WalkBack
 pub mod Exact
-pub mod OneLine
-pub mod Passing

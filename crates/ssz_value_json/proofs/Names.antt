@@ -1,17 +1,14 @@
 -- A member is looked up by the name of each field.
-use Rattle.std.proofs.Common.{◌≡◌, ℕ, ◌+◌, ◌<◌, ◌&&◌, Bool, true, false, List, [], ◌∷◌, length, map, drop, get_or, refl, sym, ap, ◌∙◌, subst}
+use Rattle.std.proofs.Common.{◌≡◌, ℕ, ◌+◌, ◌<◌, ◌&&◌, Bool, true, false, List, [], ◌∷◌, length, map, drop, get_or, refl, sym, ap, ◌∙◌}
 use Rattle.std.proofs.Common.{Bor, Option, Some, None, option_map, option_and_then}
-use Rattle.std.proofs.lemmas.List.Elements.{All-from_recursion}
-use Rattle.std.specs.List.{AllByRecursion, list_all}
+use Rattle.std.specs.List.{list_all}
 use Rattle.std.specs.Prelude.{is_some}
 use Rattle.serde_json.specs.Data.{Data}
 use Rattle.serde_json.specs.Find.{as_array}
 use Rattle.serde_json.specs.View.{view, items_view}
 use Rattle.serde_json.specs.declared.value.Value.{Value as Json}
-use Rattle.ssz_schema.specs.declared.format.Format.{Format}
-use Rattle.ssz_schema.specs.Names.{IsName}
 use Rattle.ssz_schema.specs.Types.{SszType}
-use Rattle.ssz_schema.specs.Legal.{AreLegalFields, field_names}
+use Rattle.ssz_schema.specs.Legal.{field_names}
 use Rattle.ssz_schema.specs.Unfolding.{fields_over}
 use Rattle.ssz_schema.proofs.WalkFields.{drop_at}
 use Rattle.ssz_value.proofs.PartLemmas.{Part}
@@ -24,22 +21,6 @@ pub names_over : (trees : List SszType) (fields : List Part)
     → field_names (fields_over trees fields) ≡ names_of fields
 names_over trees [] = refl
 names_over trees (f ∷ fields) = ap (λ names. f.0 ∷ names) (names_over trees fields)
-
--- each field has a name
-abbrev pub AreNamed : List Part → Type 0
-AreNamed fields = AllByRecursion (λ part. IsName part.0) fields
-
-pub fields_are_named : (format : Format) (trees : List SszType) (fields : List Part)
-    → AreLegalFields format (fields_over trees fields) → AreNamed fields
-fields_are_named format trees [] legal = tt
-fields_are_named format trees (f ∷ fields) legal =
-    (legal.0, fields_are_named format trees fields legal.2)
-
-pub name_at : (fields : List Part) (i : ℕ) (f : Part) → i < length fields → f ≡ get_or fields i f
-    → AreNamed fields → IsName f.0
-name_at fields i f below here all =
-    subst (λ (part : Part). IsName part.0) (sym here)
-    (All-from_recursion (λ (part : Part). IsName part.0) fields all i f below)
 
 -- the test of the names from i on
 pub here_false : (test : List ℕ → Bool) (fields : List Part) (i : ℕ) (f : Part)

@@ -12,8 +12,9 @@ use Rattle.hex.proofs.HexLemmas.{decode_of-encode_lower}
 use Rattle.ssz_decimal.specs.Decimal.{is_digit, digits_below, number_below}
 use Rattle.ssz_decimal.proofs.NumbersLemmas.{digits_below-some}
 use Rattle.ssz_bytes.specs.Bytes.{IsBytes}
-use Rattle.ssz_value_json.specs.Strings.{hex_text, hex_bytes, is_decimal, bits_text, text_bits, is_bit_digit}
-use Rattle.ssz_value_json.proofs.Digits.{IsDecimalOf, decimal_is, all_passed, hex_pass}
+use Rattle.ssz_json_text.specs.Strings.{hex_text, bits_text}
+use Rattle.ssz_value_json.specs.Strings.{hex_bytes, is_decimal, text_bits, is_bit_digit}
+use Rattle.ssz_json_text.proofs.Digits.{IsDecimalOf, decimal_is, all_passed, hex_pass}
 
 -- ---- decimal digits
 

@@ -6,7 +6,7 @@ use Rattle.ssz_schema.specs.Legal.{IsLegal, AreLegalFields, AreLegalOptions, mos
 use Rattle.ssz_schema.specs.Sizes.{nesting}
 use Rattle.ssz_schema.specs.Types.{SszType, Fields, Options, uint, boolean, container, vector, list, bitvector, bitlist, union, no_fields, field, no_options, none_option, option}
 use Rattle.ssz_value.specs.Values.{SszValue, Fits}
-use Rattle.ssz_value_json.specs.Text.{json_of}
+use Rattle.ssz_json_text.specs.Text.{json_of}
 use Rattle.ssz_value_json.proofs.ReadBack.{ReadsBack}
 use Rattle.ssz_value_json.proofs.BackWords.{BackLaw, deeper}
 use Rattle.ssz_value_json.proofs.BackStrings.{bitlist_back, bitvector_back, boolean_back, uint_back}

@@ -12,7 +12,7 @@ use Rattle.ssz_value_json.specs.declared.fault.JsonRead.{JsonRead}
 use Rattle.ssz_value_json.specs.declared.fault.JsonRead.TheVariants.{Bad, Memory}
 use Rattle.ssz_value_json.specs.Steps.{not_json, Found, Walked}
 use Rattle.ssz_value_json.specs.Faults.{why_json}
-use Rattle.ssz_value_json.specs.Text.{json}
+use Rattle.ssz_json_text.specs.Text.{json}
 
 -- the answer stands for what is found, or is the first fault, or memory ran out
 abbrev pub Finds : {X A : Type 0} → (X → A) → (X → Type 0) → Found A → Result X JsonRead → Type 0

@@ -8,7 +8,7 @@ use Rattle.ssz_schema_json.specs.Schema.{json_of as json_read}
 use Rattle.ssz_value.specs.Values.{SszValue, truth}
 use Rattle.ssz_value_json.specs.declared.fault.JsonFault.{JsonFault}
 use Rattle.ssz_value_json.specs.Steps.{not_json, bad_spelling, Walked}
-use Rattle.ssz_value_json.specs.Text.{json}
+use Rattle.ssz_json_text.specs.Text.{json}
 use Rattle.ssz_value_json.specs.Walk.{walk}
 
 -- J8 where the value has another text

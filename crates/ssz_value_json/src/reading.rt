@@ -10,20 +10,18 @@ ghost use Rattle.ssz_schema.specs.Legal.{IsLegal};
 ghost use Rattle.ssz_schema.specs.Names.{IsName};
 ghost use Rattle.ssz_schema.specs.Unfolding.{type_of, fields_over, options_over, IsBelow};
 ghost use Rattle.ssz_value.specs.Standing.{value_of, is_byte, IsFormed, FieldsFormed, IsValue};
-ghost use Rattle.ssz_value_json.specs.Text.{json};
+ghost use Rattle.ssz_json_text.specs.Text.{json};
 ghost use Rattle.ssz_value_json.specs.Steps.{next};
 ghost use Rattle.ssz_value_json.specs.Walk.{walk, byte_number, field_walked, sequence_at, elements_at, fields_at, none_at, selected, members_in, are_members};
 ghost use Rattle.ssz_schema_json.specs.Schema.{json_of as json_read};
 ghost use Rattle.ssz_value_json.specs.Answers.{Walks, ReadsTo, ReadsJson, IsFaultOf, IsFormedSequence, IsFormedUnion};
 
-use super::appending::append_value;
-use super::comparing::spells;
 use super::count::{Count, allows};
-use super::draft::draft_of;
 use super::fault::{JsonFault, JsonRead};
-use super::piece::Piece;
 use super::strings::{bad, bits_in, bytes_in, flag_in, number_in};
 use serde_json::Value as Json;
+use ssz_json_draft::draft_of;
+use ssz_json_text::{append_value, spells};
 use ssz_schema::{Name, Schema, Ty, TypeId};
 use ssz_value::{Value, fits, is_byte, option_at};
 use std::alloc::{AllocError, Global};
@@ -62,7 +60,7 @@ fn value_spelled(
     ensures { let t = type_of schema.now id in IfOk result (λ found. IfSome found
         (λ v. IsValue t v × (json t (value_of v) ≡ bytes.now))) }
 {
-    let Some(value) = drafted(alloc, schema, id, bytes)? else {
+    let Some(value) = draft_of(alloc, schema, id, bytes)? else {
         return Ok(None);
     };
     if !fits(schema, id, &value) {
@@ -72,35 +70,6 @@ fn value_spelled(
         Ok(Some(value))
     } else {
         Ok(None)
-    }
-}
-
-fn drafted(
-    alloc: Global,
-    schema: &Schema,
-    id: TypeId,
-    bytes: &[u8],
-) -> Result<Option<Value>, AllocError>
-    requires { id < length schema.now.trees }
-{
-    match draft_in(alloc, schema, id, bytes) {
-        Ok(draft) => Ok(Some(draft)),
-        Err(JsonRead::Bad(_)) => Ok(None),
-        Err(JsonRead::Memory) => Err(AllocError),
-    }
-}
-
-fn draft_in(alloc: Global, schema: &Schema, id: TypeId, bytes: &[u8]) -> Result<Value, JsonRead>
-    requires { id < length schema.now.trees }
-{
-    let piece = piece_of(alloc, bytes)?;
-    draft_of(alloc, schema, id, &piece)
-}
-
-fn piece_of(alloc: Global, bytes: &[u8]) -> Result<Piece<'_>, JsonRead> {
-    match serde_json::from_slice(alloc, bytes) {
-        Ok(piece) => Ok(piece),
-        Err(error) => Err(fault_of(&error)),
     }
 }
 

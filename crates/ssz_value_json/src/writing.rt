@@ -1,12 +1,11 @@
 ghost use Rattle.std.specs.Prelude.{◌≡◌, ◌<◌, ◌++◌, length, OnOk, OnErr};
 ghost use Rattle.ssz_schema.specs.Unfolding.{type_of};
 ghost use Rattle.ssz_value.specs.Standing.{value_of, IsValue};
-ghost use Rattle.ssz_value_json.specs.Text.{json};
+ghost use Rattle.ssz_json_text.specs.Text.{json};
 ghost use Rattle.ssz_value.specs.Written.{Appends};
 
-use super::appending::append_value;
 use super::fault::JsonWrite;
-use super::measuring::text_len;
+use ssz_json_text::{append_value, text_len};
 use ssz_schema::{Schema, TypeId};
 use ssz_value::Value;
 use std::alloc::{AllocError, Global};

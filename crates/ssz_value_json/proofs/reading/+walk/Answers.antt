@@ -20,7 +20,7 @@ use Rattle.ssz_value.proofs.ValueLemmas.{seq_is, chosen_is}
 use Rattle.ssz_schema.specs.Types.{SszType, uint, boolean, bitvector, bitlist, container, union}
 use Rattle.serde_json.specs.Events.{members_len}
 use Rattle.serde_json.proofs.Views.{members_len-members_view}
-use Rattle.ssz_value_json.proofs.Names.{fields_are_named}
+use Rattle.ssz_json_text.proofs.Names.{fields_are_named}
 use Rattle.ssz_value_json.proofs.Walking.{before, before_none, leaf_of, then_more, then_found, passed_on, item_here, refused_walks, walks_as, array_refused, array_from, items_len_is, whole_of, object_members, container_from, container_refused, union_then, chosen_of, option_past, option_none, option_some}
 use Rattle.ssz_value_json.proofs.reading.+walk.Goals as goal
 

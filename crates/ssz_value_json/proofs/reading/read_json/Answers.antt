@@ -2,7 +2,7 @@ use Rattle.std.proofs.Common.{◌≡◌, IfSome, subst}
 use Rattle.ssz_schema.specs.Unfolding.{type_of}
 use Rattle.ssz_value.specs.declared.value.Value.{Value}
 use Rattle.ssz_value.specs.Standing.{value_of, IsValue}
-use Rattle.ssz_value_json.specs.Text.{json}
+use Rattle.ssz_json_text.specs.Text.{json}
 use Rattle.ssz_value_json.proofs.Exact.{spelled_faultless}
 use Rattle.ssz_value_json.proofs.reading.read_json.Goals as goal
 

@@ -3,7 +3,7 @@ use Rattle.std.proofs.lemmas.Slice.Eq.{bytes_eq-Decides}
 use Rattle.serde_json.specs.View.{view}
 use Rattle.ssz_schema.specs.Unfolding.{type_of}
 use Rattle.ssz_value.specs.Standing.{value_of}
-use Rattle.ssz_value_json.specs.Text.{json}
+use Rattle.ssz_json_text.specs.Text.{json}
 use Rattle.ssz_value_json.proofs.WalkFits.{fit_law}
 use Rattle.ssz_value_json.proofs.Exact.{read_same}
 use Rattle.ssz_value_json.proofs.reading.read_whole.Goals as goal

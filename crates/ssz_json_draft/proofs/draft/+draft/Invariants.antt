@@ -1,0 +1,26 @@
+use Rattle.std.proofs.Common.{◌+◌, ◌*◌}
+use Rattle.ssz_json_draft.proofs.draft.+draft.Given as goal
+
+abbrev pub decreases-value_of : goal.decreases-value_of
+decreases-value_of l = 7 * l.id + 3
+
+abbrev pub decreases-chosen_of : goal.decreases-chosen_of
+decreases-chosen_of l = 7 * l.id + 2
+
+abbrev pub decreases-container_of : goal.decreases-container_of
+decreases-container_of l = 7 * l.id + 2
+
+abbrev pub decreases-row_of : goal.decreases-row_of
+decreases-row_of l = 7 * l.id + 1
+
+abbrev pub decreases-fields_of : goal.decreases-fields_of
+decreases-fields_of l = 7 * l.id
+
+abbrev pub decreases-rows_of : goal.decreases-rows_of
+decreases-rows_of l = 7 * l.id + 4
+
+abbrev pub decreases-elements_of : goal.decreases-elements_of
+decreases-elements_of l = 7 * l.elem + 4
+
+abbrev pub decreases-sequence_of : goal.decreases-sequence_of
+decreases-sequence_of l = 7 * l.elem + 5

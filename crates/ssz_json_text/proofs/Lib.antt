@@ -1,0 +1,10 @@
+pub mod Digits
+pub mod Plain
+pub mod Keeping
+pub mod NameOrder
+pub mod Lengths
+pub mod Pieces
+pub mod Names
+pub mod Forms
+pub mod OneLine
+pub mod Passing

@@ -1,0 +1,5 @@
+pub mod Strings
+pub mod Text
+pub mod Laws
+pub mod Keeping
+pub mod Order
