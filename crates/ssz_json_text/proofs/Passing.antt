@@ -12,6 +12,8 @@ use Rattle.ssz_value.specs.declared.value.Value.{Value}
 use Rattle.ssz_value.specs.Standing.{value_of}
 use Rattle.ssz_json_text.specs.Order.{Entries, members_over}
 use Rattle.ssz_json_text.specs.Text.{json, json_of}
+use Rattle.ssz_schema.specs.Names.{IsName}
+use Rattle.ssz_json_text.proofs.Plain.{quoted_plain, name_plain}
 use Rattle.ssz_json_text.proofs.Pieces.{elements_left, later}
 
 -- two pieces and what is behind them
@@ -79,3 +81,13 @@ pub passed : {E : Type 0} (r : Result (Bor (List ℕ)) E) (left bytes piece whol
 passed r left bytes piece whole f h =
     IfOk-weaker r (λ rest. left ≡ piece ++ rest.now) (λ rest. bytes ≡ whole ++ rest.now)
     (λ rest e. f rest.now e) h
+
+-- the name of a member, quote by quote
+pub key_passed : (comma name bytes one two three rest : List ℕ) → IsName name
+    → bytes ≡ comma ++ one → one ≡ 34 ∷ two → two ≡ name ++ three → three ≡ 34 ∷ 58 ∷ rest
+    → bytes ≡ comma ++ ((quoted name ++ 58 ∷ []) ++ rest)
+key_passed comma name bytes one two three rest is first quote named behind =
+    first ∙ ap (λ s. comma ++ s) (quote ∙ ap (λ s. 34 ∷ s) (named ∙ ap (λ s. name ++ s) behind)
+    ∙ sym (ap (λ s. (s ++ 58 ∷ []) ++ rest) (quoted_plain name (name_plain name is))
+    ∙ ap (λ s. 34 ∷ s) (append_assoc (name ++ 34 ∷ []) (58 ∷ []) rest
+    ∙ append_assoc name (34 ∷ []) (58 ∷ rest))))

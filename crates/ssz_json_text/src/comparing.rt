@@ -16,7 +16,7 @@ ghost use Rattle.ssz_json_text.specs.Text.{json, json_of, sequence_json, members
 
 use super::appending::append_value;
 use super::order::{Row, member_at, row_of};
-use super::putting::{put_comma, put_hex, put_key};
+use super::putting::put_hex;
 use ssz_schema::{Name, Schema, Ty, TypeId};
 use ssz_value::Value;
 use std::alloc::{AllocError, Global};
@@ -294,25 +294,20 @@ fn after_fields<'b>(
     let mut rest = after(bytes, b"{")?;
     for i in 0..row.order.len() {
         let (name, number) = member_at(row, i);
-        rest = after_key(i > 0, name, rest, room)?;
+        rest = after_key(i > 0, name, rest)?;
         rest = after_value(schema, row.fields[number].1, &parts[number], rest, room)?;
     }
     after(rest, b"}")
 }
 
 // The bytes behind the name of a member, with the comma before it and its colon.
-fn after_key<'b>(
-    later: bool,
-    name: &[u8],
-    bytes: &'b [u8],
-    room: &mut Vec<u8>,
-) -> Result<&'b [u8], Unlike>
+fn after_key<'b>(later: bool, name: &[u8], bytes: &'b [u8]) -> Result<&'b [u8], Unlike>
     requires { IsName name.now }
     ensures { IfOk result
         (λ rest. bytes.now ≡ comma_if later ++ ((quoted name.now ++ 58 ∷ []) ++ rest.now)) }
 {
-    room.clear();
-    put_comma(later, room)?;
-    put_key(name, room)?;
-    after(bytes, room.as_slice())
+    let rest = after_comma(later, bytes)?;
+    let rest = after(rest, b"\"")?;
+    let rest = after(rest, name)?;
+    after(rest, b"\":")
 }

@@ -82,7 +82,7 @@ pub(crate) fn put_hex(bytes: &[u8], out: &mut Vec<u8>) -> Result<(), AllocError>
     put(b"\"", out)
 }
 
-// Block by block, and the bytes behind the last block one by one.
+// Block by block, and the bytes behind the last block.
 #[tactic(auto, using(crate::proofs::Keeping::keeps_trans, crate::proofs::Keeping::keeps_self))]
 fn put_digits(bytes: &[u8], out: &mut Vec<u8>) -> Result<(), AllocError>
     ensures text { OnOk result (out.new.items ≡ out.old.items ++ encode_lower bytes.now) }
@@ -97,15 +97,16 @@ fn put_digits(bytes: &[u8], out: &mut Vec<u8>) -> Result<(), AllocError>
     put_last_digits(rest, out)
 }
 
-#[tactic(auto, using(crate::proofs::Keeping::keeps_trans, crate::proofs::Keeping::keeps_self))]
+// Of fewer bytes than a block has.
 fn put_last_digits(bytes: &[u8], out: &mut Vec<u8>) -> Result<(), AllocError>
+    requires { length bytes.now < 32 }
     ensures text { OnOk result (out.new.items ≡ out.old.items ++ encode_lower bytes.now) }
     ensures front { Keeps out.old.items out.new.items }
 {
-    for byte in bytes {
-        put(&digits_of(*byte), out)?;
-    }
-    Ok(())
+    let mut digits = [0; 2 * BLOCK];
+    let (front, _) = digits.split_at_mut(2 * bytes.len());
+    let _ = hex::encode_to_slice(bytes, front);
+    put(front, out)
 }
 
 // The digits of a block.
@@ -115,15 +116,6 @@ fn digits_of_block(block: &[u8]) -> [u8; 2 * BLOCK]
 {
     let mut digits = [0; 2 * BLOCK];
     let _ = hex::encode_to_slice(block, &mut digits);
-    digits
-}
-
-// The two digits of a byte.
-fn digits_of(byte: u8) -> [u8; 2]
-    ensures { result ≡ encode_lower (byte ∷ []) }
-{
-    let mut digits = [0; 2];
-    let _ = hex::encode_to_slice([byte].as_slice(), &mut digits);
     digits
 }
 
