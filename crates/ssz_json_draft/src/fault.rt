@@ -3,7 +3,7 @@ use std::alloc::{AllocError, AllocFailed};
 /// Why there is no draft.
 #[derive(Clone, Copy, Debug, PartialEq, Eq)]
 pub(crate) enum NoDraft {
-    /// The bytes are no JSON text, or of another form than the type's.
+    /// The text of no value of the type goes on so.
     Form,
     /// Want of memory.
     Memory,
