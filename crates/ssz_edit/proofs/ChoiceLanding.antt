@@ -1,6 +1,6 @@
 -- A union at a place with another option, as an edit of the whole value.
-use Rattle.std.proofs.Common.{ltb, ◌≡◌, ℕ, zero, suc, ◌+◌, ◌*◌, ◌<◌, ◌≤◌, List, [], ◌∷◌, ◌++◌, refl, sym, ap, ap₂, ◌∙◌, subst, Option, Some, None, Ok, Err, arith}
-use Rattle.std.specs.Prelude.{option_map, IsSome, slice_get}
+use Rattle.std.proofs.Common.{Bor, ltb, ◌≡◌, ℕ, zero, suc, ◌+◌, ◌*◌, ◌<◌, ◌≤◌, List, [], ◌∷◌, ◌++◌, refl, sym, ap, ap₂, ◌∙◌, subst, Option, Some, None, Ok, Err, arith}
+use Rattle.std.specs.Prelude.{option_map, IfSome, IsSome, slice_get}
 use Rattle.std.specs.List.{AllByRecursion}
 use Rattle.std.proofs.lemmas.Bool.{cond-true, cond-false, lt-ltb, le-ltb}
 use Rattle.std.proofs.lemmas.Option.{none-some, same_Some}
@@ -13,18 +13,18 @@ use Rattle.ssz_schema.specs.Types.{SszType, Options, union}
 use Rattle.ssz_schema.specs.Sizes.{basic_size, option_count}
 use Rattle.ssz_schema.specs.Legal.{IsLegal}
 use Rattle.ssz_schema.specs.Unfolding.{Types, type_of, tree_at, options_over, IsBelow}
-use Rattle.ssz_schema.specs.Paths.{Path, step_type}
+use Rattle.ssz_schema.specs.Paths.{Path, path_type, step_type}
 use Rattle.ssz_gindex.specs.Paths.{index_levels}
 use Rattle.ssz_schema.specs.Indices.{Spot, whole, byte, bit}
 use Rattle.ssz_value.specs.declared.value.Value.{Value}
 use Rattle.ssz_value.specs.declared.edit_fault.EditFault.TheVariants.{NotThat, BadSelector}
-use Rattle.ssz_value.specs.Values.{SszValue, FitsOption}
+use Rattle.ssz_value.specs.Values.{SszValue, Fits, FitsOption, IsNoneOption}
 use Rattle.ssz_value.specs.Standing.{value_of, IsValue, OptionFormed}
 use Rattle.ssz_value.specs.Trees.{tree, option_tree, mixed_in, number_chunk}
 use Rattle.ssz_value.specs.Pairs.{pairs, option_pairs}
 use Rattle.ssz_value.specs.Parts.{part}
 use Rattle.ssz_value.specs.Edits.{edited, with_choice, choice_of}
-use Rattle.ssz_value.specs.Suiting.{IsInner}
+use Rattle.ssz_value.specs.Suiting.{IsInner, inner_of}
 use Rattle.ssz_arena.specs.declared.node.NodeId.{NodeId}
 use Rattle.ssz_arena.specs.Content.{Content, tree_of}
 use Rattle.ssz_places.specs.Spots.{LiesWithin, with_part}
@@ -40,9 +40,13 @@ use Rattle.ssz_tree.proofs.Adding.{MakesLeaf, MakesPair, Makes-joined}
 use Rattle.ssz_tree.proofs.FewNodes.{few_nodes}
 use Rattle.ssz_walk.specs.declared.place.Place.{Place}
 use Rattle.ssz_walk.specs.Found.{spot_of, IsFound}
-use Rattle.ssz_edit.specs.Edited.{Answers, IsPut}
-use Rattle.ssz_edit.specs.Chosen.{HasNoOptions, IsOfOption, option_part}
-use Rattle.ssz_edit.proofs.Landing.{lies, lands, levels_there, pairs_there}
+use Rattle.ssz_edit.specs.Edited.{Edits, IsPut}
+use Rattle.ssz_edit.specs.Chosen.{HasNoOptions}
+use Rattle.ssz_edit.specs.declared.given.Given.{Given}
+use Rattle.ssz_edit.specs.declared.choosing.Choice.{Choice}
+use Rattle.ssz_edit.specs.Given.{given_value, option_part, option_value, values_given, FitsOf, IsGiven, IsOfOption}
+use Rattle.ssz_edit.specs.Targets.{ChoosesAt}
+use Rattle.ssz_edit.proofs.Landing.{from_type, lies, lands, levels_there, pairs_there}
 use Rattle.ssz_edit.proofs.Counted.{changeable_composite}
 
 -- no other type is edited so
@@ -88,6 +92,47 @@ below_option n (other ∷ ids) zero o there all =
     subst (IsBelow n) (sym (same_Some o other there)) all.0
 below_option n (other ∷ ids) (suc k) o there all = below_option n ids k o there all.1
 
+-- a value of the option of this number
+fits_there : (trees : List SszType) (ids : List (Option ℕ)) (k id : ℕ) (x : SszValue)
+    → Some (Some id) ≡ slice_get ids k → Fits (tree_at trees id) x
+    → FitsOption (options_over trees ids) k x
+fits_there trees [] k id x there fits = absurd (none-some (Some id) (sym there))
+fits_there trees (None ∷ ids) zero id x there fits = absurd (none-some id (sym (same_Some (Some id) None there)))
+fits_there trees (Some other ∷ ids) zero id x there fits =
+    let same : id ≡ other = same_Some id other (same_Some (Some id) (Some other) there) in
+    subst (λ n. Fits (tree_at trees n) x) same fits
+fits_there trees (None ∷ ids) (suc k) id x there fits = fits_there trees ids k id x there fits
+fits_there trees (Some other ∷ ids) (suc k) id x there fits =
+    fits_there trees ids k id x there fits
+
+none_there : (trees : List SszType) (ids : List (Option ℕ)) (k : ℕ)
+    → Some None ≡ slice_get ids k → IsNoneOption (options_over trees ids) k
+none_there trees [] k there = absurd (none-some None (sym there))
+none_there trees (None ∷ ids) zero there = tt
+none_there trees (Some other ∷ ids) zero there =
+    absurd (none-some other (same_Some None (Some other) there))
+none_there trees (None ∷ ids) (suc k) there = none_there trees ids k there
+none_there trees (Some other ∷ ids) (suc k) there = none_there trees ids k there
+
+-- None has no value, and a type is not None
+no_value : {X : Type 0} (trees : List SszType) (ids : List (Option ℕ)) (k : ℕ) (x : SszValue)
+    → Some None ≡ slice_get ids k → FitsOption (options_over trees ids) k x → X
+no_value trees [] k x there fits = absurd fits
+no_value trees (None ∷ ids) zero x there fits = absurd fits
+no_value trees (Some other ∷ ids) zero x there fits =
+    absurd (none-some other (same_Some None (Some other) there))
+no_value trees (None ∷ ids) (suc k) x there fits = no_value trees ids k x there fits
+no_value trees (Some other ∷ ids) (suc k) x there fits = no_value trees ids k x there fits
+
+no_none : {X : Type 0} (trees : List SszType) (ids : List (Option ℕ)) (k id : ℕ)
+    → Some (Some id) ≡ slice_get ids k → IsNoneOption (options_over trees ids) k → X
+no_none trees [] k id there none = absurd none
+no_none trees (None ∷ ids) zero id there none =
+    absurd (none-some id (sym (same_Some (Some id) None there)))
+no_none trees (Some other ∷ ids) zero id there none = absurd none
+no_none trees (None ∷ ids) (suc k) id there none = no_none trees ids k id there none
+no_none trees (Some other ∷ ids) (suc k) id there none = no_none trees ids k id there none
+
 -- the value of an option of a type
 value_there : (trees : List SszType) (ids : List (Option ℕ)) (k id : ℕ) (v : Value)
     → Some (Some id) ≡ slice_get ids k → FitsOption (options_over trees ids) k (value_of v)
@@ -129,19 +174,28 @@ module _ (types : Types) (ids : List (Option ℕ)) (k : ℕ) (option : Option �
   abbrev os : Options
   os = options_over types.trees ids
 
-  pub of_option : (o : Option ℕ) (inner : Option Value) → o ≡ option → IsInner (union os) k inner
-      → IsOfOption types o inner
+  -- what is one of the union is one of the option
+  pub of_option : (o : Option ℕ) (inner : Option (Bor Value)) → o ≡ option
+      → IsInner (union os) k (inner_of inner)
+      → IsOfOption types o (values_given inner)
+      × (option_value types o (values_given inner) ≡ option_map value_of (inner_of inner))
   of_option (Some id) (Some v) is inner_is =
       let both = inner_is (within_options types.trees ids k option there) in
-      value_there types.trees ids k id v (ap Some is ∙ there) both.0 both.1
-  of_option (Some id) None is inner_is = tt
-  of_option None (Some v) is inner_is = tt
-  of_option None None is inner_is = tt
+      (value_there types.trees ids k id v.now (ap Some is ∙ there) both.0 both.1, refl)
+  of_option (Some id) None is inner_is =
+      no_none types.trees ids k id (ap Some is ∙ there)
+      (inner_is (within_options types.trees ids k option there))
+  of_option None (Some v) is inner_is =
+      let both = inner_is (within_options types.trees ids k option there) in
+      no_value types.trees ids k (value_of v.now) (ap Some is ∙ there) both.0
+  of_option None None is inner_is = (tt, refl)
 
-  is_choice : (inner : Option Value) → IsInner (union os) k inner
-      → IsChoice (union os) k (option_map value_of inner)
-  is_choice (Some v) inner_is = (inner_is (within_options types.trees ids k option there)).0
-  is_choice None inner_is = inner_is (within_options types.trees ids k option there)
+  is_choice : (o : Option ℕ) (x : Option SszValue) → o ≡ option → FitsOf types o x
+      → IsChoice (union os) k x
+  is_choice (Some id) (Some x) is fits = fits_there types.trees ids k id x (ap Some is ∙ there) fits
+  is_choice None None is fits = none_there types.trees ids k (ap Some is ∙ there)
+  is_choice (Some id) None is fits = absurd fits
+  is_choice None (Some x) is fits = absurd fits
 
   choice_is : (x : Option SszValue)
       → (choice_tree (union os) k x ≡ (option_part types option x).tree)
@@ -172,18 +226,15 @@ module _ (types : Types) (ids : List (Option ℕ)) (k : ℕ) (option : Option �
         })).selector (subst (λ s. IsSome (step_type s Selector)) (sym is) refl)
 
     -- the answers of a choose
-    pub choose_made : (inner : Option Value) → IsInner u k inner → (v : SszValue)
+    pub choose_made : (x : Option SszValue) → FitsOf types option x → (v : SszValue)
         → IsTreeOf t v (tree_of arena node) → (new : Content) (made : NodeId)
         → IsPut arena new node place.index
-        (joined (option_part types option (option_map value_of inner)) (number_chunk k)) made
-        → Adds (2 * (option_part types option (option_map value_of inner)).cost + 3
-        + levels place.index)
-        ((option_part types option (option_map value_of inner)).cost + 1 + levels place.index)
-        arena new
-        → Answers t arena new node (choose_charge t path k (option_map value_of inner))
-        (edited (with_choice k (option_map value_of inner)) t v path) (Ok made)
-    choose_made inner inner_is v of new made put_is adds =
-        let x = option_map value_of inner in
+        (joined (option_part types option x) (number_chunk k)) made
+        → Adds (2 * (option_part types option x).cost + 3 + levels place.index)
+        ((option_part types option x).cost + 1 + levels place.index) arena new
+        → Edits t arena new node (choose_charge t path k x) (edited (with_choice k x) t v path)
+        made
+    choose_made x fits v of new made put_is adds =
         let y = choice_of k x in
         let w = some_from (part t v path) (found.present v of) in
         let within = within_options types.trees ids k option there in
@@ -192,7 +243,7 @@ module _ (types : Types) (ids : List (Option ℕ)) (k : ℕ) (option : Option �
         ∙ cond-true (ltb k (option_count os)) _ _ (lt-ltb k (option_count os) within) in
         let choice : IsChoice u k x =
         subst (λ s. IsChoice s k x) (sym is)
-        (is_choice inner (subst (λ s. IsInner s k inner) is inner_is)) in
+        (is_choice option x refl fits) in
         let law = law_of_choice u w.0 y k x made_is choice in
         let tree_is : tree u y ≡ mixed_in k (option_part types option x).tree =
         law.1 ∙ ap (mixed_in k) (ap (λ s. choice_tree s k x) is ∙ (choice_is x).0) in
@@ -221,36 +272,35 @@ module _ (types : Types) (ids : List (Option ℕ)) (k : ℕ) (option : Option �
           },
         )
 
--- the part that is chosen, where the option and the value are known
+-- the part that is chosen, where the option and what is given are known
 pub no_option_part : (types : Types) (option : Option ℕ) (x : Option SszValue) → option ≡ None
     → option_part types option x ≡ none_part
 no_option_part types None x none = refl
 no_option_part types (Some id) x none = absurd (none-some id (sym none))
 
-pub no_value_part : (types : Types) (option : Option ℕ) (x : Option SszValue) → x ≡ None
-    → option_part types option x ≡ none_part
-no_value_part types None x none = refl
+pub no_value_part : (types : Types) (option : Option ℕ) (inner : Option Given) → inner ≡ None
+    → option_part types option (option_value types option inner) ≡ none_part
+no_value_part types None None none = refl
 no_value_part types (Some id) None none = refl
 no_value_part types option (Some x) none = absurd (none-some x (sym none))
 
-module _ (types : Types) (option : Option ℕ) (inner : Option Value) (id : ℕ) (v : Value)
-    (is : option ≡ Some id) (has : inner ≡ Some v) where
-  pub value_of_option : IsOfOption types option inner → IsValue (type_of types id) v
-  value_of_option of =
+module _ (types : Types) (option : Option ℕ) (inner : Option Given) (id : ℕ) (g : Given)
+    (is : option ≡ Some id) (has : inner ≡ Some g) where
+  pub given_of_option : IsOfOption types option inner → IsGiven (type_of types id) g
+  given_of_option of =
       subst (λ i. IsOfOption types (Some id) i) has (subst (λ o. IsOfOption types o inner) is of)
 
-  pub value_part : option_part types option (option_map value_of inner)
-      ≡ part_of (type_of types id) (value_of v)
-  value_part = ap₂ (λ o i. option_part types o (option_map value_of i)) is has
+  pub given_part : option_part types option (option_value types option inner)
+      ≡ part_of (type_of types id) (given_value (type_of types id) g)
+  given_part = ap₂ (λ o i. option_part types o (option_value types o i)) is has
 
 -- its nodes are few beside its pairs
-pub few_in_option : (types : Types) (option : Option ℕ) (inner : Option Value)
-    → IsOfOption types option inner
-    → (let part = option_part types option (option_map value_of inner) in
-    part.nodes ≤ 2 * part.cost + 1)
-few_in_option types None inner of = omega arith
-few_in_option types (Some id) None of = omega arith
-few_in_option types (Some id) (Some v) of = few_nodes (type_of types id) (value_of v) of.fits
+pub few_in_option : (types : Types) (option : Option ℕ) (x : Option SszValue)
+    → FitsOf types option x
+    → (let part = option_part types option x in part.nodes ≤ 2 * part.cost + 1)
+few_in_option types None x fits = omega arith
+few_in_option types (Some id) None fits = omega arith
+few_in_option types (Some id) (Some x) fits = few_nodes (type_of types id) x fits
 
 -- an option of a type before others
 pub below_more : (n m : ℕ) (o : Option ℕ) → n < m → IsBelow n o → IsBelow m o
@@ -265,3 +315,17 @@ pub choice_made : (old a1 a2 a3 : Content) (part : Part) (k : ℕ) (chunk : List
 choice_made old a1 a2 a3 part k chunk inner number made is first second third =
     subst (λ bytes. Makes old a3 (joined part bytes) made) is
     (Makes-joined old a1 a2 a3 part chunk inner number made first second third)
+
+-- what is one of the union at a path is given for its option, and stands for the same value
+pub chosen : (types : Types) (arena : Content) (id : ℕ) (node : NodeId) (path : Path) (k : ℕ)
+    (choice : Choice) → ChoosesAt types arena id node path k choice
+    → (inner : Option (Bor Value))
+    → IfSome (path_type (type_of types id) path) (λ u. IsInner u k (inner_of inner))
+    → IsOfOption types choice.option (values_given inner)
+    × (option_value types choice.option (values_given inner)
+    ≡ option_map value_of (inner_of inner))
+chosen types arena id node path k choice at inner is =
+    of_option types at.options k choice.option at.option_there choice.option inner refl
+    (subst (λ u. IsInner u k (inner_of inner)) at.is
+    (from_type types.format types arena id node path choice.place at.legal at.found
+    (λ u. IsInner u k (inner_of inner)) is))

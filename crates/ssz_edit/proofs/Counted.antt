@@ -109,6 +109,12 @@ element_is (list elem n) value counted is = is
 element_is (bitlist n) value counted is = is
 element_is _ value counted is = absurd counted
 
+pub element_legal : (format : Format) (u : SszType) → IsCounted u → IsLegal format u
+    → IsLegal format (element_type u)
+element_legal format (list elem n) counted legal = legal.0
+element_legal format (bitlist n) counted legal = tt
+element_legal format _ counted legal = absurd counted
+
 -- a step to an element below the limit
 pub element_step : (u : SszType) (limit i : ℕ) → limit_of u ≡ Some limit → i < limit
     → step_type u (Index i) ≡ Some (element_type u)

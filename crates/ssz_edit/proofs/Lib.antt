@@ -6,4 +6,5 @@ pub mod Slotting
 pub mod Counted
 pub mod ListLanding
 pub mod ChoiceLanding
+pub mod Refusing
 pub mod Calling

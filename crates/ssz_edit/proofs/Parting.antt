@@ -21,21 +21,20 @@ use Rattle.ssz_edit.specs.Edited.{part_with, part_without}
 -- the first bytes of the chunk of a basic value are its encoding
 part_bytes : (u : SszType) (x : SszValue) (at : ℕ) (chunk : List ℕ) → LiesWithin u (byte at)
     → Fits u x
-    → ((t : SszType) (size : ℕ) → basic_size t ≡ Some size → Fits t x → chunk ≡ padded (enc t x))
+    → ((size : ℕ) → basic_size u ≡ Some size → Fits u x → chunk ≡ padded (enc u x))
     → take (unwrap_or (basic_size u) 0) chunk ≡ enc u x
 part_bytes u x at chunk lies fit is =
     let size = lies.0 in
     let basic = is_basic u size lies.1 in
     let small : size ≤ 32 = (let inside = basic.inside 0 in omega arith) in
     ap (λ o. take (unwrap_or o 0) chunk) lies.1
-    ∙ ap (take size) (is u size lies.1 fit) ∙ take-padded (enc u x) size (basic.sized x fit) small
+    ∙ ap (take size) (is size lies.1 fit) ∙ take-padded (enc u x) size (basic.sized x fit) small
 
 module _ (arena : Content) (u : SszType) (at : ℕ) (tree : Tree) (made : NodeId)
     (known : IsNodeOf arena made) (due : todo arena made ≡ 0) where
   -- the leaf made has the part
   pub byte_made : (x : SszValue) (bytes : List ℕ) → LiesWithin u (byte at) → Fits u x
-      → ((t : SszType) (size : ℕ) → basic_size t ≡ Some size → Fits t x
-      → bytes ≡ padded (enc t x))
+      → ((size : ℕ) → basic_size u ≡ Some size → Fits u x → bytes ≡ padded (enc u x))
       → CanHold (byte at) tree
       → ((chunk : List ℕ) → tree ≡ leaf chunk → tree_of arena made
       ≡ leaf (written chunk at (take (unwrap_or (basic_size u) 0) bytes)))

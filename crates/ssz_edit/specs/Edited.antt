@@ -45,10 +45,14 @@ pub record IsEdit (t : SszType) (old new : Content) (node made : NodeId) (result
   pub more : unhashed new ≤ unhashed old + charge
   pub few : node_count new ≤ node_count old + 2 * charge + 1
 
+-- so for the value that the edit of the whole value gives
+abbrev pub Edits : SszType → Content → Content → NodeId → ℕ → Edited → NodeId → Type 0
+Edits t old new node charge edited made =
+    (result : SszValue) × (edited ≡ Ok result) × IsEdit t old new node made result charge
+
 -- the answer is that of the edit of the whole value, or want of memory
 abbrev pub Answers : SszType → Content → Content → NodeId → ℕ → Edited → Result NodeId EditFault
     → Type 0
-Answers t old new node charge edited (Ok made) =
-    (result : SszValue) × (edited ≡ Ok result) × IsEdit t old new node made result charge
+Answers t old new node charge edited (Ok made) = Edits t old new node charge edited made
 Answers t old new node charge edited (Err Memory) = Unit {0}
 Answers t old new node charge edited (Err fault) = edited ≡ Err fault

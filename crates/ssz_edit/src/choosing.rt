@@ -1,32 +1,75 @@
 // Choosing the option of a union.
-ghost use Rattle.std.specs.Prelude.{◌≡◌, ◌+◌, ◌*◌, ◌<◌, ◌≤◌, ◌^◌, length, Some, IfOk, IfSome, IfNone, OnOk, OnErr, option_map};
+ghost use Rattle.std.specs.Prelude.{◌≡◌, ◌+◌, ◌*◌, ◌<◌, ◌≤◌, ◌^◌, ℕ, length, IfOk, IfErr, IfSome, IfNone, OnOk, OnErr, option_map};
 ghost use Rattle.std.specs.List.{AllByRecursion};
-ghost use Rattle.ssz_chunk.specs.Index.{at, levels};
+ghost use Rattle.ssz_chunk.specs.Index.{levels};
 ghost use Rattle.ssz_schema.specs.Types.{union};
 ghost use Rattle.ssz_schema.specs.Unfolding.{type_of, options_over, IsBelow};
-ghost use Rattle.ssz_schema.specs.Paths.{path_type};
+ghost use Rattle.ssz_schema.specs.Paths.{Path, path_type};
 ghost use Rattle.ssz_value.specs.Values.{SszValue};
 ghost use Rattle.ssz_value.specs.Standing.{value_of};
-ghost use Rattle.ssz_value.specs.Trees.{number_chunk};
 ghost use Rattle.ssz_value.specs.Edits.{choose_at};
 ghost use Rattle.ssz_value.specs.Suiting.{IsInner, inner_of};
 ghost use Rattle.ssz_places.specs.PlaceLaws.{IsTreeOf};
 ghost use Rattle.ssz_places.specs.Charges.{choose_charge};
 ghost use Rattle.ssz_arena.specs.Content.{IsNodeOf, KeepsNodes, KeepsTodo, todo, tree_of};
 ghost use Rattle.ssz_tree.specs.Added.{Adds, IsPart};
-ghost use Rattle.ssz_making.specs.Parts.{joined, none_part};
-ghost use Rattle.ssz_edit.specs.Chosen.{HasNoOptions, IsOfOption, option_part};
-ghost use Rattle.ssz_edit.specs.Edited.{Answers, IsPut};
+ghost use Rattle.ssz_making.specs.Parts.{none_part};
+ghost use Rattle.ssz_edit.specs.Chosen.{HasNoOptions};
+ghost use Rattle.ssz_edit.specs.Edited.{Answers, Edits};
+ghost use Rattle.ssz_edit.specs.Given.{IsOfOption, option_part, option_value};
+ghost use Rattle.ssz_edit.specs.Targets.{CannotChoose, ChoosesAt, HasUnion};
 
+use super::given::{Given, fitting, given_node, given_of, option_fitting};
 use super::room::reserve_for;
 use ssz_arena::{Arena, NodeId};
 use ssz_chunk::PairHash;
 use ssz_packing::number_chunk;
 use ssz_schema::{PathStep, Schema, Ty, TypeId};
-use ssz_tree::value_node;
 use ssz_value::{EditFault, Value, option_at};
 use ssz_walk::{Place, find};
 use std::alloc::AllocError;
+
+/// Where an option of a union is chosen: the union's place, and the option under the selector, None
+/// or a type.
+#[derive(Debug, Drop)]
+pub struct Choice {
+    pub place: Place,
+    pub option: Option<TypeId>,
+    pub selector: u8,
+}
+
+/// The union at the path and its option of this number, from the node of a value of the type: there
+/// `put_choice` puts a value of it. The tests of `choose`, in their order: `BadPath`, `Absent`,
+/// `NotThat` and `BadSelector`.
+pub fn open_choice<H: PairHash>(
+    arena: &Arena<H>,
+    schema: &Schema,
+    id: TypeId,
+    node: NodeId,
+    path: &[PathStep],
+    selector: u8,
+) -> Result<Choice, EditFault>
+    requires known { id < length schema.now.trees }
+    requires node { IsNodeOf arena.now node }
+    ensures choice { IfOk result (HasUnion schema.now arena.now node) }
+    ensures at { IfOk result (ChoosesAt schema.now arena.now id node path.now selector) }
+    ensures err { IfErr result (CannotChoose schema.now arena.now id node path.now selector) }
+{
+    // By the type it is known where the tree of a value has its parts.
+    let _legal = schema.ty(id);
+    let place = find(arena, schema, id, node, path)?;
+    let Some(options) = options_of(schema, place.id) else {
+        return Err(EditFault::NotThat);
+    };
+    let Some(option) = option_at(options, selector) else {
+        return Err(EditFault::BadSelector);
+    };
+    Ok(Choice {
+        place,
+        option,
+        selector,
+    })
+}
 
 /// The node of the value whose union at the path has the option of this number with this value,
 /// which the option None has not, from the node of a value of the type (edits of whole values:
@@ -59,14 +102,11 @@ pub fn choose<H: PairHash>(
 {
     // By the type it is known where the tree of a value has its parts.
     let _legal = schema.ty(id);
-    let place = find(arena, schema, id, node, path)?;
-    let Some(options) = options_of(schema, place.id) else {
-        return Err(EditFault::NotThat);
+    let choice = match open_choice(arena, schema, id, node, path, selector) {
+        Ok(choice) => choice,
+        Err(fault) => return Err(fault),
     };
-    let Some(option) = option_at(options, selector) else {
-        return Err(EditFault::BadSelector);
-    };
-    let made = put_choice(arena, schema, node, &place, option, selector, inner)?;
+    let made = put_choice(arena, schema, node, &choice, &given_of(inner))?;
     Ok(made)
 }
 
@@ -84,72 +124,72 @@ pub fn options_of(schema: &Schema, id: TypeId) -> Option<&[Option<TypeId>]>
     }
 }
 
-// The node in which the union at a place has this option with this value. Takes its memory before
-// it makes a node.
-fn put_choice<H: PairHash>(
+/// The node in which a union has an option, where `open_choice` found it, with what is given for
+/// it, which is nothing for None: for each path that leads there the node of the edited value.
+/// Takes its memory before it makes a node, and fails for want of it.
+pub fn put_choice<H: PairHash>(
     arena: &mut Arena<H>,
     schema: &Schema,
     node: NodeId,
-    place: &Place,
-    option: Option<TypeId>,
-    selector: u8,
-    inner: Option<&Value>,
+    choice: &Choice,
+    inner: &Option<Given<'_>>,
 ) -> Result<NodeId, AllocError>
-    requires known { IsBelow (length schema.now.trees) option }
-    requires node { IsNodeOf arena.old node }
-    requires inside { IsNodeOf arena.old place.now.node }
-    requires there { at (tree_of arena.old node) place.now.index
-        ≡ Some (tree_of arena.old place.now.node) }
-    requires inner { IsOfOption schema.now option (inner_of inner) }
+    requires choice { HasUnion schema.now arena.old node choice.now }
+    requires inner { IsOfOption schema.now choice.now.option inner.now }
+    ensures edits { let x = option_value schema.now choice.now.option inner.now in
+        (id : ℕ) (path : Path) (k : ℕ) (v : SszValue)
+        → ChoosesAt schema.now arena.old id node path k choice.now
+        → IsTreeOf (type_of schema.now id) v (tree_of arena.old node)
+        → IfOk result (Edits (type_of schema.now id) arena.old arena.new node
+        (choose_charge (type_of schema.now id) path k x)
+        (choose_at (type_of schema.now id) v path k x)) }
     ensures node { IfOk result (IsNodeOf arena.new) }
-    ensures put { let part = option_part schema.now option
-        (option_map value_of (inner_of inner.entry)) in
-        IfOk result (IsPut arena.old arena.new node place.now.index
-        (joined part (number_chunk selector))) }
     ensures fresh { IfOk result (λ made. 0 < todo arena.new made) }
-    ensures adds { let part = option_part schema.now option
-        (option_map value_of (inner_of inner.entry)) in
-        let more = levels place.now.index in
+    ensures adds { let part = option_part schema.now choice.now.option
+        (option_value schema.now choice.now.option inner.now) in
+        let more = levels choice.now.place.index in
         Adds (2 * part.cost + 3 + more) (part.cost + 1 + more) arena.old arena.new }
     ensures err { OnErr result (arena.new.nodes ≡ arena.old.nodes) }
 {
-    let levels = place.index.levels() as usize;
-    let chosen = option_node(arena, schema, option, inner, levels + 2)?;
-    let number = arena.leaf(number_chunk(u128::from(selector)));
+    option_fitting(schema, choice.option, inner);
+    let levels = choice.place.index.levels() as usize;
+    let chosen = option_node(arena, schema, choice.option, inner, levels + 2)?;
+    let number = arena.leaf(number_chunk(u128::from(choice.selector)));
     let union = arena.pair(chosen, number);
-    match arena.replace(node, place.index, union) {
+    match arena.replace(node, choice.place.index, union) {
         Some(made) => Ok(made),
-        None => Err(AllocError),
+        None => unreachable!(),
     }
 }
 
-// The node of an option with a value, and room for as many nodes more.
+// The node of what is given for an option, and room for as many nodes more.
 fn option_node<H: PairHash>(
     arena: &mut Arena<H>,
     schema: &Schema,
     option: Option<TypeId>,
-    inner: Option<&Value>,
+    inner: &Option<Given<'_>>,
     more: usize,
 ) -> Result<NodeId, AllocError>
     requires known { IsBelow (length schema.now.trees) option }
-    requires inner { IsOfOption schema.now option (inner_of inner) }
+    requires inner { IsOfOption schema.now option inner.now }
     requires few { more < 2 ^ 32 }
     ensures part { IfOk result (IsPart arena.new (option_part schema.now option
-        (option_map value_of (inner_of inner.entry)))) }
+        (option_value schema.now option inner.now))) }
     ensures room { OnOk result (more ≤ arena.new.spare) }
     ensures adds { let part = option_part schema.now option
-        (option_map value_of (inner_of inner.entry)) in
+        (option_value schema.now option inner.now) in
         Adds part.nodes part.cost arena.old arena.new }
     ensures err { OnErr result (arena.new.nodes ≡ arena.old.nodes) }
 {
     let Some(id) = option else {
         return none_node(arena, more);
     };
-    let Some(value) = inner else {
+    let Some(given) = inner else {
         return none_node(arena, more);
     };
-    reserve_for(arena, schema, id, value, more)?;
-    Ok(value_node(arena, schema, id, value))
+    fitting(schema, id, given);
+    reserve_for(arena, schema, id, given, more)?;
+    Ok(given_node(arena, schema, id, given))
 }
 
 // The node of the option None, which every arena has, and room for as many nodes more.

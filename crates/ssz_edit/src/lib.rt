@@ -5,11 +5,16 @@
 //! made without a root. An edit takes all memory that it needs before it makes a node, so that
 //! after a refusal the arena has the nodes that it had.
 //!
-//! An edit finds the place of the part (ssz_walk), makes the node with the new part there
-//! (`parts`), and puts it into the tree (`putting`; `lists` where a length changes with it).
+//! An edit is two calls. The first opens a place: it makes the tests, goes along the path once
+//! (ssz_walk), and answers the refusal or where the part is and of what type (`open_part`,
+//! `open_end`, `open_choice`). The second puts something there: a value, or the bytes of one, which
+//! become nodes with no value made (`Given`; `put_part`, `put_element`, `put_choice`). So a caller
+//! reads what it is to put by the type, once no test refuses it. `set`, `append` and `choose` are
+//! both at once.
 #![tactic(auto)]
 
 mod choosing;
+mod given;
 mod leaves;
 mod listing;
 mod lists;
@@ -18,7 +23,9 @@ mod putting;
 mod room;
 mod setting;
 
-pub use choosing::{choose, options_of};
-pub use listing::{append, pop};
-pub use lists::limit_of;
-pub use setting::{is_changeable, set};
+pub use choosing::{Choice, choose, open_choice, put_choice};
+pub use given::{Given, given_of};
+pub use listing::{append, open_end, pop};
+pub use lists::{ListEnd, Slot, put_element};
+pub use putting::put_part;
+pub use setting::{open_part, set};

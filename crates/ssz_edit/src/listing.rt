@@ -1,5 +1,5 @@
 // Appending to lists and bitlists, and popping from them.
-ghost use Rattle.std.specs.Prelude.{◌≡◌, ◌<◌, length, IfOk, IfSome, OnErr};
+ghost use Rattle.std.specs.Prelude.{◌≡◌, ◌<◌, length, IfOk, IfErr, IfSome, OnErr};
 ghost use Rattle.ssz_schema.specs.Unfolding.{type_of};
 ghost use Rattle.ssz_schema.specs.Paths.{path_type};
 ghost use Rattle.ssz_value.specs.Values.{SszValue};
@@ -10,13 +10,50 @@ ghost use Rattle.ssz_places.specs.PlaceLaws.{IsTreeOf};
 ghost use Rattle.ssz_places.specs.Charges.{append_charge, pop_charge};
 ghost use Rattle.ssz_arena.specs.Content.{IsNodeOf, KeepsNodes, KeepsTodo, todo, tree_of};
 ghost use Rattle.ssz_edit.specs.Edited.{Answers};
+ghost use Rattle.ssz_edit.specs.Targets.{AppendsAt, CannotAppend, HasEnd};
 
-use super::lists::{empty_slot, limit_of, put_element, slot_at};
+use super::given::Given;
+use super::lists::{ListEnd, empty_slot, limit_of, put_element, slot_at};
 use ssz_arena::{Arena, NodeId};
 use ssz_chunk::PairHash;
 use ssz_schema::{PathStep, Schema, TypeId};
 use ssz_value::{EditFault, Value};
 use ssz_walk::{find, mixed_in};
+
+/// Where the next element goes of the list or bitlist at the path, from the node of a value of the
+/// type: there `put_element` puts one. The tests of `append`, in their order: `BadPath`, `Absent`,
+/// `NotThat` and `Full`.
+pub fn open_end<H: PairHash>(
+    arena: &Arena<H>,
+    schema: &Schema,
+    id: TypeId,
+    node: NodeId,
+    path: &[PathStep],
+) -> Result<ListEnd, EditFault>
+    requires known { id < length schema.now.trees }
+    requires node { IsNodeOf arena.now node }
+    ensures end { IfOk result (HasEnd schema.now arena.now node) }
+    ensures at { IfOk result (AppendsAt schema.now arena.now id node path.now) }
+    ensures err { IfErr result (CannotAppend schema.now arena.now id node path.now) }
+{
+    // By the type it is known where the tree of a value has its parts.
+    let _legal = schema.ty(id);
+    let list = find(arena, schema, id, node, path)?;
+    let Some(limit) = limit_of(schema, list.id) else {
+        return Err(EditFault::NotThat);
+    };
+    // Beside the content of a list or bitlist stands its length.
+    let Some((content, count)) = mixed_in(arena, list.node) else {
+        return Err(EditFault::NotThat);
+    };
+    if count >= limit {
+        return Err(EditFault::Full);
+    }
+    let Some(slot) = slot_at(arena, schema, &list, content, count) else {
+        return Err(EditFault::Full);
+    };
+    Ok(ListEnd { list, slot, count })
+}
 
 /// The node of the value whose list or bitlist at the path has this element behind its last one,
 /// from the node of a value of the type (edits of whole values: `append_at`). `BadPath` where the
@@ -47,21 +84,11 @@ pub fn append<H: PairHash>(
 {
     // By the type it is known where the tree of a value has its parts.
     let _legal = schema.ty(id);
-    let place = find(arena, schema, id, node, path)?;
-    let Some(limit) = limit_of(schema, place.id) else {
-        return Err(EditFault::NotThat);
+    let end = match open_end(arena, schema, id, node, path) {
+        Ok(end) => end,
+        Err(fault) => return Err(fault),
     };
-    // Beside the content of a list or bitlist stands its length.
-    let Some((content, count)) = mixed_in(arena, place.node) else {
-        return Err(EditFault::NotThat);
-    };
-    if count >= limit {
-        return Err(EditFault::Full);
-    }
-    let Some(slot) = slot_at(arena, schema, &place, content, count) else {
-        return Err(EditFault::Full);
-    };
-    let made = put_element(arena, schema, node, &place, &slot, value, count + 1)?;
+    let made = put_element(arena, schema, node, &end, &Given::Value(value))?;
     Ok(made)
 }
 

@@ -1,10 +1,14 @@
 // Lists and bitlists whose content and length are put in their place together.
-ghost use Rattle.std.specs.Prelude.{◌≡◌, ◌+◌, ◌*◌, ◌<◌, ◌≤◌, [], ◌∷◌, length, IfOk, IfSome, IfNone, OnErr};
+ghost use Rattle.std.specs.Prelude.{ℕ, ◌≡◌, ◌+◌, ◌*◌, ◌<◌, ◌≤◌, [], ◌∷◌, length, IfOk, IfSome, IfNone, OnErr};
 ghost use Rattle.ssz_chunk.specs.Index.{levels};
 ghost use Rattle.ssz_schema.specs.declared.path.PathStep.TheVariants.{Index};
 ghost use Rattle.ssz_schema.specs.Unfolding.{type_of};
 ghost use Rattle.ssz_value.specs.Pairs.{pairs};
-ghost use Rattle.ssz_value.specs.Standing.{value_of, IsValue};
+ghost use Rattle.ssz_schema.specs.Paths.{Path};
+ghost use Rattle.ssz_value.specs.Edits.{append_at};
+ghost use Rattle.ssz_value.specs.Values.{SszValue};
+ghost use Rattle.ssz_places.specs.Charges.{append_charge};
+ghost use Rattle.ssz_places.specs.PlaceLaws.{IsTreeOf};
 ghost use Rattle.ssz_places.specs.Spots.{CanHold, LiesWithin};
 ghost use Rattle.ssz_places.specs.EditLaws.{IsCounted};
 ghost use Rattle.ssz_arena.specs.Content.{IsNodeOf, todo, tree_of};
@@ -12,9 +16,12 @@ ghost use Rattle.ssz_tree.specs.Added.{Adds, IsPart};
 ghost use Rattle.ssz_making.specs.Parts.{Part};
 ghost use Rattle.ssz_walk.specs.Found.{LeadsNowhere, spot_of};
 ghost use Rattle.ssz_walk.specs.Mixed.{HasContentNode};
-ghost use Rattle.ssz_edit.specs.Edited.{part_with, part_without};
+ghost use Rattle.ssz_edit.specs.Edited.{part_without, Edits};
+ghost use Rattle.ssz_edit.specs.Given.{given_value, IsGiven};
 ghost use Rattle.ssz_edit.specs.Slots.{HasList, IsSlot, IsGrown, limit_of};
+ghost use Rattle.ssz_edit.specs.Targets.{AppendsAt, HasEnd};
 
+use super::given::{Given, fitting};
 use super::parts::{emptied_node, part_node};
 use super::room::reserve_for;
 use ssz_arena::{Arena, NodeId, NodeRef};
@@ -22,7 +29,6 @@ use ssz_chunk::PairHash;
 use ssz_gindex::Gindex;
 use ssz_packing::number_chunk;
 use ssz_schema::{PathStep, Schema, Ty, TypeId};
-use ssz_value::Value;
 use ssz_walk::{Place, step_place};
 use std::alloc::AllocError;
 
@@ -43,6 +49,15 @@ pub fn limit_of(schema: &Schema, id: TypeId) -> Option<u64>
 pub struct Slot {
     pub element: Place,
     pub below: Gindex,
+}
+
+/// Where the next element of a list or bitlist goes: the list's place, the slot behind its last
+/// element, and how many there are.
+#[derive(Debug, Drop)]
+pub struct ListEnd {
+    pub list: Place,
+    pub slot: Slot,
+    pub count: u64,
 }
 
 /// The slot of element i, whether it is there or not. None where it leads below a leaf.
@@ -107,47 +122,42 @@ pub fn put_list<H: PairHash>(
     }
 }
 
-/// The node in which the list at a place has a value in a slot, and a new length. Takes its memory
-/// before it makes a node.
+/// The node in which a list or bitlist has one more element at its end, where `open_end` found it:
+/// for each path that leads there the node of the edited value. Takes its memory before it makes a
+/// node, and fails for want of it.
 pub fn put_element<H: PairHash>(
     arena: &mut Arena<H>,
     schema: &Schema,
     node: NodeId,
-    list: &Place,
-    slot: &Slot,
-    value: &Value,
-    count: u64,
+    end: &ListEnd,
+    given: &Given<'_>,
 ) -> Result<NodeId, AllocError>
-    requires known { slot.now.element.id < length schema.now.trees }
-    requires list { HasList arena.old node list.now slot.now.below }
-    requires inside { IsNodeOf arena.old slot.now.element.node }
-    requires value { IsValue (type_of schema.now slot.now.element.id) value.now }
-    requires lies { LiesWithin (type_of schema.now slot.now.element.id)
-        (spot_of slot.now.element.spot) }
+    requires end { HasEnd schema.now arena.old node end.now }
+    requires given { IsGiven (type_of schema.now end.now.slot.element.id) given.now }
+    ensures edits { let x = given_value (type_of schema.now end.now.slot.element.id) given.now in
+        (id : ℕ) (path : Path) (v : SszValue)
+        → AppendsAt schema.now arena.old id node path end.now
+        → IsTreeOf (type_of schema.now id) v (tree_of arena.old node)
+        → IfOk result (Edits (type_of schema.now id) arena.old arena.new node
+        (append_charge (type_of schema.now id) v path x)
+        (append_at (type_of schema.now id) v path x)) }
     ensures node { IfOk result (IsNodeOf arena.new) }
-    ensures grown { let u = type_of schema.now slot.now.element.id in
-        let tree = tree_of arena.old slot.now.element.node in
-        let spot = spot_of slot.now.element.spot in CanHold spot tree
-        → IfOk result (IsGrown arena.old arena.new node list.now slot.now.below
-        (part_with spot u (value_of value.now) tree) count) }
     ensures fresh { IfOk result (λ made. 0 < todo arena.new made) }
-    ensures adds { let cost = pairs (type_of schema.now slot.now.element.id) (value_of value.now)
-        in let more = levels slot.now.below + levels list.now.index in
+    ensures adds { let t = type_of schema.now end.now.slot.element.id in
+        let cost = pairs t (given_value t given.now) in
+        let more = levels end.now.slot.below + levels end.now.list.index in
         Adds (2 * cost + 3 + more) (cost + 1 + more) arena.old arena.new }
     ensures err { OnErr result (arena.new.nodes ≡ arena.old.nodes) }
 {
+    let list = &end.list;
+    let slot = &end.slot;
+    let id = slot.element.id;
+    fitting(schema, id, given);
     let levels = slot.below.levels() as usize + list.index.levels() as usize;
-    reserve_for(arena, schema, slot.element.id, value, levels + 2)?;
+    reserve_for(arena, schema, id, given, levels + 2)?;
     let old = slot.element.node;
-    let element = part_node(
-        arena,
-        schema,
-        slot.element.id,
-        old,
-        slot.element.spot,
-        value,
-    );
-    Ok(put_list(arena, node, list, slot.below, element, count))
+    let element = part_node(arena, schema, id, old, slot.element.spot, given);
+    Ok(put_list(arena, node, list, slot.below, element, end.count + 1))
 }
 
 /// The node in which the list at a place has nothing in a slot, and a new length. Takes its memory

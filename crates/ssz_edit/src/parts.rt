@@ -1,26 +1,22 @@
 // The nodes of parts, made of those that have other parts there. None takes memory.
 ghost use Rattle.std.specs.Prelude.{ℕ, ◌≡◌, ◌+◌, ◌*◌, ◌<◌, ◌≤◌, List, length, take, unwrap_or};
 ghost use Rattle.ssz_chunk.specs.Tree.{leaf};
-ghost use Rattle.ssz_schema.specs.Types.{boolean};
 ghost use Rattle.ssz_schema.specs.Sizes.{basic_size};
 ghost use Rattle.ssz_schema.specs.Indices.{byte};
 ghost use Rattle.ssz_schema.specs.Unfolding.{type_of};
 ghost use Rattle.ssz_value.specs.Pairs.{pairs};
-ghost use Rattle.ssz_value.specs.Standing.{value_of, IsValue};
-ghost use Rattle.ssz_value.specs.Values.{truth};
 ghost use Rattle.ssz_places.specs.Spots.{CanHold, LiesWithin, written, bit_written};
 ghost use Rattle.ssz_arena.specs.Content.{IsNodeOf, todo, tree_of};
 ghost use Rattle.ssz_tree.specs.Added.{Adds, IsPart};
 ghost use Rattle.ssz_walk.specs.Found.{spot_of};
 ghost use Rattle.ssz_edit.specs.Edited.{part_with, part_without};
+ghost use Rattle.ssz_edit.specs.Given.{given_value, IsGiven};
 
+use super::given::{Given, fitting, given_chunk, given_flag, given_node};
 use super::leaves::{with_bit, with_bytes};
 use ssz_arena::{Arena, NodeId, NodeRef};
 use ssz_chunk::{Chunk, PairHash};
-use ssz_packing::basic_chunk;
 use ssz_schema::{Schema, TypeId};
-use ssz_tree::value_node;
-use ssz_value::Value;
 use ssz_walk::Spot;
 
 /// The node with another part at the spot of an old node, where that can hold one.
@@ -30,25 +26,31 @@ pub fn part_node<H: PairHash>(
     id: TypeId,
     old: NodeId,
     spot: Spot,
-    value: &Value,
+    given: &Given<'_>,
 ) -> NodeId
     requires known { id < length schema.now.trees }
     requires old { IsNodeOf arena.old old }
-    requires value { IsValue (type_of schema.now id) value.now }
+    requires given { IsGiven (type_of schema.now id) given.now }
     requires lies { LiesWithin (type_of schema.now id) (spot_of spot) }
-    requires room { 2 * pairs (type_of schema.now id) (value_of value.now) + 1 ≤ arena.old.spare }
+    requires room { let t = type_of schema.now id in
+        2 * pairs t (given_value t given.now) + 1 ≤ arena.old.spare }
     ensures node { IsNodeOf arena.new result }
-    ensures due { todo arena.new result ≤ pairs (type_of schema.now id) (value_of value.now) }
-    ensures part { CanHold (spot_of spot) (tree_of arena.old old) → IsPart arena.new
-        (part_with (spot_of spot) (type_of schema.now id) (value_of value.now)
+    ensures due { let t = type_of schema.now id in
+        todo arena.new result ≤ pairs t (given_value t given.now) }
+    ensures part { let t = type_of schema.now id in CanHold (spot_of spot) (tree_of arena.old old)
+        → IsPart arena.new (part_with (spot_of spot) t (given_value t given.now)
         (tree_of arena.old old)) result }
-    ensures adds { let cost = pairs (type_of schema.now id) (value_of value.now) in
+    ensures adds { let t = type_of schema.now id in let cost = pairs t (given_value t given.now) in
         Adds (2 * cost + 1) cost arena.old arena.new }
 {
+    fitting(schema, id, given);
     match spot {
-        Spot::Whole => value_node(arena, schema, id, value),
-        Spot::Byte(at) => byte_part(arena, schema, id, old, at, &basic_chunk(value)),
-        Spot::Bit(at) => bit_part(arena, old, at, flag_of(value)),
+        Spot::Whole => given_node(arena, schema, id, given),
+        Spot::Byte(at) => {
+            let bytes = given_chunk(schema, id, given);
+            byte_part(arena, schema, id, old, at, &bytes)
+        }
+        Spot::Bit(at) => bit_part(arena, old, at, given_flag(given)),
     }
 }
 
@@ -122,16 +124,5 @@ fn bit_part<H: PairHash>(arena: &mut Arena<H>, old: NodeId, at: u8, flag: bool) 
             arena.leaf(new)
         }
         NodeRef::Pair(_, _) => arena.zero(0),
-    }
-}
-
-// The truth of a boolean.
-fn flag_of(value: &Value) -> bool
-    requires { IsValue boolean value.now }
-    ensures { value_of value.now ≡ truth result }
-{
-    match value {
-        Value::Bool(flag) => *flag,
-        _ => false,
     }
 }

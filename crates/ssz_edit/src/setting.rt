@@ -1,4 +1,4 @@
-ghost use Rattle.std.specs.Prelude.{◌≡◌, ◌≢◌, ◌+◌, ◌<◌, ◌≤◌, length, Err, IfSome, IsSome, IfOk, OnErr};
+ghost use Rattle.std.specs.Prelude.{◌≡◌, ◌≢◌, ◌+◌, ◌<◌, ◌≤◌, length, Err, IfSome, IsSome, IfOk, IfErr, OnErr};
 ghost use Rattle.ssz_schema.specs.Sizes.{basic_size};
 ghost use Rattle.ssz_schema.specs.Unfolding.{type_of};
 ghost use Rattle.ssz_schema.specs.Paths.{path_type};
@@ -12,13 +12,40 @@ ghost use Rattle.ssz_places.specs.EditLaws.{is_changeable, is_mixed_in};
 ghost use Rattle.ssz_places.specs.Charges.{set_charge};
 ghost use Rattle.ssz_arena.specs.Content.{IsNodeOf, KeepsNodes, KeepsTodo, node_count, todo, tree_of};
 ghost use Rattle.ssz_edit.specs.Edited.{Answers};
+ghost use Rattle.ssz_edit.specs.Targets.{CannotSet, HasPlace, SetsAt};
 
+use super::given::Given;
 use super::putting::put_part;
 use ssz_arena::{Arena, NodeId};
 use ssz_chunk::PairHash;
 use ssz_schema::{PathStep, Schema, TypeId};
 use ssz_value::{EditFault, Value};
-use ssz_walk::find;
+use ssz_walk::{Place, find};
+
+/// The place of a part that can be set, from the node of a value of the type: its type, and where
+/// `put_part` puts another one. The tests of `set`, in their order: `BadPath`, `Absent` and
+/// `NotThat`.
+pub fn open_part<H: PairHash>(
+    arena: &Arena<H>,
+    schema: &Schema,
+    id: TypeId,
+    node: NodeId,
+    path: &[PathStep],
+) -> Result<Place, EditFault>
+    requires known { id < length schema.now.trees }
+    requires node { IsNodeOf arena.now node }
+    ensures place { IfOk result (HasPlace schema.now arena.now node) }
+    ensures at { IfOk result (SetsAt schema.now arena.now id node path.now) }
+    ensures err { IfErr result (CannotSet schema.now arena.now id node path.now) }
+{
+    // By the type it is known where the tree of a value has its parts.
+    let _legal = schema.ty(id);
+    let place = find(arena, schema, id, node, path)?;
+    if !is_changeable(path) {
+        return Err(EditFault::NotThat);
+    }
+    Ok(place)
+}
 
 /// The node of the value whose part at the path is this one, from the node of a value of the type
 /// (edits of whole values: `set_at`). `BadPath` where the path does not fit the type, `Absent`
@@ -64,11 +91,11 @@ pub fn set<H: PairHash>(
 {
     // By the type it is known where the tree of a value has its parts.
     let _legal = schema.ty(id);
-    let place = find(arena, schema, id, node, path)?;
-    if !is_changeable(path) {
-        return Err(EditFault::NotThat);
-    }
-    let made = put_part(arena, schema, node, &place, value)?;
+    let place = match open_part(arena, schema, id, node, path) {
+        Ok(place) => place,
+        Err(fault) => return Err(fault),
+    };
+    let made = put_part(arena, schema, node, &place, &Given::Value(value))?;
     Ok(made)
 }
 

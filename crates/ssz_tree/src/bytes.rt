@@ -1,15 +1,15 @@
-ghost use Rattle.std.specs.Prelude.{◌≡◌, ◌<◌, ◌≤◌, ◌^◌, length, None, IsOk, IfOk, OnErr};
+ghost use Rattle.std.specs.Prelude.{◌≡◌, ◌+◌, ◌-◌, ◌*◌, ◌<◌, ◌≤◌, ◌^◌, length, min, None, IsOk, IfOk, OnErr};
 ghost use Rattle.ssz_schema.specs.Unfolding.{type_of};
 ghost use Rattle.ssz_value.specs.Faults.{why};
 ghost use Rattle.ssz_value.specs.Reading.{value_in};
 ghost use Rattle.ssz_value.specs.Pairs.{pairs};
 ghost use Rattle.ssz_making.specs.Parts.{part_of};
 ghost use Rattle.ssz_making.specs.Nodes.{new_nodes};
-ghost use Rattle.ssz_tree.specs.Added.{Adds, IsPart};
+ghost use Rattle.ssz_tree.specs.Added.{Adds, IsPart, Makes};
 
 use super::counting::Counting;
 use super::growing::Growing;
-use super::room::reserve_nodes;
+use super::room::{nodes_for, reserve_nodes};
 use ssz_arena::{Arena, NodeId};
 use ssz_chunk::PairHash;
 use ssz_making::bytes_part;
@@ -39,6 +39,37 @@ pub fn build_bytes<H: PairHash>(
 {
     let tally = bytes_part(&mut Counting, schema, id, bytes);
     reserve_nodes(arena, tally.nodes)?;
+    Ok(bytes_node(arena, schema, id, bytes))
+}
+
+/// The node of the value that the bytes stand for, as `build_bytes` makes it, where there is room
+/// for its nodes, of which there are no more than `bytes_needed` says. Takes no memory.
+pub fn bytes_node<H: PairHash>(
+    arena: &mut Arena<H>,
+    schema: &Schema,
+    id: TypeId,
+    bytes: &[u8],
+) -> NodeId
+    requires known { id < length schema.now.trees }
+    requires short { length bytes.now < 2 ^ 32 }
+    requires faultless { why (type_of schema.now id) 0 bytes.now ≡ None }
+    requires room { let t = type_of schema.now id in
+        new_nodes t (value_in t bytes.now) ≤ arena.old.spare }
+    ensures { Makes arena.old arena.new
+        (part_of (type_of schema.now id) (value_in (type_of schema.now id) bytes.now)) result }
+{
     let mut maker = Growing { arena };
-    Ok(bytes_part(&mut maker, schema, id, bytes))
+    bytes_part(&mut maker, schema, id, bytes)
+}
+
+/// So many nodes are enough for the value that the bytes stand for, as a bound in its pairs alone:
+/// twice as many and one, or usize::MAX where that is more.
+pub fn bytes_needed(schema: &Schema, id: TypeId, bytes: &[u8]) -> usize
+    requires known { id < length schema.now.trees }
+    requires short { length bytes.now < 2 ^ 32 }
+    requires faultless { why (type_of schema.now id) 0 bytes.now ≡ None }
+    ensures { let t = type_of schema.now id in
+        result ≡ min (2 * pairs t (value_in t bytes.now) + 1) (2 ^ 64 - 1) }
+{
+    nodes_for(bytes_part(&mut Counting, schema, id, bytes).pairs) as usize
 }

@@ -13,7 +13,8 @@
 //! finishes at a depth; a zero part of a full tree is the arena's own zero tree.
 //!
 //! A caller that makes more than a value, as an edit does, takes the room for all first
-//! (`nodes_needed`, `reserve_nodes`), and then makes the value's node in it (`value_node`).
+//! (`nodes_needed` or `bytes_needed`, `reserve_nodes`), and then makes the value's node in it
+//! (`value_node`, `bytes_node`).
 #![tactic(auto)]
 
 mod builder;
@@ -30,7 +31,7 @@ mod shared_nodes;
 mod tally;
 mod values;
 
-pub use bytes::build_bytes;
+pub use bytes::{build_bytes, bytes_needed, bytes_node};
 pub use defaults::build_default;
 pub use fields::build_fields;
 pub use room::reserve_nodes;

@@ -2,17 +2,19 @@ use Rattle.std.proofs.Common.{◌≡◌, ◌+◌, ◌*◌, ap, subst, arith}
 use Rattle.ssz_chunk.specs.Index.{levels}
 use Rattle.ssz_schema.specs.Unfolding.{type_of}
 use Rattle.ssz_value.specs.Pairs.{pairs}
-use Rattle.ssz_value.specs.Standing.{value_of}
-use Rattle.ssz_arena.specs.Content.{tree_of}
+use Rattle.ssz_arena.specs.Content.{tree_of, KeepsNodes}
 use Rattle.ssz_arena.proofs.Keeping.{keeps_same, keeps_trans}
 use Rattle.ssz_arena.proofs.Nodes.{tree}
 use Rattle.ssz_places.specs.Spots.{CanHold}
-use Rattle.ssz_tree.specs.Added.{IsPart}
+use Rattle.ssz_tree.specs.Added.{Adds, IsPart}
 use Rattle.ssz_tree.proofs.Adding.{Adds-then, Adds-within}
 use Rattle.ssz_walk.specs.Found.{spot_of}
 use Rattle.ssz_edit.specs.Edited.{part_with}
+use Rattle.ssz_edit.specs.Given.{given_value}
+use Rattle.ssz_edit.proofs.Landing.{holds, set_made}
 use Rattle.ssz_edit.proofs.Replacing.{not_ok, adds_room, put_made}
 use Rattle.ssz_edit.proofs.putting.put_part.Goals as goal
+use Rattle.ssz_edit.proofs.putting.put_part.Goals.{After-replace}
 
 pub returns-in_err-reserve_for-clause-adds : goal.returns-in_err-reserve_for-clause-adds
 returns-in_err-reserve_for-clause-adds g c =
@@ -25,28 +27,20 @@ returns-in_err-reserve_for-clause-basic g c basic enough =
     absurd (not_ok c.reserve_for.result c.in_err-reserve_for.field-0.0 c.in_err-reserve_for.was
     (c.reserve_for.ensures.basic basic (omega (arith, enough, c.levels-levels.ensures.exact))))
 
-pub returns-in-Some-clause-put : goal.returns-in-Some-clause-put
-returns-in-Some-clause-put g c holds =
-    let u = type_of c.args.schema.now c.args.place.now.id in
-    let x = value_of c.args.value.now in
-    let spot = spot_of c.args.place.now.spot in
-    let same : tree_of c.reserve_for.new.arena c.args.place.now.node
-    ≡ tree_of c.args.arena.now c.args.place.now.node =
-    ap (λ ns. tree ns c.args.place.now.node.0) c.reserve_for.ensures.nodes in
-    put_made c.args.arena.now c.part_node-part.new.arena
-    (keeps_trans (keeps_same c.args.arena.now c.reserve_for.new.arena c.reserve_for.ensures.nodes)
-    c.part_node-part.ensures.adds.keeps) c.args.node c.requires.node c.args.place.now.index
-    (part_with spot u x (tree_of c.args.arena.now c.args.place.now.node)) c.part_node-part.result
-    c.in-Some.made
-    (subst (λ t. CanHold spot t
-    → IsPart c.part_node-part.new.arena (part_with spot u x t) c.part_node-part.result) same
-    c.part_node-part.ensures.part holds)
-    c.replace.new.self c.in-Some.ensures.node c.in-Some.ensures.tree c.in-Some.ensures.todo
+-- the nodes that were there are kept until the part is made
+kept : (g : _) (c : After-replace g) → KeepsNodes c.args.arena.now c.part_node-part.new.arena
+kept g c =
+    keeps_trans (keeps_same c.args.arena.now c.reserve_for.new.arena c.reserve_for.ensures.nodes)
+    c.part_node-part.ensures.adds.keeps
 
-pub returns-in-Some-clause-adds : goal.returns-in-Some-clause-adds
-returns-in-Some-clause-adds g c =
-    let cost = pairs (type_of c.args.schema.now c.args.place.now.id)
-    (value_of c.args.value.now) in
+added : (g : _) (c : After-replace g)
+    → (let u = type_of c.args.schema.now c.args.place.now.id in
+    let cost = pairs u (given_value u c.args.given.now) in
+    let more = levels c.args.place.now.index in
+    Adds (2 * cost + 1 + more) (cost + more) c.args.arena.now c.replace.new.self)
+added g c =
+    let u = type_of c.args.schema.now c.args.place.now.id in
+    let cost = pairs u (given_value u c.args.given.now) in
     let more = levels c.args.place.now.index in
     let before = Adds-then 0 0 (2 * cost + 1) cost c.args.arena.now c.reserve_for.new.arena
     c.part_node-part.new.arena
@@ -62,3 +56,28 @@ returns-in-Some-clause-adds g c =
       unhashed = c.replace.ensures.unhashed;
       spare = c.replace.ensures.spare;
     })) (omega arith) (omega arith)
+
+pub returns-clause-edits : goal.returns-clause-edits
+returns-clause-edits g c id path v at of =
+    let types = c.args.schema.now in
+    let old = c.args.arena.now in
+    let place = c.args.place.now in
+    let u = type_of types place.id in
+    let x = given_value u c.args.given.now in
+    let spot = spot_of place.spot in
+    let same : tree_of c.reserve_for.new.arena place.node ≡ tree_of old place.node =
+    ap (λ ns. tree ns place.node.0) c.reserve_for.ensures.nodes in
+    set_made types.format types old id c.args.node path place at.legal at.found
+    c.replace.new.self x v c.in-Some.made c.fitting.ensures at.free of
+    (put_made old c.part_node-part.new.arena (kept g c.before) c.args.node c.requires.place.top
+    place.index (part_with spot u x (tree_of old place.node)) c.part_node-part.result
+    c.in-Some.made
+    (subst (λ t. CanHold spot t
+    → IsPart c.part_node-part.new.arena (part_with spot u x t) c.part_node-part.result) same
+    c.part_node-part.ensures.part
+    (holds types.format types old id c.args.node path place at.legal at.found v of))
+    c.replace.new.self c.in-Some.ensures.node c.in-Some.ensures.tree c.in-Some.ensures.todo)
+    (added g c.before)
+
+pub returns-clause-adds : goal.returns-clause-adds
+returns-clause-adds g c = added g c.before
