@@ -1,6 +1,7 @@
 -- What `prove` says of a version, from the tree of its node.
 use Rattle.std.proofs.Common.{inl, inr, ◌≡◌, ◌∙◌, ◌&&◌, ℕ, Bool, true, false, not, List, [], ◌∷◌, Option, Some, None, Result, Ok, Err, IfOk, is_some, refl, sym, ap, arith}
 use Rattle.std.specs.Prelude.{is_none, nat_eq, Contains}
+use Rattle.std.specs.declared.alloc.AllocError.{AllocError}
 use Rattle.std.specs.List.{list_any, AllByRecursion}
 use Rattle.std.proofs.lemmas.Bool.{and_parts, eqb-false, false≢true, false_from_ne_true, not-true, not_from_false}
 use Rattle.std.proofs.lemmas.List.Elements.{All-from_recursion}
@@ -38,7 +39,6 @@ use Rattle.ssz_decisions.specs.Proving.{IsNowhere, Proves, proved}
 use Rattle.ssz_decisions.specs.declared.decision.Decision.{Decision}
 use Rattle.ssz_decisions.specs.declared.decision.Decision.TheVariants as decision
 use Rattle.ssz_decisions.specs.declared.decision.Decision.TheVariants.{Said, Refused}
-use Rattle.ssz_decisions.specs.declared.fault.EngineFault.{EngineFault}
 use Rattle.ssz_decisions.proofs.AscendingOnce.{all-there}
 use Rattle.ssz_decisions.proofs.Brought.{refused-answers}
 use Rattle.ssz_decisions.proofs.ProofsMade.{all-parts, proof-made}
@@ -216,7 +216,7 @@ module _ (pair_of : PairOf) (store : Content) (writer : ℕ) (v : Name) (indices
 
   -- the same of what failed or was done
   pub proves-ok : (new : Content) (asked : List ℕ) (count after : ℕ)
-      (r : Result Decision EngineFault)
+      (r : Result Decision AllocError)
       → Ok asked ≡ asked_indices (type_of store.types held.0) indices
       → IfOk r (Proves pair_of t asked) → TakesRoots store.arena new.arena count after
       → IfOk r (Answers pair_of row nothing writer store new count after)

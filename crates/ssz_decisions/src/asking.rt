@@ -1,4 +1,4 @@
-ghost use Rattle.std.specs.Prelude.{◌≡◌, ◌+◌, ◌-◌, ◌≤◌, IfOk, IfErr};
+ghost use Rattle.std.specs.Prelude.{◌≡◌, ◌+◌, ◌-◌, ◌≤◌, IfOk};
 ghost use Rattle.ssz_arena.specs.Content.{unhashed};
 ghost use Rattle.ssz_machine.specs.Asking.{root_row, gindex, hashes};
 ghost use Rattle.ssz_machine.specs.Changes.{nothing};
@@ -10,7 +10,6 @@ ghost use Rattle.ssz_decisions.specs.Carried.{outcome_of};
 ghost use Rattle.ssz_decisions.specs.declared.outcome.Outcome.TheVariants.{Refused};
 
 use super::decision::Decision;
-use super::fault::EngineFault;
 use super::proving::index_of;
 use super::store::Store;
 use ssz_chunk::PairHash;
@@ -18,6 +17,7 @@ use ssz_line::Steps;
 use ssz_machine::Place;
 use ssz_script::{Identifier, Reply};
 use ssz_versions::Writer;
+use std::alloc::AllocError;
 
 /// `root V`.
 pub fn root<'a, H: PairHash>(
@@ -43,16 +43,15 @@ pub fn root<'a, H: PairHash>(
     }
 }
 
-/// `gindex T P`.
+/// `gindex T P`. Fails for want of memory.
 pub fn gindex<'a, H: PairHash>(
     store: &Store<H>,
     writer: Writer,
     t: &Identifier,
     path: &Steps,
-) -> Result<Decision<'a>, EngineFault>
-    ensures answers { IfOk result (AnswersOf H.pair_of
+) -> Result<Decision<'a>, AllocError>
+    ensures { IfOk result (AnswersOf H.pair_of
         (λ rules versions. gindex rules versions t.now path.now) nothing writer.0 store.now) }
-    ensures memory { IfErr result (λ fault. fault ≡ EngineFault.Memory) }
 {
     let Some(id) = store.schema.find_name(t.as_name()) else {
         return Ok(Decision::Refused(Reply::NO_TYPE));

@@ -18,6 +18,7 @@ use ssz_outside::{Files, PutFault};
 use ssz_schema::TypeId;
 use ssz_script::{FileName, Identifier, Reply, reply_text};
 use ssz_versions::{Room, Writer};
+use std::alloc::AllocError;
 
 /// Appends `ok`, for which there is room.
 pub fn say_done(out: &mut Vec<u8>)
@@ -40,12 +41,11 @@ fn done(out: &mut Vec<u8>) -> Outcome
     Outcome::Accepted
 }
 
-// Appends the line of a reply, whose statement comes to this outcome.
-fn say(reply: Reply, outcome: Outcome, out: &mut Vec<u8>) -> Result<Outcome, EngineFault>
+// Appends the line of a reply, whose statement comes to this outcome. Fails for want of memory.
+fn say(reply: Reply, outcome: Outcome, out: &mut Vec<u8>) -> Result<Outcome, AllocError>
     ensures ok { IfOk result (λ said. said ≡ outcome) }
     ensures text { OnOk result (out.new.items ≡ out.old.items ++ reply_line reply) }
     ensures err { OnErr result (out.new.items ≡ out.old.items) }
-    ensures memory { IfErr result (λ fault. fault ≡ EngineFault.Memory) }
 {
     reply_text(&reply, out)?;
     Ok(outcome)
@@ -138,17 +138,17 @@ pub fn carry_out<F: Files, H: PairHash>(
     match decision {
         Decision::Refused(code) => {
             let fault = None;
-            say(Reply::Refused { line, code, fault }, Outcome::Refused, out)
+            Ok(say(Reply::Refused { line, code, fault }, Outcome::Refused, out)?)
         }
         Decision::BadBytes(fault) => {
             let (code, fault) = (Reply::BAD_LITERAL, Some(fault));
-            say(Reply::Refused { line, code, fault }, Outcome::Refused, out)
+            Ok(say(Reply::Refused { line, code, fault }, Outcome::Refused, out)?)
         }
         Decision::BadJson(fault) => {
             let (code, number) = (fault.code, fault.number);
-            say(Reply::BadJson { line, code, number }, Outcome::Refused, out)
+            Ok(say(Reply::BadJson { line, code, number }, Outcome::Refused, out)?)
         }
-        Decision::Said(reply) => say(reply, Outcome::Accepted, out),
+        Decision::Said(reply) => Ok(say(reply, Outcome::Accepted, out)?),
         Decision::Made(name, id, node, room) => {
             make(store, writer, name, (id, node), room);
             Ok(done(out))

@@ -7,7 +7,6 @@ ghost use Rattle.ssz_decisions.specs.Counted.{HasCount, HasNoCount};
 ghost use Rattle.ssz_decisions.specs.Decisions.{AnswersOf};
 
 use super::decision::Decision;
-use super::fault::EngineFault;
 use super::refusals::code_of_path;
 use super::store::Store;
 use super::ways::way_from;
@@ -17,6 +16,7 @@ use ssz_schema::PathStep;
 use ssz_script::{Identifier, Reply};
 use ssz_versions::Writer;
 use ssz_views::View;
+use std::alloc::AllocError;
 
 // How many elements or bits the part at the path has; else the code of the refusal.
 fn count_at<'a, H: PairHash>(view: &View<'a, H>, path: &[PathStep]) -> Result<u64, u8>
@@ -34,16 +34,15 @@ fn count_at<'a, H: PairHash>(view: &View<'a, H>, path: &[PathStep]) -> Result<u6
     }
 }
 
-/// `len V P`.
+/// `len V P`. Fails for want of memory.
 pub fn len<'a, H: PairHash>(
     store: &Store<H>,
     writer: Writer,
     v: &Identifier,
     path: &Steps,
-) -> Result<Decision<'a>, EngineFault>
-    ensures answers { IfOk result (AnswersOf H.pair_of
+) -> Result<Decision<'a>, AllocError>
+    ensures { IfOk result (AnswersOf H.pair_of
         (λ rules versions. len versions v.now path.now) nothing writer.0 store.now) }
-    ensures memory { IfErr result (λ fault. fault ≡ EngineFault.Memory) }
 {
     let way = match way_from(store, writer, v, path)? {
         Ok(way) => way,

@@ -1,5 +1,5 @@
 //! Statements that make a version of the value that a file has.
-ghost use Rattle.std.specs.Prelude.{◌≡◌, ◌≢◌, ◌<◌, ◌^◌, ℕ, List, None, Err, length, IfOk, IfErr, OnOk, OnErr};
+ghost use Rattle.std.specs.Prelude.{◌≡◌, ◌≢◌, ◌<◌, ◌^◌, ℕ, List, None, Err, length, IfOk, OnOk, OnErr};
 ghost use Rattle.ssz_outside.specs.Content.{CanRead};
 ghost use Rattle.ssz_schema.specs.Unfolding.{type_of};
 ghost use Rattle.ssz_arena.specs.Content.{node_count};
@@ -22,14 +22,16 @@ use ssz_script::{FileName, Identifier, Reply};
 use ssz_tree::build;
 use ssz_value_json::{JsonRead, read_json};
 use ssz_versions::{Room, Writer};
+use std::alloc::AllocError;
 
-// A name that is free gets the value of a type whose JSON text some bytes are.
+// A name that is free gets the value of a type whose JSON text some bytes are. Fails for want of
+// memory.
 fn bring_json<'a, H: PairHash>(
     store: &mut Store<H>,
     v: &'a Identifier,
     id: TypeId,
     text: &[u8],
-) -> Result<Decision<'a>, EngineFault>
+) -> Result<Decision<'a>, AllocError>
     requires { id < length store.old.types.trees }
     ensures grows { Grows store.old store.new }
     ensures answers { (writer : ℕ) → held_at store.old.entries writer v.now ≡ None
@@ -37,13 +39,12 @@ fn bring_json<'a, H: PairHash>(
         (λ rules versions. brought_as Form.Json versions v.now (type_of store.old.types id)
         text.now)
         (puts v.now) writer store.old store.new) }
-    ensures memory { IfErr result (λ fault. fault ≡ EngineFault.Memory) }
     ensures whole { OnErr result (node_count store.new.arena ≡ node_count store.old.arena) }
 {
     let value = match read_json(store.alloc, &store.schema, id, text) {
         Ok(value) => value,
         Err(JsonRead::Bad(fault)) => return Ok(Decision::BadJson(fault)),
-        Err(JsonRead::Memory) => return Err(EngineFault::Memory),
+        Err(JsonRead::Memory) => return Err(AllocError),
     };
     // Every type of a schema is legal, so that no other value has this text.
     let _legal = store.schema.ty(id);
@@ -52,7 +53,7 @@ fn bring_json<'a, H: PairHash>(
     Ok(Decision::Made(v, id, node, room))
 }
 
-// A name that is free gets the value that some bytes have in this form.
+// A name that is free gets the value that some bytes have in this form. Fails for want of memory.
 fn bring_as<'a, H: PairHash>(
     store: &mut Store<H>,
     writer: Writer,
@@ -60,7 +61,7 @@ fn bring_as<'a, H: PairHash>(
     id: TypeId,
     form: Form,
     bytes: &[u8],
-) -> Result<Decision<'a>, EngineFault>
+) -> Result<Decision<'a>, AllocError>
     requires known { id < length store.old.types.trees }
     requires short { length bytes.now < 2 ^ 32 }
     requires free { held_at store.old.entries writer.0 v.now ≡ None }
@@ -68,7 +69,6 @@ fn bring_as<'a, H: PairHash>(
     ensures answers { IfOk result (AnswersAnew H.pair_of
         (λ rules versions. brought_as form versions v.now (type_of store.old.types id) bytes.now)
         (puts v.now) writer.0 store.old store.new) }
-    ensures memory { IfErr result (λ fault. fault ≡ EngineFault.Memory) }
     ensures whole { OnErr result (node_count store.new.arena ≡ node_count store.old.arena) }
 {
     match form {
@@ -110,7 +110,7 @@ pub fn load<'a, F: Files, H: PairHash>(
     };
     let mut bytes = Vec::new(store.alloc);
     match files.get(file.as_str(), &mut bytes, u64::from(store.max)) {
-        Ok(Got::Whole) => bring_as(store, writer, v, id, form, bytes.as_slice()),
+        Ok(Got::Whole) => Ok(bring_as(store, writer, v, id, form, bytes.as_slice())?),
         Ok(Got::TooLong) => Ok(Decision::Refused(Reply::TOO_LONG)),
         Err(GetFault::Failed) => Err(EngineFault::Read),
         Err(GetFault::Memory) => Err(EngineFault::Memory),

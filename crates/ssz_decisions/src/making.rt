@@ -10,7 +10,6 @@ ghost use Rattle.ssz_decisions.specs.Loading.{brought, IsFree, IsTaken};
 ghost use Rattle.ssz_script.specs.declared.statement.Statement.TheVariants.{Fork};
 
 use super::decision::Decision;
-use super::fault::EngineFault;
 use super::store::Store;
 use ssz_bytes::as_bytes;
 use ssz_chunk::PairHash;
@@ -19,6 +18,7 @@ use ssz_schema::TypeId;
 use ssz_script::{Identifier, Reply};
 use ssz_tree::{build_bytes, build_default};
 use ssz_versions::{Room, Writer};
+use std::alloc::AllocError;
 
 /// The type of a name, for a version whose name is free; else the code of the refusal.
 pub(crate) fn free_type<H: PairHash>(
@@ -39,18 +39,17 @@ pub(crate) fn free_type<H: PairHash>(
     }
 }
 
-/// `new V T`.
+/// `new V T`. Fails for want of memory.
 pub fn new<'a, H: PairHash>(
     store: &mut Store<H>,
     writer: Writer,
     v: &'a Identifier,
     t: &Identifier,
-) -> Result<Decision<'a>, EngineFault>
+) -> Result<Decision<'a>, AllocError>
     ensures grows { Grows store.old store.new }
     ensures answers { IfOk result (AnswersAnew H.pair_of
         (λ rules versions. new rules versions v.now t.now) (puts v.now) writer.0
         store.old store.new) }
-    ensures memory { IfErr result (λ fault. fault ≡ EngineFault.Memory) }
     ensures whole { OnErr result (node_count store.new.arena ≡ node_count store.old.arena) }
 {
     let id = match free_type(store, writer, v, t) {
@@ -64,20 +63,19 @@ pub fn new<'a, H: PairHash>(
     Ok(Decision::Made(v, id, node, room))
 }
 
-/// `lit V T LIT`.
+/// `lit V T LIT`. Fails for want of memory.
 pub fn lit<'a, H: PairHash>(
     store: &mut Store<H>,
     writer: Writer,
     v: &'a Identifier,
     t: &Identifier,
     literal: &[u8],
-) -> Result<Decision<'a>, EngineFault>
+) -> Result<Decision<'a>, AllocError>
     requires { length literal.now < 2 ^ 32 }
     ensures grows { Grows store.old store.new }
     ensures answers { IfOk result (AnswersAnew H.pair_of
         (λ rules versions. lit rules versions v.now t.now literal.now) (puts v.now) writer.0
         store.old store.new) }
-    ensures memory { IfErr result (λ fault. fault ≡ EngineFault.Memory) }
     ensures whole { OnErr result (node_count store.new.arena ≡ node_count store.old.arena) }
 {
     let id = match free_type(store, writer, v, t) {
@@ -87,14 +85,14 @@ pub fn lit<'a, H: PairHash>(
     bring(store, writer, v, id, literal)
 }
 
-/// A name that is free gets the value of a type that some bytes encode.
+/// A name that is free gets the value of a type that some bytes encode. Fails for want of memory.
 pub(crate) fn bring<'a, H: PairHash>(
     store: &mut Store<H>,
     writer: Writer,
     v: &'a Identifier,
     id: TypeId,
     bytes: &[u8],
-) -> Result<Decision<'a>, EngineFault>
+) -> Result<Decision<'a>, AllocError>
     requires known { id < length store.old.types.trees }
     requires short { length bytes.now < 2 ^ 32 }
     requires free { held_at store.old.entries writer.0 v.now ≡ None }
@@ -102,7 +100,6 @@ pub(crate) fn bring<'a, H: PairHash>(
     ensures answers { IfOk result (AnswersAnew H.pair_of
         (λ rules versions. brought versions v.now (type_of store.old.types id) bytes.now)
         (puts v.now) writer.0 store.old store.new) }
-    ensures memory { IfErr result (λ fault. fault ≡ EngineFault.Memory) }
     ensures whole { OnErr result (node_count store.new.arena ≡ node_count store.old.arena) }
 {
     let _bytes = as_bytes(bytes);
@@ -118,17 +115,16 @@ pub(crate) fn bring<'a, H: PairHash>(
     }
 }
 
-/// `fork V W`.
+/// `fork V W`. Fails for want of memory.
 pub fn fork<'a, H: PairHash>(
     store: &Store<H>,
     writer: Writer,
     v: &Identifier,
     w: &'a Identifier,
-) -> Result<Decision<'a>, EngineFault>
+) -> Result<Decision<'a>, AllocError>
     ensures answers { IfOk result (AnswersOf H.pair_of
         (λ rules versions. fork versions v.now w.now) (puts w.now) writer.0 store.now) }
     ensures forks { IfOk result (MakesFork (Fork v.now w.now) writer.0 store.now.entries) }
-    ensures memory { IfErr result (λ fault. fault ≡ EngineFault.Memory) }
 {
     let Some((id, node)) = store.versions.get(writer, v.as_name()) else {
         return Ok(Decision::Refused(Reply::NO_VERSION));
@@ -150,12 +146,11 @@ pub fn drop<'a, H: PairHash>(store: &Store<H>, writer: Writer, v: &'a Identifier
     }
 }
 
-/// `list`.
-pub fn list<'a, H: PairHash>(store: &Store<H>, writer: Writer) -> Result<Decision<'a>, EngineFault>
-    ensures answers { IfOk result (AnswersOf H.pair_of
+/// `list`. Fails for want of memory.
+pub fn list<'a, H: PairHash>(store: &Store<H>, writer: Writer) -> Result<Decision<'a>, AllocError>
+    ensures { IfOk result (AnswersOf H.pair_of
         (λ rules versions. list versions) nothing writer.0
         store.now) }
-    ensures memory { IfErr result (λ fault. fault ≡ EngineFault.Memory) }
 {
     let names = store.versions.names(store.alloc, writer)?;
     Ok(Decision::Said(Reply::List(names)))

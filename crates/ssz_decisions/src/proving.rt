@@ -15,7 +15,6 @@ ghost use Rattle.ssz_decisions.specs.Carried.{outcome_of};
 ghost use Rattle.ssz_decisions.specs.declared.outcome.Outcome.TheVariants.{Refused};
 
 use super::decision::Decision;
-use super::fault::EngineFault;
 use super::store::Store;
 use ssz_arena::{Arena, NodeId};
 use ssz_bytes::ByteRun;
@@ -129,19 +128,18 @@ fn places_asked(
     }
 }
 
-// What is said of these places of a node's tree.
+// What is said of these places of a node's tree. Fails for want of memory.
 fn prove_places<'a, H: PairHash>(
     arena: &mut Arena<H>,
     node: NodeId,
     asked: &[Gindex],
     hasher: &mut H,
-) -> Result<Decision<'a>, EngineFault>
+) -> Result<Decision<'a>, AllocError>
     requires some { asked.now ≢ [] }
     requires node { IsNodeOf arena.old node }
     ensures proves { IfOk result (Proves H.pair_of (tree_of arena.old node) asked.now) }
     ensures takes { TakesRoots arena.old arena.new (H.pairs hasher.old) (H.pairs hasher.new) }
     ensures due { H.pairs hasher.new ≤ H.pairs hasher.old + todo arena.old node }
-    ensures memory { IfErr result (λ fault. fault ≡ EngineFault.Memory) }
     ensures refused { IfOk result (λ made. outcome_of made ≡ Refused
         → hasher.new ≡ hasher.old) }
 {
@@ -152,23 +150,22 @@ fn prove_places<'a, H: PairHash>(
         }
         Err(ProveFault::NoNode(_)) => Ok(Decision::Refused(Reply::NO_NODE)),
         Err(ProveFault::Nested(_, _)) => Ok(Decision::Refused(Reply::NESTED)),
-        Err(ProveFault::Memory) => Err(EngineFault::Memory),
+        Err(ProveFault::Memory) => Err(AllocError),
     }
 }
 
-/// `prove V I ..`.
+/// `prove V I ..`. Fails for want of memory.
 pub fn prove<'a, H: PairHash>(
     store: &mut Store<H>,
     writer: Writer,
     v: &Identifier,
     indices: &Indices,
     hasher: &mut H,
-) -> Result<Decision<'a>, EngineFault>
+) -> Result<Decision<'a>, AllocError>
     ensures grows { Grows store.old store.new }
     ensures answers { IfOk result (Answers H.pair_of
         (λ rules versions. prove rules versions v.now indices.now) nothing writer.0
         store.old store.new (H.pairs hasher.old) (H.pairs hasher.new)) }
-    ensures memory { IfErr result (λ fault. fault ≡ EngineFault.Memory) }
     ensures whole { OnErr result (node_count store.new.arena ≡ node_count store.old.arena) }
     ensures rises { H.pairs hasher.old ≤ H.pairs hasher.new }
     ensures hashed { H.pairs hasher.new ≤ H.pairs hasher.old + unhashed store.old.arena }

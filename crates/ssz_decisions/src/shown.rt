@@ -15,7 +15,6 @@ ghost use Rattle.ssz_decisions.specs.Decisions.{AnswersOf};
 ghost use Rattle.ssz_decisions.specs.Shown.{Shows};
 
 use super::decision::Decision;
-use super::fault::EngineFault;
 use super::parts::{part_value, place_of};
 use super::store::Store;
 use ssz_arena::Arena;
@@ -30,6 +29,7 @@ use ssz_value_json::{JsonWrite, write_json};
 use ssz_versions::Writer;
 use ssz_walk::{Place as PartPlace, Spot};
 use ssz_writing::{EncodeFault, write_encoding};
+use std::alloc::AllocError;
 
 // Appends the bytes, unless they are more than max.
 fn append_short(bytes: &[u8], max: u32, out: &mut Vec<u8>) -> Result<(), EncodeFault>
@@ -76,18 +76,17 @@ fn append_part<H: PairHash>(
 }
 
 // The encoding of the part at the path, straight from the nodes of the version; else the code of
-// the refusal.
+// the refusal. Fails for want of memory.
 fn encoded<H: PairHash>(
     store: &Store<H>,
     writer: Writer,
     v: &Identifier,
     path: &Steps,
-) -> Result<Result<Vec<u8>, u8>, EngineFault>
+) -> Result<Result<Vec<u8>, u8>, AllocError>
     ensures ok { IfOk result (λ made. IfOk made (λ text.
         Shows enc store.now writer.0 v.now path.now (Ok text.items))) }
     ensures err { IfOk result (λ made. IfErr made (λ code.
         Shows enc store.now writer.0 v.now path.now (Err (coded code)))) }
-    ensures memory { IfErr result (λ fault. fault ≡ EngineFault.Memory) }
 {
     let place = match place_of(store, writer, v, path)? {
         Ok(place) => place,
@@ -97,23 +96,22 @@ fn encoded<H: PairHash>(
     match append_part(&store.arena, &store.schema, &place, store.max, &mut text) {
         Ok(()) => Ok(Ok(text)),
         Err(EncodeFault::TooLong) => Ok(Err(Reply::TOO_LONG)),
-        Err(EncodeFault::Memory) => Err(EngineFault::Memory),
+        Err(EncodeFault::Memory) => Err(AllocError),
     }
 }
 
 // The JSON text of the part at the path; else the code of the refusal. The part's value is read
-// from the nodes of the version first.
+// from the nodes of the version first. Fails for want of memory.
 fn spelled<H: PairHash>(
     store: &Store<H>,
     writer: Writer,
     v: &Identifier,
     path: &Steps,
-) -> Result<Result<Vec<u8>, u8>, EngineFault>
+) -> Result<Result<Vec<u8>, u8>, AllocError>
     ensures ok { IfOk result (λ made. IfOk made (λ text.
         Shows json_text store.now writer.0 v.now path.now (Ok text.items))) }
     ensures err { IfOk result (λ made. IfErr made (λ code.
         Shows json_text store.now writer.0 v.now path.now (Err (coded code)))) }
-    ensures memory { IfErr result (λ fault. fault ≡ EngineFault.Memory) }
 {
     let place = match place_of(store, writer, v, path)? {
         Ok(place) => place,
@@ -131,21 +129,20 @@ fn spelled<H: PairHash>(
     ) {
         Ok(()) => Ok(Ok(text)),
         Err(JsonWrite::TooLong) => Ok(Err(Reply::TOO_LONG)),
-        Err(JsonWrite::Memory) => Err(EngineFault::Memory),
+        Err(JsonWrite::Memory) => Err(AllocError),
     }
 }
 
-/// `save V FILE`.
+/// `save V FILE`. Fails for want of memory.
 pub fn save<'a, H: PairHash>(
     store: &Store<H>,
     writer: Writer,
     place: Place,
     v: &Identifier,
     file: &'a FileName,
-) -> Result<Decision<'a>, EngineFault>
-    ensures answers { IfOk result (AnswersOf H.pair_of
+) -> Result<Decision<'a>, AllocError>
+    ensures { IfOk result (AnswersOf H.pair_of
         (λ rules versions. save rules place versions v.now file.now) nothing writer.0 store.now) }
-    ensures memory { IfErr result (λ fault. fault ≡ EngineFault.Memory) }
 {
     match place {
         Place::Weave => Ok(Decision::Refused(Reply::NOT_HERE)),
@@ -159,16 +156,15 @@ pub fn save<'a, H: PairHash>(
     }
 }
 
-/// `bytes V P`.
+/// `bytes V P`. Fails for want of memory.
 pub fn bytes<'a, H: PairHash>(
     store: &Store<H>,
     writer: Writer,
     v: &Identifier,
     path: &Steps,
-) -> Result<Decision<'a>, EngineFault>
-    ensures answers { IfOk result (AnswersOf H.pair_of
+) -> Result<Decision<'a>, AllocError>
+    ensures { IfOk result (AnswersOf H.pair_of
         (λ rules versions. bytes rules versions v.now path.now) nothing writer.0 store.now) }
-    ensures memory { IfErr result (λ fault. fault ≡ EngineFault.Memory) }
 {
     match encoded(store, writer, v, path)? {
         Ok(text) => Ok(Decision::Said(Reply::Bytes(ByteRun::from_bytes(text)))),
@@ -176,16 +172,15 @@ pub fn bytes<'a, H: PairHash>(
     }
 }
 
-/// `json V P`.
+/// `json V P`. Fails for want of memory.
 pub fn json<'a, H: PairHash>(
     store: &Store<H>,
     writer: Writer,
     v: &Identifier,
     path: &Steps,
-) -> Result<Decision<'a>, EngineFault>
-    ensures answers { IfOk result (AnswersOf H.pair_of
+) -> Result<Decision<'a>, AllocError>
+    ensures { IfOk result (AnswersOf H.pair_of
         (λ rules versions. json_row rules versions v.now path.now) nothing writer.0 store.now) }
-    ensures memory { IfErr result (λ fault. fault ≡ EngineFault.Memory) }
 {
     match spelled(store, writer, v, path)? {
         Ok(text) => Ok(Decision::Said(Reply::Json(ByteRun::from_bytes(text)))),

@@ -106,18 +106,18 @@ fn decide_alone<'a, H: PairHash>(
     ensures roots { IfOk result (λ made. LeavesHashed statement.now writer.0 store.new) }
 {
     match statement {
-        Statement::New(v, t) => new(store, writer, v, t),
-        Statement::Lit(v, t, literal) => lit(store, writer, v, t, literal.as_slice()),
-        Statement::Fork(v, w) => fork(store, writer, v, w),
+        Statement::New(v, t) => Ok(new(store, writer, v, t)?),
+        Statement::Lit(v, t, literal) => Ok(lit(store, writer, v, t, literal.as_slice())?),
+        Statement::Fork(v, w) => Ok(fork(store, writer, v, w)?),
         Statement::Drop(v) => Ok(drop(store, writer, v)),
-        Statement::List => list(store, writer),
+        Statement::List => Ok(list(store, writer)?),
         Statement::Root(v) => Ok(root(store, writer, v, hasher)),
-        Statement::Gindex(t, path) => gindex(store, writer, t, path),
+        Statement::Gindex(t, path) => Ok(gindex(store, writer, t, path)?),
         Statement::Hashes => Ok(hashes(store, writer, place, hasher)),
-        Statement::Save(v, file) => save(store, writer, place, v, file),
-        Statement::Bytes(v, path) => bytes(store, writer, v, path),
-        Statement::Json(v, path) => json(store, writer, v, path),
-        Statement::Len(v, path) => len(store, writer, v, path),
+        Statement::Save(v, file) => Ok(save(store, writer, place, v, file)?),
+        Statement::Bytes(v, path) => Ok(bytes(store, writer, v, path)?),
+        Statement::Json(v, path) => Ok(json(store, writer, v, path)?),
+        Statement::Len(v, path) => Ok(len(store, writer, v, path)?),
         Statement::Set(v, path, literal) => { set(store, writer, v, path, literal.as_slice()) }
         Statement::Append(v, path, literal) => {
             append(store, writer, v, path, literal.as_slice())
@@ -126,8 +126,8 @@ fn decide_alone<'a, H: PairHash>(
         Statement::Choose(v, path, selector, literal) => {
             choose(store, writer, v, path, *selector, literal)
         }
-        Statement::Prove(v, indices) => prove(store, writer, v, indices, hasher),
-        Statement::Upgrade(v, w, t) => upgrade(store, writer, v, w, t),
+        Statement::Prove(v, indices) => Ok(prove(store, writer, v, indices, hasher)?),
+        Statement::Upgrade(v, w, t) => Ok(upgrade(store, writer, v, w, t)?),
         Statement::Load(_, _, _) | Statement::LoadJson(_, _, _) | Statement::Compact => {
             unreachable!()
         }

@@ -67,12 +67,11 @@ fn is_short(statement: &Statement) -> bool
     }
 }
 
-// Appends the line that refuses what is no statement.
-fn refuse(line: u64, out: &mut Vec<u8>) -> Result<Outcome, EngineFault>
+// Appends the line that refuses what is no statement. Fails for want of memory.
+fn refuse(line: u64, out: &mut Vec<u8>) -> Result<Outcome, AllocError>
     ensures refused { IfOk result (λ made. made ≡ Outcome.Refused) }
     ensures text { OnOk result
         (out.new.items ≡ out.old.items ++ reply_line (Reply.Refused line SYNTAX None)) }
-    ensures memory { IfErr result (λ fault. fault ≡ EngineFault.Memory) }
 {
     let refused = Reply::Refused {
         line,
@@ -111,7 +110,7 @@ pub(crate) fn reply_to<F: Files, H: PairHash>(
         HashesSome statement writer.0 engine.old (H.pairs hasher.old) (H.pairs hasher.new))) }
 {
     let Some(statement) = &line.statement else {
-        return refuse(line.line, out);
+        return Ok(refuse(line.line, out)?);
     };
     if !is_short(statement) {
         return Err(EngineFault::Memory);

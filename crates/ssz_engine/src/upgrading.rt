@@ -1,4 +1,4 @@
-ghost use Rattle.std.specs.Prelude.{◌≡◌, IfOk, IfErr, OnErr};
+ghost use Rattle.std.specs.Prelude.{◌≡◌, IfOk, OnErr};
 ghost use Rattle.ssz_arena.specs.Content.{node_count};
 ghost use Rattle.ssz_machine.specs.Making.{upgrade};
 ghost use Rattle.ssz_machine.specs.Changes.{puts};
@@ -8,26 +8,26 @@ ghost use Rattle.ssz_decisions.specs.Decisions.{AnswersWith};
 ghost use Rattle.ssz_engine.specs.Steps.{MakesUpgrade};
 
 use ssz_chunk::PairHash;
-use ssz_decisions::{Decision, EngineFault, Store};
+use ssz_decisions::{Decision, Store};
 use ssz_forms::UpgradeFault;
 use ssz_script::{Identifier, Reply};
 use ssz_versions::{Room, Writer};
+use std::alloc::AllocError;
 
-/// `upgrade V W T`.
+/// `upgrade V W T`. Fails for want of memory.
 pub(crate) fn upgrade<'a, H: PairHash>(
     store: &mut Store<H>,
     writer: Writer,
     v: &Identifier,
     w: &'a Identifier,
     t: &Identifier,
-) -> Result<Decision<'a>, EngineFault>
+) -> Result<Decision<'a>, AllocError>
     ensures grows { Grows store.old store.new }
     ensures answers { IfOk result (AnswersWith H.pair_of
         (λ rules versions. upgrade rules versions v.now w.now t.now) (puts w.now) writer.0
         store.old store.new) }
     ensures upgrades { IfOk result (MakesUpgrade (Upgrade v.now w.now t.now) writer.0
         store.old store.new) }
-    ensures memory { IfErr result (λ fault. fault ≡ EngineFault.Memory) }
     ensures whole { OnErr result (node_count store.new.arena ≡ node_count store.old.arena) }
 {
     let Some(id) = store.schema.find_name(t.as_name()) else {
@@ -45,7 +45,7 @@ pub(crate) fn upgrade<'a, H: PairHash>(
         Ok(node) => node,
         Err(fault) => match fault {
             UpgradeFault::NotContainer => return Ok(Decision::Refused(Reply::NOT_CONTAINER)),
-            UpgradeFault::Memory => return Err(EngineFault::Memory),
+            UpgradeFault::Memory => return Err(AllocError),
         },
     };
     Ok(Decision::Made(w, id, node, room))

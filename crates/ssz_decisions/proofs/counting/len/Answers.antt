@@ -14,13 +14,13 @@ use Rattle.ssz_decisions.proofs.Numbers.{len-said, len-refused}
 use Rattle.ssz_decisions.proofs.Straying.{len-astray}
 use Rattle.ssz_decisions.proofs.counting.len.Goals as goal
 
-pub returns-in-Err-clause-answers : goal.returns-in-Err-clause-answers
-returns-in-Err-clause-answers g c =
+pub returns-in-Err : goal.returns-in-Err
+returns-in-Err g c =
     len-astray g.H.PairHash.pair_of c.args.store.now c.args.writer.0 c.args.v.now c.args.path.now
     c.in-Err.code (rw c.in-Err.is at c.in_ok-way.ensures.err)
 
-pub returns-in-Ok-count_at-clause-answers : goal.returns-in-Ok-count_at-clause-answers
-returns-in-Ok-count_at-clause-answers g c =
+pub returns-in-Ok-count_at : goal.returns-in-Ok-count_at
+returns-in-Ok-count_at g c =
     let pair_of = g.H.PairHash.pair_of in
     let w = c.args.writer.0 in
     let v = c.args.v.now in
@@ -42,8 +42,8 @@ returns-in-Ok-count_at-clause-answers g c =
     c.in-Ok-count_at.count))
     c.new-view.ensures c.in-Ok-count_at.ensures.ok)))
 
-pub returns-clause-answers : goal.returns-clause-answers
-returns-clause-answers g c =
+pub returns : goal.returns
+returns g c =
     let pair_of = g.H.PairHash.pair_of in
     let w = c.args.writer.0 in
     let v = c.args.v.now in

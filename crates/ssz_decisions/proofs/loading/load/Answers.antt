@@ -1,4 +1,4 @@
-use Rattle.std.proofs.Common.{◌≡◌, ◌≤◌, ◌<◌, ◌∙◌, List, ℕ, Bool, Some, IfOk, length, arith, refl, sym, ap, subst}
+use Rattle.std.proofs.Common.{◌≡◌, ◌≤◌, ◌<◌, ◌∙◌, List, ℕ, Bool, Some, length, arith, refl, sym, ap, subst}
 use Rattle.std.specs.Prelude.{IfSome, IsSomeAnd, nat_lt}
 use Rattle.ssz_outside.specs.Content.{bytes_of}
 use Rattle.ssz_schema.specs.Unfolding.{type_of}
@@ -6,10 +6,8 @@ use Rattle.ssz_script.specs.declared.reply.TheConstants.Reply.{TOO_LONG}
 use Rattle.ssz_machine.specs.Rules.{◌>>◌, refuse}
 use Rattle.ssz_machine.specs.Changes.{puts}
 use Rattle.ssz_decisions.specs.Content.{Content, rules_of}
-use Rattle.ssz_decisions.specs.Decisions.{AnswersAnew}
-use Rattle.ssz_decisions.specs.Loading.{LoadsWith, brought_as, load_row}
+use Rattle.ssz_decisions.specs.Loading.{brought_as, load_row}
 use Rattle.ssz_decisions.proofs.Brought.{IsLong, anew-same, free-row, load-is, loads-any, not-below, refused-anew, taken-blocks, taken-row, there-longer, there-whole, too-long, whole}
-use Rattle.ssz_decisions.proofs.Results.{on_ok, ok-of}
 use Rattle.ssz_decisions.proofs.loading.load.Goals as goal
 
 pub returns-in-Err-clause-answers : goal.returns-in-Err-clause-answers
@@ -84,25 +82,20 @@ returns-in-Ok-Whole-clause-answers g c =
     = let bound = c.in-Ok-Whole.ensures.bound (ap Rattle.std.proofs.Common.Ok
     c.in-Ok-Whole.field-0-is) in
     let len = c.as_slice.ensures.len in omega arith in
-    ok-of
-    (AnswersAnew pair_of (λ rules versions. brought_as form versions v type bytes) (puts v) w store
-    new)
-    (LoadsWith pair_of told c.args.file.now
-    (λ bytes rules versions. load_row form rules versions v t bytes) (puts v) w store new)
-    c.bring_as.result
-    (λ made answers. record {
+    record {
       bytes = bytes;
       read = whole told c.args.file.now bytes read;
       answers = anew-same pair_of (λ rules versions. brought_as form versions v type bytes)
-          (λ rules versions. load_row form rules versions v t bytes) (puts v) w store new made
+          (λ rules versions. load_row form rules versions v t bytes) (puts v) w store new
+          c.in_ok-bring_as-in-Ok-Whole.field-0
           (λ versions stand. load-is form (rules_of pair_of store) versions v t bytes
           ∙ free-row pair_of store w v t versions stand c.in-Ok.id
           (λ type. refuse TOO_LONG (nat_lt store.most (length bytes))
           >> brought_as form versions v type bytes) c.in-Ok.ensures.ok
           ∙ ap (λ (b : Bool). refuse TOO_LONG b >> brought_as form versions v type bytes)
-          (not-below store.most (length bytes) few)) answers;
-    })
-    c.bring_as.ensures.answers
+          (not-below store.most (length bytes) few))
+          c.in_ok-bring_as-in-Ok-Whole.ensures.answers;
+    }
 
 pub returns-in-Err-clause-found : goal.returns-in-Err-clause-found
 returns-in-Err-clause-found g c = λ held told versions stand can.
@@ -115,7 +108,6 @@ returns-in-Ok-TooLong-clause-found g c = λ held told versions stand can.
     (rw (c.in-Ok-TooLong.field-0-is, c.as_str.ensures.text, told) at c.in-Ok-TooLong.ensures.read)
 
 pub returns-in-Ok-Whole-clause-found : goal.returns-in-Ok-Whole-clause-found
-returns-in-Ok-Whole-clause-found g c =
-    on_ok c.bring_as.result (λ held told versions stand can.
+returns-in-Ok-Whole-clause-found g c = λ held told versions stand can.
     there-whole (bytes_of held c.args.file.now) _
-    (rw (c.in-Ok-Whole.field-0-is, c.as_str.ensures.text, told) at c.in-Ok-Whole.ensures.read))
+    (rw (c.in-Ok-Whole.field-0-is, c.as_str.ensures.text, told) at c.in-Ok-Whole.ensures.read)

@@ -6,8 +6,8 @@ use Rattle.ssz_decisions.specs.Content.{Content}
 use Rattle.ssz_decisions.proofs.Names.{names-same}
 use Rattle.ssz_decisions.proofs.making.list.Goals as goal
 
-pub returns-clause-answers : goal.returns-clause-answers
-returns-clause-answers g c = λ count. record {
+pub returns : goal.returns
+returns g c = λ count. record {
   can = tt;
   of = refl;
   comes = λ versions stands. ap (λ names. says versions (Listed names))
