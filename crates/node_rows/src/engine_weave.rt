@@ -1,35 +1,12 @@
 // The replies to a script of two writers.
-ghost use Rattle.std.specs.Prelude.{◌≡◌, ◌<◌, ◌^◌, true, length};
-ghost use Rattle.ssz_engine.specs.Steps.{IsShort};
-
 use anyhow::{Result, bail};
 use ssz_chunk::PairHash;
 use ssz_engine::Engine;
 use ssz_machine::Place;
 use ssz_outside::MemFiles;
-use ssz_script::{Reply, ScriptStatement, Statement, Statements, reply_text};
+use ssz_script::{Reply, ScriptStatement, Statements, reply_text};
 use ssz_versions::Writer;
 use std::alloc::Global;
-
-// Whether there are fewer than 2^32 bytes.
-fn are_few(bytes: &[u8]) -> bool
-    ensures { result ≡ true → length bytes.now < 2 ^ 32 }
-{
-    bytes.len() < 0x1_0000_0000
-}
-
-// Whether the literal, where there is one, has fewer than 2^32 bytes.
-fn is_short(statement: &Statement) -> bool
-    ensures { result ≡ true → IsShort statement.now }
-{
-    match statement {
-        Statement::Lit(_, _, literal) => are_few(literal.as_slice()),
-        Statement::Set(_, _, literal) => are_few(literal.as_slice()),
-        Statement::Append(_, _, literal) => are_few(literal.as_slice()),
-        Statement::Choose(_, _, _, Some(literal)) => are_few(literal.as_slice()),
-        _ => true,
-    }
-}
 
 // Appends the reply to a line of a script that is woven: odd lines are of writer 0, even ones of
 // writer 1.
@@ -46,7 +23,7 @@ fn push_reply<H: PairHash>(
         reply_text(&Reply::Refused { line, code, fault }, out)?;
         return Ok(());
     };
-    if !is_short(statement) {
+    if !statement.has_short_literal() {
         bail!("a literal is too long");
     }
     let writer = Writer(if line % 2 == 1 { 0 } else { 1 });

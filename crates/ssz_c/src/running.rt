@@ -1,7 +1,7 @@
 // The lines of a session.
-ghost use Rattle.std.specs.Prelude.{◌≡◌, ◌<◌, ◌^◌, [], true, false, length, IfOk, IfErr, None};
+ghost use Rattle.std.specs.Prelude.{◌≡◌, [], IfOk, IfErr, None};
 ghost use Rattle.std.specs.Result.{result_map_both};
-ghost use Rattle.ssz_engine.specs.Steps.{IsShort, Keeps};
+ghost use Rattle.ssz_engine.specs.Steps.{Keeps};
 ghost use Rattle.ssz_said.specs.declared.status.TheConstants.{NO_MEMORY};
 ghost use Rattle.ssz_said.specs.Outcome.{refused};
 ghost use Rattle.ssz_c.specs.Session.{Begins, Does, DoesLine, Refuses, Runs, Starts, ran_of};
@@ -18,28 +18,6 @@ use ssz_script::{LineFault, Reply, Statement, read_line, reply_text};
 use ssz_typed::read_types;
 use ssz_versions::Writer;
 use std::alloc::Global;
-
-// Whether there are fewer than 2^32 bytes.
-fn are_few(bytes: &[u8]) -> bool
-    ensures few { result ≡ true → length bytes.now < 2 ^ 32 }
-    ensures many { result ≡ false → ¬ (length bytes.now < 2 ^ 32) }
-{
-    bytes.len() <= status::MOST_BYTES
-}
-
-// Whether the literal, where there is one, has fewer than 2^32 bytes.
-fn is_short(statement: &Statement) -> bool
-    ensures short { result ≡ true → IsShort statement.now }
-    ensures long { result ≡ false → ¬ IsShort statement.now }
-{
-    match statement {
-        Statement::Lit(_, _, literal) => are_few(literal.as_slice()),
-        Statement::Set(_, _, literal) => are_few(literal.as_slice()),
-        Statement::Append(_, _, literal) => are_few(literal.as_slice()),
-        Statement::Choose(_, _, _, Some(literal)) => are_few(literal.as_slice()),
-        _ => true,
-    }
-}
 
 // What a line came to, by how its statement ended.
 fn ran_of(stepped: Result<Outcome, EngineFault>) -> Ran
@@ -69,7 +47,7 @@ fn run_statement(
         (record { engine = engine.old; hashed = hasher.old; line = line })
         engine.new reply.new.items }
 {
-    if !is_short(statement) {
+    if !statement.has_short_literal() {
         return Ran::TooLong;
     }
     let stepped = engine.step(Writer(0), Place::Run, line, statement, files, hasher, reply);

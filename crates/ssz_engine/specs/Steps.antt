@@ -1,5 +1,5 @@
 -- What a step of an engine leaves, by a step of the plain machine.
-use Rattle.std.specs.Prelude.{◌≡◌, ◌≤◌, ◌<◌, ◌^◌, ◌+◌, ◌-◌, ◌*◌, ℕ, IsTrue, length, Bool, true, false, List, ◌++◌, Option, Some, None}
+use Rattle.std.specs.Prelude.{◌≡◌, ◌≤◌, ◌+◌, ◌-◌, ◌*◌, ℕ, IsTrue, Bool, true, false, List, ◌++◌, Option, Some, None}
 use Rattle.ssz_outside.specs.Content.{Content as Files}
 use Rattle.ssz_outside.specs.Job.{Save}
 use Rattle.ssz_outside.specs.Outcome.{Tears}
@@ -9,7 +9,8 @@ use Rattle.ssz_schema.specs.Unfolding.{type_of}
 use Rattle.ssz_forms.specs.Upgrades.{upgrade_charge}
 use Rattle.ssz_proof.specs.Calculation.{PairOf}
 use Rattle.ssz_script.specs.declared.statement.Statement.{Statement}
-use Rattle.ssz_script.specs.declared.statement.Statement.TheVariants.{New, Lit, Load, LoadJson, Fork, Upgrade, Set, Append, Choose}
+use Rattle.ssz_script.specs.declared.statement.Statement.TheVariants.{New, Lit, Load, LoadJson, Fork, Upgrade}
+pub use Rattle.ssz_script.specs.Literals.{HasShortLiteral as IsShort}
 use Rattle.ssz_script.specs.Texts.{reply_line}
 use Rattle.ssz_versions.specs.Content.{Entries, Held, held_at, with_held, without_held}
 use Rattle.ssz_machine.specs.declared.place.Place.{Place}
@@ -216,14 +217,6 @@ Stops Read pair_of place writer line number statement old told_old told_new =
 Stops Write pair_of place writer line number statement old told_old told_new =
     SaveFails pair_of place writer line number statement old told_old told_new
 Stops Memory pair_of place writer line number statement old told_old told_new = told_new ≡ told_old
-
--- the literal has fewer than 2 ^ 32 bytes
-abbrev pub IsShort : Statement → Type 0
-IsShort (Lit v t literal) = length literal < 2 ^ 32
-IsShort (Set v path literal) = length literal < 2 ^ 32
-IsShort (Append v path literal) = length literal < 2 ^ 32
-IsShort (Choose v path k (Some literal)) = length literal < 2 ^ 32
-IsShort _ = Unit {0}
 
 -- the statement reads this file
 abbrev pub file_read : Statement → Option Name

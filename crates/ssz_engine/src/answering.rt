@@ -2,6 +2,7 @@
 ghost use Rattle.std.specs.Prelude.{◌≡◌, ◌≢◌, ◌+◌, ◌-◌, ◌≤◌, ℕ, List, is_some, Some, None, Err, true, false, IfOk, IfErr, OnOk, OnErr};
 ghost use Rattle.ssz_arena.specs.Content.{KeepsNodes, node_count, unhashed};
 ghost use Rattle.ssz_outside.specs.Content.{CanRead};
+ghost use Rattle.ssz_script.specs.Literals.{HasShortLiteral};
 ghost use Rattle.ssz_machine.specs.Counts.{asks_root};
 ghost use Rattle.ssz_versions.specs.Compacted.{IsCompacted};
 ghost use Rattle.ssz_engine.specs.Answered.{DoesAnswer, IsAnswered};
@@ -11,7 +12,7 @@ ghost use Rattle.ssz_decisions.specs.Decisions.{CanDo};
 ghost use Rattle.ssz_decisions.specs.Roots.{HashesDue, HashesSome};
 ghost use Rattle.ssz_decisions.specs.Outside.{CountsReads, CountsWrites};
 ghost use Rattle.ssz_decisions.specs.Carried.{CanLack, Fails};
-ghost use Rattle.ssz_engine.specs.Steps.{Finds, IsShort, Keeps, Stops, file_read};
+ghost use Rattle.ssz_engine.specs.Steps.{Finds, Keeps, Stops, file_read};
 
 use super::compaction::compact;
 use super::deciding::decide;
@@ -97,7 +98,7 @@ impl<H: PairHash> Engine<H> {
         files: &mut F,
         hasher: &mut H,
     ) -> Result<Reply, EngineFault>
-        requires { IsShort statement.now }
+        requires { HasShortLiteral statement.now }
         ensures keeps { Keeps self.old self.new }
         // Each node is there, with the same tree and no more to be hashed; but `compact` gives up
         // what no version reaches.

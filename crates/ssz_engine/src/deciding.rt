@@ -1,12 +1,13 @@
 ghost use Rattle.std.specs.Prelude.{◌≡◌, ◌≢◌, ◌+◌, ◌-◌, ◌≤◌, ℕ, List, Some, None, Err, false, IfOk, IfErr, OnOk, OnErr};
 ghost use Rattle.ssz_arena.specs.Content.{unhashed, node_count};
 ghost use Rattle.ssz_outside.specs.Content.{CanRead};
+ghost use Rattle.ssz_script.specs.Literals.{HasShortLiteral};
 ghost use Rattle.ssz_machine.specs.Counts.{asks_root};
 ghost use Rattle.ssz_engine.specs.Compacting.{is_compact};
 ghost use Rattle.ssz_decisions.specs.Content.{Grows};
 ghost use Rattle.ssz_decisions.specs.Outside.{CountsReads};
 ghost use Rattle.ssz_decisions.specs.Roots.{HashesDue, LeavesHashed, HashesSome};
-ghost use Rattle.ssz_engine.specs.Steps.{CanAsk, Decides, DecidesAlone, Finds, IsShort, MakesUpgrade, file_read};
+ghost use Rattle.ssz_engine.specs.Steps.{CanAsk, Decides, DecidesAlone, Finds, MakesUpgrade, file_read};
 ghost use Rattle.ssz_decisions.specs.Decisions.{MakesFork};
 ghost use Rattle.ssz_decisions.specs.Carried.{outcome_of};
 ghost use Rattle.ssz_engine.specs.Tops.{MakesTop};
@@ -34,7 +35,7 @@ pub(crate) fn decide<'a, F: Files, H: PairHash>(
     files: &mut F,
     hasher: &mut H,
 ) -> Result<Decision<'a>, EngineFault>
-    requires short { IsShort statement.now }
+    requires short { HasShortLiteral statement.now }
     requires other { is_compact statement.now ≡ false }
     ensures grows { Grows store.old store.new }
     ensures decides { IfOk result (Decides H.pair_of place statement.now writer.0
@@ -83,7 +84,7 @@ fn decide_alone<'a, H: PairHash>(
     statement: &'a Statement,
     hasher: &mut H,
 ) -> Result<Decision<'a>, EngineFault>
-    requires short { IsShort statement.now }
+    requires short { HasShortLiteral statement.now }
     requires alone { file_read statement.now ≡ None }
     requires other { is_compact statement.now ≡ false }
     ensures grows { Grows store.old store.new }

@@ -4,6 +4,7 @@ ghost use Rattle.ssz_chunk.specs.declared.TheConstants.{LEVELS};
 ghost use Rattle.ssz_chunk.specs.Chunk.{CountsUp};
 ghost use Rattle.ssz_arena.specs.Content.{KeepsNodes, unhashed, node_count};
 ghost use Rattle.ssz_outside.specs.Content.{CanRead};
+ghost use Rattle.ssz_script.specs.Literals.{HasShortLiteral};
 ghost use Rattle.ssz_versions.specs.Compacted.{IsCompacted};
 ghost use Rattle.ssz_machine.specs.Changes.{touch};
 ghost use Rattle.ssz_machine.specs.Counts.{asks_root};
@@ -11,7 +12,7 @@ ghost use Rattle.ssz_engine.specs.Compacting.{compacted, is_compact};
 ghost use Rattle.ssz_decisions.specs.Standing.{StandsForSome, StandsFor, HoldsNone};
 ghost use Rattle.ssz_decisions.specs.Outside.{CountsReads, CountsWrites};
 ghost use Rattle.ssz_decisions.specs.Roots.{HashesDue, LeavesHashed, HashesSome};
-ghost use Rattle.ssz_engine.specs.Steps.{DoesStep, Finds, ForksWhere, IsShort, Keeps, Stops, TouchesWhere, UpgradesWhere, file_read};
+ghost use Rattle.ssz_engine.specs.Steps.{DoesStep, Finds, ForksWhere, Keeps, Stops, TouchesWhere, UpgradesWhere, file_read};
 ghost use Rattle.ssz_engine.specs.Tops.{TopsWhere};
 
 use super::compaction::compact;
@@ -91,7 +92,7 @@ impl<H: PairHash> Engine<H> {
         hasher: &mut H,
         out: &mut Vec<u8>,
     ) -> Result<Outcome, EngineFault>
-        requires { IsShort statement.now }
+        requires { HasShortLiteral statement.now }
         ensures keeps { Keeps self.old self.new }
         // Each node is there, with the same tree and no more to be hashed; but `compact` gives up
         // what no version reaches.

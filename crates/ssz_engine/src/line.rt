@@ -1,5 +1,5 @@
 // One line of a script.
-ghost use Rattle.std.specs.Prelude.{◌≡◌, ◌≤◌, ◌<◌, ◌+◌, ◌^◌, ◌∷◌, ◌++◌, [], true, false, length, Some, None, Err, IfOk, IfErr, IfSome, OnOk, OnErr};
+ghost use Rattle.std.specs.Prelude.{◌≡◌, ◌≤◌, ◌+◌, ◌∷◌, ◌++◌, [], false, Some, None, Err, IfOk, IfErr, IfSome, OnOk, OnErr};
 ghost use Rattle.ssz_arena.specs.Content.{unhashed};
 ghost use Rattle.ssz_outside.specs.Job.{IsFinished};
 ghost use Rattle.ssz_script.specs.Texts.{reply_line};
@@ -7,7 +7,7 @@ ghost use Rattle.ssz_script.specs.declared.reply.TheConstants.Reply.{SYNTAX};
 ghost use Rattle.ssz_machine.specs.Plays.{front, mark, says};
 ghost use Rattle.ssz_engine.specs.Lines.{CountsPrint, DoesLine, LeavesOthers, Prints, ended_by, Tries};
 ghost use Rattle.ssz_decisions.specs.Standing.{StaysFor};
-ghost use Rattle.ssz_engine.specs.Steps.{IsShort, is_refusal};
+ghost use Rattle.ssz_engine.specs.Steps.{is_refusal};
 ghost use Rattle.ssz_decisions.specs.Roots.{LeavesHashed, HashesSome};
 ghost use Rattle.ssz_engine.specs.Tops.{TopsWhere};
 ghost use Rattle.ssz_engine.specs.Points.{Runs};
@@ -18,7 +18,7 @@ use ssz_chunk::PairHash;
 use ssz_decisions::{EngineFault, Outcome};
 use ssz_machine::Place;
 use ssz_outside::{Files, PutFault, Sink, Status};
-use ssz_script::{Reply, ScriptStatement, Statement, reply_text};
+use ssz_script::{Reply, ScriptStatement, reply_text};
 use ssz_versions::Writer;
 use std::alloc::AllocError;
 
@@ -44,26 +44,6 @@ fn push_front(place: Place, writer: Writer, out: &mut Vec<u8>) -> Result<(), All
     match place {
         Place::Run => Ok(()),
         Place::Weave => push_mark(writer, out),
-    }
-}
-
-// Whether there are fewer than 2^32 bytes.
-fn are_few(bytes: &[u8]) -> bool
-    ensures { result ≡ true → length bytes.now < 2 ^ 32 }
-{
-    bytes.len() < 0x1_0000_0000
-}
-
-// Whether the literal, where there is one, has fewer than 2^32 bytes.
-fn is_short(statement: &Statement) -> bool
-    ensures { result ≡ true → IsShort statement.now }
-{
-    match statement {
-        Statement::Lit(_, _, literal) => are_few(literal.as_slice()),
-        Statement::Set(_, _, literal) => are_few(literal.as_slice()),
-        Statement::Append(_, _, literal) => are_few(literal.as_slice()),
-        Statement::Choose(_, _, _, Some(literal)) => are_few(literal.as_slice()),
-        _ => true,
     }
 }
 
@@ -112,7 +92,7 @@ pub(crate) fn reply_to<F: Files, H: PairHash>(
     let Some(statement) = &line.statement else {
         return Ok(refuse(line.line, out)?);
     };
-    if !is_short(statement) {
+    if !statement.has_short_literal() {
         return Err(EngineFault::Memory);
     }
     engine.step(writer, place, line.line, statement, files, hasher, out)

@@ -1,5 +1,5 @@
 // What a statement comes to.
-ghost use Rattle.std.specs.Prelude.{◌≡◌, ◌<◌, ◌≤◌, ◌+◌, ◌^◌, true, length, Some, None, IfOk, OnOk};
+ghost use Rattle.std.specs.Prelude.{◌≡◌, ◌<◌, ◌≤◌, ◌+◌, ◌^◌, length, Some, None, IfOk, OnOk};
 ghost use Rattle.ssz_schema.specs.Unfolding.{type_of};
 ghost use Rattle.ssz_script.specs.declared.reply.TheConstants.Reply.{BAD_LITERAL};
 ghost use Rattle.ssz_value.specs.Standing.{value_of};
@@ -15,7 +15,7 @@ use ssz_codec::{DecodeFault, decode};
 use ssz_line::Steps;
 use ssz_partial::{Partial, PartialFault};
 use ssz_schema::{PathStep, Schema};
-use ssz_script::{PartialStatement, Reply};
+use ssz_script::{PartialStatement, Reply, is_short};
 use ssz_value::Value;
 use std::alloc::{AllocError, Global};
 
@@ -133,13 +133,6 @@ fn set(
     }
 }
 
-// Whether there are fewer than 2^32 bytes.
-fn are_few(bytes: &[u8]) -> bool
-    ensures { result ≡ true → length bytes.now < 2 ^ 32 }
-{
-    bytes.len() < 0x1_0000_0000
-}
-
 // The reply to a statement of this line.
 fn reply_to_statement<H: PairHash>(
     alloc: Global,
@@ -165,7 +158,7 @@ fn reply_to_statement<H: PairHash>(
     match statement {
         PartialStatement::Get(path) => get(alloc, schema, partial, line, path),
         PartialStatement::Set(path, literal) => {
-            if !are_few(literal.as_slice()) {
+            if !is_short(literal.as_slice()) {
                 return Err(AllocError);
             }
             set(alloc, schema, partial, line, path, literal.as_slice())

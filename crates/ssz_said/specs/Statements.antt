@@ -1,22 +1,11 @@
 -- The statements that the arguments of a call say: of a session's call, what it does.
-use Rattle.std.specs.Prelude.{ℕ, ◌<◌, ◌^◌, List, length, Option, Some, None, IfSome, Ok}
+use Rattle.std.specs.Prelude.{ℕ, List, Some, None, Ok}
 use Rattle.ssz_script.specs.declared.statement.Statement.{Statement}
 use Rattle.ssz_script.specs.declared.statement.Statement.TheVariants as says
+pub use Rattle.ssz_script.specs.Literals.{HasShortLiteral}
 use Rattle.ssz_said.specs.declared.status.TheConstants.{MOST_BYTES, TOO_LONG}
 use Rattle.ssz_said.specs.Outcome.{Outcome, ◌>>=◌, at_most}
 use Rattle.ssz_said.specs.Texts.{name_in, path_in}
-
--- the literal of a statement that has one
-abbrev pub literal_of : Statement → Option (List ℕ)
-literal_of (says.Lit v t literal) = Some literal
-literal_of (says.Set v path literal) = Some literal
-literal_of (says.Append v path literal) = Some literal
-literal_of (says.Choose v path selector literal) = literal
-literal_of _ = None
-
--- it has fewer than 2 ^ 32 bytes, which each statement of a call keeps
-abbrev pub HasShortLiteral : Statement → Type 0
-HasShortLiteral statement = IfSome (literal_of statement) (λ literal. length literal < 2 ^ 32)
 
 -- `lit V T LIT`, with the bytes of the literal
 abbrev pub lit_said : List ℕ → List ℕ → List ℕ → Outcome Statement

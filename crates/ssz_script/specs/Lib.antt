@@ -3,3 +3,4 @@ pub mod Lines
 pub mod Texts
 pub mod OneLine
 pub mod Next
+pub mod Literals
