@@ -71,3 +71,6 @@ pub const SCHEMA_MARK: u64 = 0x6570_7974_207a_7373;
 
 /// The mark of a handle that holds a session: the bytes of "ssz edit".
 pub const SESSION_MARK: u64 = 0x7469_6465_207a_7373;
+
+/// The mark of a handle that holds a slice: the bytes of "ssz part".
+pub const SLICE_MARK: u64 = 0x7472_6170_207a_7373;

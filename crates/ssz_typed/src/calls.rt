@@ -106,7 +106,7 @@ pub fn gindex(
 }
 
 // The steps that a text spells, where they fit the type.
-fn steps_of(
+pub(crate) fn steps_of(
     alloc: Global,
     schema: &Schema,
     id: TypeId,
@@ -138,7 +138,10 @@ fn path_fault(fault: PathFault) -> SszFault
 }
 
 // The encoding of the part of a value at a path.
-fn part_at<'s, 'b>(whole: &Slice<'s, 'b>, path: &[PathStep]) -> Result<Encoding<'b>, SszFault>
+pub(crate) fn part_at<'s, 'b>(
+    whole: &Slice<'s, 'b>,
+    path: &[PathStep],
+) -> Result<Encoding<'b>, SszFault>
     ensures { result_map_both written (λ fault. fault) result ≡ encoding_at whole.now path.now }
 {
     match whole.at(path) {
@@ -198,7 +201,10 @@ fn stretch_of<'s, 'b>(part: &Slice<'s, 'b>) -> Option<SszStretch>
 }
 
 // Where the part of a value at a path stands.
-fn stretch_at<'s, 'b>(whole: &Slice<'s, 'b>, path: &[PathStep]) -> Result<SszStretch, SszFault>
+pub(crate) fn stretch_at<'s, 'b>(
+    whole: &Slice<'s, 'b>,
+    path: &[PathStep],
+) -> Result<SszStretch, SszFault>
     ensures { result ≡ stretch_at whole.now path.now }
 {
     match whole.at(path) {

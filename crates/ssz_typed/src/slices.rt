@@ -1,0 +1,83 @@
+// Bytes that are checked once, and their parts.
+ghost use Rattle.std.specs.Prelude.{◌≡◌, ◌<◌, ◌^◌, length, None, IfOk};
+ghost use Rattle.std.specs.Result.{result_map_both};
+ghost use Rattle.ssz_schema.specs.Unfolding.{type_of};
+ghost use Rattle.ssz_slices.specs.Written.{written};
+ghost use Rattle.ssz_value.specs.Faults.{why};
+ghost use Rattle.ssz_said.specs.Outcome.{IsUnlessMemory};
+ghost use Rattle.ssz_typed.specs.Slices.{Opens, slice_part, slice_place};
+
+use super::calls::{SszStretch, checked, part_at, steps_of, stretch_at};
+use super::checked_bytes::CheckedBytes;
+use super::later;
+use super::library::Library;
+use ssz_bytes::ByteRun;
+use ssz_said::{SszFault, status};
+use ssz_schema::{Schema, TypeId};
+use ssz_slices::{Encoding, Slice};
+use std::alloc::{AllocError, Global};
+
+impl CheckedBytes {
+    // Copies of bytes without a fault and of their schema.
+    fn copy_of(
+        alloc: Global,
+        schema: &Schema,
+        id: TypeId,
+        bytes: &[u8],
+    ) -> Result<CheckedBytes, AllocError>
+        requires known { id < length schema.now.trees }
+        requires short { length bytes.now < 2 ^ 32 }
+        requires faultless { why (type_of schema.now id) 0 bytes.now ≡ None }
+        ensures schema { IfOk result (λ slice. slice.schema ≡ schema.now) }
+        ensures kind { IfOk result (λ slice. slice.id ≡ id) }
+        ensures bytes { IfOk result (λ slice. slice.bytes ≡ bytes.now) }
+    {
+        let bytes = ByteRun::copy_of(alloc, bytes)?;
+        let schema = later::copied(alloc, schema)?;
+        Ok(CheckedBytes { schema, id, bytes })
+    }
+
+    /// Checks the bytes as a value of the type of a number, and copies them.
+    pub fn open(
+        alloc: Global,
+        library: &Library,
+        number: u64,
+        bytes: &[u8],
+    ) -> Result<CheckedBytes, SszFault>
+        ensures { Opens library.now number bytes.now result }
+    {
+        let id = match checked(library, number, bytes) {
+            Ok(id) => id,
+            Err(fault) => return Err(fault),
+        };
+        match CheckedBytes::copy_of(alloc, &library.schema, id, bytes) {
+            Ok(slice) => Ok(slice),
+            Err(_) => Err(SszFault::of(status::NO_MEMORY)),
+        }
+    }
+
+    /// The encoding of the part that a path leads to.
+    pub fn part<'b>(&'b self, alloc: Global, text: &[u8]) -> Result<Encoding<'b>, SszFault>
+        ensures { IsUnlessMemory (result_map_both written (λ fault. fault) result)
+            (slice_part self.now text.now) }
+    {
+        let steps = match steps_of(alloc, &self.schema, self.id, text) {
+            Ok(steps) => steps,
+            Err(fault) => return Err(fault),
+        };
+        let whole = Slice::whole(&self.schema, self.id, self.bytes.as_slice());
+        part_at(&whole, steps.as_slice())
+    }
+
+    /// Where that part stands in the bytes.
+    pub fn place(&self, alloc: Global, text: &[u8]) -> Result<SszStretch, SszFault>
+        ensures { IsUnlessMemory result (slice_place self.now text.now) }
+    {
+        let steps = match steps_of(alloc, &self.schema, self.id, text) {
+            Ok(steps) => steps,
+            Err(fault) => return Err(fault),
+        };
+        let whole = Slice::whole(&self.schema, self.id, self.bytes.as_slice());
+        stretch_at(&whole, steps.as_slice())
+    }
+}
