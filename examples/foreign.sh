@@ -1,10 +1,11 @@
 #!/bin/sh
 # Builds the static library and the examples of C, Python and Rust, runs each over the same inputs as the
-# program `ssz`, and compares what they print, of sessions beside `ssz run` too. examples/c/statuses.c and
-# typed.c lead each call to its statuses, and memory.c refuses each allocation in turn, under valgrind where
-# that is there; state.c edits a state, whose root and bytes are compared, and threads.c asks in eight threads.
-# It needs the kit that README names, and says what it left out for want of a compiler, an interpreter or
-# valgrind. The last line is 'N compared, M differ'.
+# program `ssz`, and compares what they print, of sessions beside `ssz run` too. Each part is asked of a slice
+# as well, and sessions stand on a schema that was read. examples/c/statuses.c and typed.c lead each call to its
+# statuses, and memory.c refuses each allocation in turn, under valgrind where that is there; state.c edits a
+# state, whose root and bytes are compared, and threads.c asks in eight threads. It needs the kit that README
+# names, and says what it left out for want of a compiler, an interpreter or valgrind. The last line is
+# 'N compared, M differ'.
 set -eu
 cd "$(dirname "$0")/.."
 out=$(mktemp -d)
@@ -103,6 +104,12 @@ compare_lines() {
     each_way "$1" "$out/lines"
 }
 
+# SCHEMA: each way prints the names that come in and those that are built in, in byte order.
+compare_names() {
+    { cat; printf '%s\n' boolean byte uint8 uint16 uint32 uint64 uint128 uint256; } | LC_ALL=C sort >"$out/wanted"
+    each_way "$1"
+}
+
 # So many bytes of this value, an octal number.
 bytes() {
     head -c "$1" /dev/zero | tr '\0' "\\$2"
@@ -142,6 +149,11 @@ compare "$deneb" BeaconState "$out/state" /finalized_checkpoint/root
 compare "$deneb" BeaconState "$out/state" '/validators/#len'
 compare "$deneb" BeaconState "$out/state" /validators/7/slashed
 compare "$deneb" BeaconState "$out/state" /justification_bits/1
+
+echo M | compare_names "$out/m.json"
+sed -n 's/^\["\([A-Za-z0-9_]*\)".*/\1/p' "$deneb" | compare_names "$deneb"
+echo 'schema S1' >"$out/wanted"
+each_way "$out/16"
 
 # A state of 5 balances, of which the bytes change as state.c says: what it writes has the root that it says.
 if [ -x "$out/state_c" ]; then

@@ -9,19 +9,21 @@
  *    that is not null ("" will do).
  *  - During a call nothing else reads or writes what the call's pointers lead to, and what one
  *    pointer leads to that the call writes through overlaps nothing that another one leads to.
- *  - A handle is a variable of type ssz_schema or ssz_session. It begins as SSZ_SCHEMA_NONE or
- *    SSZ_SESSION_NONE and is changed by calls alone; it is not copied while it holds something. It
- *    is given to one call at a time, and goes from thread to thread by a thread's start or end, a
- *    lock, or an atomic in sequentially consistent order. Two handles know nothing of one another,
- *    and there is no state beside them: threads that ask at once read a handle each. A handle has
- *    a mark of its kind while it holds something: one that was freed, a handle of the other kind
- *    and one that was never set (short of a mark by chance) hold nothing.
+ *  - A handle is a variable of type ssz_schema, ssz_session or ssz_slice. It begins as
+ *    SSZ_SCHEMA_NONE, SSZ_SESSION_NONE or SSZ_SLICE_NONE and is changed by calls alone; it is not
+ *    copied while it holds something. It is given to one call at a time, and goes from thread to
+ *    thread by a thread's start or end, a lock, or an atomic in sequentially consistent order. Two
+ *    handles know nothing of one another (a session or a slice on a schema has a copy of it), and
+ *    there is no state beside them: threads that ask at once read a handle each. A handle has a
+ *    mark of its kind while it holds something: one that was freed, a handle of another kind and
+ *    one that was never set (short of a mark by chance) hold nothing.
  *  - malloc, realloc and free are those of one allocator; no call is made from a signal handler.
  *
- * What the library keeps: it frees all that it took at ssz_schema_free or ssz_session_end, it keeps
- * no pointer that it was given after the call has ended, and it never reads behind a length. Under
- * any status but SSZ_OK what stands behind a result's pointer is as it was; but SSZ_NO_ROOM comes
- * with a length, and so does each status of ssz_session_run but SSZ_NO_HANDLE and SSZ_NULL.
+ * What the library keeps: it frees all that it took at ssz_schema_free, ssz_session_end or
+ * ssz_slice_close, it keeps no pointer that it was given after the call has ended, and it never
+ * reads behind a length. Under any status but SSZ_OK what stands behind a result's pointer is as it
+ * was; but SSZ_NO_ROOM comes with a length, and so does each status of ssz_session_run but
+ * SSZ_NO_HANDLE and SSZ_NULL.
  *
  * What is looked at first, where more than one thing is wrong: the pointers, the handle, the number
  * of the type, the length of the bytes, the names, the text of the path, whether it fits the type,
@@ -49,7 +51,7 @@ enum {
     SSZ_SYNTAX = 6,      /* the text spells no path, no name or no index */
     SSZ_BAD_PATH = 7,    /* the path does not fit the type */
     SSZ_ABSENT = 8,      /* the path fits the type, and the value has no such part; the type no such
-                            field, limit or part */
+                            field, limit, part or name */
     SSZ_BAD_PROOF = 9,   /* the text, or the chunks, are no proof */
     SSZ_UNLIKE = 10,     /* the proof leads to another root */
     SSZ_NO_MEMORY = 11,  /* out of memory */
@@ -105,6 +107,14 @@ typedef struct {
 
 #define SSZ_SESSION_NONE {0, NULL}
 
+/* Bytes that were checked once, or none. What is in it is the library's. */
+typedef struct {
+    uint64_t live;
+    void *held;
+} ssz_slice;
+
+#define SSZ_SLICE_NONE {0, NULL}
+
 /* A generalized index: low + 2^64 high. */
 typedef struct {
     uint64_t low;
@@ -138,6 +148,21 @@ uint32_t ssz_schema_free(ssz_schema *schema);
  * SSZ_NO_MEMORY. */
 uint32_t ssz_type(ssz_schema *schema, const uint8_t *name, size_t len, uint64_t *type,
                   ssz_fault *fault);
+
+/* All names of the types, the built-in ones too, in byte order and each with a line feed behind it,
+ * in room as for ssz_part. A name has letters, digits and _ alone. SSZ_NO_HANDLE, SSZ_NO_MEMORY,
+ * SSZ_NO_ROOM. */
+uint32_t ssz_names(ssz_schema *schema, uint8_t *room, size_t room_len, uint64_t *len,
+                   ssz_fault *fault);
+
+/* The name of the type, in room as for ssz_part; where two names are of one type, the first in byte
+ * order. SSZ_ABSENT of a type that has none. SSZ_NO_HANDLE, SSZ_NO_TYPE, SSZ_NO_ROOM. */
+uint32_t ssz_type_name(ssz_schema *schema, uint64_t type, uint8_t *room, size_t room_len,
+                       uint64_t *len, ssz_fault *fault);
+
+/* How many types have a number: each number below is that of one, and no other number is. More have
+ * one when ssz_type or ssz_part_type is asked for another. SSZ_NO_HANDLE. */
+uint32_t ssz_types(ssz_schema *schema, uint64_t *count, ssz_fault *fault);
 
 /* Whether the bytes encode a value of the type. SSZ_NO_HANDLE, SSZ_NO_TYPE, SSZ_TOO_LONG,
  * SSZ_INVALID. */
@@ -206,11 +231,12 @@ uint32_t ssz_verify_branch(const uint8_t root[32], const uint8_t leaf[32], uint6
 uint32_t ssz_verify_all(const uint8_t root[32], const ssz_entry *leaves, size_t leaves_len,
                         const ssz_entry *nodes, size_t nodes_len);
 
-/* The encoding of the part at a path, in bytes that encode a value of the type: copied to room,
- * which has room_len bytes, and its length in part_len. SSZ_NO_ROOM where there is too little room:
- * then only part_len is written, and says how much is wanted. A bit is one byte, a length
- * ("/list/#len") eight. SSZ_NO_HANDLE, SSZ_NO_TYPE, SSZ_TOO_LONG, SSZ_SYNTAX, SSZ_INVALID,
- * SSZ_BAD_PATH, SSZ_ABSENT, SSZ_NO_MEMORY. */
+/* The encoding of the part at a path, in bytes that encode a value of the type, all of which are
+ * checked: for many parts of the same bytes there is ssz_slice_open. Copied to room, which has
+ * room_len bytes, and its length in part_len. SSZ_NO_ROOM where there is too little room: then only
+ * part_len is written, and says how much is wanted. A bit is one byte, a length ("/list/#len")
+ * eight. SSZ_NO_HANDLE, SSZ_NO_TYPE, SSZ_TOO_LONG, SSZ_SYNTAX, SSZ_INVALID, SSZ_BAD_PATH,
+ * SSZ_ABSENT, SSZ_NO_MEMORY. */
 uint32_t ssz_part(ssz_schema *schema, uint64_t type, const uint8_t *bytes, size_t len,
                   const uint8_t *path, size_t path_len, uint8_t *room, size_t room_len,
                   uint64_t *part_len, ssz_fault *fault);
@@ -220,6 +246,27 @@ uint32_t ssz_part(ssz_schema *schema, uint64_t type, const uint8_t *bytes, size_
  * SSZ_SYNTAX, SSZ_INVALID, SSZ_BAD_PATH, SSZ_ABSENT, SSZ_NO_MEMORY. */
 uint32_t ssz_place(ssz_schema *schema, uint64_t type, const uint8_t *bytes, size_t len,
                    const uint8_t *path, size_t path_len, ssz_stretch *place, ssz_fault *fault);
+
+/* Checks the bytes as a value of the type, and opens a slice on them: parts of it are then found
+ * without a look at the others. It has a copy of the bytes and of the schema, and the caller may
+ * change and free both. What the handle held before is freed; under any status but SSZ_OK it then
+ * holds nothing. SSZ_NO_HANDLE of the schema, SSZ_NO_TYPE, SSZ_TOO_LONG, SSZ_INVALID,
+ * SSZ_NO_MEMORY. */
+uint32_t ssz_slice_open(ssz_slice *slice, ssz_schema *schema, uint64_t type, const uint8_t *bytes,
+                        size_t len, ssz_fault *fault);
+
+/* What ssz_part answers of these bytes. SSZ_NO_HANDLE, SSZ_TOO_LONG, SSZ_SYNTAX, SSZ_BAD_PATH,
+ * SSZ_ABSENT, SSZ_NO_MEMORY, SSZ_NO_ROOM. */
+uint32_t ssz_slice_part(ssz_slice *slice, const uint8_t *path, size_t path_len, uint8_t *room,
+                        size_t room_len, uint64_t *part_len, ssz_fault *fault);
+
+/* What ssz_place answers of these bytes. SSZ_NO_HANDLE, SSZ_TOO_LONG, SSZ_SYNTAX, SSZ_BAD_PATH,
+ * SSZ_ABSENT, SSZ_NO_PLACE, SSZ_NO_MEMORY. */
+uint32_t ssz_slice_place(ssz_slice *slice, const uint8_t *path, size_t path_len,
+                         ssz_stretch *place, ssz_fault *fault);
+
+/* Frees what the handle holds. SSZ_NO_HANDLE where it holds nothing, as after a first close. */
+uint32_t ssz_slice_close(ssz_slice *slice);
 
 /* The JSON text (docs/formats.md) of the value of the type that the bytes encode, in room as for
  * ssz_part. SSZ_NO_HANDLE, SSZ_NO_TYPE, SSZ_TOO_LONG of the bytes or of the text, SSZ_INVALID,
@@ -239,6 +286,10 @@ uint32_t ssz_of_json(ssz_schema *schema, uint64_t type, const uint8_t *text, siz
  * is freed; under any status but SSZ_OK it then holds nothing. SSZ_BAD_SCHEMA, SSZ_NO_MEMORY. */
 uint32_t ssz_session_start(ssz_session *session, const uint8_t *schema, size_t len,
                            ssz_fault *fault);
+
+/* The same over the schema that a handle holds, which is copied: no text is read, and the caller
+ * may free the schema before the session ends. SSZ_NO_HANDLE of the schema, SSZ_NO_MEMORY. */
+uint32_t ssz_session_start_on(ssz_session *session, ssz_schema *schema, ssz_fault *fault);
 
 /* Does the statement that a line says, as "set V /slot 0x0100000000000000", and keeps the reply for
  * ssz_session_reply; its length stands in reply_len. The line has no line feed. The reply is the
@@ -749,5 +800,61 @@ static inline uint32_t ssz_part_type_given(ssz_schema *schema, uint64_t type, ui
     return ssz_part_type(schema, type, place, part, fault);
 }
 #define ssz_part_type ssz_part_type_given
+
+static inline uint32_t ssz_names_given(ssz_schema *schema, uint8_t *room, size_t room_len,
+                                       uint64_t *len, ssz_fault *fault) {
+    if (!schema || !room || !len || !fault) return ssz_null(fault);
+    return ssz_names(schema, room, room_len, len, fault);
+}
+#define ssz_names ssz_names_given
+
+static inline uint32_t ssz_type_name_given(ssz_schema *schema, uint64_t type, uint8_t *room,
+                                           size_t room_len, uint64_t *len, ssz_fault *fault) {
+    if (!schema || !room || !len || !fault) return ssz_null(fault);
+    return ssz_type_name(schema, type, room, room_len, len, fault);
+}
+#define ssz_type_name ssz_type_name_given
+
+static inline uint32_t ssz_types_given(ssz_schema *schema, uint64_t *count, ssz_fault *fault) {
+    if (!schema || !count || !fault) return ssz_null(fault);
+    return ssz_types(schema, count, fault);
+}
+#define ssz_types ssz_types_given
+
+static inline uint32_t ssz_session_start_on_given(ssz_session *session, ssz_schema *schema,
+                                                  ssz_fault *fault) {
+    if (!session || !schema || !fault) return ssz_null(fault);
+    return ssz_session_start_on(session, schema, fault);
+}
+#define ssz_session_start_on ssz_session_start_on_given
+
+static inline uint32_t ssz_slice_open_given(ssz_slice *slice, ssz_schema *schema, uint64_t type,
+                                            const uint8_t *bytes, size_t len, ssz_fault *fault) {
+    if (!slice || !schema || !bytes || !fault) return ssz_null(fault);
+    return ssz_slice_open(slice, schema, type, bytes, len, fault);
+}
+#define ssz_slice_open ssz_slice_open_given
+
+static inline uint32_t ssz_slice_part_given(ssz_slice *slice, const uint8_t *path, size_t path_len,
+                                            uint8_t *room, size_t room_len, uint64_t *part_len,
+                                            ssz_fault *fault) {
+    if (!slice || !path || !room || !part_len || !fault) return ssz_null(fault);
+    return ssz_slice_part(slice, path, path_len, room, room_len, part_len, fault);
+}
+#define ssz_slice_part ssz_slice_part_given
+
+static inline uint32_t ssz_slice_place_given(ssz_slice *slice, const uint8_t *path,
+                                             size_t path_len, ssz_stretch *place,
+                                             ssz_fault *fault) {
+    if (!slice || !path || !place || !fault) return ssz_null(fault);
+    return ssz_slice_place(slice, path, path_len, place, fault);
+}
+#define ssz_slice_place ssz_slice_place_given
+
+static inline uint32_t ssz_slice_close_given(ssz_slice *slice) {
+    if (!slice) return SSZ_NULL;
+    return ssz_slice_close(slice);
+}
+#define ssz_slice_close ssz_slice_close_given
 
 #endif

@@ -1,9 +1,10 @@
 /* The calls of ssz.h over files: the root of a value, the generalized index of a part, the part's
- * bytes, and whether a proof leads to the root, as the program `ssz` prints them; and the replies
- * of a session to the lines of a script.
+ * bytes, and whether a proof leads to the root, as the program `ssz` prints them; the replies of a
+ * session to the lines of a script; and the names of all types.
  *
  *     example SCHEMA TYPE FILE PATH PROOF
  *     example SCHEMA SCRIPT
+ *     example SCHEMA
  */
 #include <stdio.h>
 #include <stdlib.h>
@@ -82,12 +83,15 @@ static int run_line(ssz_session *session, const uint8_t *line, size_t line_len) 
     return status == SSZ_REFUSED;
 }
 
-static int run_script(const char *schema, const char *script) {
-    bytes text = read_file(schema), lines = read_file(script);
+static int run_script(const char *file, const char *script) {
+    bytes text = read_file(file), lines = read_file(script);
+    ssz_schema schema = SSZ_SCHEMA_NONE;
     ssz_session session = SSZ_SESSION_NONE;
     ssz_fault fault;
     int refused = 0;
-    expect(ssz_session_start(&session, text.at, text.len, &fault), &fault);
+    expect(ssz_schema_read(&schema, text.at, text.len, &fault), &fault);
+    expect(ssz_session_start_on(&session, &schema, &fault), &fault);
+    if (ssz_schema_free(&schema) != SSZ_OK) return 7;
     for (size_t from = 0, to; from < lines.len; from = to + 1) {
         for (to = from; to < lines.len && lines.at[to] != '\n';) to++;
         refused |= run_line(&session, lines.at + from, to - from);
@@ -98,11 +102,48 @@ static int run_script(const char *schema, const char *script) {
     return refused;
 }
 
+static int print_names(const char *file) {
+    bytes text = read_file(file);
+    ssz_schema schema = SSZ_SCHEMA_NONE;
+    ssz_fault fault;
+    uint64_t len;
+    uint8_t few[1];
+    expect(ssz_schema_read(&schema, text.at, text.len, &fault), &fault);
+    if (ssz_names(&schema, few, 1, &len, &fault) != SSZ_NO_ROOM) return 7;
+    uint8_t *names = malloc(len);
+    if (!names) return 6;
+    expect(ssz_names(&schema, names, len, &len, &fault), &fault);
+    fwrite(names, 1, len, stdout);
+    if (ssz_schema_free(&schema) != SSZ_OK) return 7;
+    free(text.at);
+    free(names);
+    return 0;
+}
+
+/* Whether the part of bytes that are checked once has the same bytes. */
+static int is_in_slice(ssz_schema *schema, uint64_t type, bytes value, const char *path,
+                       const uint8_t *part, uint64_t part_len) {
+    ssz_slice slice = SSZ_SLICE_NONE;
+    ssz_fault fault;
+    uint64_t len;
+    uint8_t *room = malloc(part_len + 1);
+    if (!room) exit(6);
+    expect(ssz_slice_open(&slice, schema, type, value.at, value.len, &fault), &fault);
+    expect(ssz_slice_part(&slice, (const uint8_t *)path, strlen(path), room, part_len, &len,
+                          &fault),
+           &fault);
+    int same = len == part_len && !memcmp(room, part, len);
+    free(room);
+    return ssz_slice_close(&slice) == SSZ_OK && same;
+}
+
 int main(int count, char **words) {
+    if (count == 2) return print_names(words[1]);
     if (count == 3) return run_script(words[1], words[2]);
     if (count != 6) {
         fputs("usage: example SCHEMA TYPE FILE PATH PROOF\n"
-              "       example SCHEMA SCRIPT\n",
+              "       example SCHEMA SCRIPT\n"
+              "       example SCHEMA\n",
               stderr);
         return 2;
     }
@@ -129,6 +170,7 @@ int main(int count, char **words) {
                     &fault),
            &fault);
     print_hex("bytes", part, part_len);
+    if (!is_in_slice(&schema, type, value, words[4], part, part_len)) return 7;
     uint32_t verdict = ssz_verify(root, proof.at, proof.len);
     puts(verdict == SSZ_OK ? "valid" : verdict == SSZ_UNLIKE ? "unlike" : "badproof");
     if (ssz_schema_free(&schema) != SSZ_OK || ssz_schema_free(&schema) != SSZ_NO_HANDLE) return 7;

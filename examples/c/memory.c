@@ -1,5 +1,5 @@
-/* After want of memory all stands as before, and the call is made again. A session and a schema are led
- * through their calls once with all memory, and then once for each allocation of these, which is refused:
+/* After want of memory all stands as before, and the call is made again. Sessions, a schema and a slice are
+ * led through their calls once with all memory, and then once for each allocation of these, which is refused:
  * the call that wanted it says SSZ_NO_MEMORY, or does without; made again it is done, and in the end all
  * is the same. Link with -Wl,--wrap=malloc,--wrap=realloc. */
 #include <stdio.h>
@@ -49,11 +49,11 @@ static const uint8_t eight[8] = {7};
 
 /* What is had in the end: roots, bytes, a branch, entries and a text. */
 struct found {
-    uint8_t roots[2][32], bytes[2][64], branch[512], text[128], made[64], reply[128];
+    uint8_t roots[3][32], bytes[3][64], branch[512], text[128], made[64], reply[128], names[128];
     ssz_entry entries[40];
     ssz_index index;
-    ssz_stretch place;
-    uint64_t lens[10];
+    ssz_stretch place, again;
+    uint64_t lens[12];
 };
 
 static void versions(ssz_session *s) {
@@ -94,6 +94,22 @@ static void asked_of_types(ssz_schema *schema, struct found *f) {
     AGAIN(ssz_to_json(schema, type, value, 33, f->text, 128, &f->lens[8], &fault));
     AGAIN(ssz_of_json(schema, type, f->text, f->lens[8], f->made, 64, &f->lens[9], &fault));
     AGAIN(ssz_default(schema, type, f->bytes[1], 64, &f->lens[9], &fault));
+    AGAIN(ssz_names(schema, f->names, 128, &f->lens[10], &fault));
+}
+
+/* A slice, and a session, which copy the schema. */
+static void begun_on(ssz_schema *schema, struct found *f) {
+    ssz_session session = SSZ_SESSION_NONE;
+    ssz_slice slice = SSZ_SLICE_NONE;
+    uint64_t type;
+    AGAIN(ssz_type(schema, TEXT("P"), &type, &fault));
+    AGAIN(ssz_slice_open(&slice, schema, type, value, 33, &fault));
+    AGAIN(ssz_slice_part(&slice, TEXT("/b"), f->bytes[2], 64, &f->lens[11], &fault));
+    AGAIN(ssz_slice_place(&slice, TEXT("/b/1"), &f->again, &fault));
+    AGAIN(ssz_session_start_on(&session, schema, &fault));
+    AGAIN(ssz_session_load(&session, TEXT("V"), TEXT("P"), value, 33, &fault));
+    AGAIN(ssz_session_root(&session, TEXT("V"), f->roots[2], &fault));
+    if (memcmp(f->roots[0], f->roots[2], 32) || ssz_session_end(&session) || ssz_slice_close(&slice)) exit(1);
 }
 
 static void all(struct found *f) {
@@ -104,6 +120,7 @@ static void all(struct found *f) {
     versions(&session);
     shown(&session, f);
     asked_of_types(&schema, f);
+    begun_on(&schema, f);
     if (ssz_session_end(&session) || ssz_schema_free(&schema)) exit(1);
 }
 

@@ -25,7 +25,7 @@ static ssz_schema schema = SSZ_SCHEMA_NONE, other = SSZ_SCHEMA_NONE;
 static ssz_fault fault;
 static ssz_index index_of = {5, 5};
 static uint64_t p, list, len = 5;
-static uint8_t root[32] = {5}, room[9] = {5};
+static uint8_t root[32] = {5}, room[9] = {5}, names[99];
 static int wrong = 0;
 
 static void want(const char *what, uint32_t got, uint32_t status) {
@@ -58,6 +58,10 @@ static void none_held(void) {
     want("limit of none", ssz_limit(&schema, 0, &len, &fault), SSZ_NO_HANDLE);
     want("parts of none", ssz_parts(&schema, 0, &len, &fault), SSZ_NO_HANDLE);
     want("part of none", ssz_part_type(&schema, 0, 0, &len, &fault), SSZ_NO_HANDLE);
+    want("names of none", ssz_names(&schema, names, 99, &len, &fault), SSZ_NO_HANDLE);
+    want("name of none", ssz_type_name(&schema, 0, names, 99, &len, &fault), SSZ_NO_HANDLE);
+    want("types of none", ssz_types(&schema, &len, &fault), SSZ_NO_HANDLE);
+    want("as before", len == 5 && names[0] == 0, 1);
     want("type of none", ssz_type(&schema, TEXT("P"), &p, &fault), SSZ_NO_HANDLE);
     want("free of none", ssz_schema_free(&schema), SSZ_NO_HANDLE);
 }
@@ -124,6 +128,41 @@ static void shape_is(const char *what, uint64_t type, uint32_t form, uint32_t ha
     want(what, counted == parts, 1);
 }
 
+static uint32_t name_of(uint64_t type) {
+    return ssz_type_name(&schema, type, room, 9, &len, &fault);
+}
+
+/* The names of types, and how many have a number. */
+static void told(void) {
+    static const char all[] =
+        "L\nP\nU\nboolean\nbyte\nuint128\nuint16\nuint256\nuint32\nuint64\nuint8\n";
+    uint64_t count = 9, vector, part, all_len = sizeof all - 1;
+    want("names", ssz_names(&schema, names, 99, &len, &fault), SSZ_OK);
+    fault_is("names", SSZ_OK, 0, 0);
+    want("names", len == all_len && !memcmp(names, all, all_len) && names[len] == 0, 1);
+    want("room", ssz_names(&schema, names, all_len - 1, &len, &fault), SSZ_NO_ROOM);
+    want("room", len == all_len, 1);
+    want("room", ssz_names(&schema, names, all_len, &len, &fault), SSZ_OK);
+
+    want("name", name_of(p), SSZ_OK);
+    want("name", len == 1 && room[0] == 'P', 1);
+    want("room", ssz_type_name(&schema, list, room, 0, &len, &fault), SSZ_NO_ROOM);
+    want("room", len == 1 && room[0] == 'P', 1);
+    want("none", ssz_type(&schema, TEXT("U"), &vector, &fault), SSZ_OK);
+    want("none", ssz_part_type(&schema, vector, 1, &vector, &fault), SSZ_OK);
+    want("none", name_of(vector), SSZ_ABSENT);
+    want("number", ssz_type(&schema, TEXT("uint8"), &part, &fault), SSZ_OK);
+    want("number", name_of(part), SSZ_OK);
+    want("first", len == 4 && !memcmp(room, "byte", 4), 1);
+
+    want("types", ssz_types(&schema, &count, &fault), SSZ_OK);
+    want("the last", name_of(count - 1), SSZ_OK);
+    want("no number", name_of(count), SSZ_NO_TYPE);
+    want("as before", len == 4 && room[0] == 'b', 1);
+    want("other", ssz_types(&other, &count, &fault), SSZ_OK);
+    want("other", count == 0, 1);
+}
+
 /* What the types of a schema are, those that have no name too. */
 static void shapes(void) {
     uint64_t u, vector, part, count = 9;
@@ -162,6 +201,94 @@ static void parts(void) {
     want("invalid", part(p, bad, 9, TEXT("/a")), SSZ_INVALID);
     fault_is("invalid", SSZ_INVALID, 3, 8);
     want("as before", len == 8 && room[0] == 1, 1);
+}
+
+/* Parts of bytes that were checked once, which are copied. */
+static void slices(void) {
+    ssz_slice slice = SSZ_SLICE_NONE, two = SSZ_SLICE_NONE;
+    ssz_schema none = SSZ_SCHEMA_NONE;
+    ssz_stretch place = {5, 5};
+    uint8_t bytes[9], said[9] = {5};
+    memcpy(bytes, value, 9);
+    len = 5;
+    want("none", ssz_slice_part(&slice, TEXT("/a"), said, 9, &len, &fault), SSZ_NO_HANDLE);
+    want("none", ssz_slice_place(&slice, TEXT("/a"), &place, &fault), SSZ_NO_HANDLE);
+    want("none", ssz_slice_close(&slice), SSZ_NO_HANDLE);
+    want("none", ssz_slice_open(&slice, &none, p, bytes, 9, &fault), SSZ_NO_HANDLE);
+    want("no number", ssz_slice_open(&slice, &schema, 99, bytes, 9, &fault), SSZ_NO_TYPE);
+    want("invalid", ssz_slice_open(&slice, &schema, p, bad, 9, &fault), SSZ_INVALID);
+    fault_is("invalid", SSZ_INVALID, 3, 8);
+    want("still none", ssz_slice_part(&slice, TEXT("/a"), said, 9, &len, &fault), SSZ_NO_HANDLE);
+    fault_is("still none", SSZ_NO_HANDLE, 0, 0);
+    want("as before", len == 5 && said[0] == 5 && place.start == 5, 1);
+
+    want("open", ssz_slice_open(&slice, &schema, p, bytes, 9, &fault), SSZ_OK);
+    fault_is("open", SSZ_OK, 0, 0);
+    want("open", ssz_slice_open(&two, &schema, list, bytes, 0, &fault), SSZ_OK);
+    memset(bytes, 0xff, 9);
+    want("part", ssz_slice_part(&slice, TEXT("/a"), said, 9, &len, &fault), SSZ_OK);
+    want("part", len == 8 && said[0] == 7 && said[8] == 0, 1);
+    want("part", ssz_slice_part(&slice, TEXT("/"), said, 9, &len, &fault), SSZ_OK);
+    want("part", len == 9 && !memcmp(said, value, 9), 1);
+    want("room", ssz_slice_part(&slice, TEXT("/a"), said, 7, &len, &fault), SSZ_NO_ROOM);
+    want("room", len == 8, 1);
+    want("syntax", ssz_slice_part(&slice, TEXT("a"), said, 9, &len, &fault), SSZ_SYNTAX);
+    want("bad path", ssz_slice_part(&slice, TEXT("/c"), said, 9, &len, &fault), SSZ_BAD_PATH);
+    want("absent", ssz_slice_part(&two, TEXT("/0"), said, 9, &len, &fault), SSZ_ABSENT);
+    want("as before", len == 8 && !memcmp(said, value, 9), 1);
+    want("length", ssz_slice_part(&two, TEXT("/#len"), said, 9, &len, &fault), SSZ_OK);
+    want("length", len == 8 && said[0] == 0, 1);
+
+    want("place", ssz_slice_place(&slice, TEXT("/b"), &place, &fault), SSZ_OK);
+    want("place", place.start == 8 && place.len == 1, 1);
+    want("syntax", ssz_slice_place(&slice, TEXT("b"), &place, &fault), SSZ_SYNTAX);
+    want("bad path", ssz_slice_place(&slice, TEXT("/c"), &place, &fault), SSZ_BAD_PATH);
+    want("absent", ssz_slice_place(&two, TEXT("/0/a"), &place, &fault), SSZ_ABSENT);
+    want("no place", ssz_slice_place(&two, TEXT("/#len"), &place, &fault), SSZ_NO_PLACE);
+    want("as before", place.start == 8 && place.len == 1, 1);
+
+    want("again", ssz_slice_open(&slice, &schema, list, bytes, 0, &fault), SSZ_OK);
+    want("again", ssz_slice_part(&slice, TEXT("/"), said, 9, &len, &fault), SSZ_OK);
+    want("again", len == 0, 1);
+    want("again", ssz_slice_open(&slice, &schema, p, bad, 9, &fault), SSZ_INVALID);
+    want("given up", ssz_slice_close(&slice), SSZ_NO_HANDLE);
+    want("close", ssz_slice_close(&two), SSZ_OK);
+    want("close again", ssz_slice_close(&two), SSZ_NO_HANDLE);
+    want("closed", ssz_slice_part(&two, TEXT("/"), said, 9, &len, &fault), SSZ_NO_HANDLE);
+}
+
+/* A slice and a session stand without the schema that they were begun on. */
+static void without_schema(void) {
+    ssz_schema lent = SSZ_SCHEMA_NONE;
+    ssz_session session = SSZ_SESSION_NONE;
+    ssz_slice slice = SSZ_SLICE_NONE;
+    uint64_t type;
+    want("none", ssz_session_start_on(&session, &lent, &fault), SSZ_NO_HANDLE);
+    fault_is("none", SSZ_NO_HANDLE, 0, 0);
+    want("lent", ssz_schema_read(&lent, TEXT(PAIR), &fault), SSZ_OK);
+    want("lent", ssz_type(&lent, TEXT("P"), &type, &fault), SSZ_OK);
+    want("start", ssz_session_start_on(&session, &lent, &fault), SSZ_OK);
+    fault_is("start", SSZ_OK, 0, 0);
+    want("open", ssz_slice_open(&slice, &lent, type, value, 9, &fault), SSZ_OK);
+    want("as before", ssz_check(&lent, type, value, 9, &fault), SSZ_OK);
+    /* a handle of another kind holds nothing, and is kept */
+    want("kinds", ssz_slice_close((ssz_slice *)(void *)&lent), SSZ_NO_HANDLE);
+    want("kinds", ssz_slice_close((ssz_slice *)(void *)&session), SSZ_NO_HANDLE);
+    want("kinds", ssz_session_end((ssz_session *)(void *)&slice), SSZ_NO_HANDLE);
+    want("kinds", ssz_schema_free((ssz_schema *)(void *)&slice), SSZ_NO_HANDLE);
+    want("lent", ssz_schema_free(&lent), SSZ_OK);
+
+    want("part", ssz_slice_part(&slice, TEXT("/a"), room, 9, &len, &fault), SSZ_OK);
+    want("part", len == 8 && room[0] == 7, 1);
+    want("load", ssz_session_load(&session, TEXT("V"), TEXT("P"), value, 9, &fault), SSZ_OK);
+    want("set", ssz_session_set(&session, TEXT("V"), TEXT("/b"), value + 7, 1, &fault), SSZ_OK);
+    want("len", ssz_session_bytes(&session, TEXT("V"), TEXT("/b"), room, 9, &len, &fault), SSZ_OK);
+    want("len", len == 1 && room[0] == 0, 1);
+    /* what it held is given up, also where nothing comes in its place */
+    want("none", ssz_session_start_on(&session, &lent, &fault), SSZ_NO_HANDLE);
+    want("given up", ssz_session_end(&session), SSZ_NO_HANDLE);
+    want("none", ssz_slice_open(&slice, &lent, type, value, 9, &fault), SSZ_NO_HANDLE);
+    want("given up", ssz_slice_close(&slice), SSZ_NO_HANDLE);
 }
 
 /* Proofs of a root. */
@@ -237,6 +364,8 @@ static void sessions(void) {
 /* A null pointer in each place of each call. */
 static void nulls(void) {
     ssz_session session = SSZ_SESSION_NONE;
+    ssz_slice slice = SSZ_SLICE_NONE;
+    ssz_stretch place;
     uint32_t form;
     uint64_t n;
     want("null", ssz_schema_read(NULL, TEXT(PAIR), &fault), SSZ_NULL);
@@ -264,6 +393,29 @@ static void nulls(void) {
     want("null", ssz_parts(&schema, p, NULL, &fault), SSZ_NULL);
     want("null", ssz_part_type(NULL, p, 0, &n, &fault), SSZ_NULL);
     want("null", ssz_part_type(&schema, p, 0, NULL, &fault), SSZ_NULL);
+    want("null", ssz_names(NULL, names, 99, &n, &fault), SSZ_NULL);
+    want("null", ssz_names(&schema, NULL, 0, &n, &fault), SSZ_NULL);
+    want("null", ssz_names(&schema, names, 99, NULL, &fault), SSZ_NULL);
+    want("null", ssz_type_name(NULL, p, names, 99, &n, &fault), SSZ_NULL);
+    want("null", ssz_type_name(&schema, p, NULL, 0, &n, &fault), SSZ_NULL);
+    want("null", ssz_type_name(&schema, p, names, 99, NULL, &fault), SSZ_NULL);
+    want("null", ssz_types(NULL, &n, &fault), SSZ_NULL);
+    want("null", ssz_types(&schema, NULL, &fault), SSZ_NULL);
+    want("null", ssz_slice_open(NULL, &schema, p, value, 9, &fault), SSZ_NULL);
+    want("null", ssz_slice_open(&slice, NULL, p, value, 9, &fault), SSZ_NULL);
+    want("null", ssz_slice_open(&slice, &schema, p, NULL, 0, &fault), SSZ_NULL);
+    want("null", ssz_slice_open(&slice, &schema, p, value, 9, NULL), SSZ_NULL);
+    want("null", ssz_slice_part(NULL, TEXT("/a"), room, 9, &n, &fault), SSZ_NULL);
+    want("null", ssz_slice_part(&slice, NULL, 0, room, 9, &n, &fault), SSZ_NULL);
+    want("null", ssz_slice_part(&slice, TEXT("/a"), NULL, 0, &n, &fault), SSZ_NULL);
+    want("null", ssz_slice_part(&slice, TEXT("/a"), room, 9, NULL, &fault), SSZ_NULL);
+    want("null", ssz_slice_place(NULL, TEXT("/a"), &place, &fault), SSZ_NULL);
+    want("null", ssz_slice_place(&slice, NULL, 0, &place, &fault), SSZ_NULL);
+    want("null", ssz_slice_place(&slice, TEXT("/a"), NULL, &fault), SSZ_NULL);
+    want("null", ssz_slice_close(NULL), SSZ_NULL);
+    want("null", ssz_session_start_on(NULL, &schema, &fault), SSZ_NULL);
+    want("null", ssz_session_start_on(&session, NULL, &fault), SSZ_NULL);
+    want("null", ssz_session_start_on(&session, &schema, NULL), SSZ_NULL);
     want("null", ssz_verify(NULL, TEXT(PROOF)), SSZ_NULL);
     want("null", ssz_verify(root, NULL, 0), SSZ_NULL);
     want("null", part(p, NULL, 0, TEXT("/a")), SSZ_NULL);
@@ -287,6 +439,12 @@ static void long_text(const uint8_t *text) {
     want("long", ssz_verify(root, text, TOO_MUCH_TEXT), SSZ_TOO_LONG);
     want("long", ssz_gindex(&schema, p, text, TOO_MUCH_TEXT, &index_of, &fault), SSZ_TOO_LONG);
     want("long", part(p, value, 9, text, TOO_MUCH_TEXT), SSZ_TOO_LONG);
+    ssz_slice slice = SSZ_SLICE_NONE;
+    ssz_stretch place;
+    want("long", ssz_slice_open(&slice, &schema, p, value, 9, &fault), SSZ_OK);
+    want("long", ssz_slice_part(&slice, text, TOO_MUCH_TEXT, room, 9, &len, &fault), SSZ_TOO_LONG);
+    want("long", ssz_slice_place(&slice, text, TOO_MUCH_TEXT, &place, &fault), SSZ_TOO_LONG);
+    want("long", ssz_slice_close(&slice), SSZ_OK);
     want("long", ssz_schema_read(&other, text, TOO_MUCH_TEXT, &fault), SSZ_BAD_SCHEMA);
     fault_is("long", SSZ_BAD_SCHEMA, 15, 0);
     ssz_session session = SSZ_SESSION_NONE;
@@ -298,6 +456,8 @@ static void long_value(const uint8_t *bytes, size_t bytes_len) {
     want("long", ssz_check(&schema, p, bytes, bytes_len, &fault), SSZ_TOO_LONG);
     want("long", ssz_root(&schema, p, bytes, bytes_len, root, &fault), SSZ_TOO_LONG);
     want("long", part(p, bytes, bytes_len, TEXT("/a")), SSZ_TOO_LONG);
+    ssz_slice slice = SSZ_SLICE_NONE;
+    want("long", ssz_slice_open(&slice, &schema, p, bytes, bytes_len, &fault), SSZ_TOO_LONG);
     ssz_session session = SSZ_SESSION_NONE;
     uint64_t reply_len;
     want("long", ssz_session_start(&session, TEXT(PAIR), &fault), SSZ_OK);
@@ -312,7 +472,10 @@ int main(void) {
     types();
     values();
     shapes();
+    told();
     parts();
+    slices();
+    without_schema();
     proofs();
     sessions();
     nulls();

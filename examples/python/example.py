@@ -1,8 +1,9 @@
-"""The calls of ssz.py over files, printed as the program `ssz` prints them; and the replies of a
-session to the lines of a script.
+"""The calls of ssz.py over files, printed as the program `ssz` prints them; the replies of a session
+to the lines of a script; and the names of all types.
 
     example.py LIBRARY SCHEMA TYPE FILE PATH PROOF
     example.py LIBRARY SCHEMA SCRIPT
+    example.py LIBRARY SCHEMA
 """
 
 import sys
@@ -38,7 +39,11 @@ def show(library: str, schema: str, name: str, file: str, path: str, proof: str)
         root = kind.root(encoded)
         print(f"root 0x{root.hex()}")
         print(f"gindex {kind.gindex(path)}")
-        print(f"bytes 0x{kind.part(encoded, path).hex()}")
+        part = kind.part(encoded, path)
+        print(f"bytes 0x{part.hex()}")
+        opened = kind.open(encoded)
+    if opened.part(path) != part:
+        print("another part of the slice")
     holds = calls.verify(root, Path(proof).read_bytes())
     print("valid" if holds else "unlike")
     return 0 if holds else 1
@@ -47,7 +52,9 @@ def show(library: str, schema: str, name: str, file: str, path: str, proof: str)
 def run(library: str, schema: str, script: str) -> int:
     """Prints the replies of a session to the lines of a script."""
     status = 0
-    with Library(library).session(Path(schema).read_bytes()) as session:
+    with Library(library).schema(Path(schema).read_bytes()) as types:
+        session = types.session()
+    with session:
         for line in Path(script).read_text().split("\n"):
             try:
                 reply = session.run(line)
@@ -58,9 +65,18 @@ def run(library: str, schema: str, script: str) -> int:
     return status
 
 
+def name(library: str, schema: str) -> int:
+    """Prints the names of all types."""
+    with Library(library).schema(Path(schema).read_bytes()) as types:
+        print("\n".join(types.names()))
+    return 0
+
+
 def main(*words: str) -> int:
     """Does what the words ask for."""
     try:
+        if len(words) == 2:
+            return name(*words)
         return run(*words) if len(words) == 3 else show(*words)
     except SszError as error:
         print(line_of(error))

@@ -8,6 +8,8 @@
         root = state.root(encoded)
         index = state.gindex("/finalized_checkpoint/root")
         slot = state.part(encoded, "/slot")
+        opened = state.open(encoded)
+    epoch = opened.part("/finalized_checkpoint/epoch")
     library.verify(root, proof_text)
 
     with library.session(schema_bytes) as session:
@@ -46,6 +48,9 @@ class Status(IntEnum):
     REFUSED = 13
     NO_READ = 14
     NO_WRITE = 15
+    NULL = 16
+    NO_PLACE = 17
+    BAD_JSON = 18
 
 
 class SszError(Exception):
@@ -105,7 +110,12 @@ _CALLS = {
     "ssz_gindex": _HANDLE + _NUMBER + _BYTES + [ctypes.POINTER(_Index)] + _FAULT,
     "ssz_verify": [ctypes.c_char_p] + _BYTES,
     "ssz_part": _HANDLE + _NUMBER + _BYTES + _BYTES + _BYTES + _LENGTH + _FAULT,
+    "ssz_names": _HANDLE + _BYTES + _LENGTH + _FAULT,
+    "ssz_slice_open": _HANDLE + _HANDLE + _NUMBER + _BYTES + _FAULT,
+    "ssz_slice_part": _HANDLE + _BYTES + _BYTES + _LENGTH + _FAULT,
+    "ssz_slice_close": _HANDLE,
     "ssz_session_start": _HANDLE + _BYTES + _FAULT,
+    "ssz_session_start_on": _HANDLE + _HANDLE + _FAULT,
     "ssz_session_run": _HANDLE + _BYTES + _LENGTH + _FAULT,
     "ssz_session_reply": _HANDLE + _BYTES + _LENGTH + _FAULT,
     "ssz_session_end": _HANDLE,
@@ -124,11 +134,11 @@ class Library:
 
     def schema(self, text: bytes) -> Schema:
         """The schema that the bytes of a schema file define."""
-        return Schema(self._calls, text)
+        return Schema(self._calls, "ssz_schema_read", text, len(text))
 
     def session(self, schema: bytes) -> Session:
         """A session over the schema that the bytes of a schema file define."""
-        return Session(self._calls, schema)
+        return Session(self._calls, "ssz_session_start", schema, len(schema))
 
     def verify(self, root: bytes, proof: bytes) -> bool:
         """Whether the multiproof that the text says leads to the root of 32 bytes."""
@@ -146,13 +156,12 @@ _Self = TypeVar("_Self", bound="_Held")
 class _Held:
     """What a handle holds, which is given up by `close` or at the end of a `with`."""
 
-    _begin: str
     _end: str
 
-    def __init__(self, calls: ctypes.CDLL, text: bytes) -> None:
+    def __init__(self, calls: ctypes.CDLL, begin: str, *words: object) -> None:
         self._calls = calls
         self._handle = _Handle(0, None)
-        self._call(self._begin, text, len(text))
+        self._call(begin, *words)
 
     def _call(self, name: str, *words: object) -> None:
         fault = _Fault()
@@ -160,6 +169,18 @@ class _Held:
         status = Status(call(ctypes.byref(self._handle), *words, ctypes.byref(fault)))
         if status != Status.OK:
             raise SszError(status, fault.code, fault.position)
+
+    def _filled(self, name: str, *words: object) -> bytes:
+        """Makes a call that copies bytes, with more room where they need more."""
+        room, count = ctypes.create_string_buffer(64), ctypes.c_uint64()
+        try:
+            self._call(name, *words, room, len(room), ctypes.byref(count))
+        except SszError as error:
+            if error.status != Status.NO_ROOM:
+                raise
+            room = ctypes.create_string_buffer(count.value)
+            self._call(name, *words, room, len(room), ctypes.byref(count))
+        return room.raw[: count.value]
 
     def close(self) -> None:
         """Frees what is held; a later call raises NO_HANDLE."""
@@ -183,7 +204,6 @@ class _Held:
 class Schema(_Held):
     """A schema, which is freed by `close` or at the end of a `with`."""
 
-    _begin = "ssz_schema_read"
     _end = "ssz_schema_free"
 
     def type(self, name: str) -> SszType:
@@ -193,12 +213,19 @@ class Schema(_Held):
         self._call("ssz_type", text, len(text), ctypes.byref(number))
         return SszType(self, number.value)
 
+    def names(self) -> list[str]:
+        """The names of all types, the built-in ones too, in byte order."""
+        return self._filled("ssz_names").decode().splitlines()
+
+    def session(self) -> Session:
+        """A session over this schema, of which it has a copy."""
+        return Session(self._calls, "ssz_session_start_on", ctypes.byref(self._handle))
+
 
 class Session(_Held):
     """Versions of values under names, edited by statements, one line at a time; ended by `close` or
     at the end of a `with`."""
 
-    _begin = "ssz_session_start"
     _end = "ssz_session_end"
 
     def run(self, line: str) -> str:
@@ -222,6 +249,18 @@ class Session(_Held):
         room = ctypes.create_string_buffer(max(1, count))
         self._call("ssz_session_reply", room, count, ctypes.byref(ctypes.c_uint64()))
         return room.raw[:count].decode().rstrip("\n")
+
+
+class Slice(_Held):
+    """Bytes that were checked once as a value of a type, of which many parts are asked; given up by
+    `close` or at the end of a `with`. It has a copy of the bytes and of the schema."""
+
+    _end = "ssz_slice_close"
+
+    def part(self, path: str) -> bytes:
+        """The encoding of the part at a path."""
+        text = path.encode()
+        return self._filled("ssz_slice_part", text, len(text))
 
 
 class SszType:
@@ -251,6 +290,14 @@ class SszType:
             "ssz_gindex", self._number, text, len(text), ctypes.byref(index)
         )
         return index.low | index.high << 64
+
+    def open(self, encoded: bytes) -> Slice:
+        """The bytes, checked once."""
+        schema = self._schema
+        handle = ctypes.byref(schema._handle)
+        return Slice(
+            schema._calls, "ssz_slice_open", handle, self._number, encoded, len(encoded)
+        )
 
     def part(self, encoded: bytes, path: str) -> bytes:
         """The encoding of the part at a path of the value that the bytes encode."""

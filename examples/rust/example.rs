@@ -1,8 +1,9 @@
-//! The calls of ssz.rs over files, printed as the program `ssz` prints them; and the replies of a
-//! session to the lines of a script.
+//! The calls of ssz.rs over files, printed as the program `ssz` prints them; the replies of a session
+//! to the lines of a script; and the names of all types.
 //!
 //!     example SCHEMA TYPE FILE PATH PROOF
 //!     example SCHEMA SCRIPT
+//!     example SCHEMA
 
 mod ssz;
 
@@ -43,7 +44,9 @@ fn show(schema: &[u8], name: &str, value: &[u8], path: &str, proof: &[u8]) -> Re
     let root = kind.root(value)?;
     println!("root 0x{}", hex(&root));
     println!("gindex {}", kind.gindex(path)?);
-    println!("bytes 0x{}", hex(&kind.part(value, path)?));
+    let part = kind.part(value, path)?;
+    println!("bytes 0x{}", hex(&part));
+    assert_eq!(kind.open(value)?.part(path)?, part);
     let holds = verify(&root, proof)?;
     println!("{}", if holds { "valid" } else { "unlike" });
     Ok(holds)
@@ -51,7 +54,7 @@ fn show(schema: &[u8], name: &str, value: &[u8], path: &str, proof: &[u8]) -> Re
 
 // Prints the replies of a session to the lines of a script, and answers whether none was refused.
 fn run(schema: &[u8], script: &[u8]) -> Result<bool, Error> {
-    let mut session = Session::start(schema)?;
+    let mut session = Session::start_on(&Schema::read(schema)?)?;
     let mut accepted = true;
     for line in script.split(|byte| *byte == b'\n') {
         match session.run(line) {
@@ -67,10 +70,18 @@ fn run(schema: &[u8], script: &[u8]) -> Result<bool, Error> {
     Ok(accepted)
 }
 
+// Prints the names of all types.
+fn name(schema: &[u8]) -> Result<bool, Error> {
+    let names = Schema::read(schema)?.names()?;
+    io::stdout().write_all(&names).expect("stdout");
+    Ok(true)
+}
+
 fn main() -> ExitCode {
     let words: Vec<String> = env::args().collect();
     let read = |name: &String| fs::read(name).expect(name);
     let done = match &words[..] {
+        [_, schema] => name(&read(schema)),
         [_, schema, script] => run(&read(schema), &read(script)),
         [_, schema, name, file, path, proof] => {
             show(&read(schema), name, &read(file), path, &read(proof))
@@ -78,6 +89,7 @@ fn main() -> ExitCode {
         _ => {
             eprintln!("usage: example SCHEMA TYPE FILE PATH PROOF");
             eprintln!("       example SCHEMA SCRIPT");
+            eprintln!("       example SCHEMA");
             return ExitCode::from(2);
         }
     };

@@ -1,5 +1,8 @@
 //! SimpleSerialize from Rust, over the static library of crates/ssz_c.
 
+// A program makes some of the calls.
+#![allow(dead_code)]
+
 use std::cell::RefCell;
 
 /// Why a call did not do what it was asked.
@@ -30,9 +33,12 @@ pub enum Status {
     Refused,
     NoRead,
     NoWrite,
+    Null,
+    NoPlace,
+    BadJson,
 }
 
-const STATUSES: [Status; 15] = [
+const STATUSES: [Status; 18] = [
     Status::NoHandle,
     Status::NoType,
     Status::TooLong,
@@ -48,7 +54,12 @@ const STATUSES: [Status; 15] = [
     Status::Refused,
     Status::NoRead,
     Status::NoWrite,
+    Status::Null,
+    Status::NoPlace,
+    Status::BadJson,
 ];
+
+const NO_ROOM: u32 = 12;
 
 #[repr(C)]
 #[derive(Default)]
@@ -116,6 +127,31 @@ unsafe extern "C" {
         part_len: *mut u64,
         fault: *mut Fault,
     ) -> u32;
+    fn ssz_names(
+        schema: *mut Handle,
+        room: *mut u8,
+        room_len: usize,
+        len: *mut u64,
+        fault: *mut Fault,
+    ) -> u32;
+    fn ssz_slice_open(
+        slice: *mut Handle,
+        schema: *mut Handle,
+        number: u64,
+        at: *const u8,
+        len: usize,
+        fault: *mut Fault,
+    ) -> u32;
+    fn ssz_slice_part(
+        slice: *mut Handle,
+        path: *const u8,
+        path_len: usize,
+        room: *mut u8,
+        room_len: usize,
+        part_len: *mut u64,
+        fault: *mut Fault,
+    ) -> u32;
+    fn ssz_slice_close(slice: *mut Handle) -> u32;
     fn ssz_verify(root: *const [u8; 32], proof: *const u8, len: usize) -> u32;
     fn ssz_session_start(
         session: *mut Handle,
@@ -123,6 +159,7 @@ unsafe extern "C" {
         len: usize,
         fault: *mut Fault,
     ) -> u32;
+    fn ssz_session_start_on(session: *mut Handle, schema: *mut Handle, fault: *mut Fault) -> u32;
     fn ssz_session_run(
         session: *mut Handle,
         line: *const u8,
@@ -149,6 +186,19 @@ fn error(status: u32, fault: &Fault) -> Result<(), Error> {
         code: fault.code,
         position: fault.position,
     })
+}
+
+// The bytes that a call copies, with more room where they need more.
+fn filled(call: impl Fn(*mut u8, usize, *mut u64, *mut Fault) -> u32) -> Result<Vec<u8>, Error> {
+    let (mut room, mut len, mut fault) = (vec![0; 64], 0, Fault::default());
+    let mut status = call(room.as_mut_ptr(), room.len(), &mut len, &mut fault);
+    if status == NO_ROOM {
+        room = vec![0; len as usize];
+        status = call(room.as_mut_ptr(), room.len(), &mut len, &mut fault);
+    }
+    error(status, &fault)?;
+    room.truncate(len as usize);
+    Ok(room)
 }
 
 fn no_handle() -> Box<Handle> {
@@ -185,6 +235,14 @@ impl Schema {
         Ok(Type {
             schema: self,
             number,
+        })
+    }
+
+    /// The names of all types, the built-in ones too, in byte order and each with a line feed behind
+    /// it.
+    pub fn names(&self) -> Result<Vec<u8>, Error> {
+        filled(|room, room_len, len, fault| unsafe {
+            ssz_names(&mut **self.handle.borrow_mut(), room, room_len, len, fault)
         })
     }
 
@@ -248,6 +306,24 @@ impl Type<'_> {
         Ok(u128::from(index.high) << 64 | u128::from(index.low))
     }
 
+    /// The bytes, checked once, to ask for many parts.
+    pub fn open(&self, bytes: &[u8]) -> Result<Slice, Error> {
+        let mut handle = no_handle();
+        self.schema.call(|schema, fault| unsafe {
+            ssz_slice_open(
+                &mut *handle,
+                schema,
+                self.number,
+                bytes.as_ptr(),
+                bytes.len(),
+                fault,
+            )
+        })?;
+        Ok(Slice {
+            handle: RefCell::new(handle),
+        })
+    }
+
     /// The encoding of the part at a path of the value that the bytes encode.
     pub fn part(&self, bytes: &[u8], path: &str) -> Result<Vec<u8>, Error> {
         // Room for a slice of the whole, a bit or a length; too little would be NO_ROOM.
@@ -269,6 +345,28 @@ impl Type<'_> {
         })?;
         room.truncate(len as usize);
         Ok(room)
+    }
+}
+
+/// Bytes that were checked once as a value of a type, with a copy of them and of the schema; freed
+/// with it. The handle is boxed, so that it does not move.
+pub struct Slice {
+    handle: RefCell<Box<Handle>>,
+}
+
+impl Slice {
+    /// The encoding of the part at a path.
+    pub fn part(&self, path: &str) -> Result<Vec<u8>, Error> {
+        filled(|room, room_len, len, fault| unsafe {
+            let handle = &mut **self.handle.borrow_mut();
+            ssz_slice_part(handle, path.as_ptr(), path.len(), room, room_len, len, fault)
+        })
+    }
+}
+
+impl Drop for Slice {
+    fn drop(&mut self) {
+        unsafe { ssz_slice_close(&mut **self.handle.borrow_mut()) };
     }
 }
 
@@ -300,6 +398,16 @@ impl Session {
         let status =
             unsafe { ssz_session_start(&mut *handle, schema.as_ptr(), schema.len(), &mut fault) };
         error(status, &fault)?;
+        Ok(Session {
+            handle,
+            reply_len: 0,
+        })
+    }
+
+    /// A session over a schema, of which it has a copy.
+    pub fn start_on(schema: &Schema) -> Result<Session, Error> {
+        let mut handle = no_handle();
+        schema.call(|schema, fault| unsafe { ssz_session_start_on(&mut *handle, schema, fault) })?;
         Ok(Session {
             handle,
             reply_len: 0,

@@ -10,11 +10,14 @@ use Rattle.std_heap.specs.contracts.GlobalAllocator.TheImpl.{ghosts, dict}
 use Rattle.std_heap.proofs.Global.TheLaws as heap
 use Rattle.ssz_typed.specs.contracts.library.Library as Home
 use Rattle.ssz_typed.proofs.library.Library.TheLaws as home
+use Rattle.ssz_typed.specs.contracts.checked_bytes.CheckedBytes as Checked
+use Rattle.ssz_typed.proofs.checked_bytes.CheckedBytes.TheLaws as checked
 use Rattle.ssz_c.specs.contracts.session.Session as Session
 use Rattle.ssz_c.proofs.session.Session.TheLaws as session
 use Rattle.ssz_c.specs.contracts.parts.Parts as Parts
 use Rattle.ssz_c.specs.contracts.held.Held as Held
 use Rattle.ssz_c.specs.contracts.held_session.HeldSession as HeldSession
+use Rattle.ssz_c.specs.contracts.held_slice.HeldSlice as HeldSlice
 
 -- a box of the type, over C's allocator
 abbrev pub boxed : (R : RattleType) → Laws R → Bx
@@ -36,6 +39,9 @@ E = boxed Home.the_row home.the_row_laws
 abbrev pub SessionBox : Bx
 SessionBox = boxed Session.the_row session.the_row_laws
 
+abbrev pub SliceBox : Bx
+SliceBox = boxed Checked.the_row checked.the_row_laws
+
 abbrev pub FromParts : Slot 0
 FromParts = plain (λ _. Parts.the_row Home.the_row Heap.the_row ghosts)
 
@@ -47,3 +53,9 @@ FromSessionParts = plain (λ _. Parts.the_row Session.the_row Heap.the_row ghost
 
 abbrev pub FromHeldSession : Slot 0
 FromHeldSession = plain (λ _. HeldSession.the_row)
+
+abbrev pub FromSliceParts : Slot 0
+FromSliceParts = plain (λ _. Parts.the_row Checked.the_row Heap.the_row ghosts)
+
+abbrev pub FromHeldSlice : Slot 0
+FromHeldSlice = plain (λ _. HeldSlice.the_row)

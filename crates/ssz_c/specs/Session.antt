@@ -4,6 +4,7 @@ use Rattle.std.specs.FinMap as map
 use Rattle.ssz_chunk.specs.Chunk.{sha_pair}
 use Rattle.ssz_outside.specs.Content.{Content as Files, absent}
 use Rattle.ssz_outside.specs.Outcome.{next_count}
+use Rattle.ssz_schema.specs.Unfolding.{Types}
 use Rattle.ssz_script.specs.declared.statement.Statement.{Statement}
 use Rattle.ssz_script.specs.Grammar.{statements, line_of}
 use Rattle.ssz_script.specs.declared.reply.Reply.TheVariants as says
@@ -24,6 +25,7 @@ use Rattle.ssz_c.specs.declared.ran.Ran.{Ran}
 use Rattle.ssz_c.specs.declared.ran.Ran.TheVariants.{Quiet, Done, Refused, Unread, Unwritten, TooLong, Memory}
 use Rattle.ssz_c.specs.declared.session.Session.{Session}
 use Rattle.ssz_said.specs.declared.status.TheConstants.{NO_HANDLE, REFUSED, NO_READ, NO_WRITE, TOO_LONG, NO_MEMORY, MOST_BYTES, MOST_SHOWN}
+use Rattle.ssz_typed.specs.declared.library.Library.{Library}
 use Rattle.ssz_typed.specs.Library.{ReadsTypes}
 use Rattle.ssz_said.specs.Outcome.{Outcome, done, refused}
 
@@ -176,3 +178,15 @@ Starts (Err fault) bytes = ReadsTypes (Err fault) bytes
 abbrev pub IsStarted : Option Session → SszFault → List ℕ → Type 0
 IsStarted (Some session) fault bytes = Starts (Ok session) bytes × (fault ≡ done)
 IsStarted None fault bytes = Starts (Err fault) bytes
+
+-- a session over a schema that is there, unless memory runs out
+abbrev pub StartsOn : Types → Outcome Session → Type 0
+StartsOn types (Ok session) = (session.engine.types ≡ types) × Begins session
+StartsOn types (Err fault) = fault ≡ refused NO_MEMORY
+
+-- a handle that holds a session over the schema that another holds, or none and why
+abbrev pub IsStartedOn : Option Library → Option Session → SszFault → Type 0
+IsStartedOn None session fault = (session ≡ None) × (fault ≡ refused NO_HANDLE)
+IsStartedOn (Some library) None fault = StartsOn library.schema (Err fault)
+IsStartedOn (Some library) (Some session) fault =
+    StartsOn library.schema (Ok session) × (fault ≡ done)

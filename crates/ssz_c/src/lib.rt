@@ -1,10 +1,11 @@
 //! The calls of C (`include/ssz.h`): schemas and what their types are, first faults, roots,
-//! generalized indices, proofs and parts of encoded bytes; and sessions, which do the statements of
-//! scripts, said as a line or by the arguments of a call.
+//! generalized indices, proofs and parts of encoded bytes; slices, which are bytes that were checked
+//! once; and sessions, which do the statements of scripts, said as a line or by the arguments of a
+//! call.
 //!
 //! Each export takes what its handle holds, calls a library of this repository, and puts it back.
 //! A handle is a struct of two words that C keeps and hands in by its address; the second is a
-//! pointer to a box, of which `held` and `held_session` alone know. Every call says how it ended by
+//! pointer to a box, of which `held`, `held_session` and `held_slice` alone know. Every call says how it ended by
 //! a number (`status`), and writes what it found behind the pointers that it was given.
 #![tactic(auto)]
 
@@ -17,6 +18,7 @@ mod giving;
 mod handle;
 mod held;
 mod held_session;
+mod held_slice;
 mod no_files;
 mod parts;
 mod ran;
@@ -27,6 +29,8 @@ mod session;
 mod session_handle;
 mod sessions;
 mod showing;
+mod slice_handle;
+mod slices;
 #[cfg(test)]
 mod tests;
 mod types;
@@ -45,14 +49,19 @@ pub use schemas::{
 pub use session_handle::SszSession;
 pub use sessions::{
     ssz_session_end, ssz_session_nodes, ssz_session_reply, ssz_session_run, ssz_session_start,
+    ssz_session_start_on,
 };
 pub use showing::{
     ssz_session_bytes, ssz_session_gindex, ssz_session_json, ssz_session_len, ssz_session_prove,
     ssz_session_prove_all, ssz_session_root,
 };
+pub use slice_handle::SszSlice;
+pub use slices::{ssz_slice_close, ssz_slice_open, ssz_slice_part, ssz_slice_place};
 pub use ssz_said::{SszEntry, SszFault, SszIndex};
 pub use ssz_typed::SszStretch;
-pub use types::{ssz_form, ssz_limit, ssz_part_type, ssz_parts};
+pub use types::{
+    ssz_form, ssz_limit, ssz_names, ssz_part_type, ssz_parts, ssz_type_name, ssz_types,
+};
 pub use verifying::{ssz_verify, ssz_verify_all, ssz_verify_branch};
 
 // The version of the library: 65536 times the first number, 256 times the second, and the third.

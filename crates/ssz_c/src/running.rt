@@ -4,7 +4,7 @@ ghost use Rattle.std.specs.Result.{result_map_both};
 ghost use Rattle.ssz_engine.specs.Steps.{Keeps};
 ghost use Rattle.ssz_said.specs.declared.status.TheConstants.{NO_MEMORY};
 ghost use Rattle.ssz_said.specs.Outcome.{refused};
-ghost use Rattle.ssz_c.specs.Session.{Begins, Does, DoesLine, Refuses, Runs, Starts, ran_of};
+ghost use Rattle.ssz_c.specs.Session.{Begins, Does, DoesLine, Refuses, Runs, Starts, StartsOn, ran_of};
 
 use super::no_files::NoFiles;
 use super::ran::Ran;
@@ -15,7 +15,7 @@ use ssz_machine::Place;
 use ssz_said::{SszFault, status};
 use ssz_schema::Schema;
 use ssz_script::{LineFault, Reply, Statement, read_line, reply_text};
-use ssz_typed::read_types;
+use ssz_typed::{later, read_types};
 use ssz_versions::Writer;
 use std::alloc::Global;
 
@@ -132,6 +132,30 @@ impl Session {
             schema.now }
     {
         match Session::start(alloc, schema) {
+            Ok(session) => match Box::new(alloc, session) {
+                Ok(session) => Ok(session),
+                Err(_) => Err(SszFault::of(status::NO_MEMORY)),
+            },
+            Err(fault) => Err(fault),
+        }
+    }
+
+    /// A session over a copy of a schema.
+    fn start_on(alloc: Global, schema: &Schema) -> Result<Session, SszFault>
+        ensures { StartsOn schema.now result }
+    {
+        match later::copied(alloc, schema) {
+            Ok(schema) => Session::of_types(alloc, schema),
+            Err(_) => Err(SszFault::of(status::NO_MEMORY)),
+        }
+    }
+
+    /// The same in a box.
+    pub fn boxed_on(alloc: Global, schema: &Schema) -> Result<Box<Session, Global>, SszFault>
+        ensures { StartsOn schema.now
+            (result_map_both (λ session. session.value) (λ fault. fault) result) }
+    {
+        match Session::start_on(alloc, schema) {
             Ok(session) => match Box::new(alloc, session) {
                 Ok(session) => Ok(session),
                 Err(_) => Err(SszFault::of(status::NO_MEMORY)),

@@ -3,9 +3,10 @@ ghost use Rattle.std.specs.Prelude.{◌≡◌, None};
 ghost use Rattle.ssz_said.specs.Outcome.{IsCopied, IsGiven};
 ghost use Rattle.ssz_c.specs.Answering.{nodes_in};
 ghost use Rattle.ssz_c.specs.Reading.{freed};
-ghost use Rattle.ssz_c.specs.Session.{IsRun, IsStarted, reply_in};
+ghost use Rattle.ssz_c.specs.Session.{IsRun, IsStarted, IsStartedOn, reply_in};
 
 use super::giving::{copy, fail, give};
+use super::handle::SszSchema;
 use super::session::Session;
 use super::session_handle::SszSession;
 use ssz_said::{SszFault, status};
@@ -25,6 +26,37 @@ pub extern "C" fn ssz_session_start(
 {
     drop(handle.take(alloc));
     match Session::boxed(alloc, schema) {
+        Ok(session) => {
+            handle.put(session);
+            fail(status::OK, fault)
+        }
+        Err(why) => {
+            *fault = why;
+            why.status
+        }
+    }
+}
+
+/// Begins a session over the schema that another handle holds, which is copied. What the handle held
+/// before is freed.
+#[unsafe(no_mangle)]
+pub extern "C" fn ssz_session_start_on(
+    alloc: Global,
+    handle: &mut SszSession,
+    schema: &mut SszSchema,
+    fault: &mut SszFault,
+) -> u32
+    ensures held { schema.new.held.value ≡ schema.old.held.value }
+    ensures started { IsStartedOn schema.old.held.value handle.new.held.value fault.new }
+    ensures status { result ≡ fault.new.status }
+{
+    drop(handle.take(alloc));
+    let Some(library) = schema.take(alloc) else {
+        return fail(status::NO_HANDLE, fault);
+    };
+    let answer = Session::boxed_on(alloc, &library.schema);
+    schema.put(library);
+    match answer {
         Ok(session) => {
             handle.put(session);
             fail(status::OK, fault)

@@ -3,16 +3,20 @@
 use super::handle::SszSchema;
 use super::held::Held;
 use super::held_session::HeldSession;
+use super::held_slice::HeldSlice;
 use super::session_handle::SszSession;
+use super::slice_handle::SszSlice;
 use super::{
-    ssz_check, ssz_default, ssz_field, ssz_fields, ssz_form, ssz_gindex, ssz_limit, ssz_of_json,
-    ssz_part, ssz_part_type, ssz_parts, ssz_place, ssz_root, ssz_schema_free, ssz_schema_read,
-    ssz_session_append, ssz_session_bytes, ssz_session_choose, ssz_session_choose_default,
-    ssz_session_compact, ssz_session_drop, ssz_session_end, ssz_session_fork, ssz_session_gindex,
-    ssz_session_json, ssz_session_len, ssz_session_load, ssz_session_new, ssz_session_nodes,
-    ssz_session_pop, ssz_session_prove, ssz_session_prove_all, ssz_session_reply, ssz_session_root,
-    ssz_session_run, ssz_session_set, ssz_session_start, ssz_session_upgrade, ssz_size,
-    ssz_to_json, ssz_type, ssz_verify, ssz_verify_all, ssz_verify_branch, ssz_version,
+    ssz_check, ssz_default, ssz_field, ssz_fields, ssz_form, ssz_gindex, ssz_limit, ssz_names,
+    ssz_of_json, ssz_part, ssz_part_type, ssz_parts, ssz_place, ssz_root, ssz_schema_free,
+    ssz_schema_read, ssz_session_append, ssz_session_bytes, ssz_session_choose,
+    ssz_session_choose_default, ssz_session_compact, ssz_session_drop, ssz_session_end,
+    ssz_session_fork, ssz_session_gindex, ssz_session_json, ssz_session_len, ssz_session_load,
+    ssz_session_new, ssz_session_nodes, ssz_session_pop, ssz_session_prove, ssz_session_prove_all,
+    ssz_session_reply, ssz_session_root, ssz_session_run, ssz_session_set, ssz_session_start,
+    ssz_session_start_on, ssz_session_upgrade, ssz_size, ssz_slice_close, ssz_slice_open,
+    ssz_slice_part, ssz_slice_place, ssz_to_json, ssz_type, ssz_type_name, ssz_types, ssz_verify,
+    ssz_verify_all, ssz_verify_branch, ssz_version,
 };
 use ssz_said::{SszEntry, SszFault, SszIndex, status};
 use ssz_typed::SszStretch;
@@ -38,6 +42,13 @@ fn no_session(alloc: Global) -> SszSession {
     SszSession {
         live: 0,
         held: HeldSession::empty(alloc),
+    }
+}
+
+fn no_slice(alloc: Global) -> SszSlice {
+    SszSlice {
+        live: 0,
+        held: HeldSlice::empty(alloc),
     }
 }
 
@@ -414,6 +425,106 @@ fn types_are_told(rt: HostRuntime) {
     assert!(rt; is_made_of(rt.alloc(), &mut schema));
 }
 
+// Whether the names are P and the eight that are built in.
+fn is_named(alloc: Global, schema: &mut SszSchema) -> bool {
+    let mut fault = SszFault::none();
+    let (mut room, mut len) = ([0; 58], 0);
+    let named = ssz_names(alloc, schema, &mut room, &mut len, &mut fault);
+    named == status::OK
+        && len == 58
+        && room == *b"P\nboolean\nbyte\nuint128\nuint16\nuint256\nuint32\nuint64\nuint8\n"
+}
+
+// Whether the first number is that of P.
+fn is_counted(alloc: Global, schema: &mut SszSchema) -> bool {
+    let mut fault = SszFault::none();
+    let (mut room, mut len, mut count) = ([0; 1], 0, 7);
+    let counted = ssz_types(alloc, schema, &mut count, &mut fault);
+    let named = ssz_type_name(alloc, schema, 0, &mut room, &mut len, &mut fault);
+    counted == status::OK && named == status::OK && (count, len) == (1, 1) && room == *b"P"
+}
+
+#[test]
+fn names_are_told(rt: HostRuntime) -> Result<(), Fail> {
+    let mut schema = no_schema(rt.alloc());
+    let _number = number_of_p(rt.alloc(), &mut schema).ok_or("no P")?;
+    assert!(rt; is_named(rt.alloc(), &mut schema));
+    assert!(rt; is_counted(rt.alloc(), &mut schema));
+    Ok(())
+}
+
+// Whether a session over a schema that is freed goes on.
+fn is_started_on(alloc: Global, schema: &mut SszSchema, session: &mut SszSession) -> bool {
+    let mut fault = SszFault::none();
+    let started = ssz_session_start_on(alloc, session, schema, &mut fault);
+    let freed = ssz_schema_free(alloc, schema);
+    let again = ssz_session_start_on(alloc, &mut no_session(alloc), schema, &mut fault);
+    (started, freed, again) == (status::OK, status::OK, status::NO_HANDLE)
+        && loaded(alloc, session, b"V", &[0; 16]) == (status::OK, 0)
+}
+
+#[test]
+fn a_session_starts_on_a_schema(rt: HostRuntime) -> Result<(), Fail> {
+    let mut schema = no_schema(rt.alloc());
+    let mut session = no_session(rt.alloc());
+    let _number = number_of_p(rt.alloc(), &mut schema).ok_or("no P")?;
+    assert!(rt; is_started_on(rt.alloc(), &mut schema, &mut session));
+    assert!(rt; root_of_v(rt.alloc(), &mut session) == ZEROS);
+    Ok(())
+}
+
+// Whether b of P is found in a slice.
+fn is_sliced(alloc: Global, slice: &mut SszSlice) -> bool {
+    let mut fault = SszFault::none();
+    let (mut room, mut len, mut place) = ([7; 8], 0, SszStretch { start: 0, len: 0 });
+    let part = ssz_slice_part(alloc, slice, b"/b", &mut room, &mut len, &mut fault);
+    let placed = ssz_slice_place(alloc, slice, b"/b", &mut place, &mut fault);
+    part == status::OK
+        && placed == status::OK
+        && len == 8
+        && room == [0; 8]
+        && place == SszStretch { start: 8, len: 8 }
+}
+
+// How a slice of so many of 17 zero bytes is opened, and where its first fault lies.
+fn opened(
+    alloc: Global,
+    schema: &mut SszSchema,
+    slice: &mut SszSlice,
+    number: u64,
+    count: usize,
+) -> (u32, u64) {
+    let mut fault = SszFault::none();
+    let zeros = [0; 17];
+    let count = if count > 17 { 17 } else { count };
+    let status = ssz_slice_open(alloc, slice, schema, number, &zeros[..count], &mut fault);
+    (status, fault.position)
+}
+
+#[test]
+fn a_slice_is_checked_once(rt: HostRuntime) -> Result<(), Fail> {
+    let mut schema = no_schema(rt.alloc());
+    let mut slice = no_slice(rt.alloc());
+    let number = number_of_p(rt.alloc(), &mut schema).ok_or("no P")?;
+    let right = opened(rt.alloc(), &mut schema, &mut slice, number, 16);
+    assert!(rt; right == (status::OK, 0));
+    assert!(rt; ssz_schema_free(rt.alloc(), &mut schema) == status::OK);
+    assert!(rt; is_sliced(rt.alloc(), &mut slice));
+    assert!(rt; ssz_slice_close(rt.alloc(), &mut slice) == status::OK);
+    Ok(())
+}
+
+#[test]
+fn a_slice_is_of_no_other_bytes(rt: HostRuntime) -> Result<(), Fail> {
+    let mut schema = no_schema(rt.alloc());
+    let mut slice = no_slice(rt.alloc());
+    let number = number_of_p(rt.alloc(), &mut schema).ok_or("no P")?;
+    let long = opened(rt.alloc(), &mut schema, &mut slice, number, 17);
+    assert!(rt; long == (status::INVALID, 16));
+    assert!(rt; ssz_slice_close(rt.alloc(), &mut slice) == status::NO_HANDLE);
+    Ok(())
+}
+
 // What may go to another thread.
 fn crosses<T: Send>() {}
 
@@ -421,4 +532,5 @@ fn crosses<T: Send>() {}
 fn handles_cross_threads() {
     crosses::<SszSchema>();
     crosses::<SszSession>();
+    crosses::<SszSlice>();
 }
