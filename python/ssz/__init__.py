@@ -7,8 +7,8 @@
     root = state.hash_tree_root()
     assert state.prove("/validators/7/effective_balance").verify(root)
 
-`Schema` reads the types of a schema file, `Type` tells what holds of bytes, `Session` has the calls below the values' classes,
-and `Proof` is a multiproof.
+`Schema` reads the types of a schema file, `Type` tells what holds of bytes, `Slice` is bytes that were checked once, to ask for many
+parts, `Session` has the calls below the values' classes, and `Proof` is a multiproof.
 """
 
 from __future__ import annotations
@@ -18,14 +18,14 @@ from typing import Any
 from ._library import LibraryMissing
 from .errors import (BadPath, BadProof, BadSchema, BadValue, InvalidBytes, NoSuchPart, NoSuchType, Refused, Status, SszError)
 from .proof import Branch, Proof, verify
-from .schema import Schema, Type
+from .schema import Schema, Slice, Type
 from .session import Session
 from .values import View
 
 __version__ = "0.1.0"
 __all__ = [
     "BadPath", "BadProof", "BadSchema", "BadValue", "Branch", "InvalidBytes", "LibraryMissing", "NoSuchPart", "NoSuchType", "Proof",
-    "Refused", "Schema", "Session", "Status", "SszError", "Type", "View", "decode", "encode", "get_hash_tree_root", "verify",
+    "Refused", "Schema", "Session", "Slice", "Status", "SszError", "Type", "View", "decode", "encode", "get_hash_tree_root", "verify",
 ]
 
 

@@ -19,7 +19,7 @@ class Fault(ctypes.Structure):
 
 
 class Handle(ctypes.Structure):
-    """A schema or a session of the library."""
+    """A schema, a session or a slice of the library."""
 
     _fields_ = [("live", ctypes.c_uint64), ("held", ctypes.c_void_p)]
 
@@ -28,6 +28,12 @@ class Index(ctypes.Structure):
     """A generalized index."""
 
     _fields_ = [("low", ctypes.c_uint64), ("high", ctypes.c_uint64)]
+
+
+class Stretch(ctypes.Structure):
+    """Where the encoding of a part stands in that of the whole."""
+
+    _fields_ = [("start", ctypes.c_uint64), ("len", ctypes.c_uint64)]
 
 
 class Entry(ctypes.Structure):
@@ -44,6 +50,7 @@ _NUMBER = [ctypes.c_uint64]
 _LENGTH = [ctypes.POINTER(ctypes.c_uint64)]
 _CHUNK = [ctypes.c_void_p]
 _ENTRIES = [ctypes.POINTER(Entry), ctypes.c_size_t]
+_INDICES = [ctypes.POINTER(Index), ctypes.c_size_t]
 
 _CALLS = {
     "ssz_schema_read": _HANDLE + _BYTES + _FAULT,
@@ -54,8 +61,16 @@ _CALLS = {
     "ssz_gindex": _HANDLE + _NUMBER + _BYTES + [ctypes.POINTER(Index)] + _FAULT,
     "ssz_part": _HANDLE + _NUMBER + _BYTES * 2 + _ROOM + _FAULT,
     "ssz_limit": _HANDLE + _NUMBER + _LENGTH + _FAULT,
+    "ssz_names": _HANDLE + _ROOM + _FAULT,
+    "ssz_type_name": _HANDLE + _NUMBER + _ROOM + _FAULT,
+    "ssz_types": _HANDLE + _LENGTH + _FAULT,
+    "ssz_slice_open": _HANDLE * 2 + _NUMBER + _BYTES + _FAULT,
+    "ssz_slice_part": _HANDLE + _BYTES + _ROOM + _FAULT,
+    "ssz_slice_place": _HANDLE + _BYTES + [ctypes.POINTER(Stretch)] + _FAULT,
+    "ssz_slice_close": _HANDLE,
     "ssz_verify_all": [ctypes.c_char_p] + _ENTRIES * 2,
     "ssz_session_start": _HANDLE + _BYTES + _FAULT,
+    "ssz_session_start_on": _HANDLE * 2 + _FAULT,
     "ssz_session_end": _HANDLE,
     "ssz_session_run": _HANDLE + _BYTES + _LENGTH + _FAULT,
     "ssz_session_reply": _HANDLE + _ROOM + _FAULT,
@@ -71,6 +86,7 @@ _CALLS = {
     "ssz_session_upgrade": _HANDLE + _BYTES * 3 + _FAULT,
     "ssz_session_drop": _HANDLE + _BYTES + _FAULT,
     "ssz_session_root": _HANDLE + _BYTES + _CHUNK + _FAULT,
+    "ssz_session_prove_all": _HANDLE + _BYTES + _INDICES + _ENTRIES + _LENGTH * 2 + _FAULT,
     "ssz_session_compact": _HANDLE + _FAULT,
     "ssz_session_nodes": _HANDLE + _LENGTH + _FAULT,
 }

@@ -25,6 +25,8 @@ class Status(IntEnum):
     NO_READ = 14
     NO_WRITE = 15
     NULL = 16
+    NO_PLACE = 17
+    BAD_JSON = 18
 
 
 #: Of each first fault of bytes its name, what is wrong, and what to do.
@@ -106,6 +108,7 @@ _OTHERS = {
     Status.NO_MEMORY: ("memory is used up", "Drop values that are not needed, and call compact()."),
     Status.NO_READ: ("a session reads no file", "Use load with the file's bytes."),
     Status.NO_WRITE: ("a session writes no file", "Write what bytes returns."),
+    Status.NO_PLACE: ("the part is a bit or a length, which has no bytes of its own", "Ask for the part, or for the bytes around it."),
 }
 
 
@@ -162,6 +165,7 @@ _CLASSES = {
     Status.SYNTAX: BadPath,
     Status.BAD_PATH: BadPath,
     Status.ABSENT: NoSuchPart,
+    Status.NO_PLACE: NoSuchPart,
     Status.BAD_PROOF: BadProof,
     Status.REFUSED: Refused,
 }

@@ -60,6 +60,11 @@ def _entries(nodes: Iterable[tuple[int, bytes]]) -> Any:
     return entries
 
 
+def _node(entry: Entry) -> tuple[int, bytes]:
+    """A node, by its generalized index."""
+    return entry.index.low | entry.index.high << 64, bytes(entry.chunk)
+
+
 @dataclass(frozen=True)
 class Proof:
     """A multiproof: chunks by their generalized indices. `str(proof)` is the line that `ssz verify` takes."""
@@ -75,6 +80,11 @@ class Proof:
         if not head.startswith("proof ") or not slash:
             raise error_of(Status.BAD_PROOF, 0, 0)
         return cls(nodes_of(head[len("proof "):]), nodes_of(tail))
+
+    @classmethod
+    def of_entries(cls, leaves: Iterable[Entry], helpers: Iterable[Entry]) -> Proof:
+        """The proof of these leaves and nodes, as calls give them."""
+        return cls(dict(map(_node, leaves)), dict(map(_node, helpers)))
 
     @classmethod
     def of_branch(cls, index: int, leaf: bytes, nodes: Sequence[bytes]) -> Proof:

@@ -8,10 +8,10 @@ from pathlib import Path
 from typing import Any, Iterator
 
 from . import values
-from ._library import Index
-from .errors import NoSuchType, Status, SszError, error_of
+from ._library import Index, Stretch
+from .errors import NoSuchPart, NoSuchType, Status, SszError, error_of
 from .forms import BUILT_IN, Form, form_at, forms_of, like, place_of
-from .session import Held, Session, _word
+from .session import Held, Session, _data, _word
 
 
 class Type:
@@ -65,10 +65,22 @@ class Type:
         return index.low | index.high << 64
 
     def part(self, data: bytes, path: str) -> bytes:
-        """The encoding of a part of the value that the bytes encode, all of which are checked."""
+        """The encoding of a part of the value that the bytes encode, all of which are checked; for many parts see `open`."""
         room, count = ctypes.create_string_buffer(max(8, len(data))), ctypes.c_uint64()
         self._call("ssz_part", data, *_word(path), room, len(room), ctypes.byref(count), path=path)
         return ctypes.string_at(room, count.value)
+
+    def open(self, data: bytes) -> Slice:
+        """The bytes, checked once, to ask for many parts. Raises InvalidBytes with the first fault."""
+        return Slice(self, data)
+
+    @property
+    def first_name(self) -> str | None:
+        """The first of the type's names in byte order, or None where it has none."""
+        try:
+            return self.schema._filled("ssz_type_name", self._number, room=64).decode()
+        except NoSuchPart:
+            return None
 
     @property
     def limit(self) -> int | None:
@@ -103,19 +115,48 @@ class Type:
         return self.form.decode(self.encode_bytes(value))
 
 
+class Slice(Held):
+    """Bytes that were checked once as a value of a type. It has a copy of them and of the schema, and each part is found without
+    a look at the others.
+
+    Any thread may use it: calls wait for one another.
+    """
+
+    _end = "ssz_slice_close"
+
+    def __init__(self, type: Type, data: bytes) -> None:
+        self.type = type
+        super().__init__()
+        data = bytes(data)
+        status, fault = self._status_on(type.schema, "ssz_slice_open", type._number, *_data(data))
+        if status:
+            raise type.error(status, fault.code, fault.position, data)
+
+    def part(self, path: str = "/") -> bytes:
+        """The encoding of the part at a path."""
+        return self._filled("ssz_slice_part", *_word(path), type=self.type.name, path=path)
+
+    def place(self, path: str) -> slice:
+        """Where that part stands in the bytes: `data[opened.place(path)]` is its encoding. A bit and a length stand nowhere."""
+        found = Stretch()
+        self._call("ssz_slice_place", *_word(path), ctypes.byref(found), type=self.type.name, path=path)
+        return slice(found.start, found.start + found.len)
+
+
 class Schema(Held):
     """The types that a schema file defines. `schema.Checkpoint` is the class of values of that type.
 
     Any thread may use it: calls wait for one another.
     """
 
-    _begin, _end = "ssz_schema_read", "ssz_schema_free"
+    _end = "ssz_schema_free"
 
     def __init__(self, text: bytes | str | dict[str, Any]) -> None:
         if isinstance(text, dict):
             text = json.dumps(text)
         self.text = text.encode() if isinstance(text, str) else bytes(text)
-        super().__init__(self.text)
+        super().__init__()
+        self._call("ssz_schema_read", *_data(self.text))
         self._forms = forms_of(json.loads(self.text)["types"])
         self._types: dict[str, Type] = {}
         self._values = values.Store(self)
@@ -129,6 +170,16 @@ class Schema(Held):
     def names(self) -> list[str]:
         """The names of the types, in order."""
         return list(self._forms)
+
+    def all_names(self) -> list[str]:
+        """The names of all types, the built-in ones too, in byte order."""
+        return self._filled("ssz_names").decode().splitlines()
+
+    def numbered(self) -> int:
+        """How many types the library has given a number: those that were asked for."""
+        count = ctypes.c_uint64()
+        self._call("ssz_types", ctypes.byref(count))
+        return count.value
 
     def __iter__(self) -> Iterator[str]:
         return iter(self._forms)
@@ -145,8 +196,8 @@ class Schema(Held):
         return self._types[name]
 
     def session(self) -> Session:
-        """A session over this schema, with no version."""
-        return Session(self.text)
+        """A session over this schema, with no version. It has a copy of the schema."""
+        return Session(self)
 
     def __getitem__(self, name: str) -> Any:
         """The class of the values of a type; of numbers, booleans and bytes the type, whose values are Python's own."""

@@ -7,7 +7,7 @@ import ctypes
 import threading
 from typing import Any
 
-from ._library import Fault, Handle, library
+from ._library import Entry, Fault, Handle, Index, library
 from .errors import Status, error_of
 from .proof import Proof
 
@@ -17,15 +17,17 @@ _ROOM = 4096
 class Held:
     """What a handle of the library holds, one thread at a time. `close` gives it up, as does the end of a `with`."""
 
-    _begin = _end = ""
+    _end = ""
 
-    def __init__(self, text: bytes) -> None:
+    def __init__(self) -> None:
         self._lock = threading.RLock()
         self._handle = Handle(0, None)
         self._library = library()
-        status, fault = self._status(self._begin, text, len(text))
-        if status:
-            raise error_of(status, fault.code, fault.position)
+
+    def _status_on(self, lent: Held, name: str, *words: Any) -> tuple[int, Fault]:
+        """Makes a call that asks what another handle holds, too."""
+        with lent._lock:
+            return self._status(name, ctypes.byref(lent._handle), *words)
 
     def _status(self, name: str, *words: Any) -> tuple[int, Fault]:
         """Makes a call, and returns how it ended."""
@@ -84,12 +86,19 @@ class Session(Held):
     Any thread may use it: calls wait for one another.
     """
 
-    _begin, _end = "ssz_session_start", "ssz_session_end"
+    _end = "ssz_session_end"
 
-    def __init__(self, schema: bytes) -> None:
+    def __init__(self, schema: Held | bytes) -> None:
+        """A session over a schema, or over the one that the bytes of a schema file define, with no version."""
         self._gone: collections.deque[str] = collections.deque()
         self._types: dict[str, str] = {}
-        super().__init__(schema)
+        super().__init__()
+        if isinstance(schema, Held):
+            status, fault = self._status_on(schema, "ssz_session_start_on")
+        else:
+            status, fault = self._status("ssz_session_start", *_data(schema))
+        if status:
+            raise error_of(status, fault.code, fault.position)
 
     def _of(self, name: str) -> str:
         """The type of a version, for errors."""
@@ -200,8 +209,24 @@ class Session(Held):
 
     def prove(self, name: str, *paths: str | int) -> Proof:
         """The multiproof of the parts at these paths or generalized indices."""
+        if paths and all(isinstance(path, int) and 0 < path < 1 << 128 for path in paths):
+            return self._prove_at(name, [int(path) for path in paths])
         words = " ".join(map(str, paths))
         return Proof.parse(self._run(f"prove {name} {words}", type=self._of(name), path=words))
+
+    def _prove_at(self, name: str, indices: list[int]) -> Proof:
+        """The multiproof of the nodes at these generalized indices, of which the library tells how many entries it has."""
+        asked = (Index * len(indices))(*(Index(index & (1 << 64) - 1, index >> 64) for index in indices))
+        leaves, count = ctypes.c_uint64(), ctypes.c_uint64(128 * len(indices))
+        status, fault = int(Status.NO_ROOM), Fault()
+        with self._lock:
+            while status == Status.NO_ROOM:
+                room = (Entry * count.value)()
+                status, fault = self._status("ssz_session_prove_all", *_word(name), asked, len(asked), room, len(room),
+                                             ctypes.byref(leaves), ctypes.byref(count))
+        if status:
+            raise error_of(status, fault.code, fault.position, type=self._of(name), path=" ".join(map(str, indices)))
+        return Proof.of_entries(room[: leaves.value], room[leaves.value : count.value])
 
     def names(self) -> list[str]:
         """The names of the versions."""

@@ -21,7 +21,7 @@ impl Handle {
 }
 
 #[repr(C)]
-#[derive(Default)]
+#[derive(Clone, Copy, Default)]
 pub struct Index {
     pub low: u64,
     pub high: u64,
@@ -29,9 +29,18 @@ pub struct Index {
 
 /// A chunk of a proof, and its generalized index.
 #[repr(C)]
+#[derive(Clone, Copy, Default)]
 pub struct Entry {
     pub index: Index,
     pub chunk: [u8; 32],
+}
+
+/// Where the encoding of a part stands in that of the whole.
+#[repr(C)]
+#[derive(Default)]
+pub struct Stretch {
+    pub start: u64,
+    pub len: u64,
 }
 
 type Bytes = *const u8;
@@ -55,8 +64,17 @@ extern "C" {
     pub fn ssz_limit(schema: *mut Handle, number: u64, limit: *mut u64, fault: *mut Fault) -> u32;
     pub fn ssz_parts(schema: *mut Handle, number: u64, count: *mut u64, fault: *mut Fault) -> u32;
     pub fn ssz_part_type(schema: *mut Handle, number: u64, place: u64, part: *mut u64, fault: *mut Fault) -> u32;
+    pub fn ssz_names(schema: *mut Handle, room: Room, room_len: usize, len: *mut u64, fault: *mut Fault) -> u32;
+    pub fn ssz_type_name(schema: *mut Handle, number: u64, room: Room, room_len: usize, len: *mut u64, fault: *mut Fault) -> u32;
+    pub fn ssz_types(schema: *mut Handle, count: *mut u64, fault: *mut Fault) -> u32;
+    pub fn ssz_slice_open(slice: *mut Handle, schema: *mut Handle, number: u64, data: Bytes, len: usize, fault: *mut Fault) -> u32;
+    pub fn ssz_slice_part(
+        slice: *mut Handle, path: Bytes, len: usize, room: Room, room_len: usize, part_len: *mut u64, fault: *mut Fault,
+    ) -> u32;
+    pub fn ssz_slice_place(slice: *mut Handle, path: Bytes, len: usize, place: *mut Stretch, fault: *mut Fault) -> u32;
+    pub fn ssz_slice_close(slice: *mut Handle) -> u32;
     pub fn ssz_verify_all(root: *const [u8; 32], leaves: *const Entry, leaves_len: usize, nodes: *const Entry, nodes_len: usize) -> u32;
-    pub fn ssz_session_start(session: *mut Handle, schema: Bytes, len: usize, fault: *mut Fault) -> u32;
+    pub fn ssz_session_start_on(session: *mut Handle, schema: *mut Handle, fault: *mut Fault) -> u32;
     pub fn ssz_session_end(session: *mut Handle) -> u32;
     pub fn ssz_session_run(session: *mut Handle, line: Bytes, len: usize, reply_len: *mut u64, fault: *mut Fault) -> u32;
     pub fn ssz_session_reply(session: *mut Handle, room: Room, room_len: usize, reply_len: *mut u64, fault: *mut Fault) -> u32;
@@ -88,6 +106,10 @@ extern "C" {
     ) -> u32;
     pub fn ssz_session_drop(session: *mut Handle, name: Bytes, len: usize, fault: *mut Fault) -> u32;
     pub fn ssz_session_root(session: *mut Handle, name: Bytes, len: usize, root: *mut [u8; 32], fault: *mut Fault) -> u32;
+    pub fn ssz_session_prove_all(
+        session: *mut Handle, name: Bytes, len: usize, indices: *const Index, indices_len: usize, room: *mut Entry, room_len: usize,
+        leaves: *mut u64, proof_len: *mut u64, fault: *mut Fault,
+    ) -> u32;
     pub fn ssz_session_compact(session: *mut Handle, fault: *mut Fault) -> u32;
     pub fn ssz_session_nodes(session: *mut Handle, count: *mut u64, fault: *mut Fault) -> u32;
 }

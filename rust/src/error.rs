@@ -30,6 +30,8 @@ pub enum Error {
     BadPath,
     /// The path fits the type, and the value has no such part.
     Absent,
+    /// The part is a bit or a length, which has no bytes of its own.
+    NoPlace,
     /// The text is no multiproof.
     BadProof,
     /// Want of memory.
@@ -81,6 +83,7 @@ pub(crate) fn ended(status: u32, fault: &Fault) -> Result<()> {
         11 => Error::NoMemory,
         REFUSED => Error::Refused { code: fault.code },
         14 | 15 => Error::NoFile,
+        17 => Error::NoPlace,
         status => Error::Other { status },
     })
 }
@@ -138,6 +141,7 @@ impl fmt::Display for Error {
             Error::Syntax => write!(to, "no path or no name: a path begins with /, as /validators/7/slashed"),
             Error::BadPath => write!(to, "the path does not fit the type"),
             Error::Absent => write!(to, "the value has no such part: ask for the length first"),
+            Error::NoPlace => write!(to, "the part is a bit or a length, which has no bytes of its own"),
             Error::BadProof => write!(to, "the text is no multiproof: one line, with exactly the nodes that the leaves need"),
             Error::NoMemory => write!(to, "memory is used up"),
             Error::Refused { code } => {

@@ -3,6 +3,7 @@
 //!
 //! - [`Schema`] reads the types of a schema file, and [`Type`] tells what it is ([`Form`]), and what holds of bytes: `check`, `root`,
 //!   `gindex`, `part`.
+//! - [`Slice`] is bytes that were checked once, of which many parts are asked.
 //! - [`Session`] edits values in place, keeps versions that share what is equal, and hashes what no root before did.
 //! - [`Proof`] is a multiproof, to and from a branch as light clients have it.
 //!
@@ -26,8 +27,10 @@ mod error;
 mod proof;
 mod schema;
 mod session;
+mod slice;
 
 pub use error::{Error, Result};
 pub use proof::Proof;
 pub use schema::{Form, Schema, Type};
 pub use session::Session;
+pub use slice::Slice;

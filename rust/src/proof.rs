@@ -22,6 +22,10 @@ impl Proof {
         verdict(unsafe { ssz_verify_all(root, leaves.as_ptr(), leaves.len(), nodes.as_ptr(), nodes.len()) })
     }
 
+    pub(crate) fn of_entries(leaves: &[Entry], nodes: &[Entry]) -> Proof {
+        Proof { leaves: leaves.iter().map(shown).collect(), helpers: nodes.iter().map(shown).collect() }
+    }
+
     /// The proof that a branch is, its nodes from the leaf up; `None` where the index has another number of them.
     pub fn of_branch(index: u128, leaf: [u8; 32], nodes: &[[u8; 32]]) -> Option<Proof> {
         if index == 0 || (127 - index.leading_zeros()) as usize != nodes.len() {
@@ -43,6 +47,10 @@ impl Proof {
 
 fn entry((index, chunk): (&u128, &[u8; 32])) -> Entry {
     Entry { index: Index { low: *index as u64, high: (index >> 64) as u64 }, chunk: *chunk }
+}
+
+fn shown(entry: &Entry) -> (u128, [u8; 32]) {
+    (u128::from(entry.index.high) << 64 | u128::from(entry.index.low), entry.chunk)
 }
 
 fn verdict(status: u32) -> Result<bool> {

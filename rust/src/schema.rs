@@ -1,7 +1,8 @@
-use std::sync::{Mutex, PoisonError};
+use std::sync::{Mutex, MutexGuard, PoisonError};
 
 use crate::calls::*;
 use crate::error::{ended, Error, Result, NO_ROOM};
+use crate::slice::Slice;
 
 /// What a handle holds; boxed, so that it does not move.
 pub(crate) struct Held {
@@ -13,16 +14,10 @@ pub(crate) struct Held {
 unsafe impl Send for Held {}
 
 impl Held {
-    pub fn begun(
-        text: &[u8],
-        begin: unsafe extern "C" fn(*mut Handle, *const u8, usize, *mut Fault) -> u32,
-        end: unsafe extern "C" fn(*mut Handle) -> u32,
-    ) -> Result<Held> {
-        let mut handle = Handle::none();
-        let mut fault = Fault::default();
-        let status = unsafe { begin(&mut *handle, text.as_ptr(), text.len(), &mut fault) };
-        ended(status, &fault)?;
-        Ok(Held { handle, end })
+    pub fn begun(begin: impl FnOnce(*mut Handle, *mut Fault) -> u32, end: unsafe extern "C" fn(*mut Handle) -> u32) -> Result<Held> {
+        let mut held = Held { handle: Handle::none(), end };
+        held.call(begin)?;
+        Ok(held)
     }
 
     pub fn call(&mut self, call: impl FnOnce(*mut Handle, *mut Fault) -> u32) -> Result<()> {
@@ -61,7 +56,8 @@ pub struct Schema {
 impl Schema {
     /// The schema that the bytes of a schema file define.
     pub fn read(text: &[u8]) -> Result<Schema> {
-        let held = Held::begun(text, ssz_schema_read, ssz_schema_free)?;
+        let read = |handle, fault| unsafe { ssz_schema_read(handle, text.as_ptr(), text.len(), fault) };
+        let held = Held::begun(read, ssz_schema_free)?;
         Ok(Schema { held: Mutex::new(held), text: text.to_vec() })
     }
 
@@ -77,14 +73,41 @@ impl Schema {
         Ok(Type { schema: self, number })
     }
 
-    fn call(&self, call: impl FnOnce(*mut Handle, *mut Fault) -> u32) -> Result<()> {
-        self.held.lock().unwrap_or_else(PoisonError::into_inner).call(call)
+    /// The names of all types in byte order, the built-in ones too.
+    pub fn names(&self) -> Result<Vec<String>> {
+        let names = self.text_by(4096, |handle, room, room_len, len, fault| unsafe { ssz_names(handle, room, room_len, len, fault) })?;
+        Ok(names.lines().map(str::to_owned).collect())
     }
 
-    /// A name that a call copies.
-    fn name_by(&self, call: impl Fn(*mut Handle, *mut u8, usize, *mut u64, *mut Fault) -> u32) -> Result<String> {
-        let name = self.held.lock().unwrap_or_else(PoisonError::into_inner).filled(64, call)?;
-        Ok(String::from_utf8_lossy(&name).into_owned())
+    /// The types that were asked for so far, in order: by name, or as part of another.
+    pub fn types(&self) -> Result<Vec<Type<'_>>> {
+        let mut count = 0;
+        self.call(|handle, fault| unsafe { ssz_types(handle, &mut count, fault) })?;
+        Ok((0..count).map(|number| Type { schema: self, number }).collect())
+    }
+
+    fn lock(&self) -> MutexGuard<'_, Held> {
+        self.held.lock().unwrap_or_else(PoisonError::into_inner)
+    }
+
+    fn call(&self, call: impl FnOnce(*mut Handle, *mut Fault) -> u32) -> Result<()> {
+        self.lock().call(call)
+    }
+
+    /// What is begun on this schema, which has a copy of it.
+    pub(crate) fn begin(
+        &self,
+        begin: impl FnOnce(*mut Handle, *mut Handle, *mut Fault) -> u32,
+        end: unsafe extern "C" fn(*mut Handle) -> u32,
+    ) -> Result<Held> {
+        let mut lent = self.lock();
+        Held::begun(|handle, fault| begin(handle, &mut *lent.handle, fault), end)
+    }
+
+    /// A text that a call copies.
+    fn text_by(&self, room: usize, call: impl Fn(*mut Handle, *mut u8, usize, *mut u64, *mut Fault) -> u32) -> Result<String> {
+        let text = self.lock().filled(room, call)?;
+        Ok(String::from_utf8_lossy(&text).into_owned())
     }
 }
 
@@ -118,6 +141,13 @@ pub struct Type<'s> {
 }
 
 impl<'s> Type<'s> {
+    /// The first of its names in byte order; `None` where it has none.
+    pub fn name(&self) -> Result<Option<String>> {
+        present(self.schema.text_by(64, |handle, room, room_len, len, fault| unsafe {
+            ssz_type_name(handle, self.number, room, room_len, len, fault)
+        }))
+    }
+
     /// How many bytes each value has; `None` where they differ.
     pub fn size(&self) -> Result<Option<u64>> {
         let size = self.number_of(ssz_size)?;
@@ -143,7 +173,7 @@ impl<'s> Type<'s> {
 
     fn fields(&self) -> Result<Vec<(String, Type<'s>)>> {
         let name = |place| {
-            self.schema.name_by(|handle, room, room_len, len, fault| unsafe {
+            self.schema.text_by(64, |handle, room, room_len, len, fault| unsafe {
                 ssz_field(handle, self.number, place, room, room_len, len, fault)
             })
         };
@@ -168,6 +198,12 @@ impl<'s> Type<'s> {
         self.schema.call(|handle, fault| unsafe { ssz_check(handle, self.number, data.as_ptr(), data.len(), fault) })
     }
 
+    /// The bytes, checked once, to ask for many parts: the first fault where they encode no value.
+    pub fn open(&self, data: &[u8]) -> Result<Slice> {
+        let open = |handle, schema, fault| unsafe { ssz_slice_open(handle, schema, self.number, data.as_ptr(), data.len(), fault) };
+        Ok(Slice::of(self.schema.begin(open, ssz_slice_close)?))
+    }
+
     /// The hash_tree_root of the value that the bytes encode.
     pub fn root(&self, data: &[u8]) -> Result<[u8; 32]> {
         let mut root = [0; 32];
@@ -182,11 +218,10 @@ impl<'s> Type<'s> {
         Ok(u128::from(index.high) << 64 | u128::from(index.low))
     }
 
-    /// The encoding of the part at a path of the value that the bytes encode, all of which are checked. A bit is one byte, a
-    /// length (`/list/#len`) eight.
+    /// The encoding of the part at a path of the value that the bytes encode, all of which are checked: for many parts see
+    /// [`Type::open`]. A bit is one byte, a length (`/list/#len`) eight.
     pub fn part(&self, data: &[u8], path: &str) -> Result<Vec<u8>> {
-        let mut held = self.schema.held.lock().unwrap_or_else(PoisonError::into_inner);
-        held.filled(data.len().max(8), |handle, room, room_len, len, fault| unsafe {
+        self.schema.lock().filled(data.len().max(8), |handle, room, room_len, len, fault| unsafe {
             ssz_part(handle, self.number, data.as_ptr(), data.len(), path.as_ptr(), path.len(), room, room_len, len, fault)
         })
     }

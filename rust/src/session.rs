@@ -1,5 +1,5 @@
 use crate::calls::*;
-use crate::error::{Error, Result};
+use crate::error::{Error, Result, NO_ROOM};
 use crate::proof::Proof;
 use crate::schema::{Held, Schema};
 
@@ -29,9 +29,10 @@ pub struct Session {
 }
 
 impl Session {
-    /// A session over a schema, with no version.
+    /// A session over a schema, with no version. It has a copy of the schema.
     pub fn start(schema: &Schema) -> Result<Session> {
-        Ok(Session { held: Held::begun(schema.text(), ssz_session_start, ssz_session_end)? })
+        let start = |handle, schema, fault| unsafe { ssz_session_start_on(handle, schema, fault) };
+        Ok(Session { held: schema.begin(start, ssz_session_end)? })
     }
 
     /// Makes a version: the default of a type.
@@ -128,6 +129,30 @@ impl Session {
     /// The multiproof of the parts at paths, or at generalized indices as decimal numbers.
     pub fn prove(&mut self, name: &str, paths: &[&str]) -> Result<Proof> {
         self.run(&format!("prove {name} {}", paths.join(" ")))?.parse()
+    }
+
+    /// The multiproof of the nodes at generalized indices.
+    pub fn prove_at(&mut self, name: &str, indices: &[u128]) -> Result<Proof> {
+        let indices: Vec<Index> = indices.iter().map(|index| Index { low: *index as u64, high: (index >> 64) as u64 }).collect();
+        let (mut leaves, mut len) = (0, 128 * indices.len() as u64);
+        loop {
+            let mut room = vec![Entry::default(); len as usize];
+            let mut status = 0;
+            let ended = self.held.call(|handle, fault| {
+                status = unsafe {
+                    ssz_session_prove_all(
+                        handle, name.as_ptr(), name.len(), indices.as_ptr(), indices.len(), room.as_mut_ptr(), room.len(), &mut leaves,
+                        &mut len, fault,
+                    )
+                };
+                status
+            });
+            if status != NO_ROOM {
+                ended?;
+                let (leaves, nodes) = room[..len as usize].split_at(leaves as usize);
+                return Ok(Proof::of_entries(leaves, nodes));
+            }
+        }
     }
 
     /// Does the statement that a line says (docs/formats.md), and returns the reply that `ssz run` prints, with its line feed. A

@@ -73,6 +73,72 @@ fn types_tell_their_forms() {
 }
 
 #[test]
+fn types_have_names() {
+    let schema = schema();
+    let names = ["Choice", "Pair", "boolean", "byte", "uint128", "uint16", "uint256", "uint32", "uint64", "uint8"];
+    assert_eq!(schema.names().unwrap(), names);
+    assert!(schema.types().unwrap().is_empty());
+    let pair = schema.find("Pair").unwrap();
+    assert_eq!(pair.name().unwrap().as_deref(), Some("Pair"));
+    assert_eq!(schema.find("uint8").unwrap().name().unwrap().as_deref(), Some("byte"));
+    let fields = match pair.form().unwrap() {
+        Form::Container(fields) => fields,
+        _ => panic!("no container"),
+    };
+    assert_eq!(fields[1].1.name(), Ok(None));
+    let asked: Vec<_> = schema.types().unwrap().iter().map(|kind| kind.name().unwrap()).collect();
+    assert_eq!(asked, [Some("Pair".into()), Some("byte".into()), Some("uint16".into()), None]);
+}
+
+#[test]
+fn bytes_are_checked_once() {
+    let mut data = [0xaa, 0xbb, 6, 0, 0, 0, 1, 2];
+    let opened = {
+        let schema = schema();
+        let pair = schema.find("Pair").unwrap();
+        assert_eq!(pair.open(&data[..5]).err(), Some(Error::Invalid { code: 1, position: 0 }));
+        pair.open(&data).unwrap()
+    };
+    assert_eq!(data[opened.place("/b").unwrap()], [1, 2]);
+    data.fill(0xff);
+    assert_eq!(opened.part("/").unwrap(), [0xaa, 0xbb, 6, 0, 0, 0, 1, 2]);
+    assert_eq!(opened.part("/b/1").unwrap(), [2]);
+    assert_eq!(opened.part("/b/#len").unwrap(), 2u64.to_le_bytes());
+    assert_eq!(opened.part("/b/2"), Err(Error::Absent));
+    assert_eq!(opened.part("/c"), Err(Error::BadPath));
+    assert_eq!(opened.part("b"), Err(Error::Syntax));
+    assert_eq!(opened.place("/b/#len"), Err(Error::NoPlace));
+    assert_eq!(opened.place("/b/2"), Err(Error::Absent));
+    thread::scope(|scope| {
+        for _ in 0..4 {
+            scope.spawn(|| (0..100).for_each(|_| assert_eq!(opened.part("/a").unwrap(), [0xaa, 0xbb])));
+        }
+    });
+}
+
+#[test]
+fn sessions_need_no_schema_to_stay() {
+    let mut session = Session::start(&schema()).unwrap();
+    session.new_default("V", "Pair").unwrap();
+    assert_eq!(session.get("V", "/").unwrap(), [0, 0, 6, 0, 0, 0]);
+}
+
+#[test]
+fn proofs_are_asked_by_number() {
+    let mut session = session();
+    let root = session.root("V").unwrap();
+    let proof = session.prove_at("V", &[7, 2]).unwrap();
+    assert_eq!(proof.leaves.keys().copied().collect::<Vec<_>>(), [2, 7]);
+    assert_eq!(proof.verify(&root), Ok(true));
+    assert_eq!(session.prove("V", &["/a", "/b/#len"]).unwrap(), proof);
+    assert_eq!(session.prove("V", &["2", "/b/#len"]).unwrap(), proof);
+    assert_eq!(session.prove_at("V", &[8]).unwrap_err().name(), "NoNode");
+    assert_eq!(session.prove_at("V", &[1, 2]).unwrap_err().name(), "Nested");
+    assert_eq!(session.prove_at("V", &[]), Err(Error::Syntax));
+    assert_eq!(session.prove_at("W", &[2]).unwrap_err().name(), "NoVersion");
+}
+
+#[test]
 fn sessions_edit_versions() {
     let mut session = session();
     session.fork("V", "W").unwrap();
