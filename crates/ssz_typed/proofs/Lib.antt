@@ -1,2 +1,3 @@
 pub mod FieldNames
 pub mod PartTypes
+pub mod SliceLaw

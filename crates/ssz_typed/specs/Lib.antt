@@ -9,3 +9,4 @@ pub mod Texts
 pub mod Later
 pub mod Names
 pub mod Slices
+pub mod SliceLaws

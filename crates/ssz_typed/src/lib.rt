@@ -12,6 +12,7 @@ pub mod calls;
 mod checked_bytes;
 pub mod forms;
 pub mod later;
+mod law;
 mod library;
 pub mod names;
 mod naming;
@@ -22,5 +23,6 @@ pub mod texts;
 
 pub use calls::SszStretch;
 pub use checked_bytes::CheckedBytes;
+pub use law::slices_answer_as_bytes;
 pub use library::Library;
 pub use naming::read_types;

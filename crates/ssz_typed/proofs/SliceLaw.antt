@@ -1,0 +1,68 @@
+-- A slice answers what its bytes do: once its type is found, they are few and have no fault.
+use Rattle.std.proofs.Common.{◌≡◌, ℕ, List, Option, Some, None, Ok, Err, refl}
+use Rattle.ssz_bytes.specs.declared.fault.Fault.{Fault}
+use Rattle.ssz_schema.specs.Paths.{Path}
+use Rattle.ssz_schema.specs.Unfolding.{Types, type_of}
+use Rattle.ssz_slices.specs.Part.{Part, whole, unless}
+use Rattle.ssz_value.specs.Faults.{why}
+use Rattle.ssz_said.specs.declared.status.TheConstants.{TOO_LONG, MOST_BYTES}
+use Rattle.ssz_said.specs.Outcome.{Outcome, ◌>>=◌, at_most, faultless}
+use Rattle.ssz_typed.specs.declared.checked_bytes.CheckedBytes.{CheckedBytes}
+use Rattle.ssz_typed.specs.declared.library.Library.{Library}
+use Rattle.ssz_typed.specs.Calls.{encoding_at, steps_in, valid}
+use Rattle.ssz_typed.specs.Library.{type_in}
+use Rattle.ssz_typed.specs.Places.{stretch_at}
+use Rattle.ssz_typed.specs.SliceLaws.{PartsAgree, PlacesAgree}
+use Rattle.ssz_typed.specs.Slices.{Copies, IsCopyOf}
+
+module _ {A : Type 0} (asks : Part → Path → Outcome A) (library : Library) (bytes : List ℕ)
+    (slice : CheckedBytes) (text : List ℕ) where
+  -- what is asked of the whole of bytes without a fault
+  abbrev of_whole : Types → ℕ → List ℕ → Outcome A
+  of_whole types id given =
+      steps_in (type_of types id) text >>= λ steps. asks (whole (type_of types id) given) steps
+
+  -- what is asked of bytes of which this is the first fault
+  abbrev of_bytes : ℕ → Option Fault → Outcome A
+  of_bytes id fault =
+      steps_in (type_of library.schema id) text
+      >>= λ steps. valid (unless fault (whole (type_of library.schema id) bytes))
+      >>= λ part. asks part steps
+
+  copied : (id : ℕ) → IsCopyOf library id bytes slice
+      → of_whole slice.schema slice.id slice.bytes ≡ of_whole library.schema id bytes
+  copied id is = rw (is.schema, is.kind, is.bytes) refl
+
+  -- once the bytes have no fault
+  judged : (id : ℕ) (fault : Option Fault)
+      → Copies library bytes (faultless fault id) (Ok slice)
+      → of_whole slice.schema slice.id slice.bytes ≡ of_bytes id fault
+  judged id None is = copied id is
+  judged id (Some fault) is = absurd (cc)
+
+  -- and are few
+  counted : (id : ℕ) (few : Outcome (List ℕ))
+      → Copies library bytes (few >>= λ _. faultless (why (type_of library.schema id) 0 bytes) id)
+      (Ok slice)
+      → of_whole slice.schema slice.id slice.bytes
+      ≡ (few >>= λ _. of_bytes id (why (type_of library.schema id) 0 bytes))
+  counted id (Ok few) is = judged id (why (type_of library.schema id) 0 bytes) is
+  counted id (Err fault) is = absurd (cc)
+
+  -- and their type is known
+  found : (kind : Outcome ℕ)
+      → Copies library bytes (kind >>= λ id. at_most TOO_LONG MOST_BYTES bytes
+      >>= λ _. faultless (why (type_of library.schema id) 0 bytes) id) (Ok slice)
+      → of_whole slice.schema slice.id slice.bytes
+      ≡ (kind >>= λ id. at_most TOO_LONG MOST_BYTES bytes
+      >>= λ _. of_bytes id (why (type_of library.schema id) 0 bytes))
+  found (Ok id) is = counted id (at_most TOO_LONG MOST_BYTES bytes) is
+  found (Err fault) is = absurd (cc)
+
+pub parts_agree : PartsAgree
+parts_agree library number bytes slice text =
+    found encoding_at library bytes slice text (type_in library number)
+
+pub places_agree : PlacesAgree
+places_agree library number bytes slice text =
+    found stretch_at library bytes slice text (type_in library number)
