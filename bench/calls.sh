@@ -1,7 +1,8 @@
 #!/bin/sh
 # The root of a file of 256 MiB through the static library of crates/ssz_c beside `ssz root`, in processor
-# time of the whole programs, the least of ROUNDS in turn (9), and the cost of a small call. Needs both
-# built (`rt lib`, `rt run`) and a C compiler: bench/calls.sh [ROUNDS].
+# time of the whole programs, the least of ROUNDS in turn (9); the cost of a small call; and that of a part
+# of nine million bytes, by themselves and by a slice of them. Needs both built (`rt lib`, `rt run`) and a C
+# compiler: bench/calls.sh [ROUNDS].
 set -eu
 rounds=${1:-9}
 cd "$(dirname "$0")/.."
@@ -29,3 +30,7 @@ echo "library:  $library s"
 awk -v p="$program" -v l="$library" 'BEGIN { printf "the library beside ssz root: %+.1f %%\n", (l / p - 1) * 100 }'
 echo "the call alone: $("$out/calls" "$out/l.json" L "$out/l.ssz")"
 echo "a small call: $("$out/calls" "$out/l.json")"
+# A list of a million containers with a truth value each, and a number of the last.
+printf '{"ssz":1,"types":[["C",{"container":[["a","uint64"],["b","boolean"]]}],["M",{"list":["C",1048576]}]]}' >"$out/m.json"
+head -c $((9 << 20)) /dev/zero >"$out/m.ssz"
+"$out/calls" "$out/m.json" M "$out/m.ssz" /1048575/a
