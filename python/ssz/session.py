@@ -209,7 +209,7 @@ class Session(Held):
 
     def prove(self, name: str, *paths: str | int) -> Proof:
         """The multiproof of the parts at these paths or generalized indices."""
-        if paths and all(isinstance(path, int) and 0 < path < 1 << 128 for path in paths):
+        if paths and all(isinstance(path, int) and 0 <= path < 1 << 128 for path in paths):
             return self._prove_at(name, [int(path) for path in paths])
         words = " ".join(map(str, paths))
         return Proof.parse(self._run(f"prove {name} {words}", type=self._of(name), path=words))

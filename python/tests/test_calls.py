@@ -68,7 +68,7 @@ class Calls(unittest.TestCase):
         self.assertEqual(list(proof.leaves), [2, 7])
         self.assertTrue(proof.verify(session.root("V")))
         self.assertEqual([session.prove("V", "/a", "/b/#len"), session.prove("V", 2, "/b/#len")], [proof, proof])
-        for wanted, indices in [("NoNode", [8]), ("Nested", [1, 2]), ("SYNTAX", [0]), ("NoNode", [1 << 127])]:
+        for wanted, indices in [("NoNode", [8]), ("Nested", [1, 2]), ("NoNode", [0]), ("SYNTAX", [-1]), ("NoNode", [1 << 127])]:
             with self.assertRaises(ssz.SszError) as caught:
                 session.prove("V", *indices)
             self.assertEqual(caught.exception.name, wanted)
