@@ -48,7 +48,11 @@ impl Session {
         ensures { Does said self.old self.new result }
     {
         match said {
-            Ok(statement) => answer_of(self.reach(&statement)),
+            Ok(statement) => {
+                let reached = self.reach(&statement);
+                drop(statement);
+                answer_of(reached)
+            }
             Err(why) => Err(why),
         }
     }

@@ -60,6 +60,7 @@ impl SszSession {
         ensures { DoesIn said self.old.held.value self.new.held.value result }
     {
         let Some(mut session) = self.take(alloc) else {
+            drop(said);
             return Err(SszFault::of(status::NO_HANDLE));
         };
         let answer = session.answer(said);
