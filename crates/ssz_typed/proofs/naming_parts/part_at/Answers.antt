@@ -1,9 +1,8 @@
-use Rattle.std.proofs.Common.{ℕ, List, Option, None, get_or, refl, sym, ap, ◌∙◌, subst}
+use Rattle.std.proofs.Common.{ℕ, List, Option, None, get_or, sym, ap, ◌∙◌, subst}
 use Rattle.ssz_schema.proofs.StepLemmas.{Part}
-use Rattle.ssz_schema.specs.declared.ty.Ty.{Ty}
 use Rattle.ssz_schema.specs.Unfolding.{AreBelow, tree_over}
 use Rattle.ssz_typed.specs.Forms.{part_type}
-use Rattle.ssz_typed.proofs.PartTypes.{element-part, field-part, no-part, number_at, option-part}
+use Rattle.ssz_typed.proofs.PartTypes.{element-part, field-part, number_at, option-part}
 use Rattle.ssz_typed.proofs.naming_parts.part_at.Goals as goal
 
 pub returns-in-Container : goal.returns-in-Container
