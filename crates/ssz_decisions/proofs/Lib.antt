@@ -13,5 +13,4 @@ pub mod AscendingOnce
 pub mod ProofsMade
 pub mod ProofRows
 pub mod Straying
-pub mod Chosen
 pub mod Owing

@@ -6,7 +6,6 @@ pub mod Loading
 pub mod Shown
 pub mod Proving
 pub mod Counted
-pub mod Inner
 pub mod Roots
 pub mod Carried
 pub mod Outside

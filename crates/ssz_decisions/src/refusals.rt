@@ -7,7 +7,7 @@ use ssz_script::Reply;
 use ssz_value::{EditFault, PathFault};
 
 /// The code of a path that leads to no part.
-pub fn code_of_path(fault: PathFault) -> u8
+pub(crate) fn code_of_path(fault: PathFault) -> u8
     ensures { result ≡ path_code fault }
 {
     match fault {

@@ -24,7 +24,7 @@ use Rattle.ssz_machine.specs.State.{Name, Version, Versions, version_of}
 use Rattle.ssz_machine.specs.Rules.{Outcome, Refusal, Row, ◌>>=◌, ◌>>◌, code_of, coded, faultless, need, refuse, edits}
 use Rattle.ssz_machine.specs.Making.{decoded}
 use Rattle.ssz_machine.specs.Editing.{element_of, ends_beside, limit_of, options_of, inner_value, set, append, pop, choose}
-use Rattle.ssz_engine.specs.EditTests.{settable, appendable, choosable}
+use Rattle.ssz_engine.proofs.EditTests.{settable, appendable, choosable}
 
 -- the part of a value of a legal type is one of its own type
 pub part_fits : (format : Format) (t u : SszType) (v w : SszValue) (path : Path)

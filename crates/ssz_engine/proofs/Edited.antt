@@ -12,8 +12,6 @@ use Rattle.ssz_arena.specs.declared.node.Node.{Node}
 use Rattle.ssz_arena.specs.declared.node.NodeId.{NodeId}
 use Rattle.ssz_arena.specs.Content.{Content as Nodes, node_count, tree_of, unhashed}
 use Rattle.ssz_places.specs.PlaceLaws.{IsTreeOf}
-use Rattle.ssz_codec.specs.declared.fault.DecodeFault.{DecodeFault}
-use Rattle.ssz_codec.specs.declared.fault.DecodeFault.TheVariants.{Bad, Memory}
 use Rattle.ssz_edit.specs.Edited.{Answers as AnswersEdit}
 use Rattle.ssz_proof.specs.Calculation.{PairOf}
 use Rattle.ssz_versions.specs.Content.{Entries, Held, held_at}
@@ -23,7 +21,7 @@ use Rattle.ssz_machine.specs.Machine.{charge_in}
 use Rattle.ssz_machine.specs.Changes.{puts}
 use Rattle.ssz_decisions.specs.Content.{Content, rules_of}
 use Rattle.ssz_decisions.specs.Decisions.{AnswersWith}
-use Rattle.ssz_engine.specs.Finished.{finished, Finishes, unread}
+use Rattle.ssz_engine.specs.Finished.{finished, Finishes}
 use Rattle.ssz_decisions.specs.Standing.{AreVersions, Match}
 use Rattle.ssz_decisions.specs.declared.decision.Decision.{Decision}
 use Rattle.ssz_decisions.specs.declared.fault.EngineFault.{EngineFault}
@@ -94,7 +92,7 @@ module _ (pair_of : PairOf) (types : Types) (most : ℕ) (entries : Entries) (ba
     few = λ versions stand. refl;
   }
 
-  bad-answers : held_at entries writer name.now ≡ Some held → (fault : Fault)
+  pub bad-answers : held_at entries writer name.now ≡ Some held → (fault : Fault)
       → IsRefused (bad_bytes fault)
       → AnswersWith pair_of row (puts name.now) writer (engine old) (engine old) (BadBytes fault)
   bad-answers there fault is = λ count. record {
@@ -108,18 +106,11 @@ module _ (pair_of : PairOf) (types : Types) (most : ℕ) (entries : Entries) (ba
     few = λ versions stand. refl;
   }
 
-  pub unread-answers : held_at entries writer name.now ≡ Some held → (fault : DecodeFault)
-      → ((bad : Fault) → fault ≡ Bad bad → IsRefused (bad_bytes bad))
-      → IfOk (unread fault)
-      (AnswersWith pair_of row (puts name.now) writer (engine old) (engine old))
-  unread-answers there (Bad fault) is = bad-answers there fault (is fault refl)
-  unread-answers there Memory is = tt
-
   module _ (edit : SszValue → EditedValue) (charge : SszValue → ℕ) (is_row : IsRow edit charge)
       (all : AreVersions types old entries)
       (there : held_at entries writer name.now ≡ Some held) where
     -- a node was made
-    edited-answers : (node : NodeId) → IsDone edit charge (Ok node)
+    pub edited-answers : (node : NodeId) → IsDone edit charge (Ok node)
         → AnswersWith pair_of row (puts name.now) writer (engine old) (engine new)
         (Edited name node)
     edited-answers node done = λ count. record {

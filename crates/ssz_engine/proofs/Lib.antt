@@ -1,9 +1,11 @@
 pub mod Leaving
 pub mod Forking
 pub mod Found
+pub mod EditTests
 pub mod EditRows
 pub mod EditsAstray
 pub mod Tested
+pub mod Chosen
 pub mod Edited
 pub mod UpgradeRows
 pub mod UpgradeSteps

@@ -12,6 +12,8 @@ use Rattle.ssz_schema.proofs.OptionLemmas.{option_count-over}
 use Rattle.ssz_schema.specs.Paths.{Path, path_type, step_type}
 use Rattle.ssz_schema.specs.Unfolding.{Types, type_of, options_over}
 use Rattle.ssz_gindex.proofs.HelperNodes.{some_from}
+use Rattle.ssz_value.specs.declared.edit_fault.EditFault.{EditFault}
+use Rattle.ssz_value.specs.declared.edit_fault.EditFault.TheVariants as edit_fault
 use Rattle.ssz_value.specs.declared.path_fault.PathFault.{PathFault}
 use Rattle.ssz_value.specs.declared.path_fault.PathFault.TheVariants.{BadPath, Absent}
 use Rattle.ssz_value.specs.Values.{SszValue}
@@ -19,17 +21,21 @@ use Rattle.ssz_value.specs.Parts.{part}
 use Rattle.ssz_arena.specs.declared.node.NodeId.{NodeId}
 use Rattle.ssz_arena.specs.Content.{Content as Nodes, tree_of}
 use Rattle.ssz_places.specs.PlaceLaws.{IsTreeOf}
-use Rattle.ssz_places.specs.EditLaws.{count_of, element_type, is_changeable}
+use Rattle.ssz_places.specs.EditLaws.{content, count_of, element_type, is_changeable}
 use Rattle.ssz_places.proofs.PathLaws.{composite}
 use Rattle.ssz_walk.specs.declared.place.Place.{Place}
 use Rattle.ssz_walk.specs.Found.{IsFound, IsLost}
 use Rattle.ssz_script.specs.declared.reply.TheConstants.Reply.{BAD_PATH, ABSENT, NOT_THAT, FULL, BAD_SELECTOR}
-use Rattle.ssz_machine.specs.Rules.{Outcome, ◌>>=◌, ◌>>◌, coded, need, refuse}
+use Rattle.ssz_machine.specs.Rules.{Outcome, ◌>>=◌, ◌>>◌, code_of, coded, need, refuse}
 use Rattle.ssz_machine.specs.Editing.{element_of, ends_beside, limit_of, options_of}
-use Rattle.ssz_edit.proofs.Counted.{changeable_composite}
+use Rattle.ssz_edit.proofs.Counted.{changeable_composite, count_small}
+use Rattle.ssz_edit.proofs.ListLanding.{list_value, element_type_is}
+use Rattle.ssz_edit.specs.declared.lists.ListEnd.{ListEnd}
+use Rattle.ssz_edit.specs.declared.choosing.Choice.{Choice}
+use Rattle.ssz_edit.specs.Targets.{AppendsAt, CannotAppend, CannotChoose, CannotSet, ChoosesAt, SetsAt}
 use Rattle.ssz_edit.specs.Chosen.{HasNoOptions}
 use Rattle.ssz_edit.specs.Slots.{limit_of as limit_in}
-use Rattle.ssz_engine.specs.EditTests.{at_part, ComesTo}
+use Rattle.ssz_engine.proofs.EditTests.{at_part, settable, appendable, choosable, ComesTo}
 use Rattle.ssz_decisions.specs.Shown.{path_code}
 
 module _ (types : Types) (arena : Nodes) (id : ℕ) (node : NodeId) (path : Path) where
@@ -183,3 +189,90 @@ module _ (trees : List SszType) (ids : List (Option ℕ)) (u : SszType) (k : ℕ
       ap (λ u. choose_tests u k) is
       ∙ passed BAD_SELECTOR _ _ (lt-leb (option_count (options_over trees ids)) k
       (omega (arith, slice_get_within ids k option there, option_count-over trees ids)))
+
+-- what opens a place, and what refuses it, is what the tests come to
+module _ (types : Types) (arena : Nodes) (id : ℕ) (node : NodeId) (path : Path) where
+  pub cannot_set : (fault : EditFault) → CannotSet types arena id node path fault
+      → ComesTo types arena id node (λ t v. settable t v path) (Err (coded (code_of fault)))
+  cannot_set edit_fault.BadPath lost =
+      lost_tests types arena id node path BadPath
+      (λ u w. refuse NOT_THAT (ends_beside path) >> Ok u) lost
+  cannot_set edit_fault.Absent lost =
+      lost_tests types arena id node path Absent
+      (λ u w. refuse NOT_THAT (ends_beside path) >> Ok u) lost
+  cannot_set edit_fault.NotThat that =
+      let u = type_of types that.0.id in
+      found_tests types arena id node path that.0 that.1
+      (λ u w. refuse NOT_THAT (ends_beside path) >> Ok u) (Err (coded NOT_THAT))
+      (λ v w of there. refused NOT_THAT (ends_beside path) (Ok u)
+      (beside (type_of types id) path u that.1.led.type_at ∙ ap not (that.2 v w of there)))
+  cannot_set _ that = absurd that
+
+  pub can_set : (place : Place) → SetsAt types arena id node path place
+      → ComesTo types arena id node (λ t v. settable t v path) (Ok (type_of types place.id))
+  can_set place at =
+      let u = type_of types place.id in
+      found_tests types arena id node path place at.found
+      (λ u w. refuse NOT_THAT (ends_beside path) >> Ok u) (Ok u)
+      (λ v w of there. passed NOT_THAT (ends_beside path) (Ok u)
+      (beside (type_of types id) path u at.found.led.type_at ∙ ap not at.free))
+
+  pub cannot_append : (fault : EditFault) → CannotAppend types arena id node path fault
+      → ComesTo types arena id node (λ t v. appendable t v path) (Err (coded (code_of fault)))
+  cannot_append edit_fault.BadPath lost =
+      lost_tests types arena id node path BadPath append_tests lost
+  cannot_append edit_fault.Absent lost =
+      lost_tests types arena id node path Absent append_tests lost
+  cannot_append edit_fault.NotThat that =
+      found_tests types arena id node path that.0 that.1 append_tests (Err (coded NOT_THAT))
+      (λ v w of there. not_list (type_of types that.0.id) w (that.2 v w of there))
+  cannot_append edit_fault.Full that =
+      found_tests types arena id node path that.0 that.1 append_tests (Err (coded FULL))
+      (λ v w of there. let full = that.2 v w of there in
+      list_full (type_of types that.0.id) w full.0 full.1 full.2)
+  cannot_append _ that = absurd that
+
+  pub can_append : (end : ListEnd) → AppendsAt types arena id node path end
+      → ComesTo types arena id node (λ t v. appendable t v path)
+      (Ok (type_of types end.slot.element.id))
+  can_append end at =
+      let u = type_of types end.list.id in
+      found_tests types arena id node path end.list at.found append_tests
+      (Ok (type_of types end.slot.element.id))
+      (λ v w of there.
+      let l = list_value types.format types arena id node path end.list at.legal at.found
+      at.limit at.limited v of in
+      let few = count_small types.format u at.limit l.w at.limited l.legal l.fits in
+      let mixed = at.counts (count_of l.w) (content u l.w) l.mixed few.1 in
+      let same = same_Some w l.w (sym there ∙ l.value) in
+      list_room u w at.limit at.limited (omega (arith, mixed.1, ap count_of same, at.within))
+      ∙ ap Ok (sym (element_type_is types.format types arena id node path end.list at.legal
+      at.found at.limit at.limited at.content at.content_node end.count at.within end.slot
+      at.slot)))
+
+  pub cannot_choose : (k : ℕ) (fault : EditFault)
+      → CannotChoose types arena id node path k fault
+      → ComesTo types arena id node (λ t v. choosable t v path k) (Err (coded (code_of fault)))
+  cannot_choose k edit_fault.BadPath lost =
+      lost_tests types arena id node path BadPath (λ u w. choose_tests u k) lost
+  cannot_choose k edit_fault.Absent lost =
+      lost_tests types arena id node path Absent (λ u w. choose_tests u k) lost
+  cannot_choose k edit_fault.NotThat that =
+      found_tests types arena id node path that.0 that.1 (λ u w. choose_tests u k)
+      (Err (coded NOT_THAT))
+      (λ v w of there. no_options_there (type_of types that.0.id) k (that.2 v w of there))
+  cannot_choose k edit_fault.BadSelector that =
+      found_tests types arena id node path that.0 that.1 (λ u w. choose_tests u k)
+      (Err (coded BAD_SELECTOR))
+      (λ v w of there. let ids = that.2 v w of there in
+      past_options types.trees ids.0 (type_of types that.0.id) k ids.1 (sym ids.2))
+  cannot_choose k _ that = absurd that
+
+  pub can_choose : (k : ℕ) (choice : Choice) → (at : ChoosesAt types arena id node path k choice)
+      → ComesTo types arena id node (λ t v. choosable t v path k)
+      (Ok (options_over types.trees at.options))
+  can_choose k choice at =
+      found_tests types arena id node path choice.place at.found (λ u w. choose_tests u k)
+      (Ok (options_over types.trees at.options))
+      (λ v w of there. option_there types.trees at.options (type_of types choice.place.id) k at.is
+      choice.option (sym at.option_there))

@@ -6,9 +6,6 @@ use Rattle.ssz_schema.specs.Unfolding.{Types, type_of}
 use Rattle.ssz_gindex.specs.Paths.{index_levels}
 use Rattle.ssz_value.specs.declared.edit_fault.EditFault.{EditFault}
 use Rattle.ssz_value.specs.declared.edit_fault.EditFault.TheVariants as edit_fault
-use Rattle.ssz_bytes.specs.declared.fault.Fault.{Fault}
-use Rattle.ssz_codec.specs.declared.fault.DecodeFault.{DecodeFault}
-use Rattle.ssz_codec.specs.declared.fault.DecodeFault.TheVariants as decode_fault
 use Rattle.ssz_arena.specs.Content.{Content as Nodes, todo}
 use Rattle.ssz_arena.specs.declared.node.NodeId.{NodeId}
 use Rattle.ssz_script.specs.declared.statement.Statement.{Statement}
@@ -18,7 +15,7 @@ use Rattle.ssz_machine.specs.State.{Name}
 use Rattle.ssz_machine.specs.Changes.{puts, touch}
 use Rattle.ssz_decisions.specs.Content.{Content, SameNodes}
 use Rattle.ssz_decisions.specs.Decisions.{IsOf}
-use Rattle.ssz_engine.specs.Finished.{Finishes, finished, unread}
+use Rattle.ssz_engine.specs.Finished.{Finishes, finished}
 use Rattle.ssz_decisions.specs.Carried.{IsCarriedOut}
 use Rattle.ssz_engine.specs.Tops.{HasDue, IsDue, MakesTop, Tops, TopsWhere}
 use Rattle.ssz_decisions.specs.declared.decision.Decision.{Decision}
@@ -98,16 +95,6 @@ module _ (writer line : ℕ) (first mid new : Content) (same : SameNodes mid new
   tops made done (statement.LoadJson v t f) of makes out = only done _ (λ is. tt)
   tops made done statement.Compact of makes out = only done _ (λ is. tt)
 
--- a literal that was not read leaves nothing of it
-pub unread-due : (arena : Nodes) (fault : DecodeFault) → IfOk (unread fault) (IsDue arena)
-unread-due arena (decode_fault.Bad fault) = tt
-unread-due arena decode_fault.Memory = tt
-
-pub unread-none : (P : Decision → Type 0) → ((fault : Fault) → P (decision.BadBytes fault))
-    → (fault : DecodeFault) → IfOk (unread fault) P
-unread-none P refused (decode_fault.Bad fault) = refused fault
-unread-none P refused decode_fault.Memory = tt
-
 -- an edit's node is to be hashed where it was found to be so
 pub finished-due : (arena : Nodes) (v : Bor (List ℕ)) (edited : Result NodeId EditFault)
     → IfOk edited (λ made. 0 < todo arena made) → IfOk (finished v edited) (IsDue arena)
@@ -134,24 +121,9 @@ module _ (types : Types) (arena : Nodes) (entries : Entries) (writer : ℕ) (v :
   IsSet made = (was : Held) → held_at entries writer v ≡ Some was
       → 0 < index_levels (type_of types was.0) path → IsDue arena made
 
-  finished-set : (name : Bor (List ℕ)) (edited : Result NodeId EditFault)
-      → IfOk edited (λ made. index_levels (type_of types held.0) path ≤ todo arena made)
-      → IfOk (finished name edited) IsSet
-  finished-set name (Ok made) least = λ was found below.
+  pub made-set : (node : NodeId) → index_levels (type_of types held.0) path ≤ todo arena node
+      → (name : Bor (List ℕ)) → IsSet (decision.Edited name node)
+  made-set node least name was found below =
       let e = ap (λ (h : Held). index_levels (type_of types h.0) path)
       (some_held held was (sym there ∙ found)) in
       omega (arith, least, below, e)
-  finished-set name (Err edit_fault.Memory) least = tt
-  finished-set name (Err edit_fault.BadPath) least = λ was found below. tt
-  finished-set name (Err edit_fault.Absent) least = λ was found below. tt
-  finished-set name (Err edit_fault.NotThat) least = λ was found below. tt
-  finished-set name (Err edit_fault.Full) least = λ was found below. tt
-  finished-set name (Err edit_fault.Empty) least = λ was found below. tt
-  finished-set name (Err edit_fault.BadSelector) least = λ was found below. tt
-
-  pub finishes-set : (edited : Result NodeId EditFault) (result : Result Decision EngineFault)
-      → IfOk edited (λ made. index_levels (type_of types held.0) path ≤ todo arena made)
-      → Finishes v edited result → IfOk result IsSet
-  finishes-set edited result least finishes =
-      subst (λ (r : Result Decision EngineFault). IfOk r IsSet) (sym finishes.2)
-      (finished-set finishes.0 edited least)

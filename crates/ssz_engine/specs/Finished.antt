@@ -1,14 +1,12 @@
--- What an edit of a version comes to: by the answer of its node, or by a literal that has a fault.
+-- What an edit of a version comes to, by the answer of its node.
 use Rattle.std.specs.Prelude.{◌≡◌, ℕ, List, Result, Ok, Err}
 use Rattle.std.specs.Borrow.{Bor}
 use Rattle.ssz_value.specs.declared.edit_fault.EditFault.{EditFault}
 use Rattle.ssz_value.specs.declared.edit_fault.EditFault.TheVariants as edit_fault
 use Rattle.ssz_arena.specs.declared.node.NodeId.{NodeId}
 use Rattle.ssz_machine.specs.Rules.{code_of}
-use Rattle.ssz_codec.specs.declared.fault.DecodeFault.{DecodeFault}
-use Rattle.ssz_codec.specs.declared.fault.DecodeFault.TheVariants as decode_fault
 use Rattle.ssz_decisions.specs.declared.decision.Decision.{Decision}
-use Rattle.ssz_decisions.specs.declared.decision.Decision.TheVariants.{BadBytes, Edited, Refused}
+use Rattle.ssz_decisions.specs.declared.decision.Decision.TheVariants.{Edited, Refused}
 use Rattle.ssz_decisions.specs.declared.fault.EngineFault.{EngineFault}
 use Rattle.ssz_decisions.specs.declared.fault.EngineFault.TheVariants as engine_fault
 
@@ -21,8 +19,3 @@ finished name (Err fault) = Ok (Refused (code_of fault))
 -- so for the version of this name
 abbrev pub Finishes : List ℕ → Result NodeId EditFault → Result Decision EngineFault → Type 0
 Finishes name edited result = (v : Bor (List ℕ)) × (v.now ≡ name) × (result ≡ finished v edited)
-
--- the first fault of a literal is said; want of memory is none
-abbrev pub unread : DecodeFault → Result Decision EngineFault
-unread (decode_fault.Bad fault) = Ok (BadBytes fault)
-unread decode_fault.Memory = Err engine_fault.Memory

@@ -1,4 +1,4 @@
-pub mod EditTests
+pub mod Inner
 pub mod Finished
 pub mod Steps
 pub mod Tops

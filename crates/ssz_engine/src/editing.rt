@@ -1,22 +1,28 @@
 //! Statements that edit a version: `set`, `append`, `pop` and `choose`.
 //!
-//! Each finds what it edits first, so that its literal is read only where no test refuses it, and
-//! makes the nodes of the edited value last.
-ghost use Rattle.std.specs.Prelude.{◌≡◌, ◌<◌, ◌^◌, length, IfOk, IfErr, IfSome, OnErr};
+//! Each opens the place that it edits first (ssz_edit), so that its literal is read only where no
+//! test refuses it. A literal without a fault then becomes nodes there, with no value made.
+ghost use Rattle.std.specs.Prelude.{ℕ, ◌≡◌, ◌<◌, ◌^◌, Some, None, length, IfOk, IfErr, IfSome, OnErr};
+ghost use Rattle.ssz_schema.specs.Paths.{Path};
 ghost use Rattle.ssz_arena.specs.Content.{node_count};
+ghost use Rattle.ssz_versions.specs.Content.{held_at};
+ghost use Rattle.ssz_edit.specs.Targets.{ChoosesAt, HasUnion};
 ghost use Rattle.ssz_machine.specs.Editing.{append, choose, pop, set};
 ghost use Rattle.ssz_machine.specs.Changes.{puts};
 ghost use Rattle.ssz_decisions.specs.Content.{Grows};
 ghost use Rattle.ssz_decisions.specs.Decisions.{AnswersWith};
-ghost use Rattle.ssz_engine.specs.Finished.{Finishes, unread};
+ghost use Rattle.ssz_engine.specs.Finished.{Finishes};
 ghost use Rattle.ssz_engine.specs.Tops.{IsDue, SetsTop};
 
-use super::editable::{appendable, choosable, settable};
+use super::inner::{literal_given, option_default, option_fault};
 use ssz_arena::NodeId;
 use ssz_bytes::ByteRun;
 use ssz_chunk::PairHash;
-use ssz_codec::{DecodeFault, decode};
-use ssz_decisions::{Decision, EngineFault, Store, code_of_edit, inner_value, way_from};
+use ssz_codec::check;
+use ssz_decisions::{Decision, EngineFault, Store, code_of_edit, way_from};
+use ssz_edit::{
+    Choice, Given, given_of, open_choice, open_end, open_part, put_choice, put_element, put_part,
+};
 use ssz_line::Steps;
 use ssz_script::Identifier;
 use ssz_value::EditFault;
@@ -33,16 +39,6 @@ fn finish<'a>(
         Ok(node) => Ok(Decision::Edited(v, node)),
         Err(EditFault::Memory) => Err(EngineFault::Memory),
         Err(fault) => Ok(Decision::Refused(code_of_edit(fault))),
-    }
-}
-
-// What a literal that was not read comes to.
-fn unread<'a>(fault: DecodeFault) -> Result<Decision<'a>, EngineFault>
-    ensures { result ≡ unread fault }
-{
-    match fault {
-        DecodeFault::Bad(fault) => Ok(Decision::BadBytes(fault)),
-        DecodeFault::Memory => Err(EngineFault::Memory),
     }
 }
 
@@ -68,25 +64,16 @@ pub(crate) fn set<'a, H: PairHash>(
         Err(code) => return Ok(Decision::Refused(code)),
     };
     let steps = way.steps.as_slice();
-    let part = match settable(&store.arena, &store.schema, way.id, way.node, steps) {
-        Ok(part) => part,
-        Err(code) => return Ok(Decision::Refused(code)),
+    let place = match open_part(&store.arena, &store.schema, way.id, way.node, steps) {
+        Ok(place) => place,
+        Err(fault) => return Ok(Decision::Refused(code_of_edit(fault))),
     };
-    match decode(store.alloc, &store.schema, part, literal) {
-        Ok(value) => {
-            let made = ssz_edit::set(
-                &mut store.arena,
-                &store.schema,
-                way.id,
-                way.node,
-                steps,
-                &value,
-            );
-            drop(value);
-            finish(v, made)
-        }
-        Err(fault) => unread(fault),
+    if let Some(fault) = check(&store.schema, place.id, literal) {
+        return Ok(Decision::BadBytes(fault));
     }
+    let given = Given::Bytes(literal);
+    let node = put_part(&mut store.arena, &store.schema, way.node, &place, &given)?;
+    Ok(Decision::Edited(v, node))
 }
 
 /// `append V P LIT`.
@@ -111,25 +98,17 @@ pub(crate) fn append<'a, H: PairHash>(
         Err(code) => return Ok(Decision::Refused(code)),
     };
     let steps = way.steps.as_slice();
-    let element = match appendable(&store.arena, &store.schema, way.id, way.node, steps) {
-        Ok(element) => element,
-        Err(code) => return Ok(Decision::Refused(code)),
+    let end = match open_end(&store.arena, &store.schema, way.id, way.node, steps) {
+        Ok(end) => end,
+        Err(fault) => return Ok(Decision::Refused(code_of_edit(fault))),
     };
-    match decode(store.alloc, &store.schema, element, literal) {
-        Ok(value) => {
-            let made = ssz_edit::append(
-                &mut store.arena,
-                &store.schema,
-                way.id,
-                way.node,
-                steps,
-                &value,
-            );
-            drop(value);
-            finish(v, made)
-        }
-        Err(fault) => unread(fault),
+    let element = &end.slot.element;
+    if let Some(fault) = check(&store.schema, element.id, literal) {
+        return Ok(Decision::BadBytes(fault));
     }
+    let given = Given::Bytes(literal);
+    let node = put_element(&mut store.arena, &store.schema, way.node, &end, &given)?;
+    Ok(Decision::Edited(v, node))
 }
 
 /// `pop V P`.
@@ -181,7 +160,7 @@ pub(crate) fn choose<'a, H: PairHash>(
         Err(code) => return Ok(Decision::Refused(code)),
     };
     let steps = way.steps.as_slice();
-    let option = match choosable(
+    let choice = match open_choice(
         &store.arena,
         &store.schema,
         way.id,
@@ -189,23 +168,66 @@ pub(crate) fn choose<'a, H: PairHash>(
         steps,
         selector,
     ) {
-        Ok(option) => option,
-        Err(code) => return Ok(Decision::Refused(code)),
+        Ok(choice) => choice,
+        Err(fault) => return Ok(Decision::Refused(code_of_edit(fault))),
     };
-    match inner_value(store.alloc, &store.schema, option, literal) {
-        Ok(inner) => {
-            let made = ssz_edit::choose(
-                &mut store.arena,
-                &store.schema,
-                way.id,
-                way.node,
-                steps,
-                selector,
-                inner.as_ref(),
-            );
-            drop(inner);
-            finish(v, made)
-        }
-        Err(fault) => unread(fault),
+    match literal {
+        Some(bytes) => choose_literal(store, v, way.node, &choice, bytes.as_slice()),
+        None => choose_default(store, v, way.node, &choice),
     }
+}
+
+// The same with a literal, where the option was found.
+fn choose_literal<'a, H: PairHash>(
+    store: &mut Store<H>,
+    v: &'a Identifier,
+    node: NodeId,
+    choice: &Choice,
+    literal: &[u8],
+) -> Result<Decision<'a>, EngineFault>
+    requires choice { HasUnion store.old.types store.old.arena node choice.now }
+    requires short { length literal.now < 2 ^ 32 }
+    ensures grows { Grows store.old store.new }
+    ensures answers { (writer id k : ℕ) (path : Path)
+        → held_at store.old.entries writer v.now ≡ Some (id, node)
+        → ChoosesAt store.old.types store.old.arena id node path k choice.now
+        → IfOk result (AnswersWith H.pair_of
+        (λ rules versions. choose versions v.now path k (Some literal.now)) (puts v.now) writer
+        store.old store.new) }
+    ensures tops { IfOk result (IsDue store.new.arena) }
+    ensures memory { IfErr result (λ fault. fault ≡ EngineFault.Memory) }
+    ensures whole { OnErr result (node_count store.new.arena ≡ node_count store.old.arena) }
+{
+    if let Some(fault) = option_fault(&store.schema, choice.option, literal) {
+        return Ok(Decision::BadBytes(fault));
+    }
+    let inner = literal_given(choice.option, literal);
+    let made = put_choice(&mut store.arena, &store.schema, node, choice, &inner)?;
+    Ok(Decision::Edited(v, made))
+}
+
+// The same without one: the option has its default.
+fn choose_default<'a, H: PairHash>(
+    store: &mut Store<H>,
+    v: &'a Identifier,
+    node: NodeId,
+    choice: &Choice,
+) -> Result<Decision<'a>, EngineFault>
+    requires { HasUnion store.old.types store.old.arena node choice.now }
+    ensures grows { Grows store.old store.new }
+    ensures answers { (writer id k : ℕ) (path : Path)
+        → held_at store.old.entries writer v.now ≡ Some (id, node)
+        → ChoosesAt store.old.types store.old.arena id node path k choice.now
+        → IfOk result (AnswersWith H.pair_of
+        (λ rules versions. choose versions v.now path k None) (puts v.now) writer
+        store.old store.new) }
+    ensures tops { IfOk result (IsDue store.new.arena) }
+    ensures memory { IfErr result (λ fault. fault ≡ EngineFault.Memory) }
+    ensures whole { OnErr result (node_count store.new.arena ≡ node_count store.old.arena) }
+{
+    let default = option_default(store.alloc, &store.schema, choice.option)?;
+    let inner = given_of(default.as_ref());
+    let made = put_choice(&mut store.arena, &store.schema, node, choice, &inner)?;
+    drop(default);
+    Ok(Decision::Edited(v, made))
 }

@@ -1,39 +1,30 @@
-use Rattle.std.proofs.Common.{◌≡◌, ◌∙◌, Some, None, Result, IfOk, sym, ap, subst}
-use Rattle.std.specs.Prelude.{OnErr}
+use Rattle.std.proofs.Common.{◌≡◌, ◌∙◌, ℕ, Some, None, sym, subst}
 use Rattle.ssz_schema.specs.Paths.{Path}
 use Rattle.ssz_schema.specs.Unfolding.{type_of}
-use Rattle.ssz_value.specs.Standing.{value_of}
+use Rattle.ssz_value.specs.Reading.{value_in}
 use Rattle.ssz_value.specs.Edits.{append_at}
 use Rattle.ssz_places.specs.Charges.{append_charge}
 use Rattle.ssz_versions.specs.Content.{Held, held_at}
-use Rattle.ssz_machine.specs.Rules.{coded, edits}
+use Rattle.ssz_machine.specs.Rules.{code_of, coded}
 use Rattle.ssz_machine.specs.Editing.{append}
 use Rattle.ssz_machine.specs.Changes.{puts}
 use Rattle.ssz_decisions.specs.Content.{Content}
 use Rattle.ssz_decisions.specs.Decisions.{AnswersWith}
-use Rattle.ssz_decisions.specs.declared.decision.Decision.TheVariants.{Refused}
-use Rattle.ssz_decisions.specs.declared.decision.Decision.{Decision}
-use Rattle.ssz_decisions.specs.declared.fault.EngineFault.{EngineFault}
-use Rattle.ssz_engine.specs.Finished.{unread}
-use Rattle.ssz_codec.specs.Answers.{Faulty}
-use Rattle.ssz_codec.specs.declared.fault.DecodeFault.{DecodeFault}
-use Rattle.ssz_value.specs.Faults.{why}
+use Rattle.ssz_decisions.specs.declared.decision.Decision.TheVariants.{BadBytes, Edited, Refused}
 use Rattle.ssz_decisions.proofs.Brought.{are-kept, over}
 use Rattle.ssz_engine.proofs.EditRows.{append_read, append_refused}
-use Rattle.ssz_engine.proofs.Edited.{unread-answers, code-answers, finished-answers}
-use Rattle.ssz_engine.specs.Tops.{IsDue}
-use Rattle.ssz_engine.proofs.TopSteps.{finishes-due, unread-due}
-use Rattle.ssz_engine.proofs.Wholes.{edit-whole}
+use Rattle.ssz_engine.proofs.Edited.{bad-answers, code-answers, edited-answers}
 use Rattle.ssz_engine.proofs.EditsAstray.{append-astray}
+use Rattle.ssz_engine.proofs.Tested.{can_append, cannot_append}
 use Rattle.ssz_engine.proofs.editing.append.Goals as goal
 
 pub returns-in-Err-clause-answers : goal.returns-in-Err-clause-answers
 returns-in-Err-clause-answers g c =
-    append-astray g.H.PairHash.pair_of c.args.store.now c.args.writer.0 c.args.v.now
-    c.args.path.now c.in-Err.code (rw c.in-Err.is at c.in_ok-way.ensures.err) c.args.literal.now
+    append-astray g.H.PairHash.pair_of c.args.store.now c.args.writer.0 c.args.v.now c.args.path.now
+    c.in-Err.code (rw c.in-Err.is at c.in_ok-way.ensures.err) c.args.literal.now
 
-pub returns-in-Err-appendable-clause-answers : goal.returns-in-Err-appendable-clause-answers
-returns-in-Err-appendable-clause-answers g c =
+pub returns-in-Err-open_end-clause-answers : goal.returns-in-Err-open_end-clause-answers
+returns-in-Err-open_end-clause-answers g c =
     let pair_of = g.H.PairHash.pair_of in
     let schema = c.store.inside.schema in
     let most = c.store.inside.max in
@@ -50,18 +41,21 @@ returns-in-Err-appendable-clause-answers g c =
     let old = c.store.inside.arena in
     let there : held_at entries w v ≡ Some held
     = subst (λ (s : Content). held_at s.entries w v ≡ Some held) (sym c.store.view_is) way.there in
+    let fault = c.in-Err-open_end.fault in
     subst (λ (p : Path). AnswersWith pair_of (λ rules versions. append versions v p literal)
-    (puts v) w c.args.store.now c.args.store.now (Refused c.in-Err-appendable.code)) is
-    (subst (λ (seen : Content). AnswersWith pair_of
-    (λ rules versions. append versions v path literal) (puts v) w seen seen
-    (Refused c.in-Err-appendable.code)) c.store.view_is
+    (puts v) w c.args.store.now c.args.store.now (Refused c.code_of_edit.result)) is
+    (subst (λ (code : ℕ). AnswersWith pair_of (λ rules versions. append versions v path literal)
+    (puts v) w c.args.store.now c.args.store.now (Refused code)) (sym c.code_of_edit.ensures)
+    (subst (λ (seen : Content). AnswersWith pair_of (λ rules versions. append versions v path literal)
+    (puts v) w seen seen (Refused (code_of fault))) c.store.view_is
     (code-answers pair_of schema most entries base old old w c.args.v held
-    (λ rules versions. append versions v path literal) there c.in-Err-appendable.code
+    (λ rules versions. append versions v path literal) there (code_of fault)
     (λ versions value found of. append_refused versions v (record { type = t; value = value }) path
-    found literal (coded c.in-Err-appendable.code) (c.in-Err-appendable.ensures.err value of))))
+    found literal (coded (code_of fault))
+    (cannot_append schema old held.0 held.1 path fault c.in-Err-open_end.ensures.err value of)))))
 
-pub returns-in-Ok-decode-clause-answers : goal.returns-in-Ok-decode-clause-answers
-returns-in-Ok-decode-clause-answers g c =
+pub returns-in-Some-clause-answers : goal.returns-in-Some-clause-answers
+returns-in-Some-clause-answers g c =
     let pair_of = g.H.PairHash.pair_of in
     let schema = c.store.inside.schema in
     let most = c.store.inside.max in
@@ -78,25 +72,18 @@ returns-in-Ok-decode-clause-answers g c =
     let old = c.store.inside.arena in
     let there : held_at entries w v ≡ Some held
     = subst (λ (s : Content). held_at s.entries w v ≡ Some held) (sym c.store.view_is) way.there in
-    let new = c.append-made.new.arena in
-    let x = value_of c.in-Ok-decode.value in
-    subst (λ (p : Path). IfOk c.finish.result (AnswersWith pair_of
-    (λ rules versions. append versions v p literal) (puts v) w c.args.store.now
-    (over schema most entries base new))) is
-    (subst (λ (seen : Content). IfOk c.finish.result (AnswersWith pair_of
-    (λ rules versions. append versions v path literal) (puts v) w seen
-    (over schema most entries base new))) c.store.view_is
-    (finished-answers pair_of schema most entries base old new w v held
-    (λ name rules versions. append versions name path literal)
-    (λ value. append_at t value path x) (λ value. append_charge t value path x)
+    let place = c.in-Ok-open_end.end in
+    let u = type_of schema place.slot.element.id in
+    subst (λ (p : Path). AnswersWith pair_of (λ rules versions. append versions v p literal)
+    (puts v) w c.args.store.now c.args.store.now (BadBytes c.in-Some.fault)) is
+    (subst (λ (seen : Content). AnswersWith pair_of (λ rules versions. append versions v path literal)
+    (puts v) w seen seen (BadBytes c.in-Some.fault)) c.store.view_is
+    (bad-answers pair_of schema most entries base old old w c.args.v held
+    (λ rules versions. append versions v path literal) there c.in-Some.fault
     (λ versions value found of. append_read versions v (record { type = t; value = value }) path
-    found literal (type_of schema c.in-Ok-appendable.element) None
-    (c.in-Ok-appendable.ensures.ok.tests value of)
-    c.in-Ok-decode.ensures.answer.0
-    ∙ ap (λ y. edits versions v t (append_at t value path y) (append_charge t value path y))
-    (sym c.in-Ok-decode.ensures.answer.1.value))
-    c.store.invariant there c.append-made.result c.append-made.ensures.refused
-    c.append-made.ensures.answers c.finish.result c.finish.ensures))
+    found literal u (Some c.in-Some.fault)
+    (can_append schema old held.0 held.1 path place c.in-Ok-open_end.ensures.at value of)
+    (sym c.check.ensures ∙ c.in-Some.is))))
 
 pub returns-clause-answers : goal.returns-clause-answers
 returns-clause-answers g c =
@@ -116,41 +103,31 @@ returns-clause-answers g c =
     let old = c.store.inside.arena in
     let there : held_at entries w v ≡ Some held
     = subst (λ (s : Content). held_at s.entries w v ≡ Some held) (sym c.store.view_is) way.there in
-    let fault = c.in-Err-decode.fault in
-    let u = type_of schema c.in-Ok-appendable.element in
-    subst (λ (p : Path). IfOk c.unread.result (AnswersWith pair_of
-    (λ rules versions. append versions v p literal) (puts v) w c.args.store.now
-    c.args.store.now)) is
-    (subst (λ (r : Result Decision EngineFault). IfOk r (AnswersWith pair_of
-    (λ rules versions. append versions v path literal) (puts v) w c.args.store.now
-    c.args.store.now)) (sym c.unread.ensures)
-    (subst (λ (seen : Content). IfOk (unread fault) (AnswersWith pair_of
-    (λ rules versions. append versions v path literal) (puts v) w seen seen)) c.store.view_is
-    (unread-answers pair_of schema most entries base old old w c.args.v held
-    (λ rules versions. append versions v path literal) there fault
-    (λ bad is versions value found of. append_read versions v (record { type = t; value = value })
-    path found literal u (Some bad) (c.in-Ok-appendable.ensures.ok.tests value of)
-    (subst (λ (f : DecodeFault). Faulty (why u 0 literal) f) is c.in-Err-decode.ensures.answer)))))
+    let place = c.in-Ok-open_end.end in
+    let u = type_of schema place.slot.element.id in
+    let x = value_in u literal in
+    let new = c.put_element.new.arena in
+    let node = c.in_ok-node.node in
+    subst (λ (p : Path). AnswersWith pair_of (λ rules versions. append versions v p literal)
+    (puts v) w c.args.store.now (over schema most entries base new) (Edited c.args.v node)) is
+    (subst (λ (seen : Content). AnswersWith pair_of (λ rules versions. append versions v path literal)
+    (puts v) w seen (over schema most entries base new) (Edited c.args.v node)) c.store.view_is
+    (edited-answers pair_of schema most entries base old new w c.args.v held
+    (λ rules versions. append versions v path literal)
+    (λ value. append_at t value path x) (λ value. append_charge t value path x)
+    (λ versions value found of. append_read versions v (record { type = t; value = value }) path
+    found literal u None
+    (can_append schema old held.0 held.1 path place c.in-Ok-open_end.ensures.at value of)
+    (sym c.check.ensures ∙ c.in_default.is))
+    c.store.invariant there node
+    (λ value of. c.in_ok-node.ensures.edits held.0 path value c.in-Ok-open_end.ensures.at of)))
 
 pub invariant_of-store : goal.invariant_of-store
 invariant_of-store g c =
-    are-kept c.store.inside.schema c.store.inside.arena c.append-made.new.arena
-    c.store.inside.versions.entries c.append-made.ensures.keeps c.store.invariant
+    are-kept c.store.inside.schema c.store.inside.arena c.put_element.new.arena
+    c.store.inside.versions.entries c.put_element.ensures.adds.keeps c.store.invariant
 
-pub returns-in-Ok-decode-clause-whole : goal.returns-in-Ok-decode-clause-whole
-returns-in-Ok-decode-clause-whole g c =
-    edit-whole c.args.store.now c.append-made.new.arena c.args.v.now c.append-made.result c.finish.result
-    c.finish.ensures
-    (subst (λ (seen : Content). OnErr c.append-made.result
-    (c.append-made.new.arena.nodes ≡ seen.arena.nodes)) c.store.view_is c.append-made.ensures.refused)
-
-pub returns-in-Ok-decode-clause-tops : goal.returns-in-Ok-decode-clause-tops
-returns-in-Ok-decode-clause-tops g c =
-    finishes-due c.append-made.new.arena c.args.v.now c.append-made.result c.finish.result
-    c.append-made.ensures.fresh c.finish.ensures
-
-pub returns-clause-tops : goal.returns-clause-tops
-returns-clause-tops g c =
-    let arena = c.args.store.now.arena in
-    subst (λ (r : Result Decision EngineFault). IfOk r (IsDue arena)) (sym c.unread.ensures)
-    (unread-due arena c.in-Err-decode.fault)
+pub invariant_of-store-2 : goal.invariant_of-store-2
+invariant_of-store-2 g c =
+    are-kept c.store.inside.schema c.store.inside.arena c.put_element.new.arena
+    c.store.inside.versions.entries c.put_element.ensures.adds.keeps c.store.invariant
