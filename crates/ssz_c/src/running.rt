@@ -15,7 +15,7 @@ use ssz_machine::Place;
 use ssz_said::{SszFault, status};
 use ssz_schema::Schema;
 use ssz_script::{LineFault, Reply, Statement, read_line, reply_text};
-use ssz_typed::{later, read_types};
+use ssz_typed::read_types;
 use ssz_versions::Writer;
 use std::alloc::Global;
 
@@ -144,7 +144,7 @@ impl Session {
     fn start_on(alloc: Global, schema: &Schema) -> Result<Session, SszFault>
         ensures { StartsOn schema.now result }
     {
-        match later::copied(alloc, schema) {
+        match schema.copied(alloc) {
             Ok(schema) => Session::of_types(alloc, schema),
             Err(_) => Err(SszFault::of(status::NO_MEMORY)),
         }

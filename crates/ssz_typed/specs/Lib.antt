@@ -6,7 +6,6 @@ pub mod Forms
 pub mod Parts
 pub mod Places
 pub mod Texts
-pub mod Later
 pub mod Names
 pub mod Slices
 pub mod SliceLaws

@@ -4,7 +4,7 @@ use Rattle.std.specs.List.{flat_map}
 use Rattle.ssz_said.specs.declared.status.TheConstants.{ABSENT}
 use Rattle.ssz_said.specs.Outcome.{Outcome, ◌>>=◌, need}
 use Rattle.ssz_typed.specs.declared.library.Library.{Library}
-use Rattle.ssz_typed.specs.Later.{name_for}
+use Rattle.ssz_schema.specs.Lookup.{name_for}
 use Rattle.ssz_typed.specs.Library.{type_in}
 
 -- names in their order, a line feed behind each

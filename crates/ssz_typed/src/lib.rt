@@ -11,7 +11,6 @@
 pub mod calls;
 mod checked_bytes;
 pub mod forms;
-pub mod later;
 mod law;
 mod library;
 pub mod names;

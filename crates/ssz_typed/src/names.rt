@@ -2,10 +2,9 @@
 ghost use Rattle.std.specs.Prelude.{◌≡◌, ◌++◌, ◌∷◌, [], IfOk, OnOk};
 ghost use Rattle.std.specs.Result.{result_map_both};
 ghost use Rattle.ssz_said.specs.Outcome.{IsUnlessMemory};
-ghost use Rattle.ssz_typed.specs.Later.{IsInOrder};
+ghost use Rattle.ssz_schema.specs.NameTables.{IsInOrder};
 ghost use Rattle.ssz_typed.specs.Names.{name_lines, names_in, type_name_in};
 
-use super::later;
 use super::library::Library;
 use ssz_said::{SszFault, status};
 use ssz_schema::{Name, Schema, TypeId};
@@ -36,7 +35,7 @@ fn lines_in(alloc: Global, schema: &Schema) -> Result<Vec<u8>, AllocError>
     ensures exact { IfOk result (λ text. text.items ≡ name_lines schema.now.names) }
     ensures order { IfOk result (λ text. IsInOrder schema.now.names) }
 {
-    let names = later::names(alloc, schema)?;
+    let names = schema.names(alloc)?;
     lines_of(alloc, names.as_slice())
 }
 
@@ -58,7 +57,7 @@ pub fn type_name<'a>(library: &'a Library, number: u64) -> Result<&'a [u8], SszF
         ≡ type_name_in library.now number }
 {
     match library.type_at(number) {
-        Ok(id) => match later::name_of(&library.schema, id) {
+        Ok(id) => match library.schema.name_of(id) {
             Some(name) => Ok(name),
             None => Err(SszFault::of(status::ABSENT)),
         },

@@ -9,7 +9,6 @@ ghost use Rattle.ssz_typed.specs.Slices.{Opens, slice_part, slice_place};
 
 use super::calls::{SszStretch, checked, part_at, steps_of, stretch_at};
 use super::checked_bytes::CheckedBytes;
-use super::later;
 use super::library::Library;
 use ssz_bytes::ByteRun;
 use ssz_said::{SszFault, status};
@@ -33,7 +32,7 @@ impl CheckedBytes {
         ensures bytes { IfOk result (λ slice. slice.bytes ≡ bytes.now) }
     {
         let bytes = ByteRun::copy_of(alloc, bytes)?;
-        let schema = later::copied(alloc, schema)?;
+        let schema = schema.copied(alloc)?;
         Ok(CheckedBytes { schema, id, bytes })
     }
 
