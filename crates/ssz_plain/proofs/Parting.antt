@@ -1,7 +1,7 @@
 -- Parts of values, read.
-use Rattle.std.proofs.Common.{ℕ, ◌≡◌, ◌<◌, ◌≤◌, Bool, List, [], ◌∷◌, length, get_or, slice_get, Vec, Global, Option, Some, None, option_map, refl, sym, ap, ◌∙◌, arith}
+use Rattle.std.proofs.Common.{ℕ, ◌≡◌, ◌<◌, ◌≤◌, Bool, true, false, List, [], ◌∷◌, length, get_or, slice_get, Vec, Global, Option, Some, None, option_map, refl, sym, ap, ◌∙◌, arith}
 use Rattle.std.proofs.lemmas.List.{length-map}
-use Rattle.std.specs.Prelude.{option_and_then}
+use Rattle.std.specs.Prelude.{option_and_then, is_some, if◌then◌else◌, IsSome, IfSome, Result, Ok, Err}
 use Rattle.std.proofs.lemmas.Option.{slice_get-get_or, slice_get_past}
 use Rattle.ssz_schema.specs.declared.path.PathStep.{PathStep}
 use Rattle.ssz_schema.specs.declared.path.PathStep.TheVariants.{Field, Index, Len, Selector, Option as Chosen}
@@ -12,7 +12,10 @@ use Rattle.ssz_value.specs.declared.value.Value.TheVariants.{Bytes, Seq}
 use Rattle.ssz_value.specs.Values.{SszValue, number, truth}
 use Rattle.ssz_value.specs.Standing.{value_of}
 use Rattle.ssz_value.proofs.ValueLemmas.{seq_is, bytes_are}
-use Rattle.ssz_value.specs.Parts.{numbered, part_at, step_part, part}
+use Rattle.ssz_schema.proofs.PathLemmas.{and_then_parts}
+use Rattle.ssz_value.specs.declared.path_fault.PathFault.{PathFault}
+use Rattle.ssz_value.specs.declared.path_fault.PathFault.TheVariants.{BadPath, Absent}
+use Rattle.ssz_value.specs.Parts.{numbered, part_at, step_part, part, or_absent, part_or_fault, fault_without}
 use Rattle.ssz_plain.specs.declared.lending.PartRef.{PartRef}
 use Rattle.ssz_plain.specs.declared.lending.PartRef.TheVariants.{Held, Number, Bit}
 use Rattle.ssz_plain.specs.Lent.{part_value, IsPartOf, IsTold}
@@ -112,3 +115,46 @@ no_type_below (union os) (Bit b) (step ∷ rest) told fits more = absurd fits
 pub nil_rest : (rest : Path) → length rest ≡ 0 → rest ≡ []
 nil_rest [] e = refl
 nil_rest (step ∷ rest) e = absurd (omega arith)
+
+-- a part that is there
+
+-- its path fits the type
+part_fits : (t : SszType) (v : SszValue) (path : Path) (w : SszValue) → part t v path ≡ Some w
+    → IsSome (path_type t path)
+part_fits t v [] w there = refl
+part_fits t v (step ∷ path) w there =
+    let typed = and_then_parts
+    (λ (u : SszType). option_and_then (λ x. part u x path) (step_part t v step))
+    (step_type t step) w there in
+    let found = and_then_parts (λ (x : SszValue). part typed.0 x path) (step_part t v step) w
+    typed.2 in
+    ap (λ (o : Option SszType). is_some (option_and_then (λ u. path_type u path) o)) typed.1
+    ∙ part_fits typed.0 found.0 path w found.2
+
+pub part_is_told : (t : SszType) (v : SszValue) (path : Path) (w : SszValue)
+    → Some w ≡ part t v path → Ok w ≡ part_or_fault t v path
+part_is_told t v path w there =
+    sym (ap (λ (b : Bool). if b then or_absent (part t v path) else Err BadPath)
+    (part_fits t v path w (sym there)) ∙ ap or_absent (sym there))
+
+-- and one that is not
+
+abbrev failed : PathFault → Result SszValue PathFault
+failed fault = Err fault
+
+which_fault : (fits : Bool) → failed (if fits then Absent else BadPath)
+    ≡ (if fits then or_absent None else failed BadPath)
+which_fault true = refl
+which_fault false = refl
+
+pub fault_is_told : (t : SszType) (v : SszValue) (path : Path) (fault : PathFault)
+    → fault ≡ fault_without t path → None ≡ part t v path → failed fault ≡ part_or_fault t v path
+fault_is_told t v path fault is none =
+    ap failed is ∙ which_fault (is_some (path_type t path))
+    ∙ ap (λ (o : Option SszValue).
+    if is_some (path_type t path) then or_absent o else failed BadPath) none
+
+-- nothing is said of a part that is not there
+pub nothing_is_said : (t : Option SszType) → IfSome t (λ u. Unit {0})
+nothing_is_said None = tt
+nothing_is_said (Some u) = tt

@@ -28,12 +28,9 @@ pub fn part<'a>(
     ensures fits { IsValue (type_of schema.now id) value.now
         → IfSome (path_type (type_of schema.now id) path.now) (λ u. IfOk result (IsPartOf u)) }
 {
-    if schema.path_type(id, path).is_none() {
-        return Err(PathFault::BadPath);
-    }
     match present(schema, id, value, path) {
         Some(part) => Ok(part),
-        None => Err(PathFault::Absent),
+        None => Err(PathFault::without(schema, id, path)),
     }
 }
 
