@@ -1,6 +1,7 @@
 -- Paths and indices as they are written.
 use Rattle.std.specs.Prelude.{ℕ, ◌^◌, ◌==◌, nat_eq, if◌then◌else◌, List, [], ◌∷◌, drop, Option, Some, None, option_map, codes, bytes_eq}
 use Rattle.std.specs.List.{slice_split, starts_with}
+pub use Rattle.ssz_bind.specs.Options.{◌>>=◌}
 use Rattle.ssz_decimal.specs.Decimal.{number_below}
 use Rattle.ssz_schema.specs.declared.path.PathStep.{PathStep}
 use Rattle.ssz_schema.specs.declared.path.PathStep.TheVariants.{Field, Index as Element, Len, Selector, Option as Chosen}
@@ -8,12 +9,6 @@ use Rattle.ssz_schema.specs.Names.{is_name}
 use Rattle.ssz_line.specs.declared.index.Index.{Index}
 use Rattle.ssz_line.specs.declared.index.Index.TheVariants.{Number, Path}
 use Rattle.ssz_line.specs.Single.{Reader, selector}
-
-infixl 10 ◌>>=◌
--- the second step, if the first gave a value
-abbrev pub ◌>>=◌ : {A B : Type 0} → Option A → (A → Option B) → Option B
-None >>= f = None
-(Some x) >>= f = f x
 
 -- what each word reads as, if all read as something
 abbrev pub read_all : {A : Type 0} → Reader A → List (List ℕ) → Option (List A)

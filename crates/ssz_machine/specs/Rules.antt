@@ -1,5 +1,6 @@
 -- What stays the same while a script runs, and what a statement answers.
 use Rattle.std.specs.Prelude.{ℕ, Bool, Option, Some, None, Result, Ok, Err, if◌then◌else◌}
+pub use Rattle.ssz_bind.specs.Results.{◌>>=◌, ◌>>◌}
 use Rattle.ssz_outside.specs.Job.{Save}
 use Rattle.ssz_proof.specs.Calculation.{PairOf}
 use Rattle.ssz_schema.specs.Types.{SszType}
@@ -36,18 +37,6 @@ refusal_reply line (bad_json fault) = BadJson line fault.code fault.number
 -- something, or the first refusal
 abbrev pub Outcome : Type 0 → Type 0
 Outcome A = Result A Refusal
-
-infixl 10 ◌>>=◌
--- the second step with what the first gave, if it is not refused
-abbrev pub ◌>>=◌ : {A B : Type 0} → Outcome A → (A → Outcome B) → Outcome B
-(Ok x) >>= next = next x
-(Err refusal) >>= next = Err refusal
-
-infixl 10 ◌>>◌
--- the second step, if the first is not refused
-abbrev pub ◌>>◌ : {B : Type 0} → Outcome (Unit {0}) → Outcome B → Outcome B
-(Ok x) >> next = next
-(Err refusal) >> next = Err refusal
 
 -- what is there; refused with the code where nothing is
 abbrev pub need : {A : Type 0} → ℕ → Option A → Outcome A

@@ -1,5 +1,6 @@
 -- What the statements of a script for a partial tree do (this project's).
 use Rattle.std.specs.Prelude.{ℕ, List, take, Option, Some, None, Result, Ok, Err}
+pub use Rattle.ssz_bind.specs.Results.{◌>>=◌, ◌>>◌}
 use Rattle.ssz_bytes.specs.declared.fault.Fault.{Fault}
 use Rattle.ssz_schema.specs.Types.{SszType}
 use Rattle.ssz_schema.specs.Paths.{Path}
@@ -32,18 +33,6 @@ refusal_reply line (bad_bytes fault) = Refused line BAD_LITERAL (Some fault)
 -- something, or the first refusal
 abbrev pub Outcome : Type 0 → Type 0
 Outcome A = Result A Refusal
-
-infixl 10 ◌>>=◌
--- the second step with what the first gave, if it is not refused
-abbrev pub ◌>>=◌ : {A B : Type 0} → Outcome A → (A → Outcome B) → Outcome B
-(Ok x) >>= next = next x
-(Err refusal) >>= next = Err refusal
-
-infixl 10 ◌>>◌
--- the second step, if the first is not refused
-abbrev pub ◌>>◌ : {A B : Type 0} → Outcome A → Outcome B → Outcome B
-(Ok x) >> next = next
-(Err refusal) >> next = Err refusal
 
 -- how a fault of the tree is refused
 abbrev pub refusal_of : PartialFault → Refusal

@@ -5,16 +5,11 @@ use Rattle.std.specs.List.{slice_split, starts_with, before_first, after_first, 
 use Rattle.std.specs.Option.{option_map}
 use Rattle.std.specs.Result.{result_ok}
 use Rattle.hex.specs.Hex.{decode_sized, encode_lower}
+pub use Rattle.ssz_bind.specs.Options.{◌>>=◌}
 use Rattle.ssz_decimal.specs.Decimal.{number_below}
 use Rattle.ssz_proof.specs.declared.entry.Entry.{Entry}
 use Rattle.ssz_proof.specs.Calculation.{Known}
 use Rattle.ssz_proof.specs.Multiproof.{Multiproof, IsMultiproof, IsProofOf}
-
-infixl 10 ◌>>=◌
--- the second step, if the first gave a value
-abbrev pub ◌>>=◌ : {A B : Type 0} → Option A → (A → Option B) → Option B
-None >>= f = None
-(Some x) >>= f = f x
 
 abbrev pub not_zero : ℕ → Option ℕ
 not_zero zero = None

@@ -1,5 +1,6 @@
 -- What a call answers: what was asked, or why not.
 use Rattle.std.specs.Prelude.{◌≡◌, ◌≢◌, ℕ, ◌<◌, ◌≤◌, nat_lt, if◌then◌else◌, List, ◌++◌, length, drop, Option, Some, None, Result, Ok, Err}
+pub use Rattle.ssz_bind.specs.Results.{◌>>=◌}
 use Rattle.ssz_bytes.specs.declared.fault.Fault.{Fault}
 use Rattle.ssz_said.specs.declared.fault.SszFault.{SszFault}
 use Rattle.ssz_said.specs.declared.status.TheConstants.{OK, INVALID, NO_MEMORY, NO_ROOM}
@@ -18,12 +19,6 @@ done = refused OK
 -- the first fault of bytes
 abbrev pub invalid : Fault → SszFault
 invalid fault = record { status = INVALID; code = fault.code; position = fault.position }
-
-infixl 10 ◌>>=◌
--- what is wrong first ends the call
-abbrev pub ◌>>=◌ : {A B : Type 0} → Outcome A → (A → Outcome B) → Outcome B
-(Ok x) >>= next = next x
-(Err fault) >>= next = Err fault
 
 -- what there is, or this status
 abbrev pub need : {A : Type 0} → ℕ → Option A → Outcome A

@@ -2,6 +2,7 @@
 -- (this project's order of faults).
 use Rattle.std.specs.Prelude.{ℕ, nat_lt, nat_eq, not, ◌||◌, Bool, true, false, if◌then◌else◌, List, [], ◌∷◌, Option, Some, None, is_some, Result, Ok, Err, bytes_eq}
 use Rattle.std.specs.List.{list_any}
+pub use Rattle.ssz_bind.specs.Results.{◌>>=◌}
 use Rattle.ssz_schema.specs.declared.format.Format.{Format}
 use Rattle.ssz_schema.specs.declared.schema_fault.SchemaFault.{SchemaFault}
 use Rattle.ssz_schema.specs.declared.schema_fault.SchemaFault.TheVariants.{BadName, NameTaken, UnknownName, ZeroLength, EmptyContainer, NonePlace, UnionSize, FieldTaken, LimitTooBig, Nest, Levels, Size}
@@ -10,13 +11,6 @@ use Rattle.ssz_schema.specs.Sizes.{nesting, levels, default_length}
 use Rattle.ssz_schema.specs.Names.{is_name}
 use Rattle.ssz_schema.specs.Legal.{greatest_limit, most_levels, most_nesting, most_default, most_options}
 use Rattle.ssz_schema.specs.Forms.{TypeForm, FieldForms, OptionForms, named, uint_form, boolean_form, container_form, vector_form, list_form, bitvector_form, bitlist_form, union_form, no_field_forms, field_form, no_option_forms, none_form, option_form, option_form_count}
-
-infixl 10 ◌>>=◌
--- the first fault ends the walk
-abbrev pub ◌>>=◌ : {A B : Type 0} → Result A SchemaFault → (A → Result B SchemaFault)
-    → Result B SchemaFault
-(Ok x) >>= f = f x
-(Err e) >>= f = Err e
 
 abbrev pub ok_or_unknown : Option SszType → Result SszType SchemaFault
 ok_or_unknown None = Err UnknownName

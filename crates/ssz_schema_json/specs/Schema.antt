@@ -4,6 +4,7 @@ use Rattle.std.specs.Option.{ok_or}
 use Rattle.std.specs.Str.{is_utf8}
 use Rattle.serde_json.specs.Data.{Data}
 use Rattle.serde_json.specs.Read.{read}
+pub use Rattle.ssz_bind.specs.Results.{◌>>=◌}
 use Rattle.ssz_schema.specs.declared.format.Format.{Format}
 use Rattle.ssz_schema.specs.declared.schema_fault.SchemaFault.{SchemaFault}
 use Rattle.ssz_schema.specs.Types.{SszType}
@@ -29,13 +30,6 @@ Named = List (List ℕ × SszType)
 pub record NamedTypes : Type 0 where
   pub format : Format
   pub types : Named
-
-infixl 10 ◌>>=◌
--- what is wrong first ends the reading
-abbrev pub ◌>>=◌ : {A B : Type 0}
-    → Result A FileFault → (A → Result B FileFault) → Result B FileFault
-(Ok x) >>= next = next x
-(Err e) >>= next = Err e
 
 -- the answer of the walk of the definition of this number
 abbrev pub in_definition : ℕ → Result SszType SchemaFault → Result SszType FileFault

@@ -1,5 +1,6 @@
 -- The steps of a walk: faults with the numbers of parts.
 use Rattle.std.specs.Prelude.{ℕ, ◌+◌, ◌==◌, Bool, nat_le, if◌then◌else◌, Result, Ok, Err}
+pub use Rattle.ssz_bind.specs.Results.{◌>>=◌}
 use Rattle.ssz_value.specs.Written.{capped}
 use Rattle.ssz_value_json.specs.declared.count.Count.{Count}
 use Rattle.ssz_value_json.specs.declared.count.Count.TheVariants.{Exactly, AtMost}
@@ -52,12 +53,6 @@ Found A = Result A JsonFault
 -- what some parts are, and the number of the part behind them, or their first fault
 abbrev pub Walked : Type 0 → Type 0
 Walked A = Found (A × ℕ)
-
-infixl 10 ◌>>=◌
--- the first fault ends the walk
-abbrev pub ◌>>=◌ : {A B : Type 0} → Found A → (A → Found B) → Found B
-Ok x >>= next = next x
-Err f >>= next = Err f
 
 -- a fault, unless it holds
 abbrev pub where_holds : {A : Type 0} → Bool → A → JsonFault → Found A

@@ -1,13 +1,8 @@
 -- What a reader may answer.
 use Rattle.std.specs.Prelude.{◌≡◌, ⊤, Bool, if◌then◌else◌, Option, Some, None, Result, Ok, Err}
+pub use Rattle.ssz_bind.specs.Options.{◌>>=◌}
 use Rattle.ssz_words.specs.declared.faults.WordsFault.{WordsFault}
 use Rattle.ssz_words.specs.declared.faults.WordsFault.TheVariants.{NotTaken, Memory}
-
-infixl 10 ◌>>=◌
--- the second step, if the first gave a value
-abbrev pub ◌>>=◌ : {A B : Type 0} → Option A → (A → Option B) → Option B
-None >>= f = None
-(Some x) >>= f = f x
 
 -- the value, if the test holds
 abbrev pub some_if : {A : Type 0} → Bool → A → Option A
