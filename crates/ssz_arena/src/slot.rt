@@ -1,6 +1,8 @@
 // Where a node is kept, in 40 bytes.
 ghost use Rattle.std.specs.Prelude.{◌≡◌, Some};
 ghost use Rattle.ssz_chunk.specs.declared.Chunk.{Chunk};
+ghost use Rattle.ssz_arena.specs.Batches.{left_of, right_of};
+ghost use Rattle.ssz_arena.specs.Content.{is_unhashed};
 ghost use Rattle.ssz_arena.specs.Slots.{IsShort, chunk_of};
 
 use super::node::{MARK, Node, NodeId};
@@ -80,6 +82,36 @@ impl Slot {
             return Node::Pair(left, NodeId(self.right - MARK), None);
         }
         Node::Pair(left, NodeId(self.right), Some(self.chunk))
+    }
+
+    // Whether it is a pair that has no root yet. To read the whole node would copy its chunk.
+    #[inline(always)]
+    pub(crate) fn is_due(&self) -> bool
+        ensures { result ≡ is_unhashed self.now }
+    {
+        if self.left >= MARK {
+            return false;
+        }
+        if self.right >= MARK {
+            return true;
+        }
+        false
+    }
+
+    // The children of a pair.
+    #[inline(always)]
+    pub(crate) fn children(&self) -> (NodeId, NodeId)
+        ensures left { result.0 ≡ left_of self.now }
+        ensures right { result.1 ≡ right_of self.now }
+    {
+        if self.left >= MARK {
+            return (NodeId(0), NodeId(0));
+        }
+        let left = NodeId(self.left);
+        if self.right >= MARK {
+            return (left, NodeId(self.right - MARK));
+        }
+        (left, NodeId(self.right))
     }
 
     // The chunk of a leaf, or the root of a pair that has one.
