@@ -1,22 +1,16 @@
 -- A path, one step after another: the index so far, and that there is room for the rest.
-use Rattle.std.proofs.Common.{◌≡◌, ℕ, suc, length, drop, get_or, option_map, ap₂, ◌+◌, ◌*◌, ◌^◌, ◌<◌, ◌≤◌, Bool, List, ◌∷◌, Option, Some, None, Vec, Global, refl, sym, ap, ◌∙◌, subst, arith, pow-add}
-use Rattle.std.specs.Prelude.{IsSome, option_and_then, bytes_eq}
-use Rattle.std.specs.List.{position_from}
+use Rattle.std.proofs.Common.{◌≡◌, ℕ, suc, length, drop, get_or, ap₂, ◌+◌, ◌*◌, ◌^◌, ◌<◌, ◌≤◌, List, ◌∷◌, Some, None, refl, sym, ap, ◌∙◌, subst, arith, pow-add}
+use Rattle.std.specs.Prelude.{option_and_then}
 use Rattle.std.proofs.Math.Seq.{drop-cons}
 use Rattle.std.proofs.Math.Nat.{mul-le-mul_left, pow-le-pow_right}
 use Rattle.std.proofs.lemmas.Nat.{pow_pos}
-use Rattle.std.proofs.lemmas.Bool.{false≢true}
-use Rattle.std.specs.Option.{is_some}
 use Rattle.ssz_schema.specs.declared.format.Format.{Format}
 use Rattle.ssz_schema.specs.declared.format.Format.TheVariants.{One, Two}
 use Rattle.ssz_schema.specs.declared.path.PathStep.{PathStep}
 use Rattle.ssz_schema.specs.declared.path.PathStep.TheVariants.{Field}
-use Rattle.ssz_schema.specs.declared.ty.Ty.{Ty}
-use Rattle.ssz_schema.specs.declared.ty.Ty.TheVariants.{Container}
 use Rattle.ssz_schema.specs.Types.{SszType, uint, boolean, container, vector, list, bitvector, bitlist, union}
 use Rattle.ssz_schema.specs.Sizes.{levels}
 use Rattle.ssz_schema.specs.Legal.{IsLegal, IsWithinLimits}
-use Rattle.ssz_schema.specs.Unfolding.{Types, type_of, tree_over, fields_over}
 use Rattle.ssz_schema.specs.Paths.{Path, step_type}
 use Rattle.ssz_schema.specs.Indices.{step_levels, step_position, step_index, generalized_index, generalized_index_from}
 use Rattle.ssz_schema.specs.Steps.{lead_number}
