@@ -7,7 +7,7 @@ use Rattle.std.proofs.lemmas.Option.{none-some}
 use Rattle.ssz_chunk.specs.Tree.{Tree}
 use Rattle.ssz_chunk.specs.Index.{at, put, levels}
 use Rattle.ssz_arena.specs.declared.node.NodeId.{NodeId}
-use Rattle.ssz_arena.specs.declared.node.Node.{Node}
+use Rattle.ssz_arena.specs.Named.{ArenaNode as Node}
 use Rattle.ssz_arena.specs.Content.{Content, tree_of, todo, todos, is_unhashed, IsNodeOf, KeepsNodes}
 use Rattle.ssz_arena.proofs.Keeping.{keeps_same}
 use Rattle.ssz_tree.specs.Added.{Adds, IsPart}

@@ -8,7 +8,7 @@ use Rattle.ssz_value.specs.declared.edit_fault.EditFault.{EditFault}
 use Rattle.ssz_value.specs.declared.edit_fault.EditFault.TheVariants as edit_fault
 use Rattle.ssz_value.specs.Values.{SszValue}
 use Rattle.ssz_value.specs.Edits.{Edited as EditedValue}
-use Rattle.ssz_arena.specs.declared.node.Node.{Node}
+use Rattle.ssz_arena.specs.Named.{ArenaNode as Node}
 use Rattle.ssz_arena.specs.declared.node.NodeId.{NodeId}
 use Rattle.ssz_arena.specs.Content.{Content as Nodes, node_count, tree_of, unhashed}
 use Rattle.ssz_places.specs.PlaceLaws.{IsTreeOf}

@@ -5,7 +5,7 @@ use Rattle.ssz_chunk.specs.Tree.{grow}
 use Rattle.ssz_schema.specs.Types.{SszType, Fields, container, no_fields, field}
 use Rattle.ssz_schema.specs.Sizes.{depth}
 use Rattle.ssz_schema.specs.Unfolding.{fields_over}
-use Rattle.ssz_arena.specs.declared.node.Node.{Node}
+use Rattle.ssz_arena.specs.Named.{ArenaNode as Node}
 use Rattle.ssz_arena.specs.declared.node.NodeId.{NodeId}
 use Rattle.ssz_arena.specs.Content.{Content}
 use Rattle.ssz_value.proofs.PartLemmas.{Part as FieldPart}
