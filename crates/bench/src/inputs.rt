@@ -1,7 +1,7 @@
 // What works are given: numbers, types and files.
 ghost use Rattle.std.specs.Prelude.{◌≡◌, ◌<◌, ◌^◌, None, length, OnOk};
 ghost use Rattle.ssz_schema.specs.Unfolding.{type_of};
-ghost use Rattle.ssz_value.specs.Faults.{why};
+ghost use Rattle.ssz_value.specs.Faults.{first_fault};
 
 use anyhow::{Context, Result, bail};
 use ssz_codec::check;
@@ -75,7 +75,7 @@ pub fn read_sample(rt: &HostRuntime, schema: &str, name: &str, file: &str) -> Re
 /// Fails where the bytes encode no value of the type.
 pub fn faultless(sample: &Sample) -> Result<()>
     ensures { OnOk result (let typed = sample.now in
-        why (type_of typed.schema typed.id) 0 typed.bytes.items ≡ None) }
+        first_fault (type_of typed.schema typed.id) 0 typed.bytes.items ≡ None) }
 {
     match check(&sample.schema, sample.id, sample.bytes.as_slice()) {
         Some(fault) => bail!("{fault:?}"),

@@ -1,7 +1,7 @@
 // A value in bytes: a schema, two types of it, and the bytes of a file.
 ghost use Rattle.std.specs.Prelude.{◌≡◌, ◌<◌, ◌^◌, None, length};
 ghost use Rattle.ssz_schema.specs.Unfolding.{type_of};
-ghost use Rattle.ssz_value.specs.Faults.{why};
+ghost use Rattle.ssz_value.specs.Faults.{first_fault};
 
 use crate::answers::told;
 use anyhow::{Context, Result, bail};
@@ -20,7 +20,7 @@ pub struct Sample {
     pub ghost known: { id < length schema.trees },
     pub ghost newer_known: { newer < length schema.trees },
     pub ghost short: { length bytes.items < 2 ^ 32 },
-    pub ghost faultless: { why (type_of schema id) 0 bytes.items ≡ None },
+    pub ghost faultless: { first_fault (type_of schema id) 0 bytes.items ≡ None },
 }
 
 /// The schema of a file.

@@ -7,6 +7,6 @@ use Rattle.ssz_value.specs.Standing.{IsValue}
 use Rattle.ssz_value.specs.Suiting.{IsInner}
 
 -- each value of the option's type suits a choice of it, or none does where there is no type
-abbrev pub Suits : Types → SszType → ℕ → Option ℕ → Type 0
-Suits types t k (Some id) = (v : Value) → IsValue (type_of types id) v → IsInner t k (Some v)
-Suits types t k None = IsInner t k None
+abbrev pub OptionSuits : Types → SszType → ℕ → Option ℕ → Type 0
+OptionSuits types t k (Some id) = (v : Value) → IsValue (type_of types id) v → IsInner t k (Some v)
+OptionSuits types t k None = IsInner t k None

@@ -6,7 +6,7 @@
 //! whole value made anew.
 ghost use Rattle.std.specs.Prelude.{◌≡◌, ◌<◌, length, IfOk, IfSome};
 ghost use Rattle.ssz_arena.specs.Content.{IsNodeOf, node_count};
-ghost use Rattle.node_rows.specs.Versions.{AreVersions};
+ghost use Rattle.node_rows.specs.Versions.{AreRowVersions};
 
 use super::digits::Digits;
 use super::edit_calls::edited;
@@ -33,7 +33,7 @@ fn started<H: PairHash>(
     schema: &Schema,
     row: &str,
 ) -> Result<Versions>
-    ensures { IfOk result (AreVersions schema.now arena.new) }
+    ensures { IfOk result (AreRowVersions schema.now arena.new) }
 {
     let (words, digits) = cut(row);
     let id = new_type(schema, words)?;
@@ -95,8 +95,8 @@ fn after_edit<H: PairHash>(
     old: &Versions,
     row: &str,
 ) -> Result<Versions>
-    requires { AreVersions schema.now arena.old old.now }
-    ensures { IfOk result (AreVersions schema.now arena.new) }
+    requires { AreRowVersions schema.now arena.old old.now }
+    ensures { IfOk result (AreRowVersions schema.now arena.new) }
 {
     match edited(rt.alloc(), arena, schema, old, row)? {
         Ok(made) => {
@@ -127,8 +127,8 @@ fn step<H: PairHash>(
     versions: Option<Versions>,
     row: &str,
 ) -> Result<Versions>
-    requires { IfSome versions (AreVersions schema.now arena.old) }
-    ensures { IfOk result (AreVersions schema.now arena.new) }
+    requires { IfSome versions (AreRowVersions schema.now arena.old) }
+    ensures { IfOk result (AreRowVersions schema.now arena.new) }
 {
     if row.starts_with("new ") {
         let new = started(rt.alloc(), arena, schema, row)?;

@@ -1,7 +1,7 @@
 // One call of an edit for a row.
 ghost use Rattle.std.specs.Prelude.{◌≤◌, IfOk};
 ghost use Rattle.ssz_arena.specs.Content.{IsNodeOf, node_count};
-ghost use Rattle.node_rows.specs.Versions.{AreVersions};
+ghost use Rattle.node_rows.specs.Versions.{AreRowVersions};
 
 use super::edit::Versions;
 use super::edit_values::{element_value, option_type, part_value};
@@ -51,7 +51,7 @@ pub fn edited<H: PairHash>(
     old: &Versions,
     row: &str,
 ) -> Result<std::result::Result<NodeId, EditFault>>
-    requires { AreVersions schema.now arena.old old.now }
+    requires { AreRowVersions schema.now arena.old old.now }
     ensures more { node_count arena.old ≤ node_count arena.new }
     ensures made { IfOk result (λ made. IfOk made (IsNodeOf arena.new)) }
 {
@@ -69,7 +69,7 @@ fn called<H: PairHash>(
     old: &Versions,
     edit: &Edit<'_>,
 ) -> Result<std::result::Result<NodeId, EditFault>>
-    requires { AreVersions schema.now arena.old old.now }
+    requires { AreRowVersions schema.now arena.old old.now }
     ensures more { node_count arena.old ≤ node_count arena.new }
     ensures made { IfOk result (λ made. IfOk made (IsNodeOf arena.new)) }
 {
@@ -89,7 +89,7 @@ fn set_part<H: PairHash>(
     old: &Versions,
     edit: &Edit<'_>,
 ) -> Result<std::result::Result<NodeId, EditFault>>
-    requires { AreVersions schema.now arena.old old.now }
+    requires { AreRowVersions schema.now arena.old old.now }
     ensures more { node_count arena.old ≤ node_count arena.new }
     ensures made { IfOk result (λ made. IfOk made (IsNodeOf arena.new)) }
 {
@@ -105,7 +105,7 @@ fn append_element<H: PairHash>(
     old: &Versions,
     edit: &Edit<'_>,
 ) -> Result<std::result::Result<NodeId, EditFault>>
-    requires { AreVersions schema.now arena.old old.now }
+    requires { AreRowVersions schema.now arena.old old.now }
     ensures more { node_count arena.old ≤ node_count arena.new }
     ensures made { IfOk result (λ made. IfOk made (IsNodeOf arena.new)) }
 {
@@ -121,7 +121,7 @@ fn choose_option<H: PairHash>(
     old: &Versions,
     edit: &Edit<'_>,
 ) -> Result<std::result::Result<NodeId, EditFault>>
-    requires { AreVersions schema.now arena.old old.now }
+    requires { AreRowVersions schema.now arena.old old.now }
     ensures more { node_count arena.old ≤ node_count arena.new }
     ensures made { IfOk result (λ made. IfOk made (IsNodeOf arena.new)) }
 {

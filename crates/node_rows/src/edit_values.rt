@@ -4,7 +4,7 @@ ghost use Rattle.std.specs.Option.{ForSome};
 ghost use Rattle.ssz_schema.specs.Unfolding.{type_of};
 ghost use Rattle.ssz_value.specs.Standing.{IsValue};
 ghost use Rattle.ssz_value.specs.Suiting.{IsElement};
-ghost use Rattle.node_rows.specs.Options.{Suits};
+ghost use Rattle.node_rows.specs.Options.{OptionSuits};
 
 use super::rows::value_of_type;
 use anyhow::Result;
@@ -52,7 +52,7 @@ pub fn option_type(schema: &Schema, part: Option<TypeId>, selector: u8) -> Optio
     requires { ForSome part (λ id. id < length schema.now.trees) }
     ensures known { ForSome result (λ id. id < length schema.now.trees) }
     ensures suits { ForSome part (λ id.
-        Suits schema.now (type_of schema.now id) selector result) }
+        OptionSuits schema.now (type_of schema.now id) selector result) }
 {
     let Some(id) = part else {
         return None;

@@ -11,7 +11,7 @@ use Rattle.ssz_arena.specs.declared.node.Node.{Node}
 use Rattle.ssz_arena.specs.declared.node.Node.TheVariants.{Pair}
 use Rattle.ssz_arena.specs.Content.{child}
 use Rattle.ssz_arena.specs.Invariant.{IsArena}
-use Rattle.ssz_arena.specs.Batches.{AreBelow, AreDistinct, HasRoot, Wrote, id_at, kids, left_of, node_of, right_of}
+use Rattle.ssz_arena.specs.Batches.{NodesAreBelow, AreDistinct, HasRoot, Wrote, id_at, kids, left_child, node_of, right_child}
 use Rattle.ssz_arena.proofs.Following.{child-cached}
 use Rattle.ssz_arena.proofs.Places.{slice_get-set_same, slice_get-set_other}
 use Rattle.ssz_arena.proofs.Nodes.{due, due-cached, due-set, trees-set, unhashed-set}
@@ -61,7 +61,7 @@ children-set now i left right chunk j step found = elim (cases_eq j i) [
 -- one more
 pub Wrote-more : (p : List ℕ → List ℕ → List ℕ) (limit n : ℕ) (ids : List NodeId)
     (old now new : List Node) (chunk : Chunk)
-    → AreDistinct ids → AreBelow limit ids → n < length ids
+    → AreDistinct ids → NodesAreBelow limit ids → n < length ids
     → HasRoot p old (id_at ids n).0 chunk.0
     → ((left right : NodeId) → slice_get now (id_at ids n).0 ≡ Some (Pair left right None)
     → new ≡ set now (id_at ids n).0 (Pair left right (Some chunk)))
@@ -130,16 +130,17 @@ Wrote-more p limit n ids old now new chunk distinct below more has sets before =
 -- the children of one more node
 kids-push : (nodes : List Node) (ids : List NodeId) (id : NodeId)
     → kids nodes (ids ++ id ∷ [])
-    ≡ kids nodes ids ++ left_of (node_of nodes id) ∷ right_of (node_of nodes id) ∷ []
+    ≡ kids nodes ids ++ left_child (node_of nodes id) ∷ right_child (node_of nodes id) ∷ []
 kids-push nodes [] id = refl
 kids-push nodes (first ∷ ids) id =
     ap (λ (rest : List NodeId).
-    left_of (node_of nodes first) ∷ right_of (node_of nodes first) ∷ rest)
+    left_child (node_of nodes first) ∷ right_child (node_of nodes first) ∷ rest)
     (kids-push nodes ids id)
 
 pub kids_more : (nodes : List Node) (ids found : List NodeId) (i : ℕ) (left right : NodeId)
     → i < length ids → 2 * i + 1 < length found
-    → left ≡ left_of (node_of nodes (id_at ids i)) → right ≡ right_of (node_of nodes (id_at ids i))
+    → left ≡ left_child (node_of nodes (id_at ids i))
+    → right ≡ right_child (node_of nodes (id_at ids i))
     → take (2 * i) found ≡ kids nodes (take i ids)
     → take (2 * (i + 1)) (set (set found (2 * i) left) (2 * i + 1) right)
     ≡ kids nodes (take (i + 1) ids)

@@ -9,7 +9,7 @@ use Rattle.ssz_arena.specs.declared.node.Node.TheVariants.{Leaf, Pair}
 use Rattle.ssz_arena.specs.Content.{child}
 use Rattle.ssz_arena.specs.Invariant.{IsArena}
 use Rattle.ssz_arena.specs.Filled.{FillsUpTo}
-use Rattle.ssz_arena.specs.Batches.{AreBelow, AreHashed, LeadsTo, id_at, is_due, left_of, node_of, right_of, todo_all}
+use Rattle.ssz_arena.specs.Batches.{NodesAreBelow, AreHashed, NodeLeadsTo, id_at, is_due, left_child, node_of, right_child, todo_all}
 use Rattle.ssz_arena.proofs.Nodes.{due, due-cached, due-pair}
 use Rattle.ssz_arena.proofs.Together.{due_found, none_due, todo-cons}
 
@@ -38,11 +38,12 @@ not_due nodes id inside is =
 
 module _ (p : List ℕ → List ℕ → List ℕ) (nodes : List Node) (id left right : NodeId)
     (arena : IsArena p nodes) (inside : id.0 < length nodes) (is : is_due nodes id ≡ true)
-    (is_left : left ≡ left_of (node_of nodes id)) (is_right : right ≡ right_of (node_of nodes id))
+    (is_left : left ≡ left_child (node_of nodes id))
+    (is_right : right ≡ right_child (node_of nodes id))
   where
     found : slice_get nodes id.0 ≡ Some (Pair left right None)
     found = due_found nodes id inside is
-        ∙ ap (λ (n : NodeId). Some (Pair n (right_of (node_of nodes id)) None)) (sym is_left)
+        ∙ ap (λ (n : NodeId). Some (Pair n (right_child (node_of nodes id)) None)) (sym is_left)
         ∙ ap (λ (n : NodeId). Some (Pair left n None)) (sym is_right)
 
     pub left_low : left.0 < id.0
@@ -62,7 +63,7 @@ module _ (p : List ℕ → List ℕ → List ℕ) (nodes : List Node) (id left r
         (fills.children id.0 false ∙ ap (option_and_then (child false)) found)
         (fills.children id.0 true ∙ ap (option_and_then (child true)) found)
 
-    pub LeadsTo-left : due nodes right.0 ≡ 0 → LeadsTo nodes id left
+    pub LeadsTo-left : due nodes right.0 ≡ 0 → NodeLeadsTo nodes id left
     LeadsTo-left none = record {
       below = omega (arith, left_low);
       todo = λ limit after fills. omega (
@@ -74,7 +75,7 @@ module _ (p : List ℕ → List ℕ → List ℕ) (nodes : List Node) (id left r
       );
     }
 
-    pub LeadsTo-right : due nodes left.0 ≡ 0 → LeadsTo nodes id right
+    pub LeadsTo-right : due nodes left.0 ≡ 0 → NodeLeadsTo nodes id right
     LeadsTo-right none = record {
       below = omega (arith, right_low);
       todo = λ limit after fills. omega (
@@ -86,11 +87,11 @@ module _ (p : List ℕ → List ℕ → List ℕ) (nodes : List Node) (id left r
       );
     }
 
-pub LeadsTo-same : (nodes : List Node) (id : NodeId) → LeadsTo nodes id id
+pub LeadsTo-same : (nodes : List Node) (id : NodeId) → NodeLeadsTo nodes id id
 LeadsTo-same nodes id = record { below = omega arith; todo = λ limit after fills. omega arith }
 
-pub LeadsTo-then : (nodes : List Node) (top middle bottom : NodeId) → LeadsTo nodes top middle
-    → LeadsTo nodes middle bottom → LeadsTo nodes top bottom
+pub LeadsTo-then : (nodes : List Node) (top middle bottom : NodeId) → NodeLeadsTo nodes top middle
+    → NodeLeadsTo nodes middle bottom → NodeLeadsTo nodes top bottom
 LeadsTo-then nodes top middle bottom first second = record {
   below = omega (arith, first.below, second.below);
   todo = λ limit after fills. omega (
@@ -107,7 +108,7 @@ todo-two nodes left right =
     omega (arith, todo-cons nodes left (right ∷ []), todo-cons nodes right [])
 
 pub two_below : (limit : ℕ) (left right : NodeId) → left.0 < limit → right.0 < limit
-    → AreBelow limit (left ∷ right ∷ [])
+    → NodesAreBelow limit (left ∷ right ∷ [])
 two_below limit left right low_left low_right zero within = low_left
 two_below limit left right low_left low_right (suc zero) within = low_right
 two_below limit left right low_left low_right (suc (suc j)) within = absurd (omega arith)
@@ -118,7 +119,7 @@ module _ (result : List NodeId) (n : ℕ) (one : n ≡ 1) where
   pub first_is : id_at (take n result) 0 ≡ id_at result 0
   first_is = get_or-take n result 0 (record { 0 = 0 }) (omega arith)
 
-  pub one_below : (limit : ℕ) → length result ≡ 64 → AreBelow limit (take n result)
+  pub one_below : (limit : ℕ) → length result ≡ 64 → NodesAreBelow limit (take n result)
       → (id_at result 0).0 < limit
   one_below limit long below =
       subst (λ (id : NodeId). id.0 < limit) first_is

@@ -6,7 +6,7 @@ use Rattle.ssz_chunk.specs.declared.Chunk.{Chunk}
 use Rattle.ssz_arena.specs.declared.node.NodeId.{NodeId}
 use Rattle.ssz_arena.specs.declared.node.Node.{Node}
 use Rattle.ssz_arena.specs.declared.node.Node.TheVariants.{Leaf, Pair}
-use Rattle.ssz_arena.specs.Content.{Content, child, node_at, todo}
+use Rattle.ssz_arena.specs.Content.{ArenaContent, child, node_at, todo}
 use Rattle.ssz_arena.specs.Filled.{FillsUpTo}
 use Rattle.ssz_arena.specs.Invariant.{IsArena}
 use Rattle.ssz_arena.proofs.Nodes.{due, due-cached, due-pair}
@@ -90,7 +90,7 @@ module _ (p : List ℕ → List ℕ → List ℕ) (old new : List Node) (was : I
           pair_saves id.0 left right cached (due old found.0) here (inr (below right e))
 
   -- the same of an arena before, and of its nodes after
-  pub saved : (before : Content) (after : List Node) → before.nodes ≡ old → after ≡ new
+  pub saved : (before : ArenaContent) (after : List Node) → before.nodes ≡ old → after ≡ new
       → (found : NodeId) → due new found.0 ≡ 0 → (id : NodeId) (way : List Bool)
       → node_at before.nodes id way ≡ Some found
       → due after id.0 + todo before found ≤ todo before id

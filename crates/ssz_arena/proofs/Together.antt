@@ -10,7 +10,7 @@ use Rattle.std.proofs.lemmas.List.Sums.{sum_by-append}
 use Rattle.std.proofs.lemmas.Option.{slice_get-get_or, same_Some}
 use Rattle.ssz_chunk.specs.Chunk.{CountsUp}
 use Rattle.ssz_chunk.proofs.Counting.{CountsUp-add}
-use Rattle.ssz_chunk.specs.Rows.{chunk_at, pair_at}
+use Rattle.ssz_chunk.specs.Rows.{chunk_in_row, pair_in_row}
 use Rattle.ssz_chunk.specs.Tree.{root}
 use Rattle.ssz_chunk.specs.declared.Chunk.{Chunk}
 use Rattle.ssz_arena.specs.declared.node.NodeId.{NodeId}
@@ -19,15 +19,15 @@ use Rattle.ssz_arena.specs.declared.node.Node.TheVariants.{Leaf, Pair}
 use Rattle.ssz_arena.specs.Content.{is_unhashed, child}
 use Rattle.ssz_arena.specs.Invariant.{IsArena}
 use Rattle.ssz_arena.specs.Filled.{FillsUpTo}
-use Rattle.ssz_arena.specs.Batches.{AreBelow, AreDue, AreHashed, HasRoot, IsReady, id_at, is_due, kids, left_of, node_of, right_of, todo_all}
+use Rattle.ssz_arena.specs.Batches.{NodesAreBelow, AreDue, AreHashed, HasRoot, IsNodeReady, id_at, is_due, kids, left_child, node_of, right_child, todo_all}
 use Rattle.ssz_arena.proofs.Nodes.{tree, due, due-leaf, due-cached, due-pair, tree-pair}
 
 -- ---- which are due
 
 pub due_below : (nodes : List Node) (ids found : List NodeId) (limit : ℕ)
-    → found ≡ filter (is_due nodes) ids → AreBelow limit ids → AreBelow limit found
+    → found ≡ filter (is_due nodes) ids → NodesAreBelow limit ids → NodesAreBelow limit found
 due_below nodes ids found limit is below =
-    subst (AreBelow limit) (sym is) (λ j within.
+    subst (NodesAreBelow limit) (sym is) (λ j within.
     All-filter (is_due nodes) (λ (id : NodeId). id.0 < limit) ids
     (All-from_get_or (λ (id : NodeId). id.0 < limit) ids (record { 0 = 0 }) below)
     j (record { 0 = 0 }) within)
@@ -52,14 +52,14 @@ none_due nodes i (Pair left right (Some chunk)) found not_due =
 none_due nodes i (Pair left right None) found not_due = cc
 
 -- where the due ones are hashed, all are
-pub due_hashed : (nodes new : List Node) (ids : List NodeId) → AreBelow (length nodes) ids
+pub due_hashed : (nodes new : List Node) (ids : List NodeId) → NodesAreBelow (length nodes) ids
     → ((j : ℕ) → due new j ≤ due nodes j) → AreHashed new (filter (is_due nodes) ids)
     → AreHashed new ids
 due_hashed nodes new [] below less hashed = λ j within. absurd (omega arith)
 due_hashed nodes new (id ∷ ids) below less hashed =
     by_case (due_hashed nodes new ids rest_below less) (is_due nodes id) refl
   where
-    rest_below : AreBelow (length nodes) ids
+    rest_below : NodesAreBelow (length nodes) ids
     rest_below j within = below (suc j) (omega arith)
 
     rest : List NodeId
@@ -85,14 +85,15 @@ due_hashed nodes new (id ∷ ids) below less hashed =
 
 -- ---- their children
 
-due_node : (node : Node) → is_unhashed node ≡ true → node ≡ Pair (left_of node) (right_of node) None
+due_node : (node : Node) → is_unhashed node ≡ true
+    → node ≡ Pair (left_child node) (right_child node) None
 due_node (Leaf chunk) is = cc
 due_node (Pair left right (Some chunk)) is = cc
 due_node (Pair left right None) is = refl
 
 pub due_found : (nodes : List Node) (id : NodeId) → id.0 < length nodes → is_due nodes id ≡ true
     → slice_get nodes id.0
-    ≡ Some (Pair (left_of (node_of nodes id)) (right_of (node_of nodes id)) None)
+    ≡ Some (Pair (left_child (node_of nodes id)) (right_child (node_of nodes id)) None)
 due_found nodes id inside is =
     slice_get-get_or nodes id.0 _ inside ∙ ap Some (due_node (node_of nodes id) is)
 
@@ -102,7 +103,7 @@ length-kids nodes [] = refl
 length-kids nodes (id ∷ ids) = omega (arith, length-kids nodes ids)
 
 kid-left : (nodes : List Node) (ids : List NodeId) (j : ℕ) → j < length ids
-    → id_at (kids nodes ids) (2 * j) ≡ left_of (node_of nodes (id_at ids j))
+    → id_at (kids nodes ids) (2 * j) ≡ left_child (node_of nodes (id_at ids j))
 kid-left nodes [] j within = absurd (omega arith)
 kid-left nodes (id ∷ ids) zero within = refl
 kid-left nodes (id ∷ ids) (suc j) within =
@@ -110,7 +111,7 @@ kid-left nodes (id ∷ ids) (suc j) within =
     rw two (kid-left nodes ids j (omega arith))
 
 kid-right : (nodes : List Node) (ids : List NodeId) (j : ℕ) → j < length ids
-    → id_at (kids nodes ids) (2 * j + 1) ≡ right_of (node_of nodes (id_at ids j))
+    → id_at (kids nodes ids) (2 * j + 1) ≡ right_child (node_of nodes (id_at ids j))
 kid-right nodes [] j within = absurd (omega arith)
 kid-right nodes (id ∷ ids) zero within = refl
 kid-right nodes (id ∷ ids) (suc j) within =
@@ -119,8 +120,8 @@ kid-right nodes (id ∷ ids) (suc j) within =
 
 -- what holds of the children of each holds of each child
 each_kid : (P : NodeId → Type 0) (nodes : List Node) (ids : List NodeId)
-    → ((j : ℕ) → j < length ids → P (left_of (node_of nodes (id_at ids j)))
-    × P (right_of (node_of nodes (id_at ids j))))
+    → ((j : ℕ) → j < length ids → P (left_child (node_of nodes (id_at ids j)))
+    × P (right_child (node_of nodes (id_at ids j))))
     → (k : ℕ) → k < length (kids nodes ids) → P (id_at (kids nodes ids) k)
 each_kid P nodes [] both k within = absurd (omega arith)
 each_kid P nodes (id ∷ ids) both zero within = (both 0 (omega arith)).0
@@ -129,42 +130,44 @@ each_kid P nodes (id ∷ ids) both (suc (suc k)) within =
     each_kid P nodes ids (λ j inside. both (suc j) (omega arith)) k (omega arith)
 
 module _ (p : List ℕ → List ℕ → List ℕ) (nodes : List Node) (ids : List NodeId)
-    (arena : IsArena p nodes) (inside : AreBelow (length nodes) ids) (pairs : AreDue nodes ids)
+    (arena : IsArena p nodes) (inside : NodesAreBelow (length nodes) ids) (pairs : AreDue nodes ids)
   where
     found : (j : ℕ) → j < length ids → slice_get nodes (id_at ids j).0
-        ≡ Some (Pair (left_of (node_of nodes (id_at ids j)))
-        (right_of (node_of nodes (id_at ids j))) None)
+        ≡ Some (Pair (left_child (node_of nodes (id_at ids j)))
+        (right_child (node_of nodes (id_at ids j))) None)
     found j within =
         due_found nodes (id_at ids j) (inside j within) (pairs j (record { 0 = 0 }) within)
 
     -- children stand below their parents
-    pub kids_below : (limit : ℕ) → AreBelow limit ids → AreBelow (limit - 1) (kids nodes ids)
+    pub kids_below : (limit : ℕ) → NodesAreBelow limit ids
+        → NodesAreBelow (limit - 1) (kids nodes ids)
     kids_below limit below =
         each_kid (λ (kid : NodeId). kid.0 < limit - 1) nodes ids (λ j within.
         let sound : _ = arena.sound.each _ _ (found j within) in
         (omega (arith, sound.0, below j within), omega (arith, sound.1, below j within)))
 
-    pub kids_inside : AreBelow (length nodes) (kids nodes ids)
+    pub kids_inside : NodesAreBelow (length nodes) (kids nodes ids)
     kids_inside =
         each_kid (λ (kid : NodeId). kid.0 < length nodes) nodes ids (λ j within.
         let sound : _ = arena.sound.each _ _ (found j within) in
         (omega (arith, sound.0, inside j within), omega (arith, sound.1, inside j within)))
 
     -- where these are ready their children are hashed
-    pub kids_hashed : All (IsReady nodes) ids → AreHashed nodes (kids nodes ids)
+    pub kids_hashed : All (IsNodeReady nodes) ids → AreHashed nodes (kids nodes ids)
     kids_hashed ready =
         each_kid (λ (kid : NodeId). due nodes kid.0 ≡ 0) nodes ids (λ j within.
         ready j (record { 0 = 0 }) within _ _ _ (found j within))
 
     -- and where their children are hashed later they are ready then
     pub ready_later : (limit : ℕ) (new : List Node) → FillsUpTo limit nodes new
-        → AreHashed new (kids nodes ids) → All (IsReady new) ids
+        → AreHashed new (kids nodes ids) → All (IsNodeReady new) ids
     ready_later limit new fills hashed =
-        All-from_get_or (IsReady new) ids (record { 0 = 0 }) (λ j within left right cached there.
-        let same_left : Some left ≡ Some (left_of (node_of nodes (id_at ids j))) =
+        All-from_get_or (IsNodeReady new) ids (record { 0 = 0 })
+        (λ j within left right cached there.
+        let same_left : Some left ≡ Some (left_child (node_of nodes (id_at ids j))) =
         ap (option_and_then (child false)) (sym there) ∙ fills.children (id_at ids j).0 false
         ∙ ap (option_and_then (child false)) (found j within) in
-        let same_right : Some right ≡ Some (right_of (node_of nodes (id_at ids j))) =
+        let same_right : Some right ≡ Some (right_child (node_of nodes (id_at ids j))) =
         ap (option_and_then (child true)) (sym there) ∙ fills.children (id_at ids j).0 true
         ∙ ap (option_and_then (child true)) (found j within) in
         let count : length (kids nodes ids) ≡ 2 * length ids = length-kids nodes ids in (
@@ -177,19 +180,19 @@ module _ (p : List ℕ → List ℕ → List ℕ) (nodes : List Node) (ids : Lis
         ))
 
     -- the pairs made of their children's roots are their roots
-    pub have_roots : (row made : List Chunk) → All (IsReady nodes) ids
+    pub have_roots : (row made : List Chunk) → All (IsNodeReady nodes) ids
         → ((k : ℕ) → k < length (kids nodes ids)
-        → chunk_at row k ≡ root p (tree nodes (id_at (kids nodes ids) k).0))
-        → ((j : ℕ) → j < length ids → chunk_at made j ≡ pair_at p row j)
-        → (j : ℕ) → j < length ids → HasRoot p nodes (id_at ids j).0 (chunk_at made j)
+        → chunk_in_row row k ≡ root p (tree nodes (id_at (kids nodes ids) k).0))
+        → ((j : ℕ) → j < length ids → chunk_in_row made j ≡ pair_in_row p row j)
+        → (j : ℕ) → j < length ids → HasRoot p nodes (id_at ids j).0 (chunk_in_row made j)
     have_roots row made ready roots pairs_made j within =
         let here : _ = found j within in
         let sound : _ = arena.sound.each _ _ here in
         let hashed : _ = ready j (record { 0 = 0 }) within _ _ _ here in
         let count : length (kids nodes ids) ≡ 2 * length ids = length-kids nodes ids in
         record {
-          left = left_of (node_of nodes (id_at ids j));
-          right = right_of (node_of nodes (id_at ids j));
+          left = left_child (node_of nodes (id_at ids j));
+          right = right_child (node_of nodes (id_at ids j));
           found = here;
           left_hashed = hashed.0;
           right_hashed = hashed.1;
@@ -211,7 +214,7 @@ todo-cons nodes id ids =
 
 -- what is to be hashed for pairs is one more each than for their children
 pub kids_sum : (p : List ℕ → List ℕ → List ℕ) (nodes : List Node) (ids : List NodeId)
-    → IsArena p nodes → AreBelow (length nodes) ids → AreDue nodes ids
+    → IsArena p nodes → NodesAreBelow (length nodes) ids → AreDue nodes ids
     → todo_all nodes (kids nodes ids) + length ids ≡ todo_all nodes ids
 kids_sum p nodes [] arena inside pairs = refl
 kids_sum p nodes (id ∷ ids) arena inside pairs =
@@ -226,8 +229,9 @@ kids_sum p nodes (id ∷ ids) arena inside pairs =
       one,
       rest,
       todo-cons nodes id ids,
-      todo-cons nodes (left_of (node_of nodes id)) (right_of (node_of nodes id) ∷ kids nodes ids),
-      todo-cons nodes (right_of (node_of nodes id)) (kids nodes ids),
+      todo-cons nodes (left_child (node_of nodes id))
+          (right_child (node_of nodes id) ∷ kids nodes ids),
+      todo-cons nodes (right_child (node_of nodes id)) (kids nodes ids),
     )
 
 -- ---- sums and composition
@@ -263,22 +267,23 @@ hashed_join nodes ids n few first rest j within = elim (cases_lt j n) [
       ∙ rest (j - n) (omega (arith, length-drop n ids))
 ]
 
-pub below_take : (limit n : ℕ) (ids : List NodeId) → AreBelow limit ids
-    → AreBelow limit (take n ids)
+pub below_take : (limit n : ℕ) (ids : List NodeId) → NodesAreBelow limit ids
+    → NodesAreBelow limit (take n ids)
 below_take limit n ids below j within =
     let under : j < n = omega (arith, length-take n ids) in
     subst (λ (id : NodeId). id.0 < limit) (sym (get_or-take n ids j (record { 0 = 0 }) under))
     (below j (omega (arith, length-take n ids)))
 
-pub below_drop : (limit n : ℕ) (ids : List NodeId) → AreBelow limit ids
-    → AreBelow limit (drop n ids)
+pub below_drop : (limit n : ℕ) (ids : List NodeId) → NodesAreBelow limit ids
+    → NodesAreBelow limit (drop n ids)
 below_drop limit n ids below j within =
     subst (λ (id : NodeId). id.0 < limit) (sym (get_or-drop n ids j (record { 0 = 0 })))
     (below (n + j) (omega (arith, length-drop n ids)))
 
 -- where each is ready, each has at most one pair to be hashed
 pub ready_sum : (p : List ℕ → List ℕ → List ℕ) (nodes : List Node) (ids : List NodeId)
-    → IsArena p nodes → AreBelow (length nodes) ids → AreDue nodes ids → All (IsReady nodes) ids
+    → IsArena p nodes → NodesAreBelow (length nodes) ids → AreDue nodes ids
+    → All (IsNodeReady nodes) ids
     → todo_all nodes ids ≤ length ids
 ready_sum p nodes [] arena inside pairs ready = omega arith
 ready_sum p nodes (id ∷ ids) arena inside pairs ready =
@@ -318,7 +323,7 @@ hashed_on nodes ids from end few before these j within = elim (cases_lt j from) 
 ]
 
 -- what is ready stays so
-ready_as : (old new : List Node) (id left right : NodeId) → IsReady old id
+ready_as : (old new : List Node) (id left right : NodeId) → IsNodeReady old id
     → ((j : ℕ) → due new j ≤ due old j) → (found : Option Node) → slice_get old id.0 ≡ found
     → option_and_then (child false) found ≡ Some left
     → option_and_then (child true) found ≡ Some right
@@ -342,9 +347,9 @@ ready_as old new id left right was less (Some (Pair a b cached)) is to_left to_r
     )
 
 pub ready_still : (ids : List NodeId) (limit : ℕ) (old new : List Node) → FillsUpTo limit old new
-    → All (IsReady old) ids → All (IsReady new) ids
+    → All (IsNodeReady old) ids → All (IsNodeReady new) ids
 ready_still ids limit old new fills ready =
-    All-from_get_or (IsReady new) ids (record { 0 = 0 }) (λ j within left right cached there.
+    All-from_get_or (IsNodeReady new) ids (record { 0 = 0 }) (λ j within left right cached there.
     let id = id_at ids j in
     ready_as old new id left right (ready j (record { 0 = 0 }) within) fills.todo
     (slice_get old id.0) refl
@@ -360,12 +365,13 @@ pub record KidsParts (nodes : List Node) (found result : List NodeId) (n first l
   pub rest_is : take (2 * n - first) (drop first result) ≡ drop first (kids nodes found)
   pub first_few : length (take first result) ≤ 64
   pub rest_few : length (take (2 * n - first) (drop first result)) ≤ 64
-  pub first_below : AreBelow (limit - 1) (take first result)
-  pub rest_below : AreBelow (limit - 1) (take (2 * n - first) (drop first result))
+  pub first_below : NodesAreBelow (limit - 1) (take first result)
+  pub rest_below : NodesAreBelow (limit - 1) (take (2 * n - first) (drop first result))
   pub cut : first ≤ length (kids nodes found)
 
 pub kids_parts : (p : List ℕ → List ℕ → List ℕ) (nodes : List Node) (found result : List NodeId)
-    (n first limit : ℕ) → IsArena p nodes → AreBelow (length nodes) found → AreBelow limit found
+    (n first limit : ℕ) → IsArena p nodes → NodesAreBelow (length nodes) found
+    → NodesAreBelow limit found
     → AreDue nodes found → length found ≡ n → (n ≡ 0 → ⊥) → n ≤ 64 → first ≡ min 64 (2 * n)
     → take (2 * length found) result ≡ kids nodes found
     → KidsParts nodes found result n first limit
@@ -382,7 +388,7 @@ kids_parts p nodes found result n first limit arena inside below pairs count som
     let rest_part : take (2 * n - first) (drop first result) ≡ drop first (kids nodes found) =
     sym (drop-take first (2 * n - first) result)
     ∙ ap (λ k. drop first (take k result)) whole ∙ ap (drop first) all in
-    let low : AreBelow (limit - 1) (kids nodes found) =
+    let low : NodesAreBelow (limit - 1) (kids nodes found) =
     kids_below p nodes found arena inside pairs limit below in
     record {
       some = omega (arith, below 0 (omega (arith, count, some)));
@@ -398,9 +404,9 @@ kids_parts p nodes found result n first limit arena inside below pairs count som
         is_first,
         few,
       );
-      first_below = subst (AreBelow (limit - 1)) (sym first_part)
+      first_below = subst (NodesAreBelow (limit - 1)) (sym first_part)
           (below_take (limit - 1) first (kids nodes found) low);
-      rest_below = subst (AreBelow (limit - 1)) (sym rest_part)
+      rest_below = subst (NodesAreBelow (limit - 1)) (sym rest_part)
           (below_drop (limit - 1) first (kids nodes found) low);
       cut = omega (arith, long, under);
     }

@@ -1,7 +1,7 @@
 // Where a node is kept, in 40 bytes.
 ghost use Rattle.std.specs.Prelude.{◌≡◌, Some};
 ghost use Rattle.ssz_chunk.specs.declared.Chunk.{Chunk};
-ghost use Rattle.ssz_arena.specs.Batches.{left_of, right_of};
+ghost use Rattle.ssz_arena.specs.Batches.{left_child, right_child};
 ghost use Rattle.ssz_arena.specs.Content.{is_unhashed};
 ghost use Rattle.ssz_arena.specs.Slots.{IsShort, chunk_of};
 
@@ -101,8 +101,8 @@ impl Slot {
     // The children of a pair.
     #[inline(always)]
     pub(crate) fn children(&self) -> (NodeId, NodeId)
-        ensures left { result.0 ≡ left_of self.now }
-        ensures right { result.1 ≡ right_of self.now }
+        ensures left { result.0 ≡ left_child self.now }
+        ensures right { result.1 ≡ right_child self.now }
     {
         if self.left >= MARK {
             return (NodeId(0), NodeId(0));

@@ -1,6 +1,6 @@
 // The way down from a node past pairs of whose children one is to be hashed, as an edit leaves it.
 ghost use Rattle.std.specs.Prelude.{◌<◌, IfSome, length};
-ghost use Rattle.ssz_arena.specs.Batches.{LeadsTo};
+ghost use Rattle.ssz_arena.specs.Batches.{NodeLeadsTo};
 ghost use Rattle.ssz_arena.specs.Invariant.{IsArena};
 
 use super::batch::{children_of, is_due};
@@ -13,7 +13,7 @@ fn next_down<H: PairHash>(nodes: &[Slot], id: NodeId) -> Option<NodeId>
     requires arena { IsArena H.pair_of nodes.now }
     requires inside { id.0 < length nodes.now }
     ensures lower { IfSome result (λ next. next.0 < id.0) }
-    ensures leads { IfSome result (LeadsTo nodes.now id) }
+    ensures leads { IfSome result (NodeLeadsTo nodes.now id) }
 {
     if !is_due(nodes, id) {
         return None;
@@ -32,7 +32,7 @@ fn next_down<H: PairHash>(nodes: &[Slot], id: NodeId) -> Option<NodeId>
 pub(crate) fn fork_of<H: PairHash>(nodes: &[Slot], id: NodeId) -> NodeId
     requires arena { IsArena H.pair_of nodes.now }
     requires inside { id.0 < length nodes.now }
-    ensures { LeadsTo nodes.now id result }
+    ensures { NodeLeadsTo nodes.now id result }
 {
     let mut fork = id;
     'way: while let Some(next) = next_down::<H>(nodes, fork) {

@@ -11,9 +11,9 @@ use Rattle.ssz_machine.specs.declared.place.Place.TheVariants as place
 use Rattle.ssz_machine.specs.State.{Versions}
 use Rattle.ssz_machine.specs.Machine.{Turn, reply_of}
 use Rattle.ssz_engine.specs.Compacting.{compacted}
-use Rattle.ssz_decisions.specs.Content.{Content as Engine}
+use Rattle.ssz_decisions.specs.Content.{EngineContent as Engine}
 use Rattle.ssz_decisions.specs.Standing.{StandsFor, StandsForVersions}
-use Rattle.ssz_engine.specs.Steps.{DoesStep, Keeps, Leaves, SavesPart, Stops, is_refusal, turn_at}
+use Rattle.ssz_engine.specs.Steps.{DoesStep, KeepsEngine, StepLeaves, SavesPart, Stops, is_refusal, turn_at}
 use Rattle.ssz_decisions.specs.declared.outcome.Outcome.{Outcome}
 use Rattle.ssz_decisions.specs.declared.outcome.Outcome.TheVariants.{Accepted, Refused}
 use Rattle.ssz_decisions.specs.declared.fault.EngineFault.{EngineFault}
@@ -21,10 +21,10 @@ use Rattle.ssz_decisions.specs.declared.fault.EngineFault.TheVariants.{Read, Wri
 use Rattle.ssz_decisions.proofs.Standing.{stand-kept}
 use Rattle.ssz_c.specs.declared.ran.Ran.{Ran}
 use Rattle.ssz_c.specs.declared.ran.Ran.TheVariants as ran
-use Rattle.ssz_c.specs.Session.{Does, DoesLine, DoesSaid, Refuses, Rests, Scene, Takes, no_files, ran_of}
+use Rattle.ssz_c.specs.Session.{StatementDoes, SessionDoesLine, DoesSaid, Refuses, Rests, LineScene, SessionTakes, no_files, ran_of}
 
 -- an engine with the same types and entries, in which each node is kept, stands for the same
-pub stands-kept : (old new : Engine) → Keeps old new → new.entries ≡ old.entries
+pub stands-kept : (old new : Engine) → KeepsEngine old new → new.entries ≡ old.entries
     → KeepsNodes old.arena new.arena → (versions : ℕ → Versions) → StandsFor old versions
     → StandsFor new versions
 stands-kept old new keeps same nodes versions stands = record {
@@ -38,10 +38,10 @@ stands-kept old new keeps same nodes versions stands = record {
 }
 
 -- nothing came of a line, and nothing changed
-pub rests-same : (scene : Scene) (reply : List ℕ) → reply ≡ [] → Rests scene scene.engine reply
+pub rests-same : (scene : LineScene) (reply : List ℕ) → reply ≡ [] → Rests scene scene.engine reply
 rests-same scene reply empty = record { text = empty; stands = λ versions stands. stands }
 
-module _ (scene : Scene) (statement : Statement) (new : Engine) (after : ℕ)
+module _ (scene : LineScene) (statement : Statement) (new : Engine) (after : ℕ)
     (reply more : List ℕ) (empty : reply ≡ []) where
   abbrev number : ℕ
   number = scene.hashed - scene.engine.base
@@ -53,10 +53,11 @@ module _ (scene : Scene) (statement : Statement) (new : Engine) (after : ℕ)
   -- as the machine's turn, over files that are no files
   takes : (made : Outcome) (files : Files) → no_files ≡ files
       → ((versions : ℕ → Versions) → StandsFor scene.engine versions
-      → Leaves (turn versions files) made new (Some no_files) reply more)
-      → Takes (is_refusal made) (Some statement) scene new more
+      → StepLeaves (turn versions files) made new (Some no_files) reply more)
+      → SessionTakes (is_refusal made) (Some statement) scene new more
   takes made files same leaves versions stands =
-      let left = subst (λ files. Leaves (turn versions files) made new (Some no_files) reply more)
+      let left = subst (λ files.
+      StepLeaves (turn versions files) made new (Some no_files) reply more)
       (sym same) (leaves versions stands) in
       record {
         outcome = sym left.outcome;
@@ -66,7 +67,7 @@ module _ (scene : Scene) (statement : Statement) (new : Engine) (after : ℕ)
       }
 
   -- nothing came of it
-  rests : (fault : EngineFault) → Keeps scene.engine new
+  rests : (fault : EngineFault) → KeepsEngine scene.engine new
       → (new.entries ≡ scene.engine.entries) × (more ≡ reply)
       → KeepsNodes scene.engine.arena new.arena → Rests scene new more
   rests fault keeps err nodes = record {
@@ -81,9 +82,9 @@ module _ (scene : Scene) (statement : Statement) (new : Engine) (after : ℕ)
       → IfErr result (λ fault. Stops fault sha_pair place.Run 0 scene.line number statement
       scene.engine (Some no_files) (Some no_files))
       → OnErr result ((new.entries ≡ scene.engine.entries) × (more ≡ reply))
-      → Keeps scene.engine new
+      → KeepsEngine scene.engine new
       → (compacted statement result ≡ false → KeepsNodes scene.engine.arena new.arena)
-      → Does (ran_of result) statement scene new more
+      → StatementDoes (ran_of result) statement scene new more
   step-does (Ok Accepted) ok stops err keeps nodes = takes Accepted ok.files ok.tells ok.leaves
   step-does (Ok Refused) ok stops err keeps nodes = takes Refused ok.files ok.tells ok.leaves
   step-does (Err Read) ok stops err keeps nodes = (stops.1, rests Read keeps err (nodes refl))
@@ -97,8 +98,8 @@ module _ (scene : Scene) (statement : Statement) (new : Engine) (after : ℕ)
   step-does (Err Memory) ok stops err keeps nodes = rests Memory keeps err (nodes refl)
 
 -- what a statement's line came to
-pub said-does : (it : Ran) (text : List ℕ) (scene : Scene) (new : Engine) (reply : List ℕ)
-    → DoesSaid it text scene new reply → DoesLine it text scene new reply
+pub said-does : (it : Ran) (text : List ℕ) (scene : LineScene) (new : Engine) (reply : List ℕ)
+    → DoesSaid it text scene new reply → SessionDoesLine it text scene new reply
 said-does ran.Quiet text scene new reply said = absurd said.2
 said-does ran.Done text scene new reply said = said
 said-does ran.Refused text scene new reply said = inr said
@@ -108,9 +109,9 @@ said-does ran.TooLong text scene new reply said = inr said
 said-does ran.Memory text scene new reply said = said.2
 
 -- what a line came to that is not of the grammar
-pub refused-does : (it : Ran) (text : List ℕ) (scene : Scene) (reply : List ℕ)
+pub refused-does : (it : Ran) (text : List ℕ) (scene : LineScene) (reply : List ℕ)
     → line_of statements text ≡ None → Refuses it scene.line reply
-    → DoesLine it text scene scene.engine reply
+    → SessionDoesLine it text scene scene.engine reply
 refused-does ran.Quiet text scene reply none says = absurd says
 refused-does ran.Done text scene reply none says = absurd says
 refused-does ran.Refused text scene reply none says =

@@ -9,14 +9,14 @@ use Rattle.ssz_script.specs.declared.statement.Statement.TheVariants as says
 use Rattle.ssz_machine.specs.declared.place.Place.TheVariants as place
 use Rattle.ssz_engine.specs.Answered.{DoesAnswer, IsTurn}
 use Rattle.ssz_engine.specs.Compacting.{is_compact}
-use Rattle.ssz_decisions.specs.Content.{Content as Engine}
-use Rattle.ssz_engine.specs.Steps.{IsShort, Keeps, SavesPart, Stops, turn_at}
+use Rattle.ssz_decisions.specs.Content.{EngineContent as Engine}
+use Rattle.ssz_engine.specs.Steps.{IsShort, KeepsEngine, SavesPart, Stops, turn_at}
 use Rattle.ssz_decisions.specs.declared.fault.EngineFault.{EngineFault}
 use Rattle.ssz_decisions.specs.declared.fault.EngineFault.TheVariants.{Read, Write, Memory}
 use Rattle.ssz_engine.proofs.Moving.{kept-whole}
 use Rattle.ssz_said.specs.Statements.{HasShortLiteral}
-use Rattle.ssz_c.specs.Session.{Scene, no_files}
-use Rattle.ssz_c.specs.Answering.{Reaches}
+use Rattle.ssz_c.specs.Session.{LineScene, no_files}
+use Rattle.ssz_c.specs.Answering.{StatementReaches}
 use Rattle.ssz_c.proofs.LineSteps.{stands-kept}
 
 -- a literal that is short makes its statement short for the engine
@@ -44,8 +44,8 @@ short (says.Json v path) literal_is = tt
 short (says.LoadJson v t file) literal_is = tt
 short says.Compact literal_is = tt
 
-module _ (scene : Scene) (statement : Statement) (new : Engine) (after : ℕ)
-    (keeps : Keeps scene.engine new) where
+module _ (scene : LineScene) (statement : Statement) (new : Engine) (after : ℕ)
+    (keeps : KeepsEngine scene.engine new) where
   abbrev number : ℕ
   number = scene.hashed - scene.engine.base
 
@@ -68,7 +68,7 @@ module _ (scene : Scene) (statement : Statement) (new : Engine) (after : ℕ)
       → OnErr result (new.entries ≡ scene.engine.entries)
       → (is_compact statement ≡ false → KeepsNodes scene.engine.arena new.arena)
       → (is_compact statement ≡ true → OnErr result (new ≡ scene.engine))
-      → Reaches result statement scene new
+      → StatementReaches result statement scene new
   reaches (Ok reply) ok stops err nodes whole = λ versions stands.
       subst (λ files. IsTurn (turn_at sha_pair scene.engine place.Run number 0 scene.line statement
       versions files) reply new (Some no_files)) (sym ok.step.tells) (ok.turns versions stands)

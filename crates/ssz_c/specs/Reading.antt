@@ -4,13 +4,13 @@ use Rattle.ssz_said.specs.declared.fault.SszFault.{SszFault}
 use Rattle.ssz_typed.specs.declared.library.Library.{Library}
 use Rattle.ssz_said.specs.declared.status.TheConstants.{OK, NO_HANDLE}
 use Rattle.ssz_typed.specs.Forms.{part_type_in}
-use Rattle.ssz_typed.specs.Library.{ReadsLibrary, Names}
+use Rattle.ssz_typed.specs.Library.{ReadsLibrary, NumbersName}
 use Rattle.ssz_typed.specs.Parts.{PartIsNumbered}
 use Rattle.ssz_typed.specs.Texts.{MakesIn}
-use Rattle.ssz_said.specs.Outcome.{Outcome, IsCopied, IsGiven, done, refused}
+use Rattle.ssz_said.specs.Outcome.{CallOutcome, IsCopied, IsGivenBack, done, refused}
 
 -- of what a handle holds, or the status of one that holds nothing
-abbrev pub held_in : {A : Type 0} → (Library → Outcome A) → Option Library → Outcome A
+abbrev pub held_in : {A : Type 0} → (Library → CallOutcome A) → Option Library → CallOutcome A
 held_in call None = Err (refused NO_HANDLE)
 held_in call (Some library) = call library
 
@@ -31,7 +31,8 @@ IsNumbered name None new before number fault =
 IsNumbered name (Some old) None before number fault = ⊥
 IsNumbered name (Some old) (Some new) before number fault =
     (new.schema ≡ old.schema)
-    × ((answer : Outcome ℕ) × Names name old new answer × IsGiven before number fault answer)
+    × ((answer : CallOutcome ℕ) × NumbersName name old new answer
+    × IsGivenBack before number fault answer)
 
 -- the same of the number of a type that a type is made of
 abbrev pub IsPartNumbered : ℕ → ℕ → Option Library → Option Library → ℕ → ℕ → SszFault → Type 0
@@ -40,16 +41,17 @@ IsPartNumbered number place None new before part fault =
 IsPartNumbered number place (Some old) None before part fault = ⊥
 IsPartNumbered number place (Some old) (Some new) before part fault =
     (new.schema ≡ old.schema)
-    × ((answer : Outcome ℕ) × PartIsNumbered (part_type_in old number place) old new answer
-    × IsGiven before part fault answer)
+    × ((answer : CallOutcome ℕ) × PartIsNumbered (part_type_in old number place) old new answer
+    × IsGivenBack before part fault answer)
 
 -- the encoding of the value whose JSON text some bytes are, or why there is none
-abbrev pub MakesHeld : Option Library → ℕ → List ℕ → Outcome (List ℕ) → Type 0
+abbrev pub MakesHeld : Option Library → ℕ → List ℕ → CallOutcome (List ℕ) → Type 0
 MakesHeld None number text answer = answer ≡ Err (refused NO_HANDLE)
 MakesHeld (Some library) number text answer = MakesIn library number text answer
 
 -- it was copied to a room
-abbrev pub IsMade : Option Library → ℕ → List ℕ → List ℕ → List ℕ → ℕ → ℕ → SszFault → Type 0
-IsMade held number text old new before len fault =
-    (answer : Outcome (List ℕ)) × MakesHeld held number text answer
+abbrev pub IsEncodingMade : Option Library → ℕ → List ℕ → List ℕ → List ℕ → ℕ → ℕ → SszFault
+    → Type 0
+IsEncodingMade held number text old new before len fault =
+    (answer : CallOutcome (List ℕ)) × MakesHeld held number text answer
     × IsCopied old new before len fault answer

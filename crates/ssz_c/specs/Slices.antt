@@ -2,13 +2,14 @@
 use Rattle.std.specs.Prelude.{◌≡◌, ℕ, List, Option, None, Some, Ok, Err}
 use Rattle.ssz_said.specs.declared.fault.SszFault.{SszFault}
 use Rattle.ssz_said.specs.declared.status.TheConstants.{NO_HANDLE}
-use Rattle.ssz_said.specs.Outcome.{Outcome, done, refused}
+use Rattle.ssz_said.specs.Outcome.{CallOutcome, done, refused}
 use Rattle.ssz_typed.specs.declared.checked_bytes.CheckedBytes.{CheckedBytes}
 use Rattle.ssz_typed.specs.declared.library.Library.{Library}
 use Rattle.ssz_typed.specs.Slices.{Opens}
 
 -- of what a handle holds, or the status of one that holds nothing
-abbrev pub slice_in : {A : Type 0} → (CheckedBytes → Outcome A) → Option CheckedBytes → Outcome A
+abbrev pub slice_in : {A : Type 0} → (CheckedBytes → CallOutcome A) → Option CheckedBytes
+    → CallOutcome A
 slice_in call None = Err (refused NO_HANDLE)
 slice_in call (Some slice) = call slice
 

@@ -1,8 +1,8 @@
 // What a session answers to a statement that is no line.
 ghost use Rattle.std.specs.Prelude.{◌≡◌, IfOk};
-ghost use Rattle.ssz_engine.specs.Steps.{Keeps};
+ghost use Rattle.ssz_engine.specs.Steps.{KeepsEngine};
 ghost use Rattle.ssz_said.specs.Statements.{HasShortLiteral};
-ghost use Rattle.ssz_c.specs.Answering.{Does, Reaches, answer_of, scene_at};
+ghost use Rattle.ssz_c.specs.Answering.{ArgumentsDo, StatementReaches, answer_of, scene_at};
 
 use super::session::Session;
 use ssz_engine::EngineFault;
@@ -27,10 +27,10 @@ impl Session {
     // Does a statement.
     fn reach(&mut self, statement: &Statement) -> Result<Reply, EngineFault>
         requires { HasShortLiteral statement.now }
-        ensures keeps { Keeps self.old.engine self.new.engine }
+        ensures keeps { KeepsEngine self.old.engine self.new.engine }
         ensures lines { self.new.lines ≡ self.old.lines }
         ensures text { self.new.reply ≡ self.old.reply }
-        ensures does { Reaches result statement.now (scene_at self.old) self.new.engine }
+        ensures does { StatementReaches result statement.now (scene_at self.old) self.new.engine }
     {
         self.engine.answer(
             Writer(0),
@@ -45,7 +45,7 @@ impl Session {
     /// Does the statement that arguments say, where they say one.
     pub fn answer(&mut self, said: Result<Statement, SszFault>) -> Result<Reply, SszFault>
         requires { IfOk said HasShortLiteral }
-        ensures { Does said self.old self.new result }
+        ensures { ArgumentsDo said self.old self.new result }
     {
         match said {
             Ok(statement) => {

@@ -1,8 +1,8 @@
 // How a call ends.
 ghost use Rattle.std.specs.Prelude.{◌≡◌, Ok};
 ghost use Rattle.std.specs.Result.{result_map_both};
-ghost use Rattle.ssz_said.specs.Entries.{IsShown};
-ghost use Rattle.ssz_said.specs.Outcome.{IsCopied, IsGiven, IsSaid, refused};
+ghost use Rattle.ssz_said.specs.Entries.{AreEntriesShown};
+ghost use Rattle.ssz_said.specs.Outcome.{IsCopied, IsGivenBack, IsSaid, refused};
 
 use ssz_bytes::ByteRun;
 use ssz_proof::Proof;
@@ -12,7 +12,7 @@ use std::alloc::Global;
 
 /// Writes what was found, or why not.
 pub fn give<T: Copy + Drop>(answer: Result<T, SszFault>, out: &mut T, fault: &mut SszFault) -> u32
-    ensures given { IsGiven out.old out.new fault.new answer }
+    ensures given { IsGivenBack out.old out.new fault.new answer }
     ensures status { result ≡ fault.new.status }
 {
     match answer {
@@ -108,7 +108,8 @@ pub fn show(
     len: &mut u64,
     fault: &mut SszFault,
 ) -> u32
-    ensures shown { IsShown room.old room.new leaves.old leaves.new len.old len.new fault.new
+    ensures shown { AreEntriesShown room.old room.new leaves.old leaves.new len.old len.new
+        fault.new
         answer }
     ensures status { result ≡ fault.new.status }
 {

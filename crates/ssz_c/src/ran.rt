@@ -1,6 +1,6 @@
 // What a line of a session came to.
 ghost use Rattle.std.specs.Prelude.{◌≡◌};
-ghost use Rattle.ssz_c.specs.Session.{at_line, fault_of};
+ghost use Rattle.ssz_c.specs.Session.{at_line, session_fault};
 
 use ssz_said::{SszFault, status};
 
@@ -37,7 +37,7 @@ fn at_line(status: u32, line: u64) -> SszFault
 impl Ran {
     /// How a call ends whose line of this number came to it.
     pub fn fault(self, line: u64) -> SszFault
-        ensures { result ≡ fault_of line self }
+        ensures { result ≡ session_fault line self }
     {
         match self {
             Ran::Quiet => SszFault::none(),

@@ -1,10 +1,10 @@
 // The lines of a session.
 ghost use Rattle.std.specs.Prelude.{◌≡◌, [], IfOk, IfErr, None};
 ghost use Rattle.std.specs.Result.{result_map_both};
-ghost use Rattle.ssz_engine.specs.Steps.{Keeps};
+ghost use Rattle.ssz_engine.specs.Steps.{KeepsEngine};
 ghost use Rattle.ssz_said.specs.declared.status.TheConstants.{NO_MEMORY};
 ghost use Rattle.ssz_said.specs.Outcome.{refused};
-ghost use Rattle.ssz_c.specs.Session.{Begins, Does, DoesLine, Refuses, Runs, Starts, StartsOn, ran_of};
+ghost use Rattle.ssz_c.specs.Session.{Begins, StatementDoes, SessionDoesLine, Refuses, SessionRuns, Starts, StartsOn, ran_of};
 
 use super::no_files::NoFiles;
 use super::ran::Ran;
@@ -42,8 +42,8 @@ fn run_statement(
     reply: &mut Vec<u8>,
 ) -> Ran
     requires { reply.old.items ≡ [] }
-    ensures keeps { Keeps engine.old engine.new }
-    ensures does { Does result statement.now
+    ensures keeps { KeepsEngine engine.old engine.new }
+    ensures does { StatementDoes result statement.now
         (record { engine = engine.old; hashed = hasher.old; line = line })
         engine.new reply.new.items }
 {
@@ -81,8 +81,8 @@ fn run_text(
     reply: &mut Vec<u8>,
 ) -> Ran
     requires { reply.old.items ≡ [] }
-    ensures keeps { Keeps engine.old engine.new }
-    ensures does { DoesLine result text.now
+    ensures keeps { KeepsEngine engine.old engine.new }
+    ensures does { SessionDoesLine result text.now
         (record { engine = engine.old; hashed = hasher.old; line = line })
         engine.new reply.new.items }
 {
@@ -166,7 +166,7 @@ impl Session {
 
     /// Does the statement that a line says, and keeps the reply.
     pub fn run(&mut self, alloc: Global, text: &[u8]) -> Ran
-        ensures { Runs result text.now self.old self.new }
+        ensures { SessionRuns result text.now self.old self.new }
     {
         self.reply.clear();
         self.lines = self.lines.saturating_add(1);

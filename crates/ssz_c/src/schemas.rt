@@ -1,11 +1,11 @@
 // The calls of a schema.
 ghost use Rattle.std.specs.Prelude.{◌≡◌, None};
-ghost use Rattle.ssz_said.specs.Outcome.{IsCopied, IsCopiedUnlessMemory, IsGiven, IsGivenUnlessMemory, IsSaid};
+ghost use Rattle.ssz_said.specs.Outcome.{IsCopied, IsCopiedUnlessMemory, IsGivenBack, IsGivenUnlessMemory, IsSaid};
 ghost use Rattle.ssz_typed.specs.Calls.{checked_in, root_in, gindex_in, part_in, size_in};
-ghost use Rattle.ssz_typed.specs.Fields.{field_in, fields_in};
+ghost use Rattle.ssz_typed.specs.Fields.{field_in, fields_of_type};
 ghost use Rattle.ssz_typed.specs.Places.{place_in};
 ghost use Rattle.ssz_typed.specs.Texts.{default_in, text_in};
-ghost use Rattle.ssz_c.specs.Reading.{IsMade, IsRead, IsNumbered, freed, held_in};
+ghost use Rattle.ssz_c.specs.Reading.{IsEncodingMade, IsRead, IsNumbered, freed, held_in};
 
 use super::giving::{copy, fail, give, say};
 use super::handle::SszSchema;
@@ -84,7 +84,7 @@ pub extern "C" fn ssz_size(
     fault: &mut SszFault,
 ) -> u32
     ensures held { handle.new.held.value ≡ handle.old.held.value }
-    ensures answer { IsGiven size.old size.new fault.new
+    ensures answer { IsGivenBack size.old size.new fault.new
         (held_in (λ library. size_in library number) handle.old.held.value) }
     ensures status { result ≡ fault.new.status }
 {
@@ -106,8 +106,8 @@ pub extern "C" fn ssz_fields(
     fault: &mut SszFault,
 ) -> u32
     ensures held { handle.new.held.value ≡ handle.old.held.value }
-    ensures answer { IsGiven count.old count.new fault.new
-        (held_in (λ library. fields_in library number) handle.old.held.value) }
+    ensures answer { IsGivenBack count.old count.new fault.new
+        (held_in (λ library. fields_of_type library number) handle.old.held.value) }
     ensures status { result ≡ fault.new.status }
 {
     let Some(library) = handle.take(alloc) else {
@@ -210,7 +210,7 @@ pub extern "C" fn ssz_root(
     fault: &mut SszFault,
 ) -> u32
     ensures held { handle.new.held.value ≡ handle.old.held.value }
-    ensures answer { IsGiven root.old root.new fault.new
+    ensures answer { IsGivenBack root.old root.new fault.new
         (held_in (λ library. root_in library number bytes.now) handle.old.held.value) }
     ensures status { result ≡ fault.new.status }
 {
@@ -312,7 +312,8 @@ pub extern "C" fn ssz_of_json(
     fault: &mut SszFault,
 ) -> u32
     ensures held { handle.new.held.value ≡ handle.old.held.value }
-    ensures made { IsMade handle.old.held.value number text.now room.old room.new len.old len.new
+    ensures made { IsEncodingMade handle.old.held.value number text.now room.old room.new len.old
+        len.new
         fault.new }
     ensures status { result ≡ fault.new.status }
 {

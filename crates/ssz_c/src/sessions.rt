@@ -1,9 +1,9 @@
 // The calls of a session and of its lines.
 ghost use Rattle.std.specs.Prelude.{◌≡◌, None};
-ghost use Rattle.ssz_said.specs.Outcome.{IsCopied, IsGiven};
+ghost use Rattle.ssz_said.specs.Outcome.{IsCopied, IsGivenBack};
 ghost use Rattle.ssz_c.specs.Answering.{nodes_in};
 ghost use Rattle.ssz_c.specs.Reading.{freed};
-ghost use Rattle.ssz_c.specs.Session.{IsRun, IsStarted, IsStartedOn, reply_in};
+ghost use Rattle.ssz_c.specs.Session.{IsRun, IsStarted, IsStartedOn, session_reply};
 
 use super::giving::{copy, fail, give};
 use super::handle::SszSchema;
@@ -102,7 +102,7 @@ pub extern "C" fn ssz_session_reply(
 ) -> u32
     ensures held { handle.new.held.value ≡ handle.old.held.value }
     ensures reply { IsCopied room.old room.new reply_len.old reply_len.new fault.new
-        (reply_in handle.old.held.value) }
+        (session_reply handle.old.held.value) }
     ensures status { result ≡ fault.new.status }
 {
     let Some(session) = handle.take(alloc) else {
@@ -122,7 +122,7 @@ pub extern "C" fn ssz_session_nodes(
     fault: &mut SszFault,
 ) -> u32
     ensures held { handle.new.held.value ≡ handle.old.held.value }
-    ensures count { IsGiven count.old count.new fault.new (nodes_in handle.old.held.value) }
+    ensures count { IsGivenBack count.old count.new fault.new (nodes_in handle.old.held.value) }
     ensures status { result ≡ fault.new.status }
 {
     let Some(session) = handle.take(alloc) else {

@@ -1,9 +1,9 @@
 // The calls of a session that show what a version has.
 ghost use Rattle.std.specs.Prelude.{◌≡◌};
 ghost use Rattle.ssz_said.specs.Entries.{IsProofShown, prove_all_said};
-ghost use Rattle.ssz_said.specs.Outcome.{IsCopied, IsGiven};
+ghost use Rattle.ssz_said.specs.Outcome.{IsCopied, IsGivenBack};
 ghost use Rattle.ssz_said.specs.Proving.{IsBranchCopied, prove_said};
-ghost use Rattle.ssz_said.specs.Replies.{encoding_of, gindex_of, len_of, root_of, text_of};
+ghost use Rattle.ssz_said.specs.Replies.{encoding_of, gindex_of, reply_len, reply_root, reply_text};
 ghost use Rattle.ssz_said.specs.Statements.{bytes_said, gindex_said, json_said, len_said, root_said};
 ghost use Rattle.ssz_c.specs.Answering.{IsCall};
 
@@ -25,7 +25,7 @@ pub extern "C" fn ssz_session_root(
     fault: &mut SszFault,
 ) -> u32
     ensures done { IsCall (root_said name.now) handle.old.held.value handle.new.held.value
-        (λ answer. IsGiven root.old root.new fault.new (root_of answer)) }
+        (λ answer. IsGivenBack root.old root.new fault.new (reply_root answer)) }
     ensures status { result ≡ fault.new.status }
 {
     let answer = handle.answer(alloc, statements::root(alloc, name));
@@ -65,7 +65,7 @@ pub extern "C" fn ssz_session_json(
 ) -> u32
     ensures done { IsCall (json_said name.now path.now) handle.old.held.value
         handle.new.held.value (λ answer. IsCopied room.old room.new len.old len.new fault.new
-        (text_of answer)) }
+        (reply_text answer)) }
     ensures status { result ≡ fault.new.status }
 {
     let answer = handle.answer(alloc, statements::json(alloc, name, path));
@@ -84,7 +84,7 @@ pub extern "C" fn ssz_session_len(
 ) -> u32
     ensures done { IsCall (len_said name.now path.now) handle.old.held.value
         handle.new.held.value
-        (λ answer. IsGiven count.old count.new fault.new (len_of answer)) }
+        (λ answer. IsGivenBack count.old count.new fault.new (reply_len answer)) }
     ensures status { result ≡ fault.new.status }
 {
     let answer = handle.answer(alloc, statements::len(alloc, name, path));
@@ -103,7 +103,7 @@ pub extern "C" fn ssz_session_gindex(
 ) -> u32
     ensures done { IsCall (gindex_said kind.now path.now) handle.old.held.value
         handle.new.held.value
-        (λ answer. IsGiven index.old index.new fault.new (gindex_of answer)) }
+        (λ answer. IsGivenBack index.old index.new fault.new (gindex_of answer)) }
     ensures status { result ≡ fault.new.status }
 {
     let answer = handle.answer(alloc, statements::gindex(alloc, kind, path));

@@ -1,6 +1,6 @@
 // The calls that tell what the types of a schema are.
 ghost use Rattle.std.specs.Prelude.{◌≡◌};
-ghost use Rattle.ssz_said.specs.Outcome.{IsCopied, IsCopiedUnlessMemory, IsGiven};
+ghost use Rattle.ssz_said.specs.Outcome.{IsCopied, IsCopiedUnlessMemory, IsGivenBack};
 ghost use Rattle.ssz_typed.specs.Forms.{form_in, limit_in, parts_in};
 ghost use Rattle.ssz_typed.specs.Names.{names_in, type_name_in, types_in};
 ghost use Rattle.ssz_c.specs.Reading.{IsPartNumbered, held_in};
@@ -21,7 +21,7 @@ pub extern "C" fn ssz_form(
     fault: &mut SszFault,
 ) -> u32
     ensures held { handle.new.held.value ≡ handle.old.held.value }
-    ensures answer { IsGiven form.old form.new fault.new
+    ensures answer { IsGivenBack form.old form.new fault.new
         (held_in (λ library. form_in library number) handle.old.held.value) }
     ensures status { result ≡ fault.new.status }
 {
@@ -43,7 +43,7 @@ pub extern "C" fn ssz_limit(
     fault: &mut SszFault,
 ) -> u32
     ensures held { handle.new.held.value ≡ handle.old.held.value }
-    ensures answer { IsGiven limit.old limit.new fault.new
+    ensures answer { IsGivenBack limit.old limit.new fault.new
         (held_in (λ library. limit_in library number) handle.old.held.value) }
     ensures status { result ≡ fault.new.status }
 {
@@ -65,7 +65,7 @@ pub extern "C" fn ssz_parts(
     fault: &mut SszFault,
 ) -> u32
     ensures held { handle.new.held.value ≡ handle.old.held.value }
-    ensures answer { IsGiven count.old count.new fault.new
+    ensures answer { IsGivenBack count.old count.new fault.new
         (held_in (λ library. parts_in library number) handle.old.held.value) }
     ensures status { result ≡ fault.new.status }
 {
@@ -108,7 +108,7 @@ pub extern "C" fn ssz_types(
     fault: &mut SszFault,
 ) -> u32
     ensures held { handle.new.held.value ≡ handle.old.held.value }
-    ensures answer { IsGiven count.old count.new fault.new
+    ensures answer { IsGivenBack count.old count.new fault.new
         (held_in (λ library. types_in library) handle.old.held.value) }
     ensures status { result ≡ fault.new.status }
 {

@@ -2,8 +2,8 @@
 ghost use Rattle.std.specs.Prelude.{◌≡◌, ℕ, ◌+◌, ◌*◌, ◌<◌, ◌≤◌, List, length};
 ghost use Rattle.ssz_chunk.specs.declared.Chunk.{Chunk};
 ghost use Rattle.ssz_chunk.specs.Chunk.{sha_pair};
-ghost use Rattle.ssz_chunk.specs.Rows.{HalvesUpTo, chunk_at};
-ghost use Rattle.ssz_lanes.specs.Lanes.{bytes_at};
+ghost use Rattle.ssz_chunk.specs.Rows.{HalvesUpTo, chunk_in_row};
+ghost use Rattle.ssz_lanes.specs.Lanes.{lane_bytes};
 
 use super::Chunk;
 use ssz_lanes::{LANES, sha256_pairs};
@@ -12,7 +12,7 @@ use ssz_lanes::{LANES, sha256_pairs};
 fn row_of(chunks: &[Chunk], from: usize, count: usize) -> [[u8; 32]; 2 * LANES]
     requires few { count ≤ 16 }
     requires inside { from + count ≤ length chunks.now }
-    ensures { (i : ℕ) → i < count → bytes_at result i ≡ chunk_at chunks.now (from + i) }
+    ensures { (i : ℕ) → i < count → lane_bytes result i ≡ chunk_in_row chunks.now (from + i) }
 {
     let mut row = [[0; 32]; 2 * LANES];
     for i in 0..count {

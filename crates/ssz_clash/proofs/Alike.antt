@@ -13,7 +13,7 @@ use Rattle.ssz_gindex.specs.Helpers.{is_within, is_on_paths}
 use Rattle.ssz_gindex.specs.Laws.{contains}
 use Rattle.ssz_gindex.proofs.Walking.{contains_is}
 use Rattle.ssz_gindex.proofs.Within.{above_from, below_from, within_parent, within_self, on_paths_from, on_paths_parent}
-use Rattle.ssz_proof.specs.Calculation.{Known, PairOf, chunk_at, calculated, indices_of}
+use Rattle.ssz_proof.specs.Calculation.{Known, PairOf, chunk_at, calculate_root, indices_of}
 use Rattle.ssz_proof.specs.Multiproof.{Multiproof, known_of, IsOrdered}
 use Rattle.ssz_proof.proofs.Descending.{known_is}
 use Rattle.ssz_proof.proofs.KnownChunks.{chunk_at-append, if_some, some_or_none}
@@ -25,10 +25,10 @@ use Rattle.ssz_clash.proofs.Walking.{none-from}
 module _ (pair_of : PairOf) (one other : Multiproof) (none : (h : ℕ)
     → IsClash pair_of one other h → ⊥) where
   abbrev one_at : ℕ → List ℕ
-  one_at g = calculated pair_of (known_of one) g
+  one_at g = calculate_root pair_of (known_of one) g
 
   abbrev other_at : ℕ → List ℕ
-  other_at g = calculated pair_of (known_of other) g
+  other_at g = calculate_root pair_of (known_of other) g
 
   -- where the chunks of an index are the same, so are those of a child on the paths
   child-alike : (g p b : ℕ) → 2 ≤ g → g ≡ p * 2 + b → b < 2
@@ -107,7 +107,7 @@ module _ (pair_of : PairOf) (one other : Multiproof) (none : (h : ℕ)
 
 -- a leaf is what is calculated there
 pub leaf-is : (pair_of : PairOf) (proof : Multiproof) → IsOrdered proof → (g : ℕ) (chunk : List ℕ)
-    → chunk_at proof.leaves g ≡ Some chunk → chunk ≡ calculated pair_of (known_of proof) g
+    → chunk_at proof.leaves g ≡ Some chunk → chunk ≡ calculate_root pair_of (known_of proof) g
 leaf-is pair_of proof ordered g chunk is =
     known_is proof.leaves proof.nodes ordered pair_of g chunk
     (sym (chunk_at-append proof.leaves proof.nodes g
@@ -128,7 +128,7 @@ leaf-positive leaves g all there =
 -- and so at all leaves
 pub leaves-alike : (pair_of : PairOf) (one other : Multiproof) → IsOrdered one → IsOrdered other
     → SamePlaces one.leaves other.leaves → ((h : ℕ) → IsClash pair_of one other h → ⊥)
-    → calculated pair_of (known_of one) 1 ≡ calculated pair_of (known_of other) 1
+    → calculate_root pair_of (known_of one) 1 ≡ calculate_root pair_of (known_of other) 1
     → SameLeaves one.leaves other.leaves
 leaves-alike pair_of one other ordered also places none root g =
     elim (some_or_none (chunk_at one.leaves g)) [

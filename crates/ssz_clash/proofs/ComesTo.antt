@@ -3,10 +3,10 @@ use Rattle.std.proofs.Common.{◌≡◌, ℕ, ◌||◌, Bool, true, false, not, 
 use Rattle.std.proofs.lemmas.Bool.{cases_Bool, false≢true, not-true}
 use Rattle.ssz_chunk.specs.declared.Chunk.{Chunk}
 use Rattle.ssz_gindex.specs.Laws.{contains}
-use Rattle.ssz_proof.specs.Calculation.{Known, PairOf, calculated, chunk_at, indices_of}
+use Rattle.ssz_proof.specs.Calculation.{Known, PairOf, calculate_root, chunk_at, indices_of}
 use Rattle.ssz_proof.specs.Multiproof.{Multiproof, known_of, IsOrdered}
 use Rattle.ssz_proof.proofs.KnownChunks.{any_from, any_known, some_or_none}
-use Rattle.ssz_clash.specs.Clashes.{AreOtherRoots, AreSame, AreUnlike, ComesTo, SameLeaves, SamePlaces}
+use Rattle.ssz_clash.specs.Clashes.{AreOtherRoots, ProofsAgree, AreUnlike, ProofsComeTo, SameLeaves, SamePlaces}
 use Rattle.ssz_clash.specs.Compared.{compared, differ_at, lacks_one, leaves_differ, places_differ, chunks_from}
 use Rattle.ssz_clash.specs.declared.finding.Clash.{Clash}
 use Rattle.ssz_clash.specs.declared.finding.Clash.TheVariants.{Same, Unlike}
@@ -98,7 +98,8 @@ module _ (pair_of : PairOf) (one other : Multiproof) (ordered : IsOrdered one)
   agree-leaves places none g = elim (some_or_none (chunk_at one.leaves g)) [
     | inl mine ↦ elim (some_or_none (chunk_at other.leaves g)) [
       | inl theirs ↦
-          (let same : calculated pair_of (known_of one) g ≡ calculated pair_of (known_of other) g =
+          (let same : calculate_root pair_of (known_of one) g
+          ≡ calculate_root pair_of (known_of other) g =
           same-is pair_of one other g (agrees g (ap is_some mine.1)) in
           mine.1
           ∙ ap (λ (c : List ℕ). Some c)
@@ -139,7 +140,7 @@ module _ (pair_of : PairOf) (one other : Multiproof) (ordered : IsOrdered one)
     sym are.root_of_other,
   ) refl
 
-  same-ones : AreSame pair_of one other → compared pair_of one other ≡ Ok Same
+  same-ones : ProofsAgree pair_of one other → compared pair_of one other ≡ Ok Same
   same-ones are = rw (
     places-agree one other (λ g. ap is_some (are.leaves g)),
     is-same pair_of one other 1 are.root,
@@ -157,7 +158,7 @@ module _ (pair_of : PairOf) (one other : Multiproof) (ordered : IsOrdered one)
       (ap chunks_from (sym are.shown.pair_of_one))
       (ap chunks_from (sym are.shown.pair_of_other)))
 
-  pub comes-compared : (result : Result Clash ClashFault) → ComesTo pair_of one other result
+  pub comes-compared : (result : Result Clash ClashFault) → ProofsComeTo pair_of one other result
       → compared pair_of one other ≡ result
   comes-compared (Err OtherIndices) comes = rw (places-apart one other comes) refl
   comes-compared (Err (OtherRoot a b)) comes = other-roots a b comes

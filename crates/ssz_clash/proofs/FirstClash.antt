@@ -4,11 +4,11 @@ use Rattle.std.specs.Prelude.{MatchOption}
 use Rattle.ssz_chunk.specs.declared.Chunk.{Chunk}
 use Rattle.ssz_gindex.specs.Helpers.{is_within}
 use Rattle.ssz_gindex.proofs.Within.{within_self, within_trans}
-use Rattle.ssz_proof.specs.Calculation.{PairOf, calculated, chunk_at}
+use Rattle.ssz_proof.specs.Calculation.{PairOf, calculate_root, chunk_at}
 use Rattle.ssz_proof.specs.Multiproof.{Multiproof, known_of, IsOrdered}
 use Rattle.ssz_clash.specs.declared.walk.Pairs.{Pairs}
-use Rattle.ssz_clash.specs.Clashes.{IsAbove, IsClash, pair_at, bytes_of}
-use Rattle.ssz_clash.specs.Walks.{AreClashing, IsFirstBelow, IsFirstWithin, pick}
+use Rattle.ssz_clash.specs.Clashes.{IsAbove, IsClash, pair_at, pair_bytes}
+use Rattle.ssz_clash.specs.Walks.{AreClashing, IsFirstBelow, IsFirstWithin, pick_pairs}
 use Rattle.ssz_clash.proofs.Below.{same_index, to_left, to_right, where_below, below_left, below_right, apart_above, known-above-none}
 
 abbrev chunk_from : List ℕ → Chunk
@@ -21,7 +21,7 @@ pair_from bytes = (chunk_from bytes.0, chunk_from bytes.1)
 pub same-chunk : (a b : Chunk) → a.0 ≡ b.0 → a ≡ b
 same-chunk a b same = ap chunk_from same
 
-same-pair : (a b : Chunk × Chunk) → bytes_of a ≡ bytes_of b → a ≡ b
+same-pair : (a b : Chunk × Chunk) → pair_bytes a ≡ pair_bytes b → a ≡ b
 same-pair a b same = ap pair_from same
 
 module _ (pair_of : PairOf) (one other : Multiproof) where
@@ -38,8 +38,8 @@ module _ (pair_of : PairOf) (one other : Multiproof) where
   pub record IsHere (i : ℕ) (found : Pairs) : Type 0 where
     pub index : found.index ≡ i
     pub clash : IsClash pair_of one other i
-    pub pair_of_one : bytes_of found.first ≡ pair_at pair_of one i
-    pub pair_of_other : bytes_of found.second ≡ pair_at pair_of other i
+    pub pair_of_one : pair_bytes found.first ≡ pair_at pair_of one i
+    pub pair_of_other : pair_bytes found.second ≡ pair_at pair_of other i
 
   abbrev pub IsFoundHere : ℕ → Option Pairs → Type 0
   IsFoundHere i None = IsClash pair_of one other i → ⊥
@@ -99,7 +99,7 @@ module _ (pair_of : PairOf) (one other : Multiproof) where
   pub first-within : (i : ℕ) → 0 < i → (here left right : Option Pairs) → IsFoundHere i here
       → IsFirstWithin pair_of one other (2 * i) left
       → IsFirstWithin pair_of one other (2 * i + 1) right
-      → IsFirstWithin pair_of one other i (pick here left right)
+      → IsFirstWithin pair_of one other i (pick_pairs here left right)
   first-within i positive (Some found) left right here before behind = first-here i found here
   first-within i positive None (Some found) right here before behind =
       first-left i positive here found before
@@ -112,10 +112,10 @@ module _ (pair_of : PairOf) (one other : Multiproof) where
   pub record Meet (i : ℕ) (a b : Chunk) (pairs : Pairs) : Type 0 where
     pub index : pairs.index ≡ i
     pub above : IsAbove one.leaves i
-    pub chunk_of_one : a.0 ≡ calculated pair_of (known_of one) i
-    pub chunk_of_other : b.0 ≡ calculated pair_of (known_of other) i
-    pub pair_of_one : bytes_of pairs.first ≡ pair_at pair_of one i
-    pub pair_of_other : bytes_of pairs.second ≡ pair_at pair_of other i
+    pub chunk_of_one : a.0 ≡ calculate_root pair_of (known_of one) i
+    pub chunk_of_other : b.0 ≡ calculate_root pair_of (known_of other) i
+    pub pair_of_one : pair_bytes pairs.first ≡ pair_at pair_of one i
+    pub pair_of_other : pair_bytes pairs.second ≡ pair_at pair_of other i
 
   -- the pairs, if they clash
   pub found-here : (i : ℕ) (a b : Chunk) (pairs : Pairs) (o : Option Pairs) → Meet i a b pairs
@@ -136,5 +136,5 @@ module _ (pair_of : PairOf) (one other : Multiproof) where
       })
   found-here i a b pairs None meet is = λ clash. is (
     same-chunk a b (meet.chunk_of_one ∙ clash.same ∙ sym meet.chunk_of_other),
-    λ same. clash.unlike (sym meet.pair_of_one ∙ ap bytes_of same ∙ meet.pair_of_other),
+    λ same. clash.unlike (sym meet.pair_of_one ∙ ap pair_bytes same ∙ meet.pair_of_other),
   )

@@ -13,7 +13,7 @@ use Rattle.ssz_proof.specs.Calculation.{PairOf, indices_of}
 use Rattle.ssz_proof.specs.Multiproof.{Multiproof, IsProofOf}
 use Rattle.ssz_proof.proofs.Judged.{calculated-given, levels-given}
 use Rattle.ssz_clash.specs.Clashes.{pair_at}
-use Rattle.ssz_clash.specs.Compared.{chunks_from, clash_below_root, clashes_at, compared, differ_at, first_clash, lacks_one, leaves_differ, places_differ, shown}
+use Rattle.ssz_clash.specs.Compared.{chunks_from, clash_below_root, clashes_at, compared, differ_at, first_clash, lacks_one, leaves_differ, places_differ, clash_shown}
 use Rattle.ssz_clash.specs.declared.finding.Clash.TheVariants.{Unlike}
 
 any-same : (p q : ℕ → Bool) (xs ys : List ℕ) → ((g : ℕ) → p g ≡ q g) → IsPermutation xs ys
@@ -84,7 +84,7 @@ module _ (pair_of : PairOf) (lists proof others other : Multiproof) (is : IsProo
       (calculated-given pair_of one made given (2 * g + 1))
 
   shown-given : (found : Option ℕ)
-      → shown pair_of lists others found ≡ shown pair_of proof other found
+      → clash_shown pair_of lists others found ≡ clash_shown pair_of proof other found
   shown-given None = refl
   shown-given (Some g) = ap₂ (λ (a b : List ℕ × List ℕ). Unlike g (chunks_from a) (chunks_from b))
       (pair-given lists proof is g) (pair-given others other also g)

@@ -9,7 +9,7 @@ use Rattle.std.proofs.lemmas.Slice.Eq.{bytes_eq-Decides}
 use Rattle.ssz_chunk.specs.Index.{levels}
 use Rattle.ssz_gindex.specs.Helpers.{is_within}
 use Rattle.ssz_gindex.proofs.Within.{below_from, within_self}
-use Rattle.ssz_proof.specs.Calculation.{Known, PairOf, calculated, chunk_at, indices_of}
+use Rattle.ssz_proof.specs.Calculation.{Known, PairOf, calculate_root, chunk_at, indices_of}
 use Rattle.ssz_proof.specs.Multiproof.{Multiproof, known_of}
 use Rattle.ssz_proof.proofs.KnownChunks.{any_from, any_known}
 use Rattle.ssz_proof.proofs.Within.{child_levels, levels_one, root_within}
@@ -81,10 +81,10 @@ child-right k positive =
 
 module _ (pair_of : PairOf) (one other : Multiproof) where
   abbrev one_at : ℕ → List ℕ
-  one_at g = calculated pair_of (known_of one) g
+  one_at g = calculate_root pair_of (known_of one) g
 
   abbrev other_at : ℕ → List ℕ
-  other_at g = calculated pair_of (known_of other) g
+  other_at g = calculate_root pair_of (known_of other) g
 
   pub same-is : (g : ℕ) → differ_at pair_of one other g ≡ false → one_at g ≡ other_at g
   same-is g e = (bytes_eq-Decides (one_at g) (other_at g)).0 (true-from_not _ e)

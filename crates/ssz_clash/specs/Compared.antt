@@ -7,7 +7,7 @@ use Rattle.ssz_chunk.specs.Index.{levels}
 use Rattle.ssz_chunk.specs.declared.Chunk.{Chunk}
 use Rattle.ssz_gindex.specs.Helpers.{is_within}
 use Rattle.ssz_gindex.specs.Laws.{contains}
-use Rattle.ssz_proof.specs.Calculation.{PairOf, calculated, indices_of}
+use Rattle.ssz_proof.specs.Calculation.{PairOf, calculate_root, indices_of}
 use Rattle.ssz_proof.specs.Multiproof.{Multiproof, known_of}
 use Rattle.ssz_clash.specs.Clashes.{root_of, pair_at}
 use Rattle.ssz_clash.specs.declared.finding.Clash.{Clash}
@@ -28,7 +28,8 @@ places_differ one other =
 -- the chunks of an index, calculated, are not the same
 abbrev pub differ_at : PairOf → Multiproof → Multiproof → ℕ → Bool
 differ_at pair_of one other g =
-    not (bytes_eq (calculated pair_of (known_of one) g) (calculated pair_of (known_of other) g))
+    not (bytes_eq (calculate_root pair_of (known_of one) g)
+    (calculate_root pair_of (known_of other) g))
 
 -- so it is at a leaf
 abbrev pub leaves_differ : PairOf → Multiproof → Multiproof → Bool
@@ -57,16 +58,16 @@ abbrev pub clash_below_root : PairOf → Multiproof → Multiproof → Option �
 clash_below_root pair_of one other =
     first_clash pair_of one other (sum_by levels (indices_of one.leaves)) 1
 
-abbrev pub chunk_from : List ℕ → Chunk
-chunk_from bytes = record { 0 = bytes }
+abbrev pub chunk_of_bytes : List ℕ → Chunk
+chunk_of_bytes bytes = record { 0 = bytes }
 
 abbrev pub chunks_from : List ℕ × List ℕ → Chunk × Chunk
-chunks_from pair = (chunk_from pair.0, chunk_from pair.1)
+chunks_from pair = (chunk_of_bytes pair.0, chunk_of_bytes pair.1)
 
 -- a clash with the pairs below it; unlike leaves of multiproofs always have one
-abbrev pub shown : PairOf → Multiproof → Multiproof → Option ℕ → Clash
-shown pair_of one other None = Same
-shown pair_of one other (Some g) =
+abbrev pub clash_shown : PairOf → Multiproof → Multiproof → Option ℕ → Clash
+clash_shown pair_of one other None = Same
+clash_shown pair_of one other (Some g) =
     Unlike g (chunks_from (pair_at pair_of one g)) (chunks_from (pair_at pair_of other g))
 
 -- what two multiproofs come to: the places are compared first, then the roots, then the leaves
@@ -74,7 +75,8 @@ abbrev pub compared : PairOf → Multiproof → Multiproof → Result Clash Clas
 compared pair_of one other =
     if places_differ one other then Err OtherIndices
     else if differ_at pair_of one other 1
-    then Err (OtherRoot (chunk_from (root_of pair_of one)) (chunk_from (root_of pair_of other)))
+    then Err (OtherRoot (chunk_of_bytes (root_of pair_of one))
+    (chunk_of_bytes (root_of pair_of other)))
     else if leaves_differ pair_of one other
-    then Ok (shown pair_of one other (clash_below_root pair_of one other))
+    then Ok (clash_shown pair_of one other (clash_below_root pair_of one other))
     else Ok Same

@@ -1,7 +1,7 @@
 ghost use Rattle.std.specs.Prelude.{◌≡◌, ◌+◌, ◌*◌, ◌≤◌, sum_by};
 ghost use Rattle.ssz_chunk.specs.Index.{levels};
 ghost use Rattle.ssz_proof.specs.Calculation.{indices_of};
-ghost use Rattle.ssz_clash.specs.Clashes.{ComesTo};
+ghost use Rattle.ssz_clash.specs.Clashes.{ProofsComeTo};
 ghost use Rattle.ssz_clash.specs.Compared.{compared};
 
 use crate::fault::ClashFault;
@@ -26,7 +26,7 @@ pub fn clash<H: PairHash>(
     hasher: &mut H,
 ) -> Result<Clash, ClashFault>
     ensures exact { result ≡ compared H.pair_of first.now second.now }
-    ensures comes { ComesTo H.pair_of first.now second.now result }
+    ensures comes { ProofsComeTo H.pair_of first.now second.now result }
     ensures rises { H.pairs hasher.old ≤ H.pairs hasher.new }
     ensures pairs { H.pairs hasher.new
         ≤ H.pairs hasher.old + 2 * sum_by levels (indices_of first.now.leaves) }

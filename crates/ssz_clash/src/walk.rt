@@ -1,8 +1,8 @@
 ghost use Rattle.std.specs.Prelude.{◌≡◌, ◌+◌, ◌*◌, ◌<◌, ◌≤◌, MatchOption};
-ghost use Rattle.ssz_proof.specs.Calculation.{calculated, indices_of};
+ghost use Rattle.ssz_proof.specs.Calculation.{calculate_root, indices_of};
 ghost use Rattle.ssz_proof.specs.Multiproof.{IsOrdered, known_of};
 ghost use Rattle.ssz_proof.specs.Descent.{IsReached, levels_below};
-ghost use Rattle.ssz_clash.specs.Walks.{AreClashing, IsFirstWithin, pick};
+ghost use Rattle.ssz_clash.specs.Walks.{AreClashing, IsFirstWithin, pick_pairs};
 
 use ssz_chunk::{Chunk, PairHash};
 use ssz_gindex::Gindex;
@@ -40,7 +40,7 @@ fn clash_here(first: &Chunk, second: &Chunk, here: Pairs) -> Option<Pairs>
 
 // The first of clashes in preorder: that of a place itself, that to the left, that to the right.
 fn pick(here: Option<Pairs>, left: Option<Pairs>, right: Option<Pairs>) -> Option<Pairs>
-    ensures { result ≡ pick here left right }
+    ensures { result ≡ pick_pairs here left right }
 {
     here.or(left).or(right)
 }
@@ -57,8 +57,8 @@ pub(crate) fn walk<H: PairHash>(
     requires places { indices_of first.now.leaves ≡ indices_of second.now.leaves }
     requires positive { 0 < index }
     requires reached { IsReached first.now.leaves first.now.nodes index }
-    ensures first { result.first.0 ≡ calculated H.pair_of (known_of first.now) index }
-    ensures second { result.second.0 ≡ calculated H.pair_of (known_of second.now) index }
+    ensures first { result.first.0 ≡ calculate_root H.pair_of (known_of first.now) index }
+    ensures second { result.second.0 ≡ calculate_root H.pair_of (known_of second.now) index }
     ensures clash { IsFirstWithin H.pair_of first.now second.now index result.clash }
     ensures rises { H.pairs hasher.old ≤ H.pairs hasher.new }
     ensures pairs { H.pairs hasher.new

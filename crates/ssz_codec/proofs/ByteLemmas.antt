@@ -5,7 +5,7 @@ use Rattle.ssz_schema.specs.declared.width.Width.TheVariants.{W8}
 use Rattle.ssz_schema.specs.Types.{uint}
 use Rattle.ssz_bytes.specs.declared.fault.Fault.{Fault}
 use Rattle.ssz_value.specs.Values.{number}
-use Rattle.ssz_value.specs.Faults.{why, scopes, bytes_of, alike_fault, elements_fault, length_fault}
+use Rattle.ssz_value.specs.Faults.{first_fault, scopes, scope_bytes, alike_fault, elements_fault, length_fault}
 use Rattle.ssz_value.specs.Reading.{value_in, elements_in}
 use Rattle.ssz_value.proofs.Agree.{right_length, no_fault}
 use Rattle.ssz_parts.proofs.ElementFaults.{head_fault-alike, fixed_found_head}
@@ -18,7 +18,7 @@ one_byte b place h =
     ap (λ n. take n (drop place b)) one ∙ ap (take 1) (drop_more b place 0 h)
 
 bytes_clean_from : (n place s : ℕ) (b : List ℕ) → place + n ≡ length b
-    → alike_fault (why (uint W8)) s (scopes (replicate n (Some 1)) place b) ≡ None
+    → alike_fault (first_fault (uint W8)) s (scopes (replicate n (Some 1)) place b) ≡ None
 bytes_clean_from zero place s b e = refl
 bytes_clean_from (suc n) place s b e =
     no_fault _ _ (right_length 1 (s + place) (slice_range b place (place + 1))
@@ -27,19 +27,19 @@ bytes_clean_from (suc n) place s b e =
 
 -- so many bytes are so many elements
 pub bytes_clean : (count s : ℕ) (b : List ℕ) → length b ≡ count
-    → elements_fault (why (uint W8)) (Some 1) count s b ≡ None
+    → elements_fault (first_fault (uint W8)) (Some 1) count s b ≡ None
 bytes_clean count s b e =
     no_fault _ _ (head_fault-alike count 1 s b
     ∙ right_length (count * 1) s b (omega arith)) (bytes_clean_from count 0 s b (omega arith))
 
 pub bytes_found : (count s : ℕ) (b : List ℕ) (f : Fault) → length_fault count s b ≡ Some f
-    → elements_fault (why (uint W8)) (Some 1) count s b ≡ Some f
+    → elements_fault (first_fault (uint W8)) (Some 1) count s b ≡ Some f
 bytes_found count s b f e =
     let same : count * 1 ≡ count = omega arith in
-    fixed_found_head (why (uint W8)) 1 count s b f (ap (λ n. length_fault n s b) same ∙ e)
+    fixed_found_head (first_fault (uint W8)) 1 count s b f (ap (λ n. length_fault n s b) same ∙ e)
 
 bytes_read_from : (n place : ℕ) (b : List ℕ) → place + n ≡ length b
-    → map (value_in (uint W8)) (bytes_of (scopes (replicate n (Some 1)) place b))
+    → map (value_in (uint W8)) (scope_bytes (scopes (replicate n (Some 1)) place b))
     ≡ map number (drop place b)
 bytes_read_from zero place b e = sym (ap (map number) (drop_all place b (omega arith)))
 bytes_read_from (suc n) place b e =

@@ -5,7 +5,7 @@ use Rattle.std.proofs.lemmas.List.Sums.{sum_by-cons}
 use Rattle.ssz_schema.specs.declared.width.Width.TheVariants.{W8}
 use Rattle.ssz_schema.specs.Types.{SszType, uint}
 use Rattle.ssz_schema.specs.Sizes.{fixed_size, part_length}
-use Rattle.ssz_schema.specs.Unfolding.{tree_at, fields_over, options_over}
+use Rattle.ssz_schema.specs.Unfolding.{type_tree_at, fields_over, options_over}
 use Rattle.ssz_value.specs.declared.value.Value.{Value}
 use Rattle.ssz_value.specs.Values.{SszValue, number}
 use Rattle.ssz_value.specs.Standing.{value_of, IsValue}
@@ -75,13 +75,13 @@ pub FieldSumFrom-more : (trees : List SszType) (fields : List Part) (parts : Lis
     (i total next : ℕ) (part : Part) (v : Value) → FieldSumFrom trees fields parts i total
     → i < length fields → i < length parts → part ≡ get_or fields i part → v ≡ get_or parts i v
     → next ≡ capped (total + capped
-    (part_length (size_at trees part) (size (tree_at trees part.1) (value_of v))))
+    (part_length (size_at trees part) (size (type_tree_at trees part.1) (value_of v))))
     → FieldSumFrom trees fields parts (i + 1) next
 FieldSumFrom-more trees fields parts i total next part v h below within e is next_is =
     let fields_here = drop_at fields i part below e in
     let parts_here = drop_at parts i v within is in
     let here : fields_size (fields_over trees (drop i fields)) (map value_of (drop i parts))
-    ≡ part_length (size_at trees part) (size (tree_at trees part.1) (value_of v)) + fields_size
+    ≡ part_length (size_at trees part) (size (type_tree_at trees part.1) (value_of v)) + fields_size
     (fields_over trees (drop (i + 1) fields)) (map value_of (drop (i + 1) parts)) =
     ap₂ (λ fs vs. fields_size (fields_over trees fs) (map value_of vs)) fields_here parts_here in
     let both : AreFields (fields_over trees (part ∷ drop (i + 1) fields)) (v ∷ drop (i + 1) parts) =
@@ -98,7 +98,7 @@ FieldSumFrom-more trees fields parts i total next part v h below within e is nex
 pub FieldSumFrom-value : (trees : List SszType) (fields : List Part) (parts : List Value)
     (i total : ℕ) (part : Part) (v : Value) → FieldSumFrom trees fields parts i total
     → i < length fields → i < length parts → part ≡ get_or fields i part → v ≡ get_or parts i v
-    → IsValue (tree_at trees part.1) v
+    → IsValue (type_tree_at trees part.1) v
 FieldSumFrom-value trees fields parts i total part v h below within e is =
     let both : AreFields (fields_over trees (part ∷ drop (i + 1) fields)) (v ∷ drop (i + 1) parts) =
     subst (λ (vs : List Value). AreFields (fields_over trees (part ∷ drop (i + 1) fields)) vs)
@@ -123,10 +123,10 @@ FieldSumFrom-end trees fields parts i total h all =
 -- the size of the value of an option
 pub option_size_at : (trees : List SszType) (ids : List (Option ℕ)) (k id : ℕ) (w : SszValue)
     → Some (Some id) ≡ slice_get ids k
-    → option_size (options_over trees ids) k w ≡ size (tree_at trees id) w
+    → option_size (options_over trees ids) k w ≡ size (type_tree_at trees id) w
 option_size_at trees [] k id w e = cc
 option_size_at trees (None ∷ ids) zero id w e = cc
 option_size_at trees (Some other ∷ ids) zero id w e = let same : other ≡ id =
-    cc in ap (λ n. size (tree_at trees n) w) same
+    cc in ap (λ n. size (type_tree_at trees n) w) same
 option_size_at trees (None ∷ ids) (suc k) id w e = option_size_at trees ids k id w e
 option_size_at trees (Some other ∷ ids) (suc k) id w e = option_size_at trees ids k id w e

@@ -6,8 +6,8 @@ use Rattle.ssz_bytes.specs.Bytes.{IsBytes}
 use Rattle.ssz_schema.specs.declared.width.Width.{Width}
 use Rattle.ssz_schema.specs.Types.{SszType, uint, list}
 use Rattle.ssz_schema.specs.Sizes.{byte_count, head_size, fixed_size}
-use Rattle.ssz_schema.specs.Unfolding.{tree_at}
-use Rattle.ssz_value.specs.Faults.{why, count_fault}
+use Rattle.ssz_schema.specs.Unfolding.{type_tree_at}
+use Rattle.ssz_value.specs.Faults.{first_fault, count_fault}
 use Rattle.ssz_value.proofs.Agree.{right_length, no_fault}
 use Rattle.ssz_value.proofs.Cut.{passes}
 use Rattle.ssz_value.proofs.PartLemmas.{Part, sizes_of, size_at}
@@ -18,7 +18,7 @@ use Rattle.ssz_codec.proofs.ReadLemmas.{field_range}
 
 -- where its part lies
 pub number_range : (trees : List SszType) (parts : List Part) (b : List ℕ) (i place : ℕ)
-    (part : Part) (w : Width) → tree_at trees part.1 ≡ uint w
+    (part : Part) (w : Width) → type_tree_at trees part.1 ≡ uint w
     → (place, place + byte_count w)
     ≡ part_range (size_at trees part) (sizes_of trees (drop (i + 1) parts)) place b
 number_range trees parts b i place part w is =
@@ -28,16 +28,16 @@ number_range trees parts b i place part w is =
 -- it has no fault
 pub FieldsFrom-number : (trees : List SszType) (parts : List Part) (s : ℕ) (b : List ℕ)
     (i place : ℕ) (part : Part) (w : Width) → FieldsFrom trees parts s b i place
-    → i < length parts → part ≡ get_or parts i part → tree_at trees part.1 ≡ uint w
+    → i < length parts → part ≡ get_or parts i part → type_tree_at trees part.1 ≡ uint w
     → FieldsFrom trees parts s b (i + 1) (place + byte_count w)
 FieldsFrom-number trees parts s b i place part w h below e is =
     let range = number_range trees parts b i place part w is in
     let room = (field_range trees parts s b i place place (place + byte_count w) part h below e
     range).1 in
     let whole = range_length b place (byte_count w) room in
-    let clean : why (tree_at trees part.1) (s + place)
+    let clean : first_fault (type_tree_at trees part.1) (s + place)
     (slice_range b place (place + byte_count w)) ≡ None =
-    ap (λ (t : SszType). why t (s + place) (slice_range b place (place + byte_count w))) is
+    ap (λ (t : SszType). first_fault t (s + place) (slice_range b place (place + byte_count w))) is
     ∙ right_length (byte_count w) (s + place) (slice_range b place (place + byte_count w)) whole in
     subst (λ (n : ℕ). FieldsFrom trees parts s b (i + 1) (place + n))
     (ap (λ (t : SszType). head_size (fixed_size t)) is)
@@ -46,7 +46,8 @@ FieldsFrom-number trees parts s b i place part w h below e is =
 
 -- numbers of a list have no fault where their number has none
 list_clean : (w : Width) (limit s : ℕ) (b : List ℕ) → IsBytes b
-    → count_fault (Some (byte_count w)) limit s b ≡ None → why (list (uint w) limit) s b ≡ None
+    → count_fault (Some (byte_count w)) limit s b ≡ None
+    → first_fault (list (uint w) limit) s b ≡ None
 list_clean w limit s b bytes e =
     let z = byte_count w in
     let whole : length b % byte_count w ≡ 0 =
@@ -59,8 +60,8 @@ list_clean w limit s b bytes e =
 
 pub numbers_list : (t : SszType) (w : Width) (size : Option ℕ) (limit s : ℕ) (b : List ℕ)
     → t ≡ uint w → size ≡ fixed_size t → IsBytes b → count_fault size limit s b ≡ None
-    → why (list t limit) s b ≡ None
+    → first_fault (list t limit) s b ≡ None
 numbers_list t w size limit s b is same bytes e =
-    ap (λ (elem : SszType). why (list elem limit) s b) is
+    ap (λ (elem : SszType). first_fault (list elem limit) s b) is
     ∙ list_clean w limit s b bytes
     (ap (λ z. count_fault z limit s b) (sym (same ∙ ap fixed_size is)) ∙ e)

@@ -1,11 +1,11 @@
 -- The value of the option that a union's bytes choose.
 use Rattle.std.proofs.Common.{ℕ, zero, suc, ◌+◌, ◌<◌, ◌≡◌, List, [], ◌∷◌, length, get_or, drop, slice_get, Option, Some, None, Result, cond, ltb, refl, sym, ap, ◌∙◌, arith}
 use Rattle.ssz_schema.specs.Types.{SszType, Options, union}
-use Rattle.ssz_schema.specs.Unfolding.{tree_at, options_over}
+use Rattle.ssz_schema.specs.Unfolding.{type_tree_at, options_over}
 use Rattle.ssz_value.specs.declared.value.Value.{Value}
 use Rattle.ssz_value.specs.Values.{chosen, chosen_none}
 use Rattle.ssz_value.specs.Standing.{Stands}
-use Rattle.ssz_value.specs.Faults.{why}
+use Rattle.ssz_value.specs.Faults.{first_fault}
 use Rattle.ssz_bytes.specs.Faults.{extra}
 use Rattle.ssz_value.specs.Reading.{value_in, option_in}
 use Rattle.ssz_parts.proofs.UnionLemmas.{union_none}
@@ -23,18 +23,18 @@ option_in-none trees (Some id ∷ ids) (suc left) k b e = option_in-none trees i
 
 option_in-some : (trees : List SszType) (ids : List (Option ℕ)) (left k id : ℕ) (b : List ℕ)
     → Some (Some id) ≡ slice_get ids left
-    → option_in (options_over trees ids) left k b ≡ chosen k (value_in (tree_at trees id) b)
+    → option_in (options_over trees ids) left k b ≡ chosen k (value_in (type_tree_at trees id) b)
 option_in-some trees [] left k id b e = cc
 option_in-some trees (None ∷ ids) zero k id b e = cc
 option_in-some trees (Some other ∷ ids) zero k id b e = let same : other ≡ id =
-    cc in ap (λ n. chosen k (value_in (tree_at trees n) b)) same
+    cc in ap (λ n. chosen k (value_in (type_tree_at trees n) b)) same
 option_in-some trees (None ∷ ids) (suc left) k id b e = option_in-some trees ids left k id b e
 option_in-some trees (Some other ∷ ids) (suc left) k id b e = option_in-some trees ids left k id b e
 
 pub union_value : (trees : List SszType) (ids : List (Option ℕ)) (id : ℕ) (b : List ℕ)
     → 0 < length b → Some (Some id) ≡ slice_get ids (get_or b 0 0)
     → value_in (union (options_over trees ids)) b
-    ≡ chosen (get_or b 0 0) (value_in (tree_at trees id) (drop 1 b))
+    ≡ chosen (get_or b 0 0) (value_in (type_tree_at trees id) (drop 1 b))
 union_value trees ids id [] some e = absurd (omega arith)
 union_value trees ids id (k ∷ b) some e = option_in-some trees ids k k id b e
 
@@ -49,7 +49,7 @@ pub none_decodes : (trees : List SszType) (ids : List (Option ℕ)) (s : ℕ) (b
     → rest ≡ drop 1 b
     → Decodes (cond (ltb 0 (length rest)) (extra (s + 1)) None) (λ v. (os : Options)
     → Stands (union os) (chosen_none (get_or b 0 0)) v) r
-    → Decodes (why (union (options_over trees ids)) s b)
+    → Decodes (first_fault (union (options_over trees ids)) s b)
     (Stands (union (options_over trees ids)) (value_in (union (options_over trees ids)) b)) r
 none_decodes trees ids s b rest r some e is h =
     Decodes-map _ _ (λ v. (os : Options)

@@ -7,23 +7,23 @@ use Rattle.ssz_bytes.specs.Bytes.{IsBytes, le_number}
 use Rattle.ssz_bytes.proofs.Numbers.{le_number_lt, IsBytes-drop, IsBytes-take}
 use Rattle.ssz_bytes.proofs.Bits.{power_of_bytes}
 use Rattle.ssz_value.specs.Encoding.{heads_length}
-use Rattle.ssz_value.specs.Faults.{why, first_fault, fields_fault, alike_fault, elements_fault, scopes}
+use Rattle.ssz_value.specs.Faults.{first_fault, first_offset_fault, fields_fault, alike_fault, elements_fault, scopes}
 use Rattle.ssz_value.proofs.Agree.{right_length, no_fault, same_some}
-use Rattle.ssz_codec.specs.Plain.{is_plain, are_plain}
+use Rattle.ssz_codec.specs.Plain.{has_plain_encoding, are_plain}
 use Rattle.ssz_parts.proofs.ElementFaults.{head_fault-alike}
 
 -- no bytes of its size have a fault
 pub record IsClean (t : SszType) : Type 0 where
   pub size : ℕ
   pub fixed : fixed_size t ≡ Some size
-  pub clean : (s : ℕ) (b : List ℕ) → IsBytes b → length b ≡ size → why t s b ≡ None
+  pub clean : (s : ℕ) (b : List ℕ) → IsBytes b → length b ≡ size → first_fault t s b ≡ None
 
 pub record AreClean (fs : Fields) : Type 0 where
   pub size : ℕ
   pub fixed : total_size (part_sizes fs) ≡ Some size
   pub heads : heads_length (part_sizes fs) ≡ size
   pub first : (place end s : ℕ) (b : List ℕ) → length b ≤ end
-      → first_fault (part_sizes fs) place end s b ≡ None
+      → first_offset_fault (part_sizes fs) place end s b ≡ None
   pub clean : (place s : ℕ) (b : List ℕ) → IsBytes b → place + size ≤ length b
       → fields_fault fs s (scopes (part_sizes fs) place b) ≡ None
 
@@ -48,9 +48,9 @@ clean_bits n whole = record {
 }
 
 clean_elements : (t : SszType) (z : ℕ)
-    → ((s : ℕ) (b : List ℕ) → IsBytes b → length b ≡ z → why t s b ≡ None)
+    → ((s : ℕ) (b : List ℕ) → IsBytes b → length b ≡ z → first_fault t s b ≡ None)
     → (n place s : ℕ) (b : List ℕ) → IsBytes b → place + n * z ≤ length b
-    → alike_fault (why t) s (scopes (replicate n (Some z)) place b) ≡ None
+    → alike_fault (first_fault t) s (scopes (replicate n (Some z)) place b) ≡ None
 clean_elements t z clean zero place s b bytes room = refl
 clean_elements t z clean (suc n) place s b bytes room =
     no_fault _ _ (clean (s + place) (slice_range b place (place + z))
@@ -60,10 +60,10 @@ clean_elements t z clean (suc n) place s b bytes room =
 -- so many elements of a clean type have no fault
 pub elements_clean : (t : SszType) (size count s : ℕ) (b : List ℕ) → IsClean t
     → fixed_size t ≡ Some size → IsBytes b → length b ≡ count * size
-    → elements_fault (why t) (Some size) count s b ≡ None
+    → elements_fault (first_fault t) (Some size) count s b ≡ None
 elements_clean t size count s b h fixed bytes e =
     let same : h.size ≡ size = same_some h.size size (sym h.fixed ∙ fixed) in
-    let clean : (s : ℕ) (b : List ℕ) → IsBytes b → length b ≡ size → why t s b ≡ None =
+    let clean : (s : ℕ) (b : List ℕ) → IsBytes b → length b ≡ size → first_fault t s b ≡ None =
     λ s b bytes long. h.clean s b bytes (long ∙ sym same) in
     no_fault _ _ (head_fault-alike count size s b ∙ right_length (count * size) s b e)
     (clean_elements t size clean count 0 s b bytes (omega (arith, e)))
@@ -72,7 +72,7 @@ clean_vector : (t : SszType) (n : ℕ) → IsClean t → IsClean (vector t n)
 clean_vector t n h = record {
   size = n * h.size;
   fixed = ap (option_map (λ z. n * z)) h.fixed;
-  clean = λ s b bytes e. ap (λ size. elements_fault (why t) size n s b) h.fixed
+  clean = λ s b bytes e. ap (λ size. elements_fault (first_fault t) size n s b) h.fixed
       ∙ elements_clean t h.size n s b h h.fixed bytes e;
 }
 
@@ -94,7 +94,7 @@ clean_field name t fs h rest = record {
   heads = ap (λ size. heads_length (size ∷ part_sizes fs)) h.fixed
       ∙ ap (λ n. h.size + n) rest.heads;
   first = λ place end s b within.
-      (ap (λ size. first_fault (size ∷ part_sizes fs) place end s b) h.fixed
+      (ap (λ size. first_offset_fault (size ∷ part_sizes fs) place end s b) h.fixed
       ∙ rest.first (place + h.size) end s b within);
   clean = λ place s b bytes room. (
       ap (λ size. fields_fault (field name t fs) s (scopes (size ∷ part_sizes fs) place b)) h.fixed
@@ -116,7 +116,7 @@ clean_container fs h = record {
 }
 
 mutual
-  pub clean_of : (t : SszType) → is_plain t ≡ true → IsClean t
+  pub clean_of : (t : SszType) → has_plain_encoding t ≡ true → IsClean t
   clean_of (uint w) e = record {
     size = byte_count w;
     fixed = refl;

@@ -5,7 +5,7 @@ use Rattle.ssz_schema.specs.Types.{SszType, list, vector}
 use Rattle.ssz_schema.specs.Sizes.{head_size, fixed_size}
 use Rattle.ssz_schema.specs.declared.format.Format.{Format}
 use Rattle.ssz_schema.specs.Legal.{IsLegal}
-use Rattle.ssz_schema.specs.Unfolding.{tree_at, fields_over}
+use Rattle.ssz_schema.specs.Unfolding.{type_tree_at, fields_over}
 use Rattle.ssz_bytes.specs.declared.fault.Fault.{Fault}
 use Rattle.ssz_value.specs.declared.value.Value.{Value}
 use Rattle.ssz_value.specs.Encoding.{heads_length}
@@ -14,7 +14,7 @@ use Rattle.ssz_value.specs.Laws.{Encodes}
 use Rattle.ssz_value.proofs.Agree.{IsInput}
 use Rattle.ssz_value.proofs.ExactLaw.{agrees}
 use Rattle.ssz_value.specs.Standing.{value_of, Stands, IsValue}
-use Rattle.ssz_value.specs.Faults.{why, elements_fault, element_count, count_fault, scopes, bytes_of, offset_at, next_offset, ◌otherwise◌}
+use Rattle.ssz_value.specs.Faults.{first_fault, elements_fault, element_count, count_fault, scopes, scope_bytes, offset_at, next_offset, ◌otherwise◌}
 use Rattle.ssz_value.specs.Reading.{value_in, elements_in, fields_in}
 use Rattle.ssz_parts.specs.Ranges.{part_range}
 use Rattle.ssz_parts.proofs.ElementFaults.{left}
@@ -41,14 +41,14 @@ Decodes-map old new P Q (Err f) h e step = subst (λ (fault : Option Fault). Fau
 -- the values read, and those of the parts from element i on, are all
 pub record ReadFrom (t : SszType) (size : Option ℕ) (count : ℕ) (b : List ℕ) (i place : ℕ)
     (values : List SszValue) : Type 0 where
-  pub all : values ++ map (value_in t) (bytes_of (scopes (replicate (count - i) size) place b))
+  pub all : values ++ map (value_in t) (scope_bytes (scopes (replicate (count - i) size) place b))
       ≡ map (value_in t) (elements_in size count b)
 
 pub ReadFrom-start : (t : SszType) (size : Option ℕ) (count place : ℕ) (b : List ℕ) → place ≡ 0
     → ReadFrom t size count b 0 place []
 ReadFrom-start t size count place b e =
     record {
-      all = ap₂ (λ n p. map (value_in t) (bytes_of (scopes (replicate n size) p b)))
+      all = ap₂ (λ n p. map (value_in t) (scope_bytes (scopes (replicate n size) p b)))
           (omega arith) e;
     }
 
@@ -66,11 +66,11 @@ ReadFrom-fixed t z count b i values v h below is =
     (replicate (count - (i + 1)) (Some z)) place b) next in
     record {
       all = append_assoc values (v ∷ [])
-          (map (value_in t) (bytes_of
+          (map (value_in t) (scope_bytes
           (scopes (replicate (count - (i + 1)) (Some z)) ((i + 1) * z) b)))
           ∙ ap (λ w. values ++ w ∷ map (value_in t)
-          (bytes_of (scopes (replicate (count - (i + 1)) (Some z)) ((i + 1) * z) b))) is
-          ∙ sym (ap (λ parts. values ++ map (value_in t) (bytes_of parts)) cut) ∙ h.all;
+          (scope_bytes (scopes (replicate (count - (i + 1)) (Some z)) ((i + 1) * z) b))) is
+          ∙ sym (ap (λ parts. values ++ map (value_in t) (scope_bytes parts)) cut) ∙ h.all;
     }
 
 pub ReadFrom-variable : (t : SszType) (count : ℕ) (b : List ℕ) (i : ℕ) (values : List SszValue)
@@ -89,10 +89,11 @@ ReadFrom-variable t count b i values v h below is =
     (replicate (count - (i + 1)) None) place b) next in
     record {
       all = append_assoc values (v ∷ [])
-          (map (value_in t) (bytes_of (scopes (replicate (count - (i + 1)) None) (4 * (i + 1)) b)))
+          (map (value_in t) (scope_bytes
+          (scopes (replicate (count - (i + 1)) None) (4 * (i + 1)) b)))
           ∙ ap (λ w. values ++ w ∷ map (value_in t)
-          (bytes_of (scopes (replicate (count - (i + 1)) None) (4 * (i + 1)) b))) is
-          ∙ sym (ap (λ parts. values ++ map (value_in t) (bytes_of parts)) cut) ∙ h.all;
+          (scope_bytes (scopes (replicate (count - (i + 1)) None) (4 * (i + 1)) b))) is
+          ∙ sym (ap (λ parts. values ++ map (value_in t) (scope_bytes parts)) cut) ∙ h.all;
     }
 
 pub ReadFrom-end : (t : SszType) (size : Option ℕ) (count : ℕ) (b : List ℕ) (i place : ℕ)
@@ -101,15 +102,15 @@ pub ReadFrom-end : (t : SszType) (size : Option ℕ) (count : ℕ) (b : List ℕ
 ReadFrom-end t size count b i place values h all =
     let none : count - i ≡ 0 = omega arith in
     sym (append-nil values) ∙ sym
-    (ap (λ n. values ++ map (value_in t) (bytes_of (scopes (replicate n size) place b))) none)
+    (ap (λ n. values ++ map (value_in t) (scope_bytes (scopes (replicate n size) place b))) none)
     ∙ h.all
 
 -- the same of fields
 pub record FieldsRead (trees : List SszType) (parts : List Part) (b : List ℕ) (i place : ℕ)
     (values : List SszValue) : Type 0 where
   pub all : values ++ fields_in (fields_over trees (drop i parts))
-      (bytes_of (scopes (sizes_of trees (drop i parts)) place b))
-      ≡ fields_in (fields_over trees parts) (bytes_of (scopes (sizes_of trees parts) 0 b))
+      (scope_bytes (scopes (sizes_of trees (drop i parts)) place b))
+      ≡ fields_in (fields_over trees parts) (scope_bytes (scopes (sizes_of trees parts) 0 b))
 
 pub FieldsRead-start : (trees : List SszType) (parts : List Part) (b : List ℕ)
     → FieldsRead trees parts b 0 0 []
@@ -118,12 +119,12 @@ FieldsRead-start trees parts b = record { all = refl }
 next_read : (trees : List SszType) (parts : List Part) (b : List ℕ) (place : ℕ) (part : Part)
     (size : Option ℕ) → size_at trees part ≡ size
     → fields_in (fields_over trees (part ∷ parts))
-    (bytes_of (scopes (size ∷ sizes_of trees parts) place b))
-    ≡ value_in (tree_at trees part.1)
+    (scope_bytes (scopes (size ∷ sizes_of trees parts) place b))
+    ≡ value_in (type_tree_at trees part.1)
     (slice_range b (part_range size (sizes_of trees parts) place b).0
     (part_range size (sizes_of trees parts) place b).1)
     ∷ fields_in (fields_over trees parts)
-    (bytes_of (scopes (sizes_of trees parts) (place + head_size size) b))
+    (scope_bytes (scopes (sizes_of trees parts) (place + head_size size) b))
 next_read trees parts b place part (Some z) e = refl
 next_read trees parts b place part None e = refl
 
@@ -131,53 +132,54 @@ pub FieldsRead-more : (trees : List SszType) (parts : List Part) (b : List ℕ) 
     (part : Part) (values : List SszValue) (v : SszValue) → FieldsRead trees parts b i place values
     → i < length parts → part ≡ get_or parts i part
     → (from, to) ≡ part_range (size_at trees part) (sizes_of trees (drop (i + 1) parts)) place b
-    → v ≡ value_in (tree_at trees part.1) (slice_range b from to)
+    → v ≡ value_in (type_tree_at trees part.1) (slice_range b from to)
     → FieldsRead trees parts b (i + 1) (place + head_size (size_at trees part)) (values ++ v ∷ [])
 FieldsRead-more trees parts b i place from to part values v h below e is read =
     let here = ap (λ ps. fields_in (fields_over trees ps)
-    (bytes_of (scopes (sizes_of trees ps) place b))) (drop_at parts i part below e)
+    (scope_bytes (scopes (sizes_of trees ps) place b))) (drop_at parts i part below e)
     ∙ next_read trees (drop (i + 1) parts) b place part (size_at trees part) refl in
-    let same : v ≡ value_in (tree_at trees part.1)
+    let same : v ≡ value_in (type_tree_at trees part.1)
     (slice_range b (part_range (size_at trees part)
     (sizes_of trees (drop (i + 1) parts)) place b).0
     (part_range (size_at trees part) (sizes_of trees (drop (i + 1) parts)) place b).1) =
-    read ∙ ap (λ (r : ℕ × ℕ). value_in (tree_at trees part.1) (slice_range b r.0 r.1)) is in
+    read ∙ ap (λ (r : ℕ × ℕ). value_in (type_tree_at trees part.1) (slice_range b r.0 r.1)) is in
     record {
       all = append_assoc values (v ∷ [])
           (fields_in (fields_over trees (drop (i + 1) parts))
-          (bytes_of (scopes (sizes_of trees (drop (i + 1) parts))
+          (scope_bytes (scopes (sizes_of trees (drop (i + 1) parts))
           (place + head_size (size_at trees part)) b)))
           ∙ ap (λ w. values ++ w ∷ fields_in (fields_over trees (drop (i + 1) parts))
-          (bytes_of (scopes (sizes_of trees (drop (i + 1) parts))
+          (scope_bytes (scopes (sizes_of trees (drop (i + 1) parts))
           (place + head_size (size_at trees part)) b))) same
           ∙ sym (ap (λ vs. values ++ vs) here) ∙ h.all;
     }
 
 pub FieldsRead-end : (trees : List SszType) (parts : List Part) (b : List ℕ) (i place : ℕ)
     (values : List SszValue) → FieldsRead trees parts b i place values → length parts ≤ i
-    → values ≡ fields_in (fields_over trees parts) (bytes_of (scopes (sizes_of trees parts) 0 b))
+    → values ≡ fields_in (fields_over trees parts) (scope_bytes (scopes (sizes_of trees parts) 0 b))
 FieldsRead-end trees parts b i place values h all =
     sym (append-nil values) ∙ sym
     (ap (λ ps. values ++ fields_in (fields_over trees ps)
-    (bytes_of (scopes (sizes_of trees ps) place b))) (drop_all i parts all)) ∙ h.all
+    (scope_bytes (scopes (sizes_of trees ps) place b))) (drop_all i parts all)) ∙ h.all
 
 -- the values of one part more
 -- a list whose number of elements is right
 pub list_decodes : (t : SszType) (limit count s : ℕ) (b : List ℕ) (size : Option ℕ)
     (r : Result Value DecodeFault) → size ≡ fixed_size t → count ≡ element_count size b
     → None ≡ count_fault size limit s b
-    → Decodes (elements_fault (why t) (fixed_size t) count s b)
+    → Decodes (elements_fault (first_fault t) (fixed_size t) count s b)
     (Stands (vector t count)
     (sequence (values (map (value_in t) (elements_in (fixed_size t) count b))))) r
-    → Decodes (why (list t limit) s b) (Stands (list t limit) (value_in (list t limit) b)) r
+    → Decodes (first_fault (list t limit) s b) (Stands (list t limit) (value_in (list t limit) b)) r
 list_decodes t limit count s b size r e number none h =
     let count_is : count ≡ element_count (fixed_size t) b =
     number ∙ ap (λ z. element_count z b) e in
     let clean : count_fault (fixed_size t) limit s b ≡ None =
     sym (none ∙ ap (λ z. count_fault z limit s b) e) in
-    let fault : elements_fault (why t) (fixed_size t) count s b ≡ why (list t limit) s b =
-    ap (λ n. elements_fault (why t) (fixed_size t) n s b) count_is
-    ∙ sym (ap (λ f. f otherwise elements_fault (why t) (fixed_size t)
+    let fault : elements_fault (first_fault t) (fixed_size t) count s b
+    ≡ first_fault (list t limit) s b =
+    ap (λ n. elements_fault (first_fault t) (fixed_size t) n s b) count_is
+    ∙ sym (ap (λ f. f otherwise elements_fault (first_fault t) (fixed_size t)
     (element_count (fixed_size t) b) s b) clean) in
     Decodes-map _ _ (Stands (vector t count)
     (sequence (values (map (value_in t) (elements_in (fixed_size t) count b)))))
@@ -191,7 +193,7 @@ list_decodes t limit count s b size r e number none h =
 
 -- what is decoded is a value whose encoding the bytes are
 pub decoded_encodes : (format : Format) (t : SszType) (b : List ℕ) (r : Result Value DecodeFault)
-    → IsLegal format t → IsInput b → Decodes (why t 0 b) (Stands t (value_in t b)) r
+    → IsLegal format t → IsInput b → Decodes (first_fault t 0 b) (Stands t (value_in t b)) r
     → IfOk r (λ v. Encodes t (value_of v) b)
 decoded_encodes format t b (Ok v) legal input h =
     let back = (agrees format t legal).only 0 b input h.0 in
@@ -200,7 +202,7 @@ decoded_encodes format t b (Ok v) legal input h =
 decoded_encodes format t b (Err e) legal input h = tt
 
 pub decoded_fits : (format : Format) (t : SszType) (b : List ℕ) (r : Result Value DecodeFault)
-    → IsLegal format t → IsInput b → Decodes (why t 0 b) (Stands t (value_in t b)) r
+    → IsLegal format t → IsInput b → Decodes (first_fault t 0 b) (Stands t (value_in t b)) r
     → IfOk r (IsValue t)
 decoded_fits format t b (Ok v) legal input h =
     let back = (agrees format t legal).only 0 b input h.0 in

@@ -10,7 +10,7 @@ use Rattle.ssz_schema.specs.Legal.{IsLegal, AreLegalFields}
 use Rattle.ssz_value.specs.declared.value.Value.{Value}
 use Rattle.ssz_value.specs.Standing.{value_of, IsValue}
 use Rattle.ssz_bytes.specs.Bytes.{le_bytes}
-use Rattle.ssz_value.specs.Encoding.{enc, heads, bodies, heads_length, joined, joined_alike, field_encodings}
+use Rattle.ssz_value.specs.Encoding.{serialize, heads, bodies, heads_length, joined, joined_alike, field_encodings}
 use Rattle.ssz_value.specs.Values.{Fits}
 use Rattle.ssz_bytes.proofs.Numbers.{length-le_bytes}
 use Rattle.ssz_parts.proofs.PartSizes.{heads_alike}
@@ -19,7 +19,7 @@ use Rattle.ssz_value.proofs.Sequences.{AreParts-alike}
 use Rattle.ssz_value.proofs.ExactLaw.{agrees, fields_agree}
 use Rattle.ssz_value.proofs.FitLemmas.{fit_fields}
 use Rattle.ssz_value.specs.Shapes.{AreFields}
-use Rattle.ssz_codec.specs.Writing.{Writes, PutsPart, Place}
+use Rattle.ssz_codec.specs.Writing.{WritesEncoding, PutsPart, Place}
 
 -- room behind a place
 
@@ -41,11 +41,11 @@ written_at old sub post at n before fits =
     ∙ take_both (take at old) (sub ++ post) n
     ∙ ap (λ ys. take at old ++ ys) (take-append-le n sub post fits)
 
-pub Writes-fits : (bytes room : List ℕ) (n : ℕ) → Writes bytes n room → n ≤ length room
+pub Writes-fits : (bytes room : List ℕ) (n : ℕ) → WritesEncoding bytes n room → n ≤ length room
 Writes-fits bytes room n h = omega (arith, h.count, ap length h.bytes, length-take n room)
 
 pub puts_fixed : (size : Option ℕ) (z n : ℕ) (bytes : List ℕ) (at : Place)
-    (front back sub post : List ℕ) → size ≡ Some z → length bytes ≡ z → Writes bytes n sub
+    (front back sub post : List ℕ) → size ≡ Some z → length bytes ≡ z → WritesEncoding bytes n sub
     → at.0 ≤ length front
     → PutsPart size bytes at (at.0 + n, at.1) front back (take at.0 front ++ (sub ++ post)) back
 puts_fixed size z n bytes at front back sub post e sized h before =
@@ -84,7 +84,7 @@ length-put old sub at n before same =
 
 pub puts_variable : (size : Option ℕ) (n : ℕ) (bytes : List ℕ) (at : Place)
     (front back offset post sub end : List ℕ) → size ≡ None
-    → offset ≡ le_bytes 4 (length front + at.1) → Writes bytes n sub → at.0 ≤ length front
+    → offset ≡ le_bytes 4 (length front + at.1) → WritesEncoding bytes n sub → at.0 ≤ length front
     → at.1 ≤ length back
     → PutsPart size bytes at (at.0 + 4, at.1 + n) front back (take at.0 front ++ (offset ++ post))
     (take at.1 back ++ (sub ++ end))
@@ -116,10 +116,11 @@ joined_length sizes parts h =
     )
 
 pub joined_elements : (t : SszType) (vs : List Value)
-    → joined_alike (fixed_size t) (map (enc t) (map value_of vs))
-    ≡ joined (replicate (length vs) (fixed_size t)) (map (enc t) (map value_of vs))
-joined_elements t vs = ap (λ n. joined (replicate n (fixed_size t)) (map (enc t) (map value_of vs)))
-    (length-map (map value_of vs) (enc t) ∙ length-map vs value_of)
+    → joined_alike (fixed_size t) (map (serialize t) (map value_of vs))
+    ≡ joined (replicate (length vs) (fixed_size t)) (map (serialize t) (map value_of vs))
+joined_elements t vs =
+    ap (λ n. joined (replicate n (fixed_size t)) (map (serialize t) (map value_of vs)))
+    (length-map (map value_of vs) (serialize t) ∙ length-map vs value_of)
 
 all_fit : (t : SszType) (vs : List Value) → AllByRecursion (IsValue t) vs
     → AllByRecursion (Fits t) (map value_of vs)
@@ -128,20 +129,21 @@ all_fit t (v ∷ vs) h = (h.0.fits, all_fit t vs h.1)
 
 pub elements_length : (format : Format) (t : SszType) (vs : List Value) → IsLegal format t
     → AllByRecursion (IsValue t) vs
-    → length (joined_alike (fixed_size t) (map (enc t) (map value_of vs)))
+    → length (joined_alike (fixed_size t) (map (serialize t) (map value_of vs)))
     ≡ length vs * head_size (fixed_size t) + length
-    (bodies (replicate (length vs) (fixed_size t)) (map (enc t) (map value_of vs)))
+    (bodies (replicate (length vs) (fixed_size t)) (map (serialize t) (map value_of vs)))
 elements_length format t vs legal h =
-    let count : length (map (enc t) (map value_of vs)) ≡ length vs =
-    length-map (map value_of vs) (enc t) ∙ length-map vs value_of in
+    let count : length (map (serialize t) (map value_of vs)) ≡ length vs =
+    length-map (map value_of vs) (serialize t) ∙ length-map vs value_of in
     let parts = subst (λ (n : ℕ).
-    AreParts (replicate n (fixed_size t)) (map (enc t) (map value_of vs))) count
+    AreParts (replicate n (fixed_size t)) (map (serialize t) (map value_of vs))) count
     (AreParts-alike t (fixed_size t) (λ z v. (agrees format t legal).sized z v) (map value_of vs)
     (all_fit t vs h)) in
     ap length (joined_elements t vs)
-    ∙ joined_length (replicate (length vs) (fixed_size t)) (map (enc t) (map value_of vs)) parts
+    ∙ joined_length (replicate (length vs) (fixed_size t))
+    (map (serialize t) (map value_of vs)) parts
     ∙ ap (λ n. n + length (bodies (replicate (length vs) (fixed_size t))
-    (map (enc t) (map value_of vs)))) (heads_alike (length vs) (fixed_size t))
+    (map (serialize t) (map value_of vs)))) (heads_alike (length vs) (fixed_size t))
 
 pub fields_length : (format : Format) (fs : Fields) (vs : List Value) → AreLegalFields format fs
     → AreFields fs vs

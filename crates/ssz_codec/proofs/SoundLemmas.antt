@@ -4,11 +4,11 @@ use Rattle.std.proofs.lemmas.Bool.{cond-false, and_parts}
 use Rattle.std.proofs.lemmas.List.{drop_all, get_or-drop, get_or-take}
 use Rattle.ssz_schema.specs.Types.{SszType, Fields, uint, boolean, container, vector, list, bitvector, bitlist, union, no_fields, field}
 use Rattle.ssz_schema.specs.Sizes.{head_size, fixed_size, part_sizes, total_size}
-use Rattle.ssz_schema.specs.Unfolding.{tree_at, fields_over}
+use Rattle.ssz_schema.specs.Unfolding.{type_tree_at, fields_over}
 use Rattle.ssz_schema.proofs.WalkFields.{drop_at}
 use Rattle.ssz_bytes.specs.Bytes.{IsBytes}
 use Rattle.ssz_value.specs.Encoding.{heads_length}
-use Rattle.ssz_value.specs.Faults.{why, first_fault, fields_fault, alike_fault, elements_fault, scopes}
+use Rattle.ssz_value.specs.Faults.{first_fault, first_offset_fault, fields_fault, alike_fault, elements_fault, scopes}
 use Rattle.ssz_value.proofs.Agree.{right_length, no_fault, same_some}
 use Rattle.ssz_value.proofs.PartLemmas.{Part, sizes_of, size_at, sizes_from}
 use Rattle.ssz_codec.specs.Sound.{all_below, sound_in, is_sound, are_sound}
@@ -49,7 +49,7 @@ SoundFrom-room trees parts below step start i place part h here e =
 sound_next : (trees : List SszType) (parts : List Part) (below : ℕ → ℕ → Bool)
     (step start i place : ℕ) (part : Part) → SoundFrom trees parts below step start i place
     → i < length parts → part ≡ get_or parts i part
-    → (is_sound below (tree_at trees part.1) place
+    → (is_sound below (type_tree_at trees part.1) place
     && are_sound below (fields_over trees (drop (i + 1) parts))
     (place + head_size (size_at trees part)))
     ≡ are_sound below (fields_over trees parts) start
@@ -60,7 +60,7 @@ sound_next trees parts below step start i place part h here e =
 pub SoundFrom-more : (trees : List SszType) (parts : List Part) (below : ℕ → ℕ → Bool)
     (step start i place : ℕ) (part : Part) → SoundFrom trees parts below step start i place
     → i < length parts → part ≡ get_or parts i part
-    → is_sound below (tree_at trees part.1) place ≡ true
+    → is_sound below (type_tree_at trees part.1) place ≡ true
     → SoundFrom trees parts below step start (i + 1) (place + head_size (size_at trees part))
 SoundFrom-more trees parts below step start i place part h here e is_so = record {
   sound = sym (ap (λ s. s && are_sound below (fields_over trees (drop (i + 1) parts))
@@ -72,7 +72,7 @@ SoundFrom-more trees parts below step start i place part h here e is_so = record
 pub SoundFrom-found : (trees : List SszType) (parts : List Part) (below : ℕ → ℕ → Bool)
     (step start i place : ℕ) (part : Part) → SoundFrom trees parts below step start i place
     → i < length parts → part ≡ get_or parts i part
-    → is_sound below (tree_at trees part.1) place ≡ false
+    → is_sound below (type_tree_at trees part.1) place ≡ false
     → false ≡ are_sound below (fields_over trees parts) start
 SoundFrom-found trees parts below step start i place part h here e is_not =
     sym (ap (λ s. s && are_sound below (fields_over trees (drop (i + 1) parts))
@@ -95,14 +95,14 @@ record IsSoundAt (below : ℕ → ℕ → Bool) (t : SszType) (place : ℕ) : Ty
   pub size : ℕ
   pub fixed : fixed_size t ≡ Some size
   pub clean : (s : ℕ) (b : List ℕ) → IsBytes b → length b ≡ size → Tells below place b
-      → why t s b ≡ None
+      → first_fault t s b ≡ None
 
 record AreSoundAt (below : ℕ → ℕ → Bool) (fs : Fields) (place : ℕ) : Type 0 where
   pub size : ℕ
   pub fixed : total_size (part_sizes fs) ≡ Some size
   pub heads : heads_length (part_sizes fs) ≡ size
   pub first : (at end s : ℕ) (b : List ℕ) → length b ≤ end
-      → first_fault (part_sizes fs) at end s b ≡ None
+      → first_offset_fault (part_sizes fs) at end s b ≡ None
   pub clean : (start at s : ℕ) (b : List ℕ) → place ≡ start + at → IsBytes b
       → at + size ≤ length b → Tells below start b
       → fields_fault fs s (scopes (part_sizes fs) at b) ≡ None
@@ -164,7 +164,7 @@ sound_field below name t fs place h rest = record {
   heads = ap (λ size. heads_length (size ∷ part_sizes fs)) h.fixed
       ∙ ap (λ n. h.size + n) rest.heads;
   first = λ at end s b within.
-      (ap (λ size. first_fault (size ∷ part_sizes fs) at end s b) h.fixed
+      (ap (λ size. first_offset_fault (size ∷ part_sizes fs) at end s b) h.fixed
       ∙ rest.first (at + h.size) end s b within);
   clean = λ start at s b here bytes room told. (
       let mine : Tells below place (slice_range b at (at + h.size)) =
@@ -230,17 +230,18 @@ told_at bound step place (suc n) b (suc i) e below =
     (told_at bound step (place + step) n b i (and_parts _ _ e).1 (omega arith))
 
 clean_each : (t : SszType) (z n place s : ℕ) (b : List ℕ)
-    → ((i s : ℕ) → i < n → why t s (slice_range b (place + i * z) (place + i * z + z)) ≡ None)
-    → alike_fault (why t) s (scopes (replicate n (Some z)) place b) ≡ None
+    → ((i s : ℕ) → i < n → first_fault t s (slice_range b (place + i * z) (place + i * z + z))
+    ≡ None)
+    → alike_fault (first_fault t) s (scopes (replicate n (Some z)) place b) ≡ None
 clean_each t z zero place s b clean = refl
 clean_each t z (suc n) place s b clean =
     let same : place + 0 * z ≡ place = omega arith in
     no_fault _ _
-    (subst (λ (p : ℕ). why t (s + place) (slice_range b p (p + z)) ≡ None) same
+    (subst (λ (p : ℕ). first_fault t (s + place) (slice_range b p (p + z)) ≡ None) same
     (clean 0 (s + place) (omega arith)))
     (clean_each t z n (place + z) s b (λ i s below. (
     let there : place + suc i * z ≡ place + z + i * z = omega arith in
-    subst (λ (p : ℕ). why t s (slice_range b p (p + z)) ≡ None) there
+    subst (λ (p : ℕ). first_fault t s (slice_range b p (p + z)) ≡ None) there
     (clean (suc i) s (omega (arith, below))))))
 
 -- element i lies within the bytes
@@ -318,7 +319,7 @@ tells_element size count b i below long number bound j inside e =
 pub elements_sound : (t : SszType) (size count s : ℕ) (b : List ℕ) → 0 < size
     → fixed_size t ≡ Some size → IsBytes b → length b ≡ count * size
     → is_sound (sound_in size b) t 0 ≡ true
-    → elements_fault (why t) (Some size) count s b ≡ None
+    → elements_fault (first_fault t) (Some size) count s b ≡ None
 elements_sound t size count s b some fixed bytes long e =
     let h = sound_of (sound_in size b) t 0 e in
     let same : h.size ≡ size = same_some h.size size (sym h.fixed ∙ fixed) in
@@ -329,7 +330,7 @@ elements_sound t size count s b some fixed bytes long e =
     let room : i * size + size ≤ length b =
     omega (arith, long, element_room i count size below) in
     let place : i * size ≡ 0 + i * size = omega arith in
-    subst (λ (p : ℕ). why t s (slice_range b p (p + size)) ≡ None) place
+    subst (λ (p : ℕ). first_fault t s (slice_range b p (p + size)) ≡ None) place
     (h.clean s (slice_range b (i * size) (i * size + size))
     (range_bytes b (i * size) (i * size + size) bytes)
     (range_length b (i * size) size room ∙ sym same)

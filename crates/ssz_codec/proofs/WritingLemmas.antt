@@ -4,16 +4,16 @@ use Rattle.std.proofs.Math.Seq.{take-length}
 use Rattle.std.proofs.lemmas.List.{append-nil, drop_all, length-take}
 use Rattle.ssz_schema.specs.Types.{SszType}
 use Rattle.ssz_schema.specs.Sizes.{fixed_size, head_size, part_sizes}
-use Rattle.ssz_schema.specs.Unfolding.{tree_at, fields_over}
+use Rattle.ssz_schema.specs.Unfolding.{type_tree_at, fields_over}
 use Rattle.ssz_value.specs.declared.value.Value.{Value}
 use Rattle.ssz_value.specs.Standing.{value_of, IsValue}
 use Rattle.ssz_bytes.specs.Bytes.{le_bytes}
-use Rattle.ssz_value.specs.Encoding.{enc, heads, bodies, heads_length, joined, field_encodings}
+use Rattle.ssz_value.specs.Encoding.{serialize, heads, bodies, heads_length, joined, field_encodings}
 use Rattle.ssz_value.specs.Values.{values}
 use Rattle.ssz_schema.proofs.WalkFields.{drop_at}
 use Rattle.ssz_value.proofs.PartLemmas.{Part, size_at, field_count_is}
 use Rattle.ssz_value.specs.Shapes.{AreFields}
-use Rattle.ssz_codec.specs.Writing.{Writes, PutsPart, PutsAll, Place}
+use Rattle.ssz_codec.specs.Writing.{WritesEncoding, PutsPart, PutsAll, Place}
 use Rattle.ssz_parts.specs.Encoded.{body_of}
 
 -- up to here the parts are written, but for these
@@ -115,7 +115,7 @@ Writing-end sizes parts at front back h =
 pub joined_writes : (sizes : List (Option ℕ)) (parts : List (List ℕ)) (n count : ℕ)
     (front back : List ℕ) → PutsAll sizes parts n front back → length front ≡ heads_length sizes
     → count ≡ length front + n
-    → Writes (joined sizes parts) count (front ++ back)
+    → WritesEncoding (joined sizes parts) count (front ++ back)
 joined_writes sizes parts n count front back h e is =
     let bytes : take count (front ++ back) ≡ front ++ take n back =
     ap (λ m. take m (front ++ back)) is ∙ take_both front back n in
@@ -142,51 +142,51 @@ joined_writes sizes parts n count front back h e is =
 -- the elements from i on are left
 pub record ElementsLeft (t : SszType) (vs : List Value) (i : ℕ) (at : Place)
     (front back : List ℕ) : Type 0 where
-  pub written : Writing (replicate (length vs) (fixed_size t)) (map (enc t) (map value_of vs))
+  pub written : Writing (replicate (length vs) (fixed_size t)) (map (serialize t) (map value_of vs))
       (replicate (length vs - i) (fixed_size t))
-      (map (enc t) (map value_of (drop i vs))) at front back
+      (map (serialize t) (map value_of (drop i vs))) at front back
 
 pub ElementsLeft-start : (t : SszType) (vs : List Value) (front back : List ℕ)
     → length front ≡ heads_length (replicate (length vs) (fixed_size t))
     → length (bodies (replicate (length vs) (fixed_size t))
-    (map (enc t) (map value_of vs))) ≤ length back
+    (map (serialize t) (map value_of vs))) ≤ length back
     → ElementsLeft t vs 0 (0, 0) front back
 ElementsLeft-start t vs front back fixed room =
     let none : length vs ≡ length vs - 0 = omega arith in
     record {
       written = subst (λ (n : ℕ).
-          Writing (replicate (length vs) (fixed_size t)) (map (enc t) (map value_of vs))
-          (replicate n (fixed_size t)) (map (enc t) (map value_of vs)) (0, 0) front back) none
+          Writing (replicate (length vs) (fixed_size t)) (map (serialize t) (map value_of vs))
+          (replicate n (fixed_size t)) (map (serialize t) (map value_of vs)) (0, 0) front back) none
           (Writing-start (replicate (length vs) (fixed_size t))
-          (map (enc t) (map value_of vs)) front back fixed room);
+          (map (serialize t) (map value_of vs)) front back fixed room);
     }
 
 -- the same, with the element at i before the others
 element_next : (t : SszType) (vs : List Value) (i : ℕ) (v : Value) (at : Place)
     (front back : List ℕ) → ElementsLeft t vs i at front back → i < length vs → v ≡ get_or vs i v
-    → Writing (replicate (length vs) (fixed_size t)) (map (enc t) (map value_of vs))
+    → Writing (replicate (length vs) (fixed_size t)) (map (serialize t) (map value_of vs))
     (fixed_size t ∷ replicate (length vs - (i + 1)) (fixed_size t))
-    (enc t (value_of v) ∷ map (enc t) (map value_of (drop (i + 1) vs))) at front back
+    (serialize t (value_of v) ∷ map (serialize t) (map value_of (drop (i + 1) vs))) at front back
 element_next t vs i v at front back h below e =
     let count : length vs - i ≡ suc (length vs - (i + 1)) = omega arith in
     subst (λ (ws : List Value).
-    Writing (replicate (length vs) (fixed_size t)) (map (enc t) (map value_of vs))
+    Writing (replicate (length vs) (fixed_size t)) (map (serialize t) (map value_of vs))
     (fixed_size t ∷ replicate (length vs - (i + 1)) (fixed_size t))
-    (map (enc t) (map value_of ws)) at front back) (drop_at vs i v below e)
+    (map (serialize t) (map value_of ws)) at front back) (drop_at vs i v below e)
     (subst (λ (n : ℕ). Writing (replicate (length vs) (fixed_size t))
-    (map (enc t) (map value_of vs)) (replicate n (fixed_size t))
-    (map (enc t) (map value_of (drop i vs))) at front back) count h.written)
+    (map (serialize t) (map value_of vs)) (replicate n (fixed_size t))
+    (map (serialize t) (map value_of (drop i vs))) at front back) count h.written)
 
 pub ElementsLeft-room : (t : SszType) (vs : List Value) (i : ℕ) (v : Value) (at : Place)
     (front back : List ℕ) → ElementsLeft t vs i at front back → i < length vs → v ≡ get_or vs i v
-    → HasRoom (fixed_size t) (enc t (value_of v)) at front back
+    → HasRoom (fixed_size t) (serialize t (value_of v)) at front back
 ElementsLeft-room t vs i v at front back h below e =
     Writing-room _ _ _ _ _ _ _ _ _ (element_next t vs i v at front back h below e)
 
 pub ElementsLeft-more : (t : SszType) (vs : List Value) (i : ℕ) (v : Value) (at next : Place)
     (front back new_front new_back : List ℕ) → ElementsLeft t vs i at front back → i < length vs
     → v ≡ get_or vs i v
-    → PutsPart (fixed_size t) (enc t (value_of v)) at next front back new_front new_back
+    → PutsPart (fixed_size t) (serialize t (value_of v)) at next front back new_front new_back
     → length new_front ≡ length front → length new_back ≡ length back
     → ElementsLeft t vs (i + 1) next new_front new_back
 ElementsLeft-more t vs i v at next front back new_front new_back h below e put same_front same_back
@@ -198,16 +198,17 @@ ElementsLeft-more t vs i v at next front back new_front new_back h below e put s
 
 pub ElementsLeft-end : (t : SszType) (vs : List Value) (i : ℕ) (at : Place) (front back : List ℕ)
     → ElementsLeft t vs i at front back → length vs ≤ i
-    → PutsAll (replicate (length vs) (fixed_size t)) (map (enc t) (map value_of vs)) at.1 front back
+    → PutsAll (replicate (length vs) (fixed_size t))
+    (map (serialize t) (map value_of vs)) at.1 front back
 ElementsLeft-end t vs i at front back h all =
     let none : length vs - i ≡ 0 = omega arith in
     Writing-end _ _ at front back
     (subst (λ (ws : List Value).
-    Writing (replicate (length vs) (fixed_size t)) (map (enc t) (map value_of vs)) []
-    (map (enc t) (map value_of ws)) at front back) (drop_all i vs all)
+    Writing (replicate (length vs) (fixed_size t)) (map (serialize t) (map value_of vs)) []
+    (map (serialize t) (map value_of ws)) at front back) (drop_all i vs all)
     (subst (λ (n : ℕ). Writing (replicate (length vs) (fixed_size t))
-    (map (enc t) (map value_of vs)) (replicate n (fixed_size t))
-    (map (enc t) (map value_of (drop i vs))) at front back) none h.written))
+    (map (serialize t) (map value_of vs)) (replicate n (fixed_size t))
+    (map (serialize t) (map value_of (drop i vs))) at front back) none h.written))
 
 -- the same of fields
 pub record FieldsLeft (trees : List SszType) (fields : List Part) (vs : List Value) (i : ℕ)
@@ -241,7 +242,7 @@ field_next : (trees : List SszType) (fields : List Part) (vs : List Value) (i : 
     → Writing (part_sizes (fields_over trees fields))
     (field_encodings (fields_over trees fields) (map value_of vs))
     (size_at trees part ∷ part_sizes (fields_over trees (drop (i + 1) fields)))
-    (enc (tree_at trees part.1) (value_of v) ∷ field_encodings
+    (serialize (type_tree_at trees part.1) (value_of v) ∷ field_encodings
     (fields_over trees (drop (i + 1) fields)) (map value_of (drop (i + 1) vs))) at front back
 field_next trees fields vs i part v at front back h below within e is =
     subst (λ (ws : List Value).
@@ -260,7 +261,7 @@ field_next trees fields vs i part v at front back h below within e is =
 both_next : (trees : List SszType) (fields : List Part) (vs : List Value) (i : ℕ) (part : Part)
     (v : Value) → AreFields (fields_over trees (drop i fields)) (drop i vs) → i < length fields
     → i < length vs → part ≡ get_or fields i part → v ≡ get_or vs i v
-    → IsValue (tree_at trees part.1) v × AreFields (fields_over trees (drop (i + 1) fields))
+    → IsValue (type_tree_at trees part.1) v × AreFields (fields_over trees (drop (i + 1) fields))
     (drop (i + 1) vs)
 both_next trees fields vs i part v h below within e is =
     subst (λ (ws : List Value). AreFields (fields_over trees (part ∷ drop (i + 1) fields)) ws)
@@ -272,7 +273,7 @@ pub FieldsLeft-value : (trees : List SszType) (fields : List Part) (vs : List Va
     (part : Part) (v : Value) (at : Place) (front back : List ℕ)
     → FieldsLeft trees fields vs i at front back → i < length fields → i < length vs
     → part ≡ get_or fields i part → v ≡ get_or vs i v
-    → IsValue (tree_at trees part.1) v
+    → IsValue (type_tree_at trees part.1) v
 FieldsLeft-value trees fields vs i part v at front back h below within e is =
     (both_next trees fields vs i part v h.values below within e is).0
 
@@ -280,7 +281,8 @@ pub FieldsLeft-room : (trees : List SszType) (fields : List Part) (vs : List Val
     (part : Part) (v : Value) (at : Place) (front back : List ℕ)
     → FieldsLeft trees fields vs i at front back → i < length fields → i < length vs
     → part ≡ get_or fields i part → v ≡ get_or vs i v
-    → HasRoom (size_at trees part) (enc (tree_at trees part.1) (value_of v)) at front back
+    → HasRoom (size_at trees part)
+    (serialize (type_tree_at trees part.1) (value_of v)) at front back
 FieldsLeft-room trees fields vs i part v at front back h below within e is =
     Writing-room _ _ _ _ _ _ _ _ _
     (field_next trees fields vs i part v at front back h below within e is)
@@ -290,7 +292,7 @@ pub FieldsLeft-more : (trees : List SszType) (fields : List Part) (vs : List Val
     → FieldsLeft trees fields vs i at front back
     → i < length fields → i < length vs → part ≡ get_or fields i part → v ≡ get_or vs i v
     → PutsPart (size_at trees part)
-    (enc (tree_at trees part.1) (value_of v)) at next front back new_front new_back
+    (serialize (type_tree_at trees part.1) (value_of v)) at next front back new_front new_back
     → length new_front ≡ length front → length new_back ≡ length back
     → FieldsLeft trees fields vs (i + 1) next new_front new_back
 FieldsLeft-more trees fields vs i part v at next front back new_front new_back h below within e is

@@ -2,7 +2,7 @@
 use Rattle.std.specs.Prelude.{ℕ, zero, suc, ◌+◌, ◌/◌, ◌%◌, ◌==◌, ◌&&◌, nat_lt, List, length, slice_index, Bool, true, false}
 use Rattle.ssz_schema.specs.Types.{SszType, Fields, uint, boolean, container, vector, bitvector, no_fields, field}
 use Rattle.ssz_schema.specs.Sizes.{head_size, fixed_size}
-use Rattle.ssz_codec.specs.Plain.{is_plain}
+use Rattle.ssz_codec.specs.Plain.{has_plain_encoding}
 
 -- of n bytes, the first at this place and each of the others so many steps behind the one before,
 -- all are below the bound
@@ -22,7 +22,7 @@ abbrev mutual
   is_sound below (uint w) place = true
   is_sound below boolean place = below 2 place
   is_sound below (container fs) place = are_sound below fs place
-  is_sound below (vector elem n) place = is_plain elem
+  is_sound below (vector elem n) place = has_plain_encoding elem
   is_sound below (bitvector n) place = n % 8 == 0
   is_sound below _ place = false
 

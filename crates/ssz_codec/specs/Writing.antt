@@ -5,7 +5,7 @@ use Rattle.ssz_value.specs.Encoding.{heads, bodies}
 use Rattle.ssz_parts.specs.Encoded.{head_of, body_of}
 
 -- the room begins with the bytes, which are so many
-pub record Writes (encoding : List ℕ) (n : ℕ) (room : List ℕ) : Type 0 where
+pub record WritesEncoding (encoding : List ℕ) (n : ℕ) (room : List ℕ) : Type 0 where
   pub count : n ≡ length encoding
   pub bytes : take n room ≡ encoding
 

@@ -5,7 +5,7 @@ ghost use Rattle.ssz_schema.specs.Types.{uint, boolean, vector, bitvector, bitli
 ghost use Rattle.ssz_schema.specs.Sizes.{byte_count};
 ghost use Rattle.ssz_bytes.specs.Bytes.{le_number, bits_of_number};
 ghost use Rattle.ssz_value.specs.Values.{sequence, values};
-ghost use Rattle.ssz_value.specs.Faults.{why, elements_fault};
+ghost use Rattle.ssz_value.specs.Faults.{first_fault, elements_fault};
 ghost use Rattle.ssz_value.specs.Reading.{value_in, elements_in};
 ghost use Rattle.ssz_value.specs.Standing.{Stands};
 ghost use Rattle.ssz_codec.specs.Answers.{AreNumbers, Decodes, DecodesTo};
@@ -194,7 +194,7 @@ pub fn byte_elements(
     bytes: &[u8],
 ) -> Result<Value, DecodeFault>
     requires { start + length bytes.now < 2 ^ 32 }
-    ensures { Decodes (elements_fault (why (uint W8)) (Some 1) count start bytes.now)
+    ensures { Decodes (elements_fault (first_fault (uint W8)) (Some 1) count start bytes.now)
         (Stands (vector (uint W8) count)
         (sequence (values (map (value_in (uint W8)) (elements_in (Some 1) count bytes.now)))))
         result }

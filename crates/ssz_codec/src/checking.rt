@@ -5,7 +5,7 @@ ghost use Rattle.ssz_schema.specs.Sizes.{fixed_size, part_sizes};
 ghost use Rattle.ssz_value.specs.Encoding.{heads_length};
 ghost use Rattle.ssz_schema.specs.Legal.{IsSize};
 ghost use Rattle.ssz_schema.specs.Unfolding.{type_of, fields_over};
-ghost use Rattle.ssz_value.specs.Faults.{why, elements_fault, head_fault};
+ghost use Rattle.ssz_value.specs.Faults.{first_fault, elements_fault, head_fault};
 
 use super::sound::is_sound;
 use ssz_basic::{read_bitlist, read_bitvector, read_bool};
@@ -21,7 +21,7 @@ use ssz_schema::{Name, Schema, Ty, TypeId};
 pub fn check(schema: &Schema, id: TypeId, bytes: &[u8]) -> Option<Fault>
     requires known { id < length schema.now.trees }
     requires short { length bytes.now < 2 ^ 32 }
-    ensures { result ≡ why (type_of schema.now id) 0 bytes.now }
+    ensures { result ≡ first_fault (type_of schema.now id) 0 bytes.now }
 {
     scope(schema, id, 0, bytes)
 }
@@ -32,7 +32,7 @@ pub fn check(schema: &Schema, id: TypeId, bytes: &[u8]) -> Option<Fault>
 fn scope(schema: &Schema, id: TypeId, start: u64, bytes: &[u8]) -> Option<Fault>
     requires known { id < length schema.now.trees }
     requires short { start + length bytes.now < 2 ^ 32 }
-    ensures { result ≡ why (type_of schema.now id) start bytes.now }
+    ensures { result ≡ first_fault (type_of schema.now id) start bytes.now }
 {
     match schema.ty(id) {
         Ty::Uint(width) => length_fault(width.byte_count(), start, bytes),
@@ -51,7 +51,7 @@ fn scope(schema: &Schema, id: TypeId, start: u64, bytes: &[u8]) -> Option<Fault>
 
 fn boolean(start: u64, bytes: &[u8]) -> Option<Fault>
     requires { start + length bytes.now < 2 ^ 32 }
-    ensures { result ≡ why boolean start bytes.now }
+    ensures { result ≡ first_fault boolean start bytes.now }
 {
     if let Some(fault) = length_fault(1, start, bytes) {
         return Some(fault);
@@ -63,7 +63,7 @@ fn bitvector(n: u64, start: u64, bytes: &[u8]) -> Option<Fault>
     requires some { 0 < n }
     requires few { n ≤ 2 ^ 32 }
     requires short { start + length bytes.now < 2 ^ 32 }
-    ensures { result ≡ why (bitvector n) start bytes.now }
+    ensures { result ≡ first_fault (bitvector n) start bytes.now }
 {
     if let Some(fault) = length_fault((n + 7) / 8, start, bytes) {
         return Some(fault);
@@ -77,7 +77,7 @@ fn bitvector(n: u64, start: u64, bytes: &[u8]) -> Option<Fault>
 fn list(schema: &Schema, elem: TypeId, limit: u64, start: u64, bytes: &[u8]) -> Option<Fault>
     requires known { elem < length schema.now.trees }
     requires short { start + length bytes.now < 2 ^ 32 }
-    ensures { result ≡ why (list (type_of schema.now elem) limit) start bytes.now }
+    ensures { result ≡ first_fault (list (type_of schema.now elem) limit) start bytes.now }
 {
     match count_of(schema.fixed_size(elem), limit, start, bytes) {
         Ok(count) => {
@@ -99,7 +99,7 @@ fn elements(schema: &Schema, elem: TypeId, count: u64, start: u64, bytes: &[u8])
     requires few { count ≤ 2 ^ 32 }
     requires short { start + length bytes.now < 2 ^ 32 }
     ensures { let t = type_of schema.now elem in
-        result ≡ elements_fault (why t) (fixed_size t) count start bytes.now }
+        result ≡ elements_fault (first_fault t) (fixed_size t) count start bytes.now }
 {
     match schema.fixed_size(elem) {
         Some(size) => fixed_elements(schema, elem, size, count, start, bytes),
@@ -123,7 +123,7 @@ fn fixed_elements(
     requires few { count ≤ 2 ^ 32 }
     requires short { start + length bytes.now < 2 ^ 32 }
     ensures { let t = type_of schema.now elem in
-        result ≡ elements_fault (why t) (Some size) count start bytes.now }
+        result ≡ elements_fault (first_fault t) (Some size) count start bytes.now }
 {
     if let Some(fault) = length_fault(count * size, start, bytes) {
         return Some(fault);
@@ -158,7 +158,7 @@ fn variable_elements(
     requires few { count ≤ 2 ^ 32 }
     requires short { start + length bytes.now < 2 ^ 32 }
     ensures { let t = type_of schema.now elem in
-        result ≡ elements_fault (why t) None count start bytes.now }
+        result ≡ elements_fault (first_fault t) None count start bytes.now }
 {
     if let Some(fault) = offsets_fault(count, start, bytes) {
         return Some(fault);
@@ -197,7 +197,7 @@ fn containers(
     requires few { count ≤ 2 ^ 32 }
     requires short { start + length bytes.now < 2 ^ 32 }
     ensures { let t = type_of schema.now id in
-        result ≡ elements_fault (why t) None count start bytes.now }
+        result ≡ elements_fault (first_fault t) None count start bytes.now }
 {
     // Every type of a schema is legal.
     let _legal = schema.ty(id);
@@ -235,7 +235,8 @@ fn variable_container(
     requires heads { let sizes = part_sizes (fields_over schema.now.trees fields.now) in
         heads ≡ heads_length sizes }
     requires short { start + length bytes.now < 2 ^ 32 }
-    ensures { result ≡ why (container (fields_over schema.now.trees fields.now)) start bytes.now }
+    ensures { result ≡ first_fault
+        (container (fields_over schema.now.trees fields.now)) start bytes.now }
 {
     if let Some(fault) = variable_head_fault(schema, fields, heads, start, bytes) {
         return Some(fault);
@@ -257,7 +258,8 @@ fn container(
     requires form { type_of schema.now id ≡ container (fields_over schema.now.trees fields.now) }
     requires before { AllByRecursion (λ part. part.1 < id) fields.now }
     requires short { start + length bytes.now < 2 ^ 32 }
-    ensures { result ≡ why (container (fields_over schema.now.trees fields.now)) start bytes.now }
+    ensures { result ≡ first_fault
+        (container (fields_over schema.now.trees fields.now)) start bytes.now }
 {
     if let Some(fault) = fields_head_fault(schema, id, fields, start, bytes) {
         return Some(fault);
@@ -280,7 +282,8 @@ fn fields_behind(
     requires head { let sizes = part_sizes (fields_over schema.now.trees fields.now) in
         head_fault sizes start bytes.now ≡ None }
     requires short { start + length bytes.now < 2 ^ 32 }
-    ensures { result ≡ why (container (fields_over schema.now.trees fields.now)) start bytes.now }
+    ensures { result ≡ first_fault
+        (container (fields_over schema.now.trees fields.now)) start bytes.now }
 {
     let mut place = 0usize;
     for (i, field) in fields.iter().enumerate() {
@@ -305,7 +308,7 @@ fn fields_behind(
 fn field_fault(schema: &Schema, id: TypeId, start: u64, bytes: &[u8]) -> Option<Fault>
     requires known { id < length schema.now.trees }
     requires short { start + length bytes.now < 2 ^ 32 }
-    ensures { result ≡ why (type_of schema.now id) start bytes.now }
+    ensures { result ≡ first_fault (type_of schema.now id) start bytes.now }
 {
     if let Ty::List(elem, limit) = schema.ty(id) {
         return list(schema, *elem, *limit, start, bytes);

@@ -6,7 +6,7 @@ ghost use Rattle.ssz_schema.specs.Legal.{IsSize};
 ghost use Rattle.ssz_bytes.specs.Faults.{extra};
 ghost use Rattle.ssz_schema.specs.Unfolding.{type_of, fields_over, options_over, IsBelow};
 ghost use Rattle.ssz_value.specs.Values.{chosen_none, sequence, values};
-ghost use Rattle.ssz_value.specs.Faults.{why, elements_fault};
+ghost use Rattle.ssz_value.specs.Faults.{first_fault, elements_fault};
 ghost use Rattle.ssz_value.specs.Reading.{value_in, elements_in};
 ghost use Rattle.ssz_value.specs.Laws.{Encodes};
 ghost use Rattle.ssz_value.specs.Standing.{value_of, IsValue, Stands};
@@ -185,7 +185,7 @@ fn elements(
     requires few { count ≤ 2 ^ 32 }
     requires short { start + length bytes.now < 2 ^ 32 }
     ensures { let t = type_of schema.now elem in
-        Decodes (elements_fault (why t) (fixed_size t) count start bytes.now)
+        Decodes (elements_fault (first_fault t) (fixed_size t) count start bytes.now)
         (Stands (vector t count)
         (sequence (values (map (value_in t) (elements_in (fixed_size t) count bytes.now)))))
         result }
@@ -223,7 +223,7 @@ fn fixed_elements(
     requires few { count ≤ 2 ^ 32 }
     requires short { start + length bytes.now < 2 ^ 32 }
     ensures { let t = type_of schema.now elem in
-        Decodes (elements_fault (why t) (Some size) count start bytes.now)
+        Decodes (elements_fault (first_fault t) (Some size) count start bytes.now)
         (λ parts. StandAlike t (map (value_in t) (elements_in (Some size) count bytes.now))
         parts.items)
         result }
@@ -259,7 +259,7 @@ fn variable_elements(
     requires few { count ≤ 2 ^ 32 }
     requires short { start + length bytes.now < 2 ^ 32 }
     ensures { let t = type_of schema.now elem in
-        Decodes (elements_fault (why t) None count start bytes.now)
+        Decodes (elements_fault (first_fault t) None count start bytes.now)
         (λ parts. StandAlike t (map (value_in t) (elements_in None count bytes.now)) parts.items)
         result }
 {

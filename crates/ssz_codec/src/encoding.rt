@@ -5,12 +5,12 @@ ghost use Rattle.ssz_schema.specs.Sizes.{byte_count, fixed_size, head_size, part
 ghost use Rattle.ssz_schema.specs.Legal.{IsLegal};
 ghost use Rattle.ssz_bytes.specs.Bytes.{le_bytes, number_of_bits, delimited, bits_size};
 ghost use Rattle.ssz_schema.specs.Unfolding.{type_of, fields_over, options_over, IsBelow};
-ghost use Rattle.ssz_value.specs.Encoding.{enc, heads_length, bodies, joined, joined_alike, field_encodings};
+ghost use Rattle.ssz_value.specs.Encoding.{serialize, heads_length, bodies, joined, joined_alike, field_encodings};
 ghost use Rattle.ssz_value.specs.Standing.{value_of, IsValue};
 ghost use Rattle.ssz_value.specs.Shapes.{AreFields, IsSequence, parts_of};
 ghost use Rattle.ssz_parts.specs.Encoded.{body_of};
 ghost use Rattle.ssz_value.specs.Written.{Appends};
-ghost use Rattle.ssz_codec.specs.Writing.{Writes, PutsPart, PutsAll};
+ghost use Rattle.ssz_codec.specs.Writing.{WritesEncoding, PutsPart, PutsAll};
 
 use super::measuring::encoded_len;
 use ssz_basic::{put_bits, put_uint};
@@ -30,7 +30,7 @@ pub fn encode(
 ) -> Result<(), EncodeFault>
     requires known { id < length schema.now.trees }
     requires value { IsValue (type_of schema.now id) value.now }
-    ensures { let bytes = enc (type_of schema.now id) (value_of value.now) in
+    ensures { let bytes = serialize (type_of schema.now id) (value_of value.now) in
         Appends bytes max out.old.items out.new.items result }
 {
     let len = encoded_len(schema, id, value);
@@ -48,9 +48,11 @@ pub fn encode(
 fn write_value(schema: &Schema, id: TypeId, value: &Value, room: &mut [u8]) -> usize
     requires known { id < length schema.now.trees }
     requires value { IsValue (type_of schema.now id) value.now }
-    requires room { length (enc (type_of schema.now id) (value_of value.now)) ≤ length room.old }
+    requires room { length (serialize (type_of schema.now id) (value_of value.now))
+        ≤ length room.old }
     requires short { length room.old < 2 ^ 32 }
-    ensures { Writes (enc (type_of schema.now id) (value_of value.now)) result room.new }
+    ensures { WritesEncoding
+        (serialize (type_of schema.now id) (value_of value.now)) result room.new }
 {
     match schema.ty(id) {
         Ty::Uint(width) => write_number(*width, value, room),
@@ -67,8 +69,8 @@ fn write_value(schema: &Schema, id: TypeId, value: &Value, room: &mut [u8]) -> u
 #[inline(always)]
 fn write_number(width: Width, value: &Value, room: &mut [u8]) -> usize
     requires value { IsValue (uint width) value.now }
-    requires room { length (enc (uint width) (value_of value.now)) ≤ length room.old }
-    ensures { Writes (enc (uint width) (value_of value.now)) result room.new }
+    requires room { length (serialize (uint width) (value_of value.now)) ≤ length room.old }
+    ensures { WritesEncoding (serialize (uint width) (value_of value.now)) result room.new }
 {
     let len = width.byte_count() as usize;
     match value {
@@ -83,7 +85,7 @@ fn write_number(width: Width, value: &Value, room: &mut [u8]) -> usize
 
 fn write_bytes(bytes: &[u8], room: &mut [u8]) -> usize
     requires { length bytes.now ≤ length room.old }
-    ensures { Writes bytes.now result room.new }
+    ensures { WritesEncoding bytes.now result room.new }
 {
     let len = bytes.len();
     room[..len].copy_from_slice(bytes);
@@ -91,8 +93,8 @@ fn write_bytes(bytes: &[u8], room: &mut [u8]) -> usize
 }
 
 fn write_flag(value: &Value, room: &mut [u8]) -> usize
-    requires room { length (enc boolean (value_of value.now)) ≤ length room.old }
-    ensures { Writes (enc boolean (value_of value.now)) result room.new }
+    requires room { length (serialize boolean (value_of value.now)) ≤ length room.old }
+    ensures { WritesEncoding (serialize boolean (value_of value.now)) result room.new }
 {
     match value {
         Value::Bool(flag) => {
@@ -105,9 +107,9 @@ fn write_flag(value: &Value, room: &mut [u8]) -> usize
 
 fn write_bitvector(n: u64, value: &Value, room: &mut [u8]) -> usize
     requires value { IsValue (bitvector n) value.now }
-    requires room { length (enc (bitvector n) (value_of value.now)) ≤ length room.old }
+    requires room { length (serialize (bitvector n) (value_of value.now)) ≤ length room.old }
     requires short { length room.old < 2 ^ 32 }
-    ensures { Writes (enc (bitvector n) (value_of value.now)) result room.new }
+    ensures { WritesEncoding (serialize (bitvector n) (value_of value.now)) result room.new }
 {
     match value {
         Value::Bits(run) => write_bits(run, false, room),
@@ -117,9 +119,9 @@ fn write_bitvector(n: u64, value: &Value, room: &mut [u8]) -> usize
 
 fn write_bitlist(limit: u64, value: &Value, room: &mut [u8]) -> usize
     requires value { IsValue (bitlist limit) value.now }
-    requires room { length (enc (bitlist limit) (value_of value.now)) ≤ length room.old }
+    requires room { length (serialize (bitlist limit) (value_of value.now)) ≤ length room.old }
     requires short { length room.old < 2 ^ 32 }
-    ensures { Writes (enc (bitlist limit) (value_of value.now)) result room.new }
+    ensures { WritesEncoding (serialize (bitlist limit) (value_of value.now)) result room.new }
 {
     match value {
         Value::Bits(run) => write_bits(run, true, room),
@@ -132,7 +134,7 @@ fn write_bits(run: &BitRun, delimiter: bool, room: &mut [u8]) -> usize
     requires room { bits_size delimiter (length run.now) ≤ length room.old }
     requires short { length room.old < 2 ^ 32 }
     ensures { let number = number_of_bits (delimited delimiter run.now) in
-        Writes (le_bytes (bits_size delimiter (length run.now)) number) result room.new }
+        WritesEncoding (le_bytes (bits_size delimiter (length run.now)) number) result room.new }
 {
     let len = bits_len(run.len(), delimiter);
     put_bits(run, delimiter, &mut room[..len]);
@@ -157,11 +159,13 @@ fn write_sequence(schema: &Schema, elem: TypeId, value: &Value, room: &mut [u8])
     requires known { elem < length schema.now.trees }
     requires value { IsSequence (type_of schema.now elem) value.now }
     requires room { let t = type_of schema.now elem in
-        length (joined_alike (fixed_size t) (map (enc t) (parts_of (value_of value.now)))) ≤ length
+        length (joined_alike (fixed_size t) (map (serialize t) (parts_of (value_of value.now))))
+        ≤ length
         room.old }
     requires short { length room.old < 2 ^ 32 }
     ensures { let t = type_of schema.now elem in
-        Writes (joined_alike (fixed_size t) (map (enc t) (parts_of (value_of value.now)))) result
+        WritesEncoding (joined_alike (fixed_size t)
+        (map (serialize t) (parts_of (value_of value.now)))) result
         room.new }
 {
     match value {
@@ -177,11 +181,11 @@ fn write_elements(schema: &Schema, elem: TypeId, parts: &[Value], room: &mut [u8
     requires known { elem < length schema.now.trees }
     requires parts { AllByRecursion (IsValue (type_of schema.now elem)) parts.now }
     requires room { let t = type_of schema.now elem in
-        length (joined_alike (fixed_size t) (map (enc t) (map value_of parts.now)))
+        length (joined_alike (fixed_size t) (map (serialize t) (map value_of parts.now)))
         ≤ length room.old }
     requires short { length room.old < 2 ^ 32 }
     ensures { let t = type_of schema.now elem in
-        Writes (joined_alike (fixed_size t) (map (enc t) (map value_of parts.now)))
+        WritesEncoding (joined_alike (fixed_size t) (map (serialize t) (map value_of parts.now)))
         result room.new }
 {
     // Every type of a schema is legal.
@@ -207,11 +211,12 @@ fn put_elements(
         length front.old ≡ heads_length (replicate (length parts.now) (fixed_size t)) }
     requires back { let t = type_of schema.now elem in
         length (bodies (replicate (length parts.now) (fixed_size t))
-        (map (enc t) (map value_of parts.now)))
+        (map (serialize t) (map value_of parts.now)))
         ≤ length back.old }
     requires short { length front.old + length back.old < 2 ^ 32 }
     ensures { let t = type_of schema.now elem in
-        PutsAll (replicate (length parts.now) (fixed_size t)) (map (enc t) (map value_of parts.now))
+        PutsAll (replicate (length parts.now) (fixed_size t))
+        (map (serialize t) (map value_of parts.now))
         result front.new back.new }
 {
     if let Ty::Uint(width) = schema.ty(elem) {
@@ -231,7 +236,7 @@ fn put_numbers(width: Width, parts: &[Value], front: &mut [u8])
     requires front { length front.old
         ≡ heads_length (replicate (length parts.now) (Some (byte_count width))) }
     ensures { PutsAll (replicate (length parts.now) (Some (byte_count width)))
-        (map (enc (uint width)) (map value_of parts.now)) 0 front.new [] }
+        (map (serialize (uint width)) (map value_of parts.now)) 0 front.new [] }
 {
     match width {
         // The commonest, in a loop that knows the width.
@@ -246,7 +251,7 @@ fn put_each(width: Width, parts: &[Value], front: &mut [u8])
     requires front { length front.old
         ≡ heads_length (replicate (length parts.now) (Some (byte_count width))) }
     ensures { PutsAll (replicate (length parts.now) (Some (byte_count width)))
-        (map (enc (uint width)) (map value_of parts.now)) 0 front.new [] }
+        (map (serialize (uint width)) (map value_of parts.now)) 0 front.new [] }
 {
     let mut place = 0usize;
     for part in parts {
@@ -269,10 +274,11 @@ fn put_part(
     requires value { IsValue (type_of schema.now id) part.now }
     requires place { at.0 + head_size (fixed_size (type_of schema.now id)) ≤ length front.old }
     requires end { let t = type_of schema.now id in
-        at.1 + length (body_of (fixed_size t) (enc t (value_of part.now))) ≤ length back.old }
+        at.1 + length (body_of (fixed_size t) (serialize t (value_of part.now))) ≤ length back.old }
     requires short { length front.old + length back.old < 2 ^ 32 }
     ensures { let t = type_of schema.now id in
-        PutsPart (fixed_size t) (enc t (value_of part.now)) at result front.old back.old front.new
+        PutsPart (fixed_size t)
+        (serialize t (value_of part.now)) at result front.old back.old front.new
         back.new }
 {
     // Every type of a schema is legal.
@@ -306,10 +312,10 @@ fn write_chosen(
     requires before { AllByRecursion (IsBelow id) options.now }
     requires value { IsValue (union (options_over schema.now.trees options.now)) value.now }
     requires room { let t = union (options_over schema.now.trees options.now) in
-        length (enc t (value_of value.now)) ≤ length room.old }
+        length (serialize t (value_of value.now)) ≤ length room.old }
     requires short { length room.old < 2 ^ 32 }
     ensures { let t = union (options_over schema.now.trees options.now) in
-        Writes (enc t (value_of value.now)) result room.new }
+        WritesEncoding (serialize t (value_of value.now)) result room.new }
 {
     match value {
         Value::Union { selector, inner } => {
@@ -344,10 +350,10 @@ fn write_container(
         IsLegal schema.now.format (container fs) }
     requires value { IsValue (container (fields_over schema.now.trees fields.now)) value.now }
     requires room { let t = container (fields_over schema.now.trees fields.now) in
-        length (enc t (value_of value.now)) ≤ length room.old }
+        length (serialize t (value_of value.now)) ≤ length room.old }
     requires short { length room.old < 2 ^ 32 }
     ensures { let t = container (fields_over schema.now.trees fields.now) in
-        Writes (enc t (value_of value.now)) result room.new }
+        WritesEncoding (serialize t (value_of value.now)) result room.new }
 {
     match value {
         Value::Seq(parts) => write_fields(schema, id, fields, parts.as_slice(), room),
@@ -376,7 +382,7 @@ fn write_fields(
         room.old }
     requires short { length room.old < 2 ^ 32 }
     ensures { let fs = fields_over schema.now.trees fields.now in
-        Writes (joined (part_sizes fs) (field_encodings fs (map value_of parts.now))) result
+        WritesEncoding (joined (part_sizes fs) (field_encodings fs (map value_of parts.now))) result
         room.new }
 {
     let heads = container_heads_len(schema, id, fields);

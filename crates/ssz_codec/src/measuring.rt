@@ -3,7 +3,7 @@ ghost use Rattle.std.specs.List.{AllByRecursion};
 ghost use Rattle.ssz_schema.specs.Types.{container, union};
 ghost use Rattle.ssz_schema.specs.Sizes.{fixed_size, part_length};
 ghost use Rattle.ssz_schema.specs.Unfolding.{type_of, fields_over, options_over, IsBelow};
-ghost use Rattle.ssz_value.specs.Encoding.{enc};
+ghost use Rattle.ssz_value.specs.Encoding.{serialize};
 ghost use Rattle.ssz_value.specs.Sizes.{size, fields_size};
 ghost use Rattle.ssz_value.specs.Standing.{value_of, IsValue};
 ghost use Rattle.ssz_value.specs.Shapes.{AreFields, IsSequence, parts_of};
@@ -16,7 +16,7 @@ use ssz_value::{Value, bits_of, option_at};
 pub fn encoded_len(schema: &Schema, id: TypeId, value: &Value) -> u64
     requires known { id < length schema.now.trees }
     requires value { IsValue (type_of schema.now id) value.now }
-    ensures { result ≡ capped (length (enc (type_of schema.now id) (value_of value.now))) }
+    ensures { result ≡ capped (length (serialize (type_of schema.now id) (value_of value.now))) }
 {
     value_len(schema, id, value)
 }

@@ -1,7 +1,7 @@
 ghost use Rattle.std.specs.Prelude.{◌≡◌, ◌<◌, length};
 ghost use Rattle.std.specs.List.{AllByRecursion};
 ghost use Rattle.ssz_schema.specs.Unfolding.{type_of, fields_over};
-ghost use Rattle.ssz_codec.specs.Plain.{is_plain, are_plain};
+ghost use Rattle.ssz_codec.specs.Plain.{has_plain_encoding, are_plain};
 
 use ssz_schema::{Name, Schema, Ty, TypeId};
 
@@ -10,7 +10,7 @@ use ssz_schema::{Name, Schema, Ty, TypeId};
 #[cycle(plain)]
 pub fn is_plain(schema: &Schema, id: TypeId) -> bool
     requires { id < length schema.now.trees }
-    ensures { result ≡ is_plain (type_of schema.now id) }
+    ensures { result ≡ has_plain_encoding (type_of schema.now id) }
 {
     match schema.ty(id) {
         Ty::Uint(_) => true,

@@ -5,7 +5,7 @@ use Rattle.std.specs.List.{AllByRecursion}
 use Rattle.std.proofs.lemmas.Bool.{eqb-true}
 use Rattle.ssz_proof.specs.Descent.{IsAscending}
 use Rattle.ssz_proof.proofs.Searching.{IsAscending-from}
-use Rattle.ssz_prove.specs.Proved.{AreSame}
+use Rattle.ssz_prove.specs.Proved.{SameNumbers}
 use Rattle.ssz_machine.specs.Asking.{with_number, ascending}
 use Rattle.ssz_machine.proofs.Ascents.{all-at, ascends, ascending-has}
 
@@ -81,7 +81,7 @@ into-tail n m ns ms same up into g has =
     beyond m ms g (omega arith) (into g (has-later n g ns has))
 
 -- two ascending lists with the same numbers
-same-ascending : (ns ms : List ℕ) → IsAscending ns → IsAscending ms → AreSame ns ms → ns ≡ ms
+same-ascending : (ns ms : List ℕ) → IsAscending ns → IsAscending ms → SameNumbers ns ms → ns ≡ ms
 same-ascending [] [] up also same = refl
 same-ascending [] (m ∷ ms) up also same =
     let none = same.back m (has-first m ms) in absurd (omega (arith, none.1))
@@ -100,7 +100,7 @@ same-ascending (n ∷ ns) (m ∷ ms) up also same =
 
 -- such a list of the numbers of another is the one of the machine
 pub ascending-once : (ns asked : List ℕ) → IsAscending ns → AllByRecursion (λ n. 0 < n) asked
-    → AreSame ns asked → ns ≡ ascending asked
+    → SameNumbers ns asked → ns ≡ ascending asked
 ascending-once ns asked up positive same =
     same-ascending ns (ascending asked) up
     (IsAscending-from 0 (ascending asked) (ascends asked positive)) (record {

@@ -3,7 +3,7 @@ use Rattle.std.proofs.Common.{◌≡◌, ◌∙◌, ℕ, [], Option, None, refl,
 use Rattle.std.specs.FinMap as finite
 use Rattle.std.specs.FinMap.{get-empty}
 use Rattle.ssz_schema.specs.Unfolding.{Types}
-use Rattle.ssz_arena.specs.Content.{Content as Nodes}
+use Rattle.ssz_arena.specs.Content.{ArenaContent as Nodes}
 use Rattle.ssz_versions.specs.Keys.{key_cmp}
 use Rattle.ssz_versions.specs.Content.{Entries, Held, held_at}
 use Rattle.ssz_decisions.specs.Standing.{Match, StandsForVersions, HoldsNone}

@@ -3,20 +3,20 @@ use Rattle.std.proofs.Common.{Bor, Bool, true, false, inl, inr, is_some, IsSome,
 use Rattle.std.proofs.lemmas.Bool.{false≢true, lt-ltb, ltb-true}
 use Rattle.std.proofs.lemmas.List.{length-replicate}
 use Rattle.std.specs.Prelude.{nat_lt, not, ◌&&◌, is_none, replicate, unwrap_or, IfSome, IsSomeAnd, []}
-use Rattle.ssz_outside.specs.Content.{Content as Files, bytes_of, contents}
+use Rattle.ssz_outside.specs.Content.{Content as Files, file_bytes, contents}
 use Rattle.ssz_script.specs.declared.reply.TheConstants.Reply.{NO_TYPE, NAME_TAKEN, TOO_LONG}
 use Rattle.ssz_schema.specs.Types.{SszType}
-use Rattle.ssz_schema.specs.Unfolding.{Types, known_in, number_of, type_of}
+use Rattle.ssz_schema.specs.Unfolding.{Types, known_in, type_number, type_of}
 use Rattle.ssz_value.specs.Values.{SszValue, Fits}
-use Rattle.ssz_value.specs.Faults.{why}
+use Rattle.ssz_value.specs.Faults.{first_fault}
 use Rattle.ssz_value.specs.Reading.{value_in}
 use Rattle.ssz_value.specs.Pairs.{pairs}
 use Rattle.ssz_value_json.specs.declared.fault.JsonFault.{JsonFault}
-use Rattle.ssz_value_json.specs.Faults.{why_json, value_spelled}
+use Rattle.ssz_value_json.specs.Faults.{first_json_fault, value_spelled}
 use Rattle.ssz_arena.specs.declared.node.NodeId.{NodeId}
-use Rattle.ssz_arena.specs.Content.{Content as Nodes, node_count, todo, unhashed, KeepsNodes}
-use Rattle.ssz_tree.specs.Added.{Adds, IsPart}
-use Rattle.ssz_making.specs.Parts.{part_of}
+use Rattle.ssz_arena.specs.Content.{ArenaContent as Nodes, node_count, todo, unhashed, KeepsNodes}
+use Rattle.ssz_tree.specs.Added.{AddsNodes, IsPartNode}
+use Rattle.ssz_making.specs.Parts.{part_of_value}
 use Rattle.ssz_proof.specs.Calculation.{PairOf}
 use Rattle.std.specs.FinMap as finite
 use Rattle.std.specs.FinMap.{get-empty}
@@ -26,20 +26,20 @@ use Rattle.ssz_machine.specs.State.{Name, Version, Versions, has_version}
 use Rattle.ssz_machine.specs.Rules.{Rules, Row, ◌>>=◌, ◌>>◌, coded, bad_json, need, refuse, faultless, well_spelled, makes}
 use Rattle.ssz_machine.specs.Machine.{can_load, charge_in}
 use Rattle.ssz_machine.specs.Changes.{Touch, puts}
-use Rattle.ssz_decisions.specs.Content.{Content, rules_of}
-use Rattle.ssz_decisions.specs.Decisions.{AnswersAnew, AnswersWith, Comes, IsPaid, MakesFew}
-use Rattle.ssz_decisions.specs.Loading.{IsFree, IsTaken, LoadsWith, ReadsAs, brought, brought_as, load_row}
+use Rattle.ssz_decisions.specs.Content.{EngineContent, rules_of}
+use Rattle.ssz_decisions.specs.Decisions.{AnswersAnew, AnswersWith, DecidesRow, IsPaid, MakesFew}
+use Rattle.ssz_decisions.specs.Loading.{IsFree, IsTaken, LoadsWith, ReadsAs, loaded_row, brought_as, load_row}
 use Rattle.ssz_decisions.specs.declared.decision.Decision.{Decision}
 use Rattle.ssz_decisions.specs.declared.decision.Decision.TheVariants.{BadJson, Made, Refused}
-use Rattle.ssz_decisions.specs.declared.form.Form.{Form}
-use Rattle.ssz_decisions.specs.declared.form.Form.TheVariants.{Encoding, Json}
+use Rattle.ssz_decisions.specs.declared.load_form.Form.{Form}
+use Rattle.ssz_decisions.specs.declared.load_form.Form.TheVariants.{Encoding, Json}
 use Rattle.ssz_decisions.specs.Standing.{IsVersion, Match, StandsForWriter, AreVersions}
 use Rattle.ssz_decisions.proofs.Standing.{version-kept}
 
 -- a node that has a part is a version
 pub part-stands : (types : Types) (arena : Nodes) (id : ℕ) (node : NodeId) (v : SszValue)
     → id < length types.trees → Fits (type_of types id) v
-    → IsPart arena (part_of (type_of types id) v) node
+    → IsPartNode arena (part_of_value (type_of types id) v) node
     → IsVersion types arena (id, node) (record { type = type_of types id; value = v })
 part-stands types arena id node v known fits is = record {
   known = known;
@@ -69,7 +69,7 @@ free-there types arena (Some held) version free is = absurd (no-held held free)
     no-held held e = cc
 
 -- a store with these nodes
-abbrev pub over : Types → ℕ → Entries → ℕ → Nodes → Content
+abbrev pub over : Types → ℕ → Entries → ℕ → Nodes → EngineContent
 over types most entries base arena = record {
   types = types;
   most = most;
@@ -83,7 +83,7 @@ pub made-answers : (pair_of : PairOf) (types : Types) (most : ℕ) (entries : En
     (old new : Nodes) (row : Rules → Versions → Row) (writer : ℕ) (name : Bor (List ℕ)) (id : ℕ)
     (node : NodeId) (room : Unit {0}) (v : SszValue) (n m : ℕ) → id < length types.trees
     → Fits (type_of types id) v
-    → IsPart new (part_of (type_of types id) v) node → Adds n m old new
+    → IsPartNode new (part_of_value (type_of types id) v) node → AddsNodes n m old new
     → m ≤ pairs (type_of types id) v → n ≤ 2 * pairs (type_of types id) v + 1
     → held_at entries writer name.now ≡ None
     → ((versions : Versions)
@@ -130,8 +130,8 @@ made-answers pair_of types most entries base old new row writer name id node roo
 
 -- the row of bytes that have no fault
 pub brought-row : (versions : Versions) (v : Name) (t : SszType) (bytes : List ℕ)
-    → why t 0 bytes ≡ None
-    → brought versions v t bytes
+    → first_fault t 0 bytes ≡ None
+    → loaded_row versions v t bytes
     ≡ makes versions v t (value_in t bytes) (pairs t (value_in t bytes))
 brought-row versions v t bytes e =
     ap (λ f. (faultless f >> Ok (value_in t bytes))
@@ -139,7 +139,7 @@ brought-row versions v t bytes e =
 
 -- the row of a text that has no fault
 pub json-row : (versions : Versions) (v : Name) (t : SszType) (text : List ℕ)
-    → why_json t text ≡ None
+    → first_json_fault t text ≡ None
     → brought_as Json versions v t text
     ≡ makes versions v t (value_spelled t text) (pairs t (value_spelled t text))
 json-row versions v t text e =
@@ -148,7 +148,7 @@ json-row versions v t text e =
 
 -- and of one that has
 pub bad-json-row : (versions : Versions) (v : Name) (t : SszType) (text : List ℕ)
-    (fault : JsonFault) → why_json t text ≡ Some fault
+    (fault : JsonFault) → first_json_fault t text ≡ Some fault
     → brought_as Json versions v t text ≡ Err (bad_json fault)
 bad-json-row versions v t text fault e =
     ap (λ f. (well_spelled f >> Ok (value_spelled t text))
@@ -159,7 +159,7 @@ abbrev pub guarded : Rules → Versions → Name → Name → (SszType → Row) 
 guarded rules versions v t rest = need NO_TYPE (rules.type_named t)
     >>= (λ type. refuse NAME_TAKEN (has_version v versions) >> rest type)
 
-module _ (pair_of : PairOf) (store : Content) (writer : ℕ) (v t : Name)
+module _ (pair_of : PairOf) (store : EngineContent) (writer : ℕ) (v t : Name)
     (versions : Versions) (stand : StandsForWriter store writer versions) where
   -- both tests are passed
   pub free-row : (id : ℕ) (rest : SszType → Row) → IsFree store writer v t id
@@ -198,7 +198,7 @@ module _ (pair_of : PairOf) (store : Content) (writer : ℕ) (v t : Name)
   pub taken-blocks : (code : ℕ) → IsTaken store writer v t code
       → can_load (rules_of pair_of store) versions v t ≡ true → ⊥
   taken-blocks code (inl (is, unknown)) can =
-      no-type (number_of store.types t) (has_version v versions) unknown can
+      no-type (type_number store.types t) (has_version v versions) unknown can
     where
       no-type : (n : Option ℕ) (taken? : Bool) → n ≡ None
           → (is_some (option_map (type_of store.types) n) && not taken?) ≡ true → ⊥
@@ -225,7 +225,7 @@ there-longer (Some b) most h = refl
 
 -- a row that is the same
 pub answers-same : (pair_of : PairOf) (row other : Rules → Versions → Row) (touch : Touch)
-    (writer : ℕ) (old new : Content) (made : Decision)
+    (writer : ℕ) (old new : EngineContent) (made : Decision)
     → ((versions : Versions) → StandsForWriter old writer versions
     → other (rules_of pair_of old) versions ≡ row (rules_of pair_of old) versions)
     → AnswersWith pair_of row touch writer old new made
@@ -234,7 +234,7 @@ answers-same pair_of row other touch writer old new made same answers = λ count
   can = (answers count).can;
   of = (answers count).of;
   comes = λ versions stand.
-      subst (λ r. Comes old new count count writer versions r made)
+      subst (λ r. DecidesRow old new count count writer versions r made)
       (sym (same versions stand)) ((answers count).comes versions stand);
   spends = λ versions stand.
       subst (λ r. count + unhashed new.arena ≤ count + unhashed old.arena + charge_in r)
@@ -245,7 +245,7 @@ answers-same pair_of row other touch writer old new made same answers = λ count
 }
 
 pub anew-same : (pair_of : PairOf) (row other : Rules → Versions → Row) (touch : Touch)
-    (writer : ℕ) (old new : Content) (made : Decision)
+    (writer : ℕ) (old new : EngineContent) (made : Decision)
     → ((versions : Versions) → StandsForWriter old writer versions
     → other (rules_of pair_of old) versions ≡ row (rules_of pair_of old) versions)
     → AnswersAnew pair_of row touch writer old new made
@@ -258,7 +258,7 @@ anew-same pair_of row other touch writer old new made same answers = (
 
 -- a refusal
 pub refused-answers : (pair_of : PairOf) (row : Rules → Versions → Row) (touch : Touch)
-    (writer : ℕ) (store : Content) (code : ℕ)
+    (writer : ℕ) (store : EngineContent) (code : ℕ)
     → ((versions : Versions) → StandsForWriter store writer versions
     → row (rules_of pair_of store) versions ≡ Err (coded code))
     → AnswersWith pair_of row touch writer store store (Refused code)
@@ -271,7 +271,7 @@ refused-answers pair_of row touch writer store code is = λ count. record {
 }
 
 pub refused-anew : (pair_of : PairOf) (row : Rules → Versions → Row) (touch : Touch)
-    (writer : ℕ) (store : Content) (code : ℕ)
+    (writer : ℕ) (store : EngineContent) (code : ℕ)
     → ((versions : Versions) → StandsForWriter store writer versions
     → row (rules_of pair_of store) versions ≡ Err (coded code))
     → AnswersAnew pair_of row touch writer store store (Refused code)
@@ -280,7 +280,7 @@ refused-anew pair_of row touch writer store code is =
 
 -- a text that has a fault
 pub bad-json-answers : (pair_of : PairOf) (row : Rules → Versions → Row) (touch : Touch)
-    (writer : ℕ) (store : Content) (fault : JsonFault)
+    (writer : ℕ) (store : EngineContent) (fault : JsonFault)
     → ((versions : Versions) → row (rules_of pair_of store) versions ≡ Err (bad_json fault))
     → AnswersAnew pair_of row touch writer store store (BadJson fault)
 bad-json-answers pair_of row touch writer store fault is = (
@@ -316,7 +316,7 @@ are-none types arena entries none = record {
 -- What a file has that was read whole, or that has more bytes than were asked for.
 
 pub whole : (told : Option Files) (file read : List ℕ)
-    → IfSome told (λ held. bytes_of held file ≡ Some read) → ReadsAs told file read
+    → IfSome told (λ held. file_bytes held file ≡ Some read) → ReadsAs told file read
 whole None file read h = tt
 whole (Some c) file read h = ap (λ (o : Option (List ℕ)). unwrap_or o []) h
 
@@ -336,7 +336,7 @@ pub record IsLong (told : Option Files) (file : List ℕ) (most : ℕ) : Type 0 
   pub long : nat_lt most (length bytes) ≡ true
 
 pub too-long : (told : Option Files) (file : List ℕ) (most : ℕ)
-    → IfSome told (λ held. IsSomeAnd (bytes_of held file) (λ b. most < length b))
+    → IfSome told (λ held. IsSomeAnd (file_bytes held file) (λ b. most < length b))
     → IsLong told file most
 too-long None file most h = record {
   bytes = replicate (most + 1) 0;
@@ -344,9 +344,9 @@ too-long None file most h = record {
   long = below-true most (length (replicate (most + 1) 0))
       (omega (arith, length-replicate {A = ℕ}));
 }
-too-long (Some c) file most h = by (bytes_of c file) refl h
+too-long (Some c) file most h = by (file_bytes c file) refl h
   where
-    by : (o : Option (List ℕ)) → bytes_of c file ≡ o → IsSomeAnd o (λ b. most < length b)
+    by : (o : Option (List ℕ)) → file_bytes c file ≡ o → IsSomeAnd o (λ b. most < length b)
         → IsLong (Some c) file most
     by None e h = absurd h
     by (Some b) e h = record {
@@ -357,7 +357,7 @@ too-long (Some c) file most h = by (bytes_of c file) refl h
 
 -- whatever bytes a file has that was not read
 pub loads-any : (pair_of : PairOf) (told : Option Files) (file : List ℕ)
-    (row : List ℕ → Rules → Versions → Row) (does : Touch) (writer : ℕ) (old new : Content)
+    (row : List ℕ → Rules → Versions → Row) (does : Touch) (writer : ℕ) (old new : EngineContent)
     (made : Decision)
     → ((bytes : List ℕ) → AnswersAnew pair_of (row bytes) does writer old new made)
     → LoadsWith pair_of told file row does writer old new made

@@ -5,7 +5,7 @@ use Rattle.std.proofs.lemmas.Slice.Eq.{bytes_eq-Decides}
 use Rattle.std.specs.FinMap as finite
 use Rattle.std.specs.Ordering.{eq_by_cmp}
 use Rattle.ssz_schema.specs.Unfolding.{Types}
-use Rattle.ssz_arena.specs.Content.{Content as Nodes}
+use Rattle.ssz_arena.specs.Content.{ArenaContent as Nodes}
 use Rattle.ssz_versions.specs.Content.{Entries, Held, held_at, with_held, without_held}
 use Rattle.ssz_versions.specs.Keys.{key_cmp, key_cmp-total}
 use Rattle.ssz_versions.specs.Outcomes.{Adopts}

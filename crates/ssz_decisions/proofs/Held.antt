@@ -12,11 +12,11 @@ use lib.Dec.{T}
 use Rattle.ssz_schema.specs.Types.{boolean}
 use Rattle.ssz_schema.specs.Unfolding.{Types}
 use Rattle.ssz_value.specs.Values.{chosen_none}
-use Rattle.ssz_arena.specs.Content.{Content as Nodes}
+use Rattle.ssz_arena.specs.Content.{ArenaContent as Nodes}
 use Rattle.ssz_versions.specs.Content.{Entries, Held, held_at}
 use Rattle.ssz_versions.specs.Keys.{Key, key_cmp}
 use Rattle.ssz_machine.specs.State.{Name, Version, Versions, version_of, with_version}
-use Rattle.ssz_decisions.specs.Content.{Content}
+use Rattle.ssz_decisions.specs.Content.{EngineContent}
 use Rattle.ssz_decisions.specs.Standing.{StandsForSome, AreVersions, Match, StandsForVersions}
 use Rattle.ssz_decisions.proofs.Keys.{same_writer, other_writer}
 use Rattle.ssz_decisions.proofs.Names.{by_writer}
@@ -97,7 +97,7 @@ module _ (types : Types) (arena : Nodes) (entries : Entries)
         (is-known name (held_at entries writer name) refl);
   }
 
-pub stands-for-some : (store : Content) → AreVersions store.types store.arena store.entries
+pub stands-for-some : (store : EngineContent) → AreVersions store.types store.arena store.entries
     → StandsForSome store
 stands-for-some store all = (
   λ writer. build store.types store.arena store.entries all writer

@@ -13,8 +13,8 @@ use Rattle.std.specs.Cmp.{tied_itself}
 use Rattle.std.specs.Cmp.Lexicographic.{slice_cmp}
 use lib.Dec.{T}
 use Rattle.ssz_schema.specs.Unfolding.{Types}
-use Rattle.ssz_arena.specs.Content.{Content as Nodes}
-use Rattle.ssz_versions.specs.Content.{Entries, Held, names_of}
+use Rattle.ssz_arena.specs.Content.{ArenaContent as Nodes}
+use Rattle.ssz_versions.specs.Content.{Entries, Held, entry_names}
 use Rattle.ssz_versions.specs.Keys.{Key, key_cmp}
 use Rattle.ssz_machine.specs.State.{Name, Version, Versions}
 use Rattle.ssz_decisions.specs.Standing.{Match, StandsForVersions}
@@ -144,7 +144,7 @@ match-seen types arena (Some held) None is = absurd is
 
 pub names-same : (types : Types) (arena : Nodes) (entries : Entries) (writer : ℕ)
     (versions : Versions) → StandsForVersions types arena entries writer versions
-    → names_of entries writer ≡ map (λ e. e.0) versions
+    → entry_names entries writer ≡ map (λ e. e.0) versions
 names-same types arena entries writer versions stand =
     let es = finite.entries entries in
     names-own writer es

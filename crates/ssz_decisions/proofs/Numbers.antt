@@ -11,13 +11,13 @@ use Rattle.ssz_value.specs.Parts.{part}
 use Rattle.ssz_value.specs.Trees.{tree}
 use Rattle.ssz_arena.specs.Content.{tree_of}
 use Rattle.ssz_proof.specs.Calculation.{PairOf}
-use Rattle.ssz_views.specs.Looking.{Looking, StandsFor, ForPart}
+use Rattle.ssz_views.specs.Looking.{Looking, ViewStandsFor, ForPart}
 use Rattle.ssz_versions.specs.Content.{Held, held_at}
 use Rattle.ssz_machine.specs.State.{Name, Version, Versions}
-use Rattle.ssz_machine.specs.Rules.{Row, ◌>>=◌, coded, need, says}
+use Rattle.ssz_machine.specs.Rules.{Row, ◌>>=◌, coded, need, says_reply}
 use Rattle.ssz_machine.specs.Asking.{len}
 use Rattle.ssz_machine.specs.Changes.{nothing}
-use Rattle.ssz_decisions.specs.Content.{Content}
+use Rattle.ssz_decisions.specs.Content.{EngineContent}
 use Rattle.ssz_decisions.specs.Counted.{counted, HasCount, HasNoCount}
 use Rattle.ssz_decisions.specs.Decisions.{AnswersWith}
 use Rattle.ssz_decisions.specs.Standing.{StandsForWriter}
@@ -26,7 +26,7 @@ use Rattle.ssz_decisions.proofs.Brought.{refused-answers}
 use Rattle.ssz_decisions.proofs.Showing.{held-there}
 
 -- the row of a version that is held, from what its node shows
-abbrev pub seen_of : Content → Held → Looking
+abbrev pub seen_of : EngineContent → Held → Looking
 seen_of store held = record {
   arena = store.arena;
   types = store.types;
@@ -35,7 +35,7 @@ seen_of store held = record {
   lies = whole;
 }
 
-pub len-row : (store : Content) (writer : ℕ) (v : Name) (path : Path) (held : Held)
+pub len-row : (store : EngineContent) (writer : ℕ) (v : Name) (path : Path) (held : Held)
     (row : Versions → Row)
     → held_at store.entries writer v ≡ Some held
     → ForPart (seen_of store held) (λ x. (versions : Versions)
@@ -45,7 +45,7 @@ pub len-row : (store : Content) (writer : ℕ) (v : Name) (path : Path) (held : 
     → len versions v path ≡ row versions
 len-row store writer v path held row there is versions stand =
     let h = held-there store.types store.arena held _ _ there (stand.each v) in
-    let seen : StandsFor (seen_of store held) h.version.value = record {
+    let seen : ViewStandsFor (seen_of store held) h.version.value = record {
       fits = subst (λ (t : SszType). Fits t h.version.value) (sym h.stands.type) h.stands.fits;
       has = subst (λ (t : SszType). tree_of store.arena held.1 ≡ tree t h.version.value)
           (sym h.stands.type) h.stands.tree;
@@ -57,7 +57,8 @@ len-row store writer v path held row there is versions stand =
     (sym h.stands.type)
     ∙ is h.version.value seen versions
 
-module _ (pair_of : PairOf) (store : Content) (writer : ℕ) (v : Name) (path : Path) (held : Held)
+module _ (pair_of : PairOf) (store : EngineContent) (writer : ℕ) (v : Name) (path : Path)
+    (held : Held)
     (there : held_at store.entries writer v ≡ Some held) where
   pub len-said : (n : ℕ)
       → ForPart (seen_of store held) (HasCount (type_of store.types held.0) path n)
@@ -67,7 +68,7 @@ module _ (pair_of : PairOf) (store : Content) (writer : ℕ) (v : Name) (path : 
     can = tt;
     of = refl;
     comes = λ versions stand. len-row store writer v path held
-        (λ versions. says versions (Len n)) there is versions stand;
+        (λ versions. says_reply versions (Len n)) there is versions stand;
     spends = λ versions stand. omega arith;
     few = λ versions stand. refl;
   }

@@ -18,7 +18,7 @@ use Rattle.ssz_proof.specs.Calculation.{Known, PairOf, indices_of}
 use Rattle.ssz_proof.specs.Judgement.{are_flat, is_below_one}
 use Rattle.ssz_proof.specs.Laws.{HasChunk}
 use Rattle.ssz_proof.specs.Multiproof.{Multiproof}
-use Rattle.ssz_proof.specs.Text.{text_of}
+use Rattle.ssz_proof.specs.Text.{multiproof_text}
 use Rattle.ssz_proof.proofs.Judging.{flat-from}
 use Rattle.ssz_prove.specs.Faults.{AreIn}
 use Rattle.ssz_prove.specs.Proved.{IsProofIn}
@@ -28,13 +28,13 @@ use Rattle.ssz_script.specs.declared.reply.TheConstants.Reply.{NO_VERSION, BAD_P
 use Rattle.ssz_value.specs.Trees.{tree}
 use Rattle.ssz_versions.specs.Content.{Held, held_at}
 use Rattle.ssz_machine.specs.State.{Name, Version, Versions}
-use Rattle.ssz_machine.specs.Rules.{Rules, Row, Outcome, ◌>>=◌, ◌>>◌, coded, need, refuse, says}
+use Rattle.ssz_machine.specs.Rules.{Rules, Row, Outcome, ◌>>=◌, ◌>>◌, coded, need, refuse, says_reply}
 use Rattle.ssz_machine.specs.Asking.{proof_of, ascending, asked_indices, prove}
 use Rattle.ssz_machine.proofs.Ascents.{all-at}
-use Rattle.ssz_decisions.specs.Content.{Content, rules_of}
+use Rattle.ssz_decisions.specs.Content.{EngineContent, rules_of}
 use Rattle.ssz_machine.specs.Changes.{nothing}
 use Rattle.ssz_decisions.specs.Standing.{StandsForWriter}
-use Rattle.ssz_decisions.specs.Decisions.{Answers, AnswersWith}
+use Rattle.ssz_decisions.specs.Decisions.{AnswersRow, AnswersWith}
 use Rattle.ssz_decisions.specs.Proving.{IsNowhere, Proves, proved}
 use Rattle.ssz_decisions.specs.declared.decision.Decision.{Decision}
 use Rattle.ssz_decisions.specs.declared.decision.Decision.TheVariants as decision
@@ -96,7 +96,7 @@ module _ (t : Tree) where
         → proved pair_of t versions asked ≡ Err (coded NO_NODE)
     proved-missing g given none =
         ap (λ (b : Bool). refuse NO_NODE b >> (refuse NESTED (not (are_flat asked))
-        >> says versions (Proof (text_of (proof_of pair_of t (ascending asked))))))
+        >> says_reply versions (Proof (multiproof_text (proof_of pair_of t (ascending asked))))))
         (list_any_at misses asked given.0 g given.1 (ap misses given.2 ∙ ap is_none none))
 
     -- one above another
@@ -108,13 +108,15 @@ module _ (t : Tree) where
         let test : are_flat asked ≡ false =
         false_from_ne_true _ (λ flat. flat-from asked flat a b nested) in
         ap (λ (b : Bool). refuse NO_NODE b >> (refuse NESTED (not (are_flat asked))
-        >> says versions (Proof (text_of (proof_of pair_of t (ascending asked)))))) there
+        >> says_reply versions
+        (Proof (multiproof_text (proof_of pair_of t (ascending asked)))))) there
         ∙ ap (λ (b : Bool). refuse NESTED (not b)
-        >> says versions (Proof (text_of (proof_of pair_of t (ascending asked))))) test
+        >> says_reply versions
+        (Proof (multiproof_text (proof_of pair_of t (ascending asked))))) test
 
     -- a proof in the tree
     pub proved-says : (proof : Multiproof) → IsProofIn pair_of t asked proof
-        → proved pair_of t versions asked ≡ says versions (Proof (text_of proof))
+        → proved pair_of t versions asked ≡ says_reply versions (Proof (multiproof_text proof))
     proved-says proof is =
         let leaves = (all-parts (HasChunk pair_of t) proof.leaves proof.nodes is.chunks).0 in
         let there : list_any misses asked ≡ false = none-missing asked (λ g has.
@@ -128,13 +130,15 @@ module _ (t : Tree) where
           apart = nested.apart;
         })) in
         ap (λ (b : Bool). refuse NO_NODE b >> (refuse NESTED (not (are_flat asked))
-        >> says versions (Proof (text_of (proof_of pair_of t (ascending asked)))))) there
+        >> says_reply versions
+        (Proof (multiproof_text (proof_of pair_of t (ascending asked)))))) there
         ∙ ap (λ (b : Bool). refuse NESTED (not b)
-        >> says versions (Proof (text_of (proof_of pair_of t (ascending asked))))) test
-        ∙ ap (λ (p : Multiproof). says versions (Proof (text_of p)))
+        >> says_reply versions
+        (Proof (multiproof_text (proof_of pair_of t (ascending asked))))) test
+        ∙ ap (λ (p : Multiproof). says_reply versions (Proof (multiproof_text p)))
         (sym (proof-made pair_of t asked proof is))
 
-module _ (pair_of : PairOf) (store : Content) (writer : ℕ) (v : Name) (indices : List Index)
+module _ (pair_of : PairOf) (store : EngineContent) (writer : ℕ) (v : Name) (indices : List Index)
     (held : Held) (there : held_at store.entries writer v ≡ Some held) where
   -- the row, from the entry that stands for the version
   pub prove-row : (outcome : Outcome (List ℕ)) (row : Versions → Row)
@@ -159,14 +163,14 @@ module _ (pair_of : PairOf) (store : Content) (writer : ℕ) (v : Name) (indices
 
 -- a decision that says a proof, as ssz_prove made it
 pub says-proof : (pair_of : PairOf) (t : Tree) (asked : List ℕ) (proof : Multiproof)
-    (text : List ℕ) → IsProofIn pair_of t asked proof → text ≡ text_of proof
+    (text : List ℕ) → IsProofIn pair_of t asked proof → text ≡ multiproof_text proof
     → Proves pair_of t asked (Said (Proof text))
 says-proof pair_of t asked proof text is printed = λ versions.
     proved-says t pair_of versions asked proof is
-    ∙ ap (λ (line : List ℕ). says versions (Proof line)) (sym printed)
+    ∙ ap (λ (line : List ℕ). says_reply versions (Proof line)) (sym printed)
 
 -- What is answered, by the entry.
-module _ (pair_of : PairOf) (store : Content) (writer : ℕ) (v : Name) (indices : List Index)
+module _ (pair_of : PairOf) (store : EngineContent) (writer : ℕ) (v : Name) (indices : List Index)
     (held : Held) (there : held_at store.entries writer v ≡ Some held) where
   abbrev t : Tree
   t = tree_of store.arena held.1
@@ -187,10 +191,10 @@ module _ (pair_of : PairOf) (store : Content) (writer : ℕ) (v : Name) (indices
       ∙ ap (λ c. Err (coded c)) (sym is)))
 
   -- what is said of the numbers, with the roots that were taken
-  pub proves-answers : (new : Content) (asked : List ℕ) (count after : ℕ) (made : Decision)
+  pub proves-answers : (new : EngineContent) (asked : List ℕ) (count after : ℕ) (made : Decision)
       → Ok asked ≡ asked_indices (type_of store.types held.0) indices
       → Proves pair_of t asked made → TakesRoots store.arena new.arena count after
-      → Answers pair_of row nothing writer store new count after made
+      → AnswersRow pair_of row nothing writer store new count after made
   proves-answers new asked count after (decision.Refused code) found proves takes = record {
     can = tt;
     of = tt;
@@ -203,7 +207,7 @@ module _ (pair_of : PairOf) (store : Content) (writer : ℕ) (v : Name) (indices
     can = tt;
     of = refl;
     comes = prove-row pair_of store writer v indices held there (Ok asked)
-        (λ versions. says versions reply) found proves;
+        (λ versions. says_reply versions reply) found proves;
     spends = λ versions stand. omega (arith, takes.counts.at_most, takes.falls);
     few = λ versions stand. takes.same;
   }
@@ -215,11 +219,11 @@ module _ (pair_of : PairOf) (store : Content) (writer : ℕ) (v : Name) (indices
   proves-answers new asked count after (decision.Saved n bytes) found proves takes = absurd proves
 
   -- the same of what failed or was done
-  pub proves-ok : (new : Content) (asked : List ℕ) (count after : ℕ)
+  pub proves-ok : (new : EngineContent) (asked : List ℕ) (count after : ℕ)
       (r : Result Decision AllocError)
       → Ok asked ≡ asked_indices (type_of store.types held.0) indices
       → IfOk r (Proves pair_of t asked) → TakesRoots store.arena new.arena count after
-      → IfOk r (Answers pair_of row nothing writer store new count after)
+      → IfOk r (AnswersRow pair_of row nothing writer store new count after)
   proves-ok new asked count after (Ok made) found proves takes =
       proves-answers new asked count after made found proves takes
   proves-ok new asked count after (Err fault) found proves takes = tt

@@ -10,14 +10,14 @@ use Rattle.ssz_schema.specs.Indices.{Spot}
 use Rattle.ssz_schema.specs.Legal.{IsLegal}
 use Rattle.ssz_schema.specs.Paths.{Path, path_type}
 use Rattle.ssz_schema.specs.Unfolding.{Types, type_of}
-use Rattle.ssz_value.specs.Encoding.{enc}
+use Rattle.ssz_value.specs.Encoding.{serialize}
 use Rattle.ssz_json_text.specs.Text.{json}
 use Rattle.ssz_value.specs.Parts.{part}
 use Rattle.ssz_value.specs.Values.{SszValue, Fits}
 use Rattle.ssz_value.specs.declared.path_fault.PathFault.{PathFault}
 use Rattle.ssz_value.specs.declared.path_fault.PathFault.TheVariants as path_fault
 use Rattle.ssz_arena.specs.declared.node.NodeId.{NodeId}
-use Rattle.ssz_arena.specs.Content.{Content as Nodes, tree_of}
+use Rattle.ssz_arena.specs.Content.{ArenaContent as Nodes, tree_of}
 use Rattle.ssz_gindex.proofs.HelperNodes.{some_from}
 use Rattle.ssz_places.specs.PlaceLaws.{IsTreeOf}
 use Rattle.ssz_places.specs.Spots.{HasPart}
@@ -30,11 +30,11 @@ use Rattle.ssz_script.specs.declared.reply.TheConstants.Reply.{NO_VERSION, BAD_P
 use Rattle.ssz_versions.specs.Content.{Held, held_at}
 use Rattle.ssz_machine.specs.declared.place.Place.TheVariants.{Run}
 use Rattle.ssz_machine.specs.State.{Name, Version, Versions, version_of}
-use Rattle.ssz_machine.specs.Rules.{Rules, Outcome, Row, ◌>>=◌, ◌>>◌, coded, need, refuse, says}
+use Rattle.ssz_machine.specs.Rules.{Rules, Outcome, Row, ◌>>=◌, ◌>>◌, coded, need, refuse, says_reply}
 use Rattle.ssz_machine.specs.Asking.{bytes, json_row, save}
-use Rattle.ssz_decisions.specs.Content.{Content}
+use Rattle.ssz_decisions.specs.Content.{EngineContent}
 use Rattle.ssz_decisions.specs.Standing.{AreVersions, IsVersion, Match}
-use Rattle.ssz_decisions.specs.Shown.{HasPartAt, HasValue, LeadsToPart, TextOf, path_code, shown, Shows}
+use Rattle.ssz_decisions.specs.Shown.{HasPartAt, HasValue, LeadsToPart, TextOf, path_code, part_shown, PartIsShown}
 use Rattle.ssz_decisions.proofs.Entries.{some_held}
 use Rattle.ssz_decisions.proofs.Brought.{below-true, free-there, not-below}
 
@@ -103,7 +103,7 @@ is-there format types arena id node path place x legal found of =
     }
 
 -- a path that leads to a place leads to the part there of each version, and of one at least
-pub leads-there : (format : Format) (store : Content) (writer : ℕ) (v : Name) (path : Path)
+pub leads-there : (format : Format) (store : EngineContent) (writer : ℕ) (v : Name) (path : Path)
     (held : Held) (place : Place)
     → AreVersions store.types store.arena store.entries
     → IsLegal format (type_of store.types held.0)
@@ -200,11 +200,11 @@ module _ (text : TextOf) where
       >> Ok (text typed.0 value))) (lost.1 x of)
 
   -- what is shown of the value of an entry is shown of the version
-  shows-held : (store : Content) (writer : ℕ) (v : Name) (path : Path) (held : Held)
+  shows-held : (store : EngineContent) (writer : ℕ) (v : Name) (path : Path) (held : Held)
       (answer : Outcome (List ℕ)) → held_at store.entries writer v ≡ Some held
       → ((x : SszValue) → IsTreeOf (type_of store.types held.0) x (tree_of store.arena held.1)
       → seen store.most (type_of store.types held.0) x path ≡ answer)
-      → Shows text store writer v path answer
+      → PartIsShown text store writer v path answer
   shows-held store writer v path held answer there is = λ versions stand.
       let h = held-there store.types store.arena held _ _ there (stand.each v) in
       ap (λ (o : Option Version). need NO_VERSION o
@@ -213,18 +213,18 @@ module _ (text : TextOf) where
       ∙ is h.version.value (tree-stands store.types store.arena held h.version h.stands)
 
   -- of a path that leads to no part
-  pub shows-lost : (store : Content) (writer : ℕ) (v : Name) (path : Path) (held : Held)
+  pub shows-lost : (store : EngineContent) (writer : ℕ) (v : Name) (path : Path) (held : Held)
       (fault : PathFault) → held_at store.entries writer v ≡ Some held
       → IsLost store.types store.arena held.0 held.1 path fault
-      → Shows text store writer v path (Err (coded (path_code fault)))
+      → PartIsShown text store writer v path (Err (coded (path_code fault)))
   shows-lost store writer v path held fault there lost =
       shows-held store writer v path held (Err (coded (path_code fault))) there
       (λ x of. seen-lost store.most store.types store.arena held.0 held.1 path fault x lost of)
 
   -- no entry, no version
-  pub shows-none : (store : Content) (writer : ℕ) (v : Name) (path : Path)
+  pub shows-none : (store : EngineContent) (writer : ℕ) (v : Name) (path : Path)
       → held_at store.entries writer v ≡ None
-      → Shows text store writer v path (Err (coded NO_VERSION))
+      → PartIsShown text store writer v path (Err (coded NO_VERSION))
   shows-none store writer v path none = λ versions stand.
       ap (λ (o : Option Version). need NO_VERSION o
       >>= (λ version. seen store.most version.type version.value path))
@@ -232,11 +232,11 @@ module _ (text : TextOf) where
 
   -- a part that is there is shown by its text, or is too long
 
-  shows-part : (store : Content) (writer : ℕ) (v : Name) (path : Path) (place : Place)
+  shows-part : (store : EngineContent) (writer : ℕ) (v : Name) (path : Path) (place : Place)
       (answer : Outcome (List ℕ)) → LeadsToPart store writer v path place
       → ((version : Version) → (part : HasPartAt store.types store.arena place path version)
       → seen store.most version.type version.value path ≡ answer)
-      → Shows text store writer v path answer
+      → PartIsShown text store writer v path answer
   shows-part store writer v path place answer leads is = λ versions stand.
       by (version_of v versions) (leads.each versions stand)
     where
@@ -247,23 +247,23 @@ module _ (text : TextOf) where
       by None has = absurd has
       by (Some version) has = is version has
 
-  pub shows-short : (store : Content) (writer : ℕ) (v : Name) (path : Path) (place : Place)
+  pub shows-short : (store : EngineContent) (writer : ℕ) (v : Name) (path : Path) (place : Place)
       (bytes : List ℕ) → LeadsToPart store writer v path place
       → ((value : SszValue) → HasValue store.types store.arena place value
       → (length (text (type_of store.types place.id) value) ≤ store.most)
       × (bytes ≡ text (type_of store.types place.id) value))
-      → Shows text store writer v path (Ok bytes)
+      → PartIsShown text store writer v path (Ok bytes)
   shows-short store writer v path place bytes leads is =
       shows-part store writer v path place (Ok bytes) leads
       (λ version has. let made = is has.value has.there in
       seen-short store.most version.type version.value path (type_of store.types place.id)
       has.value bytes has.typed has.is made.0 made.1)
 
-  pub shows-long : (store : Content) (writer : ℕ) (v : Name) (path : Path) (place : Place)
+  pub shows-long : (store : EngineContent) (writer : ℕ) (v : Name) (path : Path) (place : Place)
       → LeadsToPart store writer v path place
       → ((value : SszValue) → HasValue store.types store.arena place value
       → store.most < length (text (type_of store.types place.id) value))
-      → Shows text store writer v path (Err (coded TOO_LONG))
+      → PartIsShown text store writer v path (Err (coded TOO_LONG))
   shows-long store writer v path place leads is =
       shows-part store writer v path place (Err (coded TOO_LONG)) leads
       (λ version has. seen-long store.most version.type version.value path
@@ -301,20 +301,20 @@ module _ (text : TextOf) where
       after-tests most (path_type version.type path) (part version.type version.value path) next
 
 pub bytes-shown : (rules : Rules) (versions : Versions) (v : Name) (path : Path)
-    (answer : Outcome (List ℕ)) → shown enc rules.max_bytes versions v path ≡ answer
-    → bytes rules versions v path ≡ (answer >>= (λ text. says versions (Bytes text)))
+    (answer : Outcome (List ℕ)) → part_shown serialize rules.max_bytes versions v path ≡ answer
+    → bytes rules versions v path ≡ (answer >>= (λ text. says_reply versions (Bytes text)))
 bytes-shown rules versions v path answer is =
-    after-version enc rules.max_bytes (version_of v versions) path
-    (λ text. says versions (Bytes text))
-    ∙ ap (λ (o : Outcome (List ℕ)). o >>= (λ text. says versions (Bytes text))) is
+    after-version serialize rules.max_bytes (version_of v versions) path
+    (λ text. says_reply versions (Bytes text))
+    ∙ ap (λ (o : Outcome (List ℕ)). o >>= (λ text. says_reply versions (Bytes text))) is
 
 pub json-shown : (rules : Rules) (versions : Versions) (v : Name) (path : Path)
-    (answer : Outcome (List ℕ)) → shown json rules.max_bytes versions v path ≡ answer
-    → json_row rules versions v path ≡ (answer >>= (λ text. says versions (Json text)))
+    (answer : Outcome (List ℕ)) → part_shown json rules.max_bytes versions v path ≡ answer
+    → json_row rules versions v path ≡ (answer >>= (λ text. says_reply versions (Json text)))
 json-shown rules versions v path answer is =
     after-version json rules.max_bytes (version_of v versions) path
-    (λ text. says versions (Json text))
-    ∙ ap (λ (o : Outcome (List ℕ)). o >>= (λ text. says versions (Json text))) is
+    (λ text. says_reply versions (Json text))
+    ∙ ap (λ (o : Outcome (List ℕ)). o >>= (λ text. says_reply versions (Json text))) is
 
 -- what a run saves into a file
 abbrev pub saves : Versions → Name → List ℕ → Row
@@ -326,8 +326,8 @@ saves versions file text = Ok (record {
 })
 
 pub save-shown : (rules : Rules) (versions : Versions) (v file : Name) (answer : Outcome (List ℕ))
-    → shown enc rules.max_bytes versions v [] ≡ answer
+    → part_shown serialize rules.max_bytes versions v [] ≡ answer
     → save rules Run versions v file ≡ (answer >>= saves versions file)
 save-shown rules versions v file answer is =
-    after-version enc rules.max_bytes (version_of v versions) [] (saves versions file)
+    after-version serialize rules.max_bytes (version_of v versions) [] (saves versions file)
     ∙ ap (λ (o : Outcome (List ℕ)). o >>= saves versions file) is

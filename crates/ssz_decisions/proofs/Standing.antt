@@ -10,7 +10,7 @@ use Rattle.std.specs.FinMap.Entries.{is_sorted-put, is_sorted-where_key, find-pu
 use Rattle.std.proofs.lemmas.Map.Lookups.{exact_bytes}
 use Rattle.std.proofs.lemmas.Map.Text.{is_eq-slice_cmp}
 use Rattle.ssz_schema.specs.Unfolding.{Types}
-use Rattle.ssz_arena.specs.Content.{Content as Nodes, KeepsNodes}
+use Rattle.ssz_arena.specs.Content.{ArenaContent as Nodes, KeepsNodes}
 use Rattle.ssz_versions.specs.Content.{Entries, Held, held_at, with_held, without_held}
 use Rattle.ssz_machine.specs.State.{Name, Version, Versions, version_of, with_version, without_version}
 use Rattle.ssz_decisions.specs.Standing.{IsVersion, Match, StandsForVersions}

@@ -9,12 +9,12 @@ use Rattle.ssz_proof.specs.Calculation.{PairOf}
 use Rattle.ssz_script.specs.declared.reply.Reply.TheVariants.{Len}
 use Rattle.ssz_script.specs.declared.reply.TheConstants.Reply.{NO_VERSION, BAD_PATH, ABSENT, NOT_THAT, TOO_LONG}
 use Rattle.ssz_machine.specs.State.{Name, Version, Versions, version_of}
-use Rattle.ssz_machine.specs.Rules.{Outcome, ◌>>=◌, ◌>>◌, coded, need, refuse, says}
+use Rattle.ssz_machine.specs.Rules.{Outcome, ◌>>=◌, ◌>>◌, coded, need, refuse, says_reply}
 use Rattle.ssz_machine.specs.Asking.{has_length, len}
 use Rattle.ssz_machine.specs.Changes.{nothing}
-use Rattle.ssz_decisions.specs.Content.{Content}
+use Rattle.ssz_decisions.specs.Content.{EngineContent}
 use Rattle.ssz_decisions.specs.Decisions.{AnswersWith}
-use Rattle.ssz_decisions.specs.Shown.{TextOf, Shows}
+use Rattle.ssz_decisions.specs.Shown.{TextOf, PartIsShown}
 use Rattle.ssz_decisions.specs.Standing.{StandsForWriter}
 use Rattle.ssz_decisions.specs.Ways.{IsAstray}
 use Rattle.ssz_decisions.specs.declared.decision.Decision.TheVariants.{Refused}
@@ -27,7 +27,7 @@ abbrev pub along : {X : Type 0} → Option Version → Path → (Version → Ssz
 along version path rest = need NO_VERSION version
     >>= (λ version. need BAD_PATH (path_type version.type path) >>= rest version)
 
-pub astray : {X : Type 0} (store : Content) (writer : ℕ) (v : Name) (path : Path) (code : ℕ)
+pub astray : {X : Type 0} (store : EngineContent) (writer : ℕ) (v : Name) (path : Path) (code : ℕ)
     (rest : Version → SszType → Outcome X) → IsAstray store writer v path code
     → (versions : Versions) → StandsForWriter store writer versions
     → along (version_of v versions) path rest ≡ Err (coded code)
@@ -43,7 +43,7 @@ astray store writer v path code rest (inr (is, bad)) versions stand =
     ∙ ap (λ (o : Option SszType). need BAD_PATH o >>= rest h.version) bad.unfit
     ∙ ap (λ c. Err (coded c)) (sym is)
 
-module _ (pair_of : PairOf) (store : Content) (writer : ℕ) (v : Name) (path : Path) (code : ℕ)
+module _ (pair_of : PairOf) (store : EngineContent) (writer : ℕ) (v : Name) (path : Path) (code : ℕ)
     (leads : IsAstray store writer v path code) where
   pub len-astray : AnswersWith pair_of (λ rules versions. len versions v path) nothing writer
       store store (Refused code)
@@ -51,10 +51,10 @@ module _ (pair_of : PairOf) (store : Content) (writer : ℕ) (v : Name) (path : 
       store code (λ versions stand. astray store writer v path code
       (λ version type. need ABSENT (part version.type version.value path)
       >>= (λ value. refuse NOT_THAT (not (has_length type))
-      >> says versions (Len (count_of value))))
+      >> says_reply versions (Len (count_of value))))
       leads versions stand)
 
-  pub shows-astray : (text : TextOf) → Shows text store writer v path (Err (coded code))
+  pub shows-astray : (text : TextOf) → PartIsShown text store writer v path (Err (coded code))
   shows-astray text = λ versions stand. astray store writer v path code
       (λ version type. need ABSENT (part version.type version.value path)
       >>= (λ value. refuse TOO_LONG (nat_lt store.most (length (text type value)))

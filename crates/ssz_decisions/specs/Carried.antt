@@ -1,7 +1,7 @@
 -- What a decision leaves that is carried out.
 use Rattle.std.specs.Prelude.{◌≡◌, ℕ, List, ◌++◌, Option, Some, None}
 use Rattle.ssz_outside.specs.Content.{Content as Files, told_with_bytes}
-use Rattle.ssz_outside.specs.Outcome.{Tears}
+use Rattle.ssz_outside.specs.Outcome.{WritesPart}
 use Rattle.ssz_arena.specs.declared.node.NodeId.{NodeId}
 use Rattle.ssz_script.specs.declared.reply.Reply.{Reply}
 use Rattle.ssz_script.specs.declared.reply.Reply.TheVariants as reply
@@ -23,16 +23,16 @@ Edits old new writer name node =
     × (new ≡ with_held old writer name (held.0, node))
 
 -- what a decision that is carried out does to the entries
-abbrev pub Does : Decision → ℕ → Entries → Entries → Type 0
-Does (decision.Refused code) writer old new = new ≡ old
-Does (decision.BadBytes fault) writer old new = new ≡ old
-Does (decision.BadJson fault) writer old new = new ≡ old
-Does (decision.Said reply) writer old new = new ≡ old
-Does (decision.Made name id node room) writer old new =
+abbrev pub DecisionDoes : Decision → ℕ → Entries → Entries → Type 0
+DecisionDoes (decision.Refused code) writer old new = new ≡ old
+DecisionDoes (decision.BadBytes fault) writer old new = new ≡ old
+DecisionDoes (decision.BadJson fault) writer old new = new ≡ old
+DecisionDoes (decision.Said reply) writer old new = new ≡ old
+DecisionDoes (decision.Made name id node room) writer old new =
     new ≡ with_held old writer name.now (id, node)
-Does (decision.Edited name node) writer old new = Edits old new writer name.now node
-Does (decision.Dropped name) writer old new = new ≡ without_held old writer name.now
-Does (decision.Saved name bytes) writer old new = new ≡ old
+DecisionDoes (decision.Edited name node) writer old new = Edits old new writer name.now node
+DecisionDoes (decision.Dropped name) writer old new = new ≡ without_held old writer name.now
+DecisionDoes (decision.Saved name bytes) writer old new = new ≡ old
 
 -- the reply to the statement of this line
 abbrev pub reply_to : ℕ → Decision → Reply
@@ -59,7 +59,7 @@ told_after _ told = told
 -- A decision was carried out.
 pub record IsCarriedOut (made : Decision) (writer line : ℕ) (old new : Entries) (done : Outcome)
     (told_old told_new : Option Files) (out_old out_new : List ℕ) : Type 0 where
-  pub entries : Does made writer old new
+  pub entries : DecisionDoes made writer old new
   pub outcome : done ≡ outcome_of made
   pub files : told_new ≡ told_after made told_old
   pub text : out_new ≡ out_old ++ reply_line (reply_to line made)
@@ -68,7 +68,7 @@ pub record IsCarriedOut (made : Decision) (writer line : ℕ) (old new : Entries
 abbrev pub Fails : EngineFault → Decision → Option Files → Option Files → Type 0
 Fails Read made old new = ⊥
 Fails Memory made old new = new ≡ old
-Fails Write (decision.Saved name bytes) old new = Tears name.now bytes.items old new
+Fails Write (decision.Saved name bytes) old new = WritesPart name.now bytes.items old new
 Fails Write _ old new = ⊥
 
 -- What may lack memory: a decision that makes, edits or drops a version has all that it takes.

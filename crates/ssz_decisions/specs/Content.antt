@@ -1,7 +1,7 @@
 -- What contracts see of a store.
 use Rattle.std.specs.Prelude.{◌≡◌, ℕ}
 use Rattle.ssz_schema.specs.Unfolding.{Types, known_in}
-use Rattle.ssz_arena.specs.Content.{Content as Nodes, KeepsNodes}
+use Rattle.ssz_arena.specs.Content.{ArenaContent as Nodes, KeepsNodes}
 use Rattle.ssz_proof.specs.Calculation.{PairOf}
 use Rattle.std.specs.Coded.{Coded}
 use Rattle.std.specs.FinMap as finite
@@ -15,7 +15,7 @@ entries_code = finite.code key_code held_code
 
 -- the types of its schema, the most bytes of a value's text, the nodes, what each writer holds
 -- under each name, and the hasher's count when the zero trees had been hashed
-pub record Content : Type 0 where
+pub record EngineContent : Type 0 where
   pub types : Types
   pub most : ℕ
   pub arena : Nodes
@@ -23,7 +23,7 @@ pub record Content : Type 0 where
   pub base : ℕ
 
 -- the rules of the machine by which its statements are done
-abbrev pub rules_of : PairOf → Content → Rules
+abbrev pub rules_of : PairOf → EngineContent → Rules
 rules_of pair_of store = record {
   type_named = known_in store.types;
   max_bytes = store.most;
@@ -32,7 +32,7 @@ rules_of pair_of store = record {
 
 -- All is the same but for nodes that are new and roots that are known: each node is there, with the
 -- same tree and no more to be hashed.
-pub record Grows (old new : Content) : Type 0 where
+pub record Grows (old new : EngineContent) : Type 0 where
   pub types : new.types ≡ old.types
   pub most : new.most ≡ old.most
   pub base : new.base ≡ old.base
@@ -40,7 +40,7 @@ pub record Grows (old new : Content) : Type 0 where
   pub nodes : KeepsNodes old.arena new.arena
 
 -- all is the same but for the entries
-pub record SameNodes (old new : Content) : Type 0 where
+pub record SameNodes (old new : EngineContent) : Type 0 where
   pub types : new.types ≡ old.types
   pub most : new.most ≡ old.most
   pub base : new.base ≡ old.base

@@ -2,7 +2,7 @@
 use Rattle.std.specs.Prelude.{◌≡◌, ◌<◌, ◌⊎◌, IsTrue, true, false, length, ℕ, List, Option, Some, None, IsSome}
 use Rattle.ssz_outside.specs.Content.{Content as Files, contents, is_absent}
 use Rattle.ssz_schema.specs.Types.{SszType}
-use Rattle.ssz_schema.specs.Unfolding.{number_of}
+use Rattle.ssz_schema.specs.Unfolding.{type_number}
 use Rattle.ssz_value.specs.Pairs.{pairs}
 use Rattle.ssz_value.specs.Values.{SszValue}
 use Rattle.ssz_proof.specs.Calculation.{PairOf}
@@ -13,16 +13,16 @@ use Rattle.ssz_machine.specs.Rules.{Rules, Outcome, Row, ◌>>=◌, makes}
 use Rattle.ssz_machine.specs.Making.{decoded, spelled, load, loadjson}
 use Rattle.ssz_machine.specs.Machine.{can_load}
 use Rattle.ssz_machine.specs.Changes.{Touch}
-use Rattle.ssz_decisions.specs.Content.{Content, rules_of}
+use Rattle.ssz_decisions.specs.Content.{EngineContent, rules_of}
 use Rattle.ssz_decisions.specs.Standing.{StandsForWriter}
 use Rattle.ssz_decisions.specs.declared.decision.Decision.{Decision}
-use Rattle.ssz_decisions.specs.declared.form.Form.{Form}
-use Rattle.ssz_decisions.specs.declared.form.Form.TheVariants.{Encoding, Json}
+use Rattle.ssz_decisions.specs.declared.load_form.Form.{Form}
+use Rattle.ssz_decisions.specs.declared.load_form.Form.TheVariants.{Encoding, Json}
 use Rattle.ssz_decisions.specs.Decisions.{AnswersAnew}
 
 -- what a name is given that is free: the value of the type that the bytes encode
-abbrev pub brought : Versions → Name → SszType → List ℕ → Row
-brought versions v type bytes =
+abbrev pub loaded_row : Versions → Name → SszType → List ℕ → Row
+loaded_row versions v type bytes =
     decoded type bytes >>= (λ value. makes versions v type value (pairs type value))
 
 -- the value of the type that the bytes have in a form
@@ -48,33 +48,33 @@ ReadsAs (Some told) file bytes = contents told file ≡ bytes
 -- The same of a function that reads a file: for some bytes, those that the file has where the files
 -- tell them.
 pub record LoadsWith (pair_of : PairOf) (told : Option Files) (file : List ℕ)
-    (row : List ℕ → Rules → Versions → Row) (touch : Touch) (writer : ℕ) (old new : Content)
+    (row : List ℕ → Rules → Versions → Row) (touch : Touch) (writer : ℕ) (old new : EngineContent)
     (made : Decision) : Type 0 where
   pub bytes : List ℕ
   pub read : ReadsAs told file bytes
   pub answers : AnswersAnew pair_of (row bytes) touch writer old new made
 
 -- the type of a name, where it is known and the other name is free
-pub record IsFree (store : Content) (writer : ℕ) (v t : Name) (id : ℕ) : Type 0 where
+pub record IsFree (store : EngineContent) (writer : ℕ) (v t : Name) (id : ℕ) : Type 0 where
   pub known : id < length store.types.trees
-  pub named : number_of store.types t ≡ Some id
+  pub named : type_number store.types t ≡ Some id
   pub free : held_at store.entries writer v ≡ None
 
 -- the first test that refuses it
-abbrev pub IsTaken : Content → ℕ → Name → Name → ℕ → Type 0
+abbrev pub IsTaken : EngineContent → ℕ → Name → Name → ℕ → Type 0
 IsTaken store writer v t code =
-    ((code ≡ NO_TYPE) × (number_of store.types t ≡ None))
-    ⊎ ((code ≡ NAME_TAKEN) × IsSome (number_of store.types t)
+    ((code ≡ NO_TYPE) × (type_number store.types t ≡ None))
+    ⊎ ((code ≡ NAME_TAKEN) × IsSome (type_number store.types t)
     × IsSome (held_at store.entries writer v))
 
 -- a file is read for it
-abbrev pub CanLoad : PairOf → Content → ℕ → Name → Name → Type 0
+abbrev pub CanLoad : PairOf → EngineContent → ℕ → Name → Name → Type 0
 CanLoad pair_of store writer v t =
     (versions : Versions) → StandsForWriter store writer versions
     → IsTrue (can_load (rules_of pair_of store) versions v t)
 
 -- it is there, where the files tell what they hold
-abbrev pub FindsFile : PairOf → Content → ℕ → Name → Name → Name → Option Files → Type 0
+abbrev pub FindsFile : PairOf → EngineContent → ℕ → Name → Name → Name → Option Files → Type 0
 FindsFile pair_of store writer v t file told =
     (held : Files) → told ≡ Some held → (versions : Versions)
     → StandsForWriter store writer versions

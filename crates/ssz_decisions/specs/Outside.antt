@@ -1,14 +1,14 @@
 -- What files tell, and how faults are counted.
 use Rattle.std.specs.Prelude.{◌≡◌, ℕ, List, Option, Some, None, Result, Ok, Err}
 use Rattle.ssz_outside.specs.Content.{Content as Files, told_with_bytes}
-use Rattle.ssz_outside.specs.Outcome.{RoseOnce, Tears}
+use Rattle.ssz_outside.specs.Outcome.{RoseOnce, WritesPart}
 use Rattle.ssz_decisions.specs.declared.fault.EngineFault.{EngineFault}
 use Rattle.ssz_decisions.specs.declared.fault.EngineFault.TheVariants.{Read, Write, Memory}
 
 -- this is what the files hold, where they tell it
-abbrev pub Holds : Option Files → Files → Type 0
-Holds None files = Unit {0}
-Holds (Some told) files = told ≡ files
+abbrev pub FilesHold : Option Files → Files → Type 0
+FilesHold None files = Unit {0}
+FilesHold (Some told) files = told ≡ files
 
 -- a failed read is counted once, and no other is
 abbrev pub CountsReads : {T : Type 0} → Result T EngineFault → ℕ → ℕ → Type 0
@@ -29,5 +29,5 @@ abbrev pub PutsFile : {T : Type 0} → Result T EngineFault → List ℕ → Lis
     → Option Files → Type 0
 PutsFile (Ok done) name bytes old new = new ≡ told_with_bytes name bytes old
 PutsFile (Err Read) name bytes old new = ⊥
-PutsFile (Err Write) name bytes old new = Tears name bytes old new
+PutsFile (Err Write) name bytes old new = WritesPart name bytes old new
 PutsFile (Err Memory) name bytes old new = new ≡ old

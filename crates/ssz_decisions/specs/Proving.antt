@@ -7,11 +7,11 @@ use Rattle.ssz_schema.specs.Types.{SszType}
 use Rattle.ssz_line.specs.declared.index.Index.{Index}
 use Rattle.ssz_proof.specs.Calculation.{PairOf}
 use Rattle.ssz_proof.specs.Judgement.{are_flat}
-use Rattle.ssz_proof.specs.Text.{text_of}
+use Rattle.ssz_proof.specs.Text.{multiproof_text}
 use Rattle.ssz_script.specs.declared.reply.Reply.TheVariants.{Proof}
 use Rattle.ssz_script.specs.declared.reply.TheConstants.Reply.{BAD_PATH, NO_NODE, NESTED}
 use Rattle.ssz_machine.specs.State.{Versions}
-use Rattle.ssz_machine.specs.Rules.{Row, ◌>>◌, coded, refuse, says}
+use Rattle.ssz_machine.specs.Rules.{Row, ◌>>◌, coded, refuse, says_reply}
 use Rattle.ssz_machine.specs.Asking.{asked_indices, ascending, proof_of}
 use Rattle.ssz_decisions.specs.declared.decision.Decision.{Decision}
 use Rattle.ssz_decisions.specs.declared.decision.Decision.TheVariants as decision
@@ -21,14 +21,14 @@ abbrev pub proved : PairOf → Tree → Versions → List ℕ → Row
 proved pair_of t versions asked =
     refuse NO_NODE (list_any (λ g. is_none (at t g)) asked)
     >> (refuse NESTED (not (are_flat asked))
-    >> says versions (Proof (text_of (proof_of pair_of t (ascending asked)))))
+    >> says_reply versions (Proof (multiproof_text (proof_of pair_of t (ascending asked)))))
 
 -- a decision says it
 abbrev pub Proves : PairOf → Tree → List ℕ → Decision → Type 0
 Proves pair_of t asked (decision.Refused code) =
     (versions : Versions) → proved pair_of t versions asked ≡ Err (coded code)
 Proves pair_of t asked (decision.Said reply) =
-    (versions : Versions) → proved pair_of t versions asked ≡ says versions reply
+    (versions : Versions) → proved pair_of t versions asked ≡ says_reply versions reply
 Proves pair_of t asked _ = ⊥
 
 -- the number of one of the indices is 0, which is of no node

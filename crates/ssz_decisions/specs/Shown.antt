@@ -3,7 +3,7 @@ use Rattle.std.specs.Prelude.{◌≡◌, ◌<◌, ℕ, nat_lt, List, length, Som
 use Rattle.ssz_schema.specs.Paths.{Path, path_type}
 use Rattle.ssz_schema.specs.Types.{SszType}
 use Rattle.ssz_schema.specs.Unfolding.{Types, type_of}
-use Rattle.ssz_arena.specs.Content.{Content as Nodes, IsNodeOf, tree_of}
+use Rattle.ssz_arena.specs.Content.{ArenaContent as Nodes, IsNodeOf, tree_of}
 use Rattle.ssz_places.specs.Spots.{HasPart, LiesWithin}
 use Rattle.ssz_walk.specs.declared.place.Place.{Place}
 use Rattle.ssz_walk.specs.Found.{spot_of}
@@ -14,7 +14,7 @@ use Rattle.ssz_value.specs.declared.path_fault.PathFault.{PathFault}
 use Rattle.ssz_value.specs.declared.path_fault.PathFault.TheVariants as path_fault
 use Rattle.ssz_machine.specs.State.{Name, Version, Versions, version_of}
 use Rattle.ssz_machine.specs.Rules.{Outcome, ◌>>=◌, ◌>>◌, need, refuse}
-use Rattle.ssz_decisions.specs.Content.{Content}
+use Rattle.ssz_decisions.specs.Content.{EngineContent}
 use Rattle.ssz_decisions.specs.Standing.{StandsForWriter}
 
 -- the code of a path that leads to no part
@@ -27,8 +27,8 @@ abbrev pub TextOf : Type 0
 TextOf = SszType → SszValue → List ℕ
 
 -- the text of the part at the path, if it is not too long; else the first test that refuses it
-abbrev pub shown : TextOf → ℕ → Versions → Name → Path → Outcome (List ℕ)
-shown text most versions v path = do
+abbrev pub part_shown : TextOf → ℕ → Versions → Name → Path → Outcome (List ℕ)
+part_shown text most versions v path = do
   version ← need NO_VERSION (version_of v versions)
   type ← need BAD_PATH (path_type version.type path)
   value ← need ABSENT (part version.type version.value path)
@@ -36,10 +36,10 @@ shown text most versions v path = do
   Ok (text type value)
 
 -- this is shown, whatever versions the writer's entries stand for
-abbrev pub Shows : TextOf → Content → ℕ → Name → Path → Outcome (List ℕ) → Type 0
-Shows text store writer v path answer =
+abbrev pub PartIsShown : TextOf → EngineContent → ℕ → Name → Path → Outcome (List ℕ) → Type 0
+PartIsShown text store writer v path answer =
     (versions : Versions) → StandsForWriter store writer versions
-    → shown text store.most versions v path ≡ answer
+    → part_shown text store.most versions v path ≡ answer
 
 -- a value of the type of this place is what the node there has
 pub record HasValue (types : Types) (arena : Nodes) (place : Place) (value : SszValue)
@@ -57,7 +57,7 @@ pub record HasPartAt (types : Types) (arena : Nodes) (place : Place) (path : Pat
   pub there : HasValue types arena place value
 
 -- So has the version of this name, whatever versions the writer's entries stand for.
-pub record LeadsToPart (store : Content) (writer : ℕ) (v : Name) (path : Path) (place : Place)
+pub record LeadsToPart (store : EngineContent) (writer : ℕ) (v : Name) (path : Path) (place : Place)
     : Type 0 where
   pub known : place.id < length store.types.trees
   pub inside : IsNodeOf store.arena place.node

@@ -6,10 +6,10 @@ use Rattle.std.specs.FinMap.Entries.{is_sorted}
 use Rattle.ssz_schema.specs.Unfolding.{Types, type_of}
 use Rattle.ssz_value.specs.Values.{Fits}
 use Rattle.ssz_value.specs.Trees.{tree}
-use Rattle.ssz_arena.specs.Content.{Content as Nodes, IsNodeOf, tree_of}
+use Rattle.ssz_arena.specs.Content.{ArenaContent as Nodes, IsNodeOf, tree_of}
 use Rattle.ssz_versions.specs.Content.{Entries, Held, held_at}
 use Rattle.ssz_machine.specs.State.{Name, Version, Versions, version_of}
-use Rattle.ssz_decisions.specs.Content.{Content}
+use Rattle.ssz_decisions.specs.Content.{EngineContent}
 
 -- A type and a node stand for a version: its type, and a node with the tree of its value.
 pub record IsVersion (types : Types) (arena : Nodes) (held : Held) (version : Version)
@@ -42,16 +42,16 @@ pub record StandsForVersions (types : Types) (arena : Nodes) (entries : Entries)
   pub each : (name : Name)
       → Match types arena (held_at entries writer name) (version_of name versions)
 
-abbrev pub StandsForWriter : Content → ℕ → Versions → Type 0
+abbrev pub StandsForWriter : EngineContent → ℕ → Versions → Type 0
 StandsForWriter store writer versions =
     StandsForVersions store.types store.arena store.entries writer versions
 
 -- the versions of all writers
-pub record StandsFor (store : Content) (versions : ℕ → Versions) : Type 0 where
+pub record StandsFor (store : EngineContent) (versions : ℕ → Versions) : Type 0 where
   pub each : (writer : ℕ) → StandsForWriter store writer (versions writer)
 
 -- it stands for what it stood for
-abbrev pub StaysFor : Content → Content → Type 0
+abbrev pub StaysFor : EngineContent → EngineContent → Type 0
 StaysFor old new = (versions : ℕ → Versions) → StandsFor old versions → StandsFor new versions
 
 -- the writer holds nothing
@@ -59,5 +59,5 @@ abbrev pub HoldsNone : Entries → ℕ → Type 0
 HoldsNone entries writer = (name : Name) → held_at entries writer name ≡ None
 
 -- it stands for some versions
-abbrev pub StandsForSome : Content → Type 0
+abbrev pub StandsForSome : EngineContent → Type 0
 StandsForSome store = (versions : ℕ → Versions) × StandsFor store versions

@@ -7,10 +7,11 @@ use Rattle.ssz_arena.specs.declared.node.NodeId.{NodeId}
 use Rattle.ssz_script.specs.declared.reply.TheConstants.Reply.{NO_VERSION, BAD_PATH}
 use Rattle.ssz_versions.specs.Content.{Held, held_at}
 use Rattle.ssz_machine.specs.State.{Name}
-use Rattle.ssz_decisions.specs.Content.{Content}
+use Rattle.ssz_decisions.specs.Content.{EngineContent}
 
 -- the type and the node of the version, and the steps of the path
-pub record IsOnWay (store : Content) (writer : ℕ) (v : Name) (path : Path) (id : ℕ) (node : NodeId)
+pub record IsOnWay (store : EngineContent) (writer : ℕ) (v : Name) (path : Path) (id : ℕ)
+    (node : NodeId)
     (steps : Path) : Type 0 where
   pub there : held_at store.entries writer v ≡ Some (id, node)
   pub known : id < length store.types.trees
@@ -18,13 +19,13 @@ pub record IsOnWay (store : Content) (writer : ℕ) (v : Name) (path : Path) (id
   pub all : steps ≡ path
 
 -- a version of this name is there, whose type the path does not fit
-pub record IsUnfit (store : Content) (writer : ℕ) (v : Name) (path : Path) : Type 0 where
+pub record IsUnfit (store : EngineContent) (writer : ℕ) (v : Name) (path : Path) : Type 0 where
   pub held : Held
   pub there : held_at store.entries writer v ≡ Some held
   pub unfit : path_type (type_of store.types held.0) path ≡ None
 
 -- the first test that refuses it
-abbrev pub IsAstray : Content → ℕ → Name → Path → ℕ → Type 0
+abbrev pub IsAstray : EngineContent → ℕ → Name → Path → ℕ → Type 0
 IsAstray store writer v path code =
     ((code ≡ NO_VERSION) × (held_at store.entries writer v ≡ None))
     ⊎ ((code ≡ BAD_PATH) × IsUnfit store writer v path)

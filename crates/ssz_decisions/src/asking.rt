@@ -4,7 +4,7 @@ ghost use Rattle.ssz_machine.specs.Asking.{root_row, gindex, hashes};
 ghost use Rattle.ssz_machine.specs.Changes.{nothing};
 ghost use Rattle.ssz_script.specs.declared.statement.Statement.TheVariants.{Root};
 ghost use Rattle.ssz_decisions.specs.Content.{Grows};
-ghost use Rattle.ssz_decisions.specs.Decisions.{Answers, AnswersOf};
+ghost use Rattle.ssz_decisions.specs.Decisions.{AnswersRow, AnswersOf};
 ghost use Rattle.ssz_decisions.specs.Roots.{HashesFor, LeavesHashed, HashesSome};
 ghost use Rattle.ssz_decisions.specs.Carried.{outcome_of};
 ghost use Rattle.ssz_decisions.specs.declared.outcome.Outcome.TheVariants.{Refused};
@@ -27,7 +27,7 @@ pub fn root<'a, H: PairHash>(
     hasher: &mut H,
 ) -> Decision<'a>
     ensures grows { Grows store.old store.new }
-    ensures answers { Answers H.pair_of (λ rules versions. root_row rules versions v.now) nothing
+    ensures answers { AnswersRow H.pair_of (λ rules versions. root_row rules versions v.now) nothing
         writer.0 store.old store.new (H.pairs hasher.old) (H.pairs hasher.new) result }
     ensures rises { H.pairs hasher.old ≤ H.pairs hasher.new }
     ensures hashed { H.pairs hasher.new ≤ H.pairs hasher.old + unhashed store.old.arena }

@@ -1,5 +1,5 @@
 ghost use Rattle.std.specs.Prelude.{◌≡◌, ◌≢◌, ◌+◌, ◌++◌, ◌≤◌, ℕ, List, None, IsSome, is_some, IfOk, IfErr, OnOk, OnErr, vec_len, vec_capacity};
-ghost use Rattle.ssz_outside.specs.Outcome.{Puts, Tears};
+ghost use Rattle.ssz_outside.specs.Outcome.{Puts, WritesPart};
 ghost use Rattle.ssz_script.specs.Texts.{reply_line};
 ghost use Rattle.ssz_versions.specs.Content.{held_at, with_held, without_held};
 ghost use Rattle.ssz_decisions.specs.Content.{SameNodes};

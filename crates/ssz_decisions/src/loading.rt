@@ -12,7 +12,7 @@ ghost use Rattle.ssz_decisions.specs.Outside.{CountsReads};
 
 use super::decision::Decision;
 use super::fault::EngineFault;
-use super::form::Form;
+use super::load_form::Form;
 use super::making::{bring, free_type};
 use super::store::Store;
 use ssz_chunk::PairHash;

@@ -6,7 +6,7 @@ ghost use Rattle.ssz_machine.specs.Making.{new, lit, fork, drop, list};
 ghost use Rattle.ssz_machine.specs.Changes.{nothing, puts, takes};
 ghost use Rattle.ssz_decisions.specs.Content.{Grows};
 ghost use Rattle.ssz_decisions.specs.Decisions.{AnswersOf, AnswersAnew, MakesFork};
-ghost use Rattle.ssz_decisions.specs.Loading.{brought, IsFree, IsTaken};
+ghost use Rattle.ssz_decisions.specs.Loading.{loaded_row, IsFree, IsTaken};
 ghost use Rattle.ssz_script.specs.declared.statement.Statement.TheVariants.{Fork};
 
 use super::decision::Decision;
@@ -98,7 +98,7 @@ pub(crate) fn bring<'a, H: PairHash>(
     requires free { held_at store.old.entries writer.0 v.now ≡ None }
     ensures grows { Grows store.old store.new }
     ensures answers { IfOk result (AnswersAnew H.pair_of
-        (λ rules versions. brought versions v.now (type_of store.old.types id) bytes.now)
+        (λ rules versions. loaded_row versions v.now (type_of store.old.types id) bytes.now)
         (puts v.now) writer.0 store.old store.new) }
     ensures whole { OnErr result (node_count store.new.arena ≡ node_count store.old.arena) }
 {

@@ -7,7 +7,7 @@ ghost use Rattle.ssz_arena.specs.Content.{IsNodeOf, tree_of};
 ghost use Rattle.ssz_places.specs.Spots.{HasPart, LiesWithin};
 ghost use Rattle.ssz_walk.specs.Found.{spot_of};
 ghost use Rattle.ssz_machine.specs.Rules.{coded};
-ghost use Rattle.ssz_decisions.specs.Shown.{LeadsToPart, Shows, TextOf};
+ghost use Rattle.ssz_decisions.specs.Shown.{LeadsToPart, PartIsShown, TextOf};
 
 use super::refusals::code_of_path;
 use super::store::Store;
@@ -35,7 +35,7 @@ pub(crate) fn place_of<H: PairHash>(
     ensures ok { IfOk result (λ found. IfOk found
         (LeadsToPart store.now writer.0 v.now path.now)) }
     ensures err { IfOk result (λ found. IfErr found (λ code. (text : TextOf)
-        → Shows text store.now writer.0 v.now path.now (Err (coded code)))) }
+        → PartIsShown text store.now writer.0 v.now path.now (Err (coded code)))) }
 {
     let way = match way_from(store, writer, v, path)? {
         Ok(way) => way,

@@ -8,7 +8,7 @@ ghost use Rattle.ssz_machine.specs.Rules.{need};
 ghost use Rattle.ssz_machine.specs.Asking.{asked_index, asked_indices, prove};
 ghost use Rattle.ssz_machine.specs.Changes.{nothing};
 ghost use Rattle.ssz_decisions.specs.Content.{Grows};
-ghost use Rattle.ssz_decisions.specs.Decisions.{Answers};
+ghost use Rattle.ssz_decisions.specs.Decisions.{AnswersRow};
 ghost use Rattle.ssz_decisions.specs.Proving.{IsNowhere, Proves};
 ghost use Rattle.ssz_decisions.specs.Roots.{HashesFor};
 ghost use Rattle.ssz_decisions.specs.Carried.{outcome_of};
@@ -163,7 +163,7 @@ pub fn prove<'a, H: PairHash>(
     hasher: &mut H,
 ) -> Result<Decision<'a>, AllocError>
     ensures grows { Grows store.old store.new }
-    ensures answers { IfOk result (Answers H.pair_of
+    ensures answers { IfOk result (AnswersRow H.pair_of
         (λ rules versions. prove rules versions v.now indices.now) nothing writer.0
         store.old store.new (H.pairs hasher.old) (H.pairs hasher.new)) }
     ensures whole { OnErr result (node_count store.new.arena ≡ node_count store.old.arena) }

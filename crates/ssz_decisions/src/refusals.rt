@@ -1,6 +1,6 @@
 //! Codes of refusals.
 ghost use Rattle.std.specs.Prelude.{◌≡◌};
-ghost use Rattle.ssz_machine.specs.Rules.{code_of};
+ghost use Rattle.ssz_machine.specs.Rules.{edit_code};
 ghost use Rattle.ssz_decisions.specs.Shown.{path_code};
 
 use ssz_script::Reply;
@@ -18,7 +18,7 @@ pub(crate) fn code_of_path(fault: PathFault) -> u8
 
 /// The code of an edit's fault, 0 of want of memory.
 pub fn code_of_edit(fault: EditFault) -> u8
-    ensures { result ≡ code_of fault }
+    ensures { result ≡ edit_code fault }
 {
     match fault {
         EditFault::BadPath => Reply::BAD_PATH,

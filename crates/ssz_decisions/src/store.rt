@@ -30,10 +30,10 @@ pub struct Store<H: PairHash> {
 impl<H: PairHash> Model for Store<H> {
     ghost use Rattle.std.specs.Coded.{codes};
     ghost use Rattle.ssz_schema.specs.Unfolding.{coded_types};
-    ghost use Rattle.ssz_decisions.specs.Content.{Content, entries_code};
+    ghost use Rattle.ssz_decisions.specs.Content.{EngineContent, entries_code};
     ghost use Rattle.ssz_decisions.specs.Standing.{AreVersions};
 
-    ghost Value = { Content };
+    ghost Value = { EngineContent };
 
     ghost coded = { Prim.hlevel (codes, coded_types, entries_code) };
 

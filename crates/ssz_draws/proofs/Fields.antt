@@ -7,10 +7,10 @@ use Rattle.ssz_schema.specs.declared.path.PathStep.TheVariants.{Field}
 use Rattle.ssz_schema.specs.Types.{SszType, Fields, field}
 use Rattle.ssz_schema.specs.Legal.{field_names}
 use Rattle.ssz_schema.specs.Paths.{Path, field_type, field_number}
-use Rattle.ssz_schema.specs.Unfolding.{tree_at, fields_over}
+use Rattle.ssz_schema.specs.Unfolding.{type_tree_at, fields_over}
 use Rattle.ssz_schema.proofs.SumLemmas.{Part}
 use Rattle.ssz_value.specs.Values.{SszValue, FitFields}
-use Rattle.ssz_machine.specs.Drawing.{walk, walk_field}
+use Rattle.ssz_machine.specs.Drawing.{drawn_walk, walk_field}
 
 -- the field of number i is found by its name
 pub record IsNamed (fs : Fields) (i : ℕ) (name : List ℕ) (t : SszType) : Type 0 where
@@ -43,15 +43,17 @@ apart_at trees (p ∷ parts) other (suc i) part apart below is =
 
 pub named : (trees : List SszType) (parts : List Part) (i : ℕ) (part : Part) → i < length parts
     → part ≡ get_or parts i part → IsDistinct bytes_eq (field_names (fields_over trees parts))
-    → IsNamed (fields_over trees parts) i part.0 (tree_at trees part.1)
+    → IsNamed (fields_over trees parts) i part.0 (type_tree_at trees part.1)
 named trees [] i part below is distinct = absurd (omega arith)
 named trees (p ∷ parts) zero part below is distinct =
-    subst (λ (q : Part). IsNamed (fields_over trees (p ∷ parts)) 0 q.0 (tree_at trees q.1)) (sym is)
-    (named_here p.0 p.0 (tree_at trees p.1) (fields_over trees parts)
+    subst (λ (q : Part). IsNamed (fields_over trees (p ∷ parts)) 0 q.0 (type_tree_at trees q.1))
+    (sym is)
+    (named_here p.0 p.0 (type_tree_at trees p.1) (fields_over trees parts)
     ((bytes_eq-Decides p.0 p.0).1 refl))
 named trees (p ∷ parts) (suc i) part below is distinct =
     let names = field_names (fields_over trees parts) in
-    named_later p.0 part.0 (tree_at trees part.1) (tree_at trees p.1) (fields_over trees parts) i
+    named_later p.0 part.0 (type_tree_at trees part.1) (type_tree_at trees p.1)
+    (fields_over trees parts) i
     (apart_at trees parts p.0 i part (IsDistinct-head bytes_eq p.0 names distinct) (omega arith) is)
     (named trees parts i part (omega arith) is (IsDistinct-tail bytes_eq p.0 names distinct))
 
@@ -61,7 +63,7 @@ pub record IsFieldWalk (trees : List SszType) (parts : List Part) (vs : List Ssz
   pub value : SszValue
   pub there : slice_get vs i ≡ Some value
   pub walks : (path : Path) (x : ℕ) → walk_field (fields_over trees parts) vs i path x
-      ≡ walk (tree_at trees part.1) value (path ++ Field part.0 ∷ []) x
+      ≡ drawn_walk (type_tree_at trees part.1) value (path ++ Field part.0 ∷ []) x
 
 pub field_walk : (trees : List SszType) (parts : List Part) (vs : List SszValue) (i : ℕ)
     (part : Part) → FitFields (fields_over trees parts) vs → i < length parts
@@ -73,7 +75,8 @@ field_walk trees (p ∷ parts) (v ∷ vs) zero part fit below is =
       value = v;
       there = refl;
       walks = λ path x.
-          ap (λ (q : Part). walk (tree_at trees q.1) v (path ++ Field q.0 ∷ []) x) (sym is);
+          ap (λ (q : Part). drawn_walk (type_tree_at trees q.1) v (path ++ Field q.0 ∷ []) x)
+          (sym is);
     }
 field_walk trees (p ∷ parts) (v ∷ vs) (suc i) part fit below is =
     let later = field_walk trees parts vs i part fit.1 (omega arith) is in

@@ -22,7 +22,7 @@ use Rattle.ssz_schema.proofs.SumLemmas.{field_count-over, Part}
 use Rattle.ssz_machine.specs.Drawing.{walk_field, comes_to, worked, change_of, changes_one, drawn, drawn_below, drawn_bit, next_seed, seed_after}
 use Rattle.ssz_draws.specs.declared.turn.Turn.{Turn}
 use Rattle.ssz_draws.specs.declared.turn.Turn.TheVariants.{On, Set, SetBit, Pop, Append, Choose, Stop}
-use Rattle.ssz_draws.specs.Turns.{IsTurn, IsSeen, GoesOn, HasLength, IsChosen}
+use Rattle.ssz_draws.specs.Turns.{IsDrawnTurn, IsSeen, WalkContinues, HasLength, IsChosen}
 use Rattle.ssz_draws.proofs.Lengths.{bits_edit, list_on, vector_on}
 use Rattle.ssz_draws.proofs.Choices.{chosen_edit}
 use Rattle.ssz_draws.proofs.Fields.{named, field_walk}
@@ -30,7 +30,7 @@ use Rattle.ssz_draws.proofs.Fields.{named, field_walk}
 -- what is known of a value may be more than is asked
 pub turn_known : (types : Types) (before : ℕ) (t : SszType) (Asked Known : SszValue → Type 0)
     (x next : ℕ) (turn : Turn) → ((v : SszValue) → Known v → Asked v)
-    → IsTurn types before t Asked x next turn → IsTurn types before t Known x next turn
+    → IsDrawnTurn types before t Asked x next turn → IsDrawnTurn types before t Known x next turn
 turn_known types before t Asked Known x next (On part step) less is =
     (is.0, λ v known. is.1 v (less v known))
 turn_known types before t Asked Known x next (Set bytes) less is = λ v known. is v (less v known)
@@ -56,14 +56,14 @@ pub field_on : (types : Types) (before : ℕ) (parts : List Part) (part : Part) 
     → AllByRecursion (λ p. p.1 < before) parts
     → (format : Format) → IsLegal format (container (fields_over types.trees parts))
     → i ≡ drawn (length parts) x → i < length parts → part ≡ get_or parts i part
-    → IsTurn types before (container (fields_over types.trees parts))
+    → IsDrawnTurn types before (container (fields_over types.trees parts))
     (Fits (container (fields_over types.trees parts))) x (next_seed x)
     (On part.1 (Field part.0))
 field_on types before parts part x i all format legal is below at =
     (part_below before parts i part all below at, goes)
   where
     goes : (v : SszValue) → Fits (container (fields_over types.trees parts)) v
-        → GoesOn types (container (fields_over types.trees parts)) v x (next_seed x) part.1
+        → WalkContinues types (container (fields_over types.trees parts)) v x (next_seed x) part.1
         (Field part.0)
     goes (sequence vs) fit =
         let fs = fields_over types.trees parts in
@@ -130,10 +130,10 @@ union_seen format os n tree legal reads v seen = go v (seen refl)
 
 -- a turn that is another one
 pub turn_is : (types : Types) (before : ℕ) (t : SszType) (Known : SszValue → Type 0) (x next : ℕ)
-    (turn other : Turn) → turn ≡ other → IsTurn types before t Known x next other
-    → IsTurn types before t Known x next turn
+    (turn other : Turn) → turn ≡ other → IsDrawnTurn types before t Known x next other
+    → IsDrawnTurn types before t Known x next turn
 turn_is types before t Known x next turn other same is =
-    subst (IsTurn types before t Known x next) (sym same) is
+    subst (IsDrawnTurn types before t Known x next) (sym same) is
 
 -- an answer of which two things are so
 pub if_ok : {T E : Type 0} (r : Result T E) (P R : T → Type 0) (Q : Type 0) → IfOk r P → OnOk r Q
@@ -150,7 +150,7 @@ ok_so (Err e) P R p so = tt
 -- a bit of a bitvector is set
 pub vector_bit : (types : Types) (before n : ℕ) (Known : SszValue → Type 0) (x next : ℕ)
     (turn : Turn) → turn ≡ SetBit (drawn_below n x) (drawn_bit (next_seed x))
-    → next ≡ seed_after 2 x → IsTurn types before (bitvector n) Known x next turn
+    → next ≡ seed_after 2 x → IsDrawnTurn types before (bitvector n) Known x next turn
 vector_bit types before n Known x next turn same is =
     turn_is types before (bitvector n) Known x next turn
     (SetBit (drawn_below n x) (drawn_bit (next_seed x))) same
@@ -162,7 +162,8 @@ pub list_bit : (types : Types) (before limit n : ℕ) (x next : ℕ) (turn : Tur
     → change_of (drawn 4 x) n limit ≡ changes_one
     → turn ≡ SetBit (drawn_below n (next_seed x)) (drawn_bit (next_seed (next_seed x)))
     → next ≡ seed_after 2 (next_seed x)
-    → IsTurn types before (bitlist limit) (λ v. Fits (bitlist limit) v × HasLength n v) x next turn
+    → IsDrawnTurn types before (bitlist limit)
+    (λ v. Fits (bitlist limit) v × HasLength n v) x next turn
 list_bit types before limit n x next turn change same is =
     turn_is types before (bitlist limit) (λ v. Fits (bitlist limit) v × HasLength n v) x next turn
     (SetBit (drawn_below n (next_seed x)) (drawn_bit (next_seed (next_seed x)))) same
@@ -174,7 +175,7 @@ list_bit types before limit n x next turn change same is =
 pub option_turn : (types : Types) (before : ℕ) (ids : List (Option ℕ)) (k x next : ℕ) (turn : Turn)
     → ((drawn 2 x ≡ 1 → ⊥) ⊎ ((part : ℕ) → slice_get ids k ≡ Some (Some part) → ⊥))
     → turn ≡ Choose (drawn (length ids) (next_seed x)) → next ≡ next_seed (next_seed x)
-    → IsTurn types before (union (options_over types.trees ids))
+    → IsDrawnTurn types before (union (options_over types.trees ids))
     (IsChosen (union (options_over types.trees ids)) k) x next turn
 option_turn types before ids k x next turn why same is =
     let t = union (options_over types.trees ids) in
@@ -186,16 +187,16 @@ option_turn types before ids k x next turn why same is =
 
 -- a turn at the type of a number, by its form
 pub turn_of_type : (types : Types) (id : ℕ) (t : SszType) (tree : Tree) (x next : ℕ) (turn : Turn)
-    → t ≡ type_of types id → IsTurn types id t (IsSeen t tree) x next turn
-    → IsTurn types id (type_of types id) (IsSeen (type_of types id) tree) x next turn
+    → t ≡ type_of types id → IsDrawnTurn types id t (IsSeen t tree) x next turn
+    → IsDrawnTurn types id (type_of types id) (IsSeen (type_of types id) tree) x next turn
 turn_of_type types id t tree x next turn same is =
-    subst (λ (s : SszType). IsTurn types id s (IsSeen s tree) x next turn) same is
+    subst (λ (s : SszType). IsDrawnTurn types id s (IsSeen s tree) x next turn) same is
 
 pub answer_of_type : (types : Types) (id : ℕ) (t : SszType) (tree : Tree) (x next : ℕ)
     (answer : Result Turn AllocError) (Asked : SszValue → Type 0) → t ≡ type_of types id
     → ((v : SszValue) → IsSeen t tree v → Asked v)
-    → IfOk answer (IsTurn types id t Asked x next)
-    → IfOk answer (IsTurn types id (type_of types id) (IsSeen (type_of types id) tree) x next)
+    → IfOk answer (IsDrawnTurn types id t Asked x next)
+    → IfOk answer (IsDrawnTurn types id (type_of types id) (IsSeen (type_of types id) tree) x next)
 answer_of_type types id t tree x next (Ok turn) Asked same less is =
     turn_of_type types id t tree x next turn same
     (turn_known types id t Asked (IsSeen t tree) x next turn less is)
@@ -205,24 +206,25 @@ answer_of_type types id t tree x next (Err e) Asked same less is = tt
 pub list_goes : (types : Types) (elem limit n x y next i : ℕ) (v : SszValue)
     → change_of (drawn 4 x) n limit ≡ changes_one → y ≡ next_seed x → i ≡ drawn_below n y
     → next ≡ next_seed y → i < n → Fits (list (type_of types elem) limit) v × HasLength n v
-    → GoesOn types (list (type_of types elem) limit) v x next elem (Index i)
+    → WalkContinues types (list (type_of types elem) limit) v x next elem (Index i)
 list_goes types elem limit n x y next i v change first drawn then below known =
     let t = list (type_of types elem) limit in
     let at : drawn_below n (next_seed x) ≡ i = ap (drawn_below n) (sym first) ∙ sym drawn in
     let state : seed_after 2 x ≡ next = ap next_seed (sym first) ∙ sym then in
-    subst (λ (s : ℕ). GoesOn types t v x s elem (Index i)) state
-    (subst (λ (k : ℕ). GoesOn types t v x (seed_after 2 x) elem (Index k)) at
+    subst (λ (s : ℕ). WalkContinues types t v x s elem (Index i)) state
+    (subst (λ (k : ℕ). WalkContinues types t v x (seed_after 2 x) elem (Index k)) at
     (list_on types elem limit n x v change (omega (arith, at, below)) known))
 
 -- on at an element of a vector
 pub vector_turn : (types : Types) (before elem n x next i : ℕ) (tree : Tree) → elem < before
     → i ≡ drawn_below n x → i < n → next ≡ next_seed x
-    → IsTurn types before (vector (type_of types elem) n) (IsSeen (vector (type_of types elem) n)
+    → IsDrawnTurn types before (vector (type_of types elem) n)
+    (IsSeen (vector (type_of types elem) n)
     tree) x next (On elem (Index i))
 vector_turn types before elem n x next i tree less drawn below then = (
   less,
   λ v seen. (let t = vector (type_of types elem) n in
-      subst (λ (s : ℕ). GoesOn types t v x s elem (Index i)) (sym then)
-      (subst (λ (k : ℕ). GoesOn types t v x (next_seed x) elem (Index k)) (sym drawn)
+      subst (λ (s : ℕ). WalkContinues types t v x s elem (Index i)) (sym then)
+      (subst (λ (k : ℕ). WalkContinues types t v x (next_seed x) elem (Index k)) (sym drawn)
       (vector_on types elem n x v (omega (arith, drawn, below)) (seen refl).fits))),
 )

@@ -15,7 +15,7 @@ use Rattle.ssz_value.specs.Values.{SszValue}
 use Rattle.ssz_value.specs.Trees.{tree}
 use Rattle.ssz_value.specs.Parts.{part, step_part}
 use Rattle.ssz_arena.specs.declared.node.NodeId.{NodeId}
-use Rattle.ssz_arena.specs.Content.{Content, tree_of, IsNodeOf}
+use Rattle.ssz_arena.specs.Content.{ArenaContent, tree_of, IsNodeOf}
 use Rattle.ssz_places.specs.PlaceLaws.{IsTreeOf}
 use Rattle.ssz_places.specs.Spots.{HasPart, LiesWithin}
 use Rattle.ssz_places.proofs.Located.{located}
@@ -24,11 +24,11 @@ use Rattle.ssz_places.proofs.Theorems.{law_of_places}
 use Rattle.ssz_walk.specs.declared.place.Place.{Place}
 use Rattle.ssz_walk.specs.Found.{IsLed, LeadsNowhere}
 use Rattle.ssz_walk.proofs.Stepping.{absent_nowhere}
-use Rattle.ssz_machine.specs.Drawing.{walk}
+use Rattle.ssz_machine.specs.Drawing.{drawn_walk}
 use Rattle.ssz_draws.specs.declared.turn.Turn.{Turn}
 use Rattle.ssz_draws.specs.declared.turn.Turn.TheVariants.{On, Set, SetBit, Pop, Append, Choose, Stop}
-use Rattle.ssz_draws.specs.Turns.{IsTurn, IsSeen, edit_at}
-use Rattle.ssz_draws.specs.Walked.{IsEdit}
+use Rattle.ssz_draws.specs.Turns.{IsDrawnTurn, IsSeen, edit_at}
+use Rattle.ssz_draws.specs.Walked.{IsEditStatement}
 
 -- a part that a step leads to
 pub part_there : (t u : SszType) (v w : SszValue) (step : PathStep) → step_type t step ≡ Some u
@@ -56,7 +56,7 @@ whole_spot u (byte at) lies none = absurd (none-some lies.0 (sym none ∙ lies.1
 whole_spot u (bit at) lies none = absurd (none-some 1 (sym none ∙ ap basic_size lies.0))
 
 -- the node of a part has its tree
-pub seen_part : (format : Format) (types : Types) (arena : Content) (id : ℕ) (node : NodeId)
+pub seen_part : (format : Format) (types : Types) (arena : ArenaContent) (id : ℕ) (node : NodeId)
     (step : PathStep) (place : Place) (v w : SszValue) → IsLegal format (type_of types id)
     → IsTreeOf (type_of types id) v (tree_of arena node)
     → IsLed types arena id node (step ∷ []) place
@@ -78,7 +78,7 @@ seen_part format types arena id node step place v w legal of led there none =
     record { fits = n.1.value.fits; is = same_node ∙ whole_node }
 
 -- a turn names edits of `w` alone
-pub edits_are : (turn : Turn) (path : Path) → IfSome (edit_at turn path) IsEdit
+pub edits_are : (turn : Turn) (path : Path) → IfSome (edit_at turn path) IsEditStatement
 edits_are (On to step) path = tt
 edits_are (Set bytes) path = refl
 edits_are (SetBit i bytes) path = refl
@@ -88,21 +88,22 @@ edits_are (Choose k) path = refl
 edits_are Stop path = tt
 
 -- from a value, the walk that is left
-pub record HasWay (types : Types) (arena : Content) (t : SszType) (v : SszValue) (start part : ℕ)
+pub record HasWay (types : Types) (arena : ArenaContent) (t : SszType) (v : SszValue)
+    (start part : ℕ)
     (here : NodeId) (path : Path) (x : ℕ) : Type 0 where
   pub value : SszValue
   pub seen : IsSeen (type_of types part) (tree_of arena here) value
-  pub left : walk t v [] start ≡ walk (type_of types part) value path x
+  pub left : drawn_walk t v [] start ≡ drawn_walk (type_of types part) value path x
 
 -- from each value with the node's tree a walk has come to this part
-pub record IsOn (types : Types) (arena : Content) (id : ℕ) (node : NodeId) (start part : ℕ)
+pub record IsOn (types : Types) (arena : ArenaContent) (id : ℕ) (node : NodeId) (start part : ℕ)
     (here : NodeId) (path : Path) (x : ℕ) : Type 0 where
   pub known : part < length types.trees
   pub inside : IsNodeOf arena here
   pub ways : (v : SszValue) → IsTreeOf (type_of types id) v (tree_of arena node)
       → HasWay types arena (type_of types id) v start part here path x
 
-pub walk_begins : (types : Types) (arena : Content) (id : ℕ) (node : NodeId) (start : ℕ)
+pub walk_begins : (types : Types) (arena : ArenaContent) (id : ℕ) (node : NodeId) (start : ℕ)
     → id < length types.trees → IsNodeOf arena node
     → IsOn types arena id node start id node [] start
 walk_begins types arena id node start known inside = record {
@@ -111,13 +112,14 @@ walk_begins types arena id node start known inside = record {
   ways = λ v of. record { value = v; seen = λ none. of; left = refl };
 }
 
-module _ (format : Format) (types : Types) (arena : Content) (id : ℕ) (node : NodeId)
+module _ (format : Format) (types : Types) (arena : ArenaContent) (id : ℕ) (node : NodeId)
     (start part : ℕ) (here : NodeId) (path : Path) (x next : ℕ)
     (legal : IsLegal format (type_of types part))
     (on : IsOn types arena id node start part here path x) where
   -- the walk goes on at a part
   pub walk_goes_on : (to : ℕ) (step : PathStep) (place : Place)
-      → IsTurn types part (type_of types part) (IsSeen (type_of types part) (tree_of arena here))
+      → IsDrawnTurn types part (type_of types part)
+      (IsSeen (type_of types part) (tree_of arena here))
       x next (On to step)
       → IsLed types arena part here (step ∷ []) place
       → IsOn types arena id node start to place.node (path ++ step ∷ []) next
@@ -146,7 +148,8 @@ module _ (format : Format) (types : Types) (arena : Content) (id : ℕ) (node : 
 
   -- no value leads to a part that is not there
   pub walk_leads : (to : ℕ) (step : PathStep)
-      → IsTurn types part (type_of types part) (IsSeen (type_of types part) (tree_of arena here))
+      → IsDrawnTurn types part (type_of types part)
+      (IsSeen (type_of types part) (tree_of arena here))
       x next (On to step)
       → LeadsNowhere types arena part here (step ∷ [])
       → (v : SszValue) → IsTreeOf (type_of types id) v (tree_of arena node) → ⊥
@@ -162,18 +165,20 @@ module _ (format : Format) (types : Types) (arena : Content) (id : ℕ) (node : 
 
   -- the walk comes to an edit, or to none
   pub walk_ends : (turn : Turn) → ((to : ℕ) (step : PathStep) → turn ≡ On to step → ⊥)
-      → IsTurn types part (type_of types part) (IsSeen (type_of types part) (tree_of arena here))
+      → IsDrawnTurn types part (type_of types part)
+      (IsSeen (type_of types part) (tree_of arena here))
       x next turn
       → (v : SszValue) → IsTreeOf (type_of types id) v (tree_of arena node)
-      → walk (type_of types id) v [] start ≡ record { edit = edit_at turn path; seed = next }
+      → drawn_walk (type_of types id) v [] start ≡ record { edit = edit_at turn path; seed = next }
   walk_ends turn other turned v of =
       let way = on.ways v of in way.left ∙ ended turn other turned way.value way.seen
     where
       ended : (turn : Turn) → ((to : ℕ) (step : PathStep) → turn ≡ On to step → ⊥)
-          → IsTurn types part (type_of types part)
+          → IsDrawnTurn types part (type_of types part)
           (IsSeen (type_of types part) (tree_of arena here)) x next turn
           → (w : SszValue) → IsSeen (type_of types part) (tree_of arena here) w
-          → walk (type_of types part) w path x ≡ record { edit = edit_at turn path; seed = next }
+          → drawn_walk (type_of types part) w path x
+          ≡ record { edit = edit_at turn path; seed = next }
       ended (On to step) other turned w seen = absurd (other to step refl)
       ended (Set bytes) other turned w seen = turned w seen path
       ended (SetBit i bytes) other turned w seen = turned w seen path

@@ -12,18 +12,18 @@ use Rattle.ssz_script.specs.declared.statement.Statement.TheVariants as edit
 use Rattle.ssz_value.specs.Values.{SszValue, sequence, bits, chosen, chosen_none, items, Fits}
 use Rattle.ssz_value.specs.Parts.{step_part}
 use Rattle.ssz_places.specs.PlaceLaws.{IsTreeOf}
-use Rattle.ssz_machine.specs.Drawing.{Change, changes_one, takes_last, adds_one, stays, walk, worked}
+use Rattle.ssz_machine.specs.Drawing.{Change, changes_one, takes_last, adds_one, stays, drawn_walk, worked}
 use Rattle.ssz_draws.specs.declared.turn.Turn.{Turn}
 use Rattle.ssz_draws.specs.declared.turn.Turn.TheVariants.{On, Set, SetBit, Pop, Append, Choose, Stop}
 use Rattle.ssz_draws.specs.declared.turn.Change.{Change as Changed}
 use Rattle.ssz_draws.specs.declared.turn.Change.TheVariants.{One, Taken, Added, Nothing}
 
 -- the change that is meant
-abbrev pub meant : Changed → Change
-meant One = changes_one
-meant Taken = takes_last
-meant Added = adds_one
-meant Nothing = stays
+abbrev pub change_meant : Changed → Change
+change_meant One = changes_one
+change_meant Taken = takes_last
+change_meant Added = adds_one
+change_meant Nothing = stays
 
 -- the edit of the part at a path, where a turn comes to one
 abbrev pub edit_at : Turn → Path → Option Statement
@@ -41,22 +41,23 @@ abbrev pub IsSeen : SszType → Tree → SszValue → Type 0
 IsSeen t tree v = basic_size t ≡ None → IsTreeOf t v tree
 
 -- from the value, where the state is x, the walk goes on at the part of a step, where it is next
-pub record GoesOn (types : Types) (t : SszType) (v : SszValue) (x next part : ℕ) (step : PathStep)
+pub record WalkContinues (types : Types) (t : SszType) (v : SszValue) (x next part : ℕ)
+    (step : PathStep)
     : Type 0 where
   pub value : SszValue
   pub fits : step_type t step ≡ Some (type_of types part)
   pub there : step_part t v step ≡ Some value
-  pub on : (path : Path) → walk t v path x
-      ≡ walk (type_of types part) value (path ++ step ∷ []) next
+  pub on : (path : Path) → drawn_walk t v path x
+      ≡ drawn_walk (type_of types part) value (path ++ step ∷ []) next
 
 -- What is drawn at a part of which all that is known is that its value is one of these, where the
 -- state is x and next behind it. The walk goes on at types before this number alone.
-abbrev pub IsTurn : Types → ℕ → SszType → (SszValue → Type 0) → ℕ → ℕ → Turn → Type 0
-IsTurn types before t Known x next (On part step) =
+abbrev pub IsDrawnTurn : Types → ℕ → SszType → (SszValue → Type 0) → ℕ → ℕ → Turn → Type 0
+IsDrawnTurn types before t Known x next (On part step) =
     (part < before)
-    × ((v : SszValue) → Known v → GoesOn types t v x next part step)
-IsTurn types before t Known x next turn = (v : SszValue) → Known v → (path : Path)
-    → walk t v path x ≡ record { edit = edit_at turn path; seed = next }
+    × ((v : SszValue) → Known v → WalkContinues types t v x next part step)
+IsDrawnTurn types before t Known x next turn = (v : SszValue) → Known v → (path : Path)
+    → drawn_walk t v path x ≡ record { edit = edit_at turn path; seed = next }
 
 -- a list or a bitlist of this length
 abbrev pub HasLength : ℕ → SszValue → Type 0

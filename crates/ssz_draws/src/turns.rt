@@ -7,12 +7,12 @@ ghost use Rattle.ssz_schema.specs.Legal.{IsLegal};
 ghost use Rattle.ssz_schema.specs.Unfolding.{Types, type_of, fields_over, options_over, IsBelow};
 ghost use Rattle.ssz_value.specs.Values.{Fits};
 ghost use Rattle.ssz_value.specs.Defaults.{default_of};
-ghost use Rattle.ssz_value.specs.Encoding.{enc};
+ghost use Rattle.ssz_value.specs.Encoding.{serialize};
 ghost use Rattle.ssz_value.specs.Trees.{mixed_in};
 ghost use Rattle.ssz_arena.specs.Content.{IsNodeOf, tree_of};
 ghost use Rattle.ssz_machine.specs.Drawing.{change_of, drawn, drawn_below, drawn_bit, next_seed, seed_after};
 ghost use Rattle.ssz_draws.specs.declared.turn.Change.TheVariants.{One};
-ghost use Rattle.ssz_draws.specs.Turns.{IsTurn, IsSeen, HasLength, IsChosen, meant};
+ghost use Rattle.ssz_draws.specs.Turns.{IsDrawnTurn, IsSeen, HasLength, IsChosen, change_meant};
 
 use super::generator::Generator;
 use super::turn::{Change, Turn};
@@ -37,7 +37,7 @@ impl Generator {
     ) -> Result<Turn, AllocError>
         requires known { id < length schema.now.trees }
         requires node { IsNodeOf arena.now node }
-        ensures { let t = type_of schema.now id in IfOk result (IsTurn schema.now id t
+        ensures { let t = type_of schema.now id in IfOk result (IsDrawnTurn schema.now id t
             (IsSeen t (tree_of arena.now node)) self.old self.new) }
     {
         match schema.ty(id) {
@@ -68,7 +68,7 @@ impl Generator {
         requires legal { IsLegal schema.now.format
             (container (fields_over schema.now.trees fields.now)) }
         ensures { let t = container (fields_over schema.now.trees fields.now) in
-            IfOk result (IsTurn schema.now id t (Fits t) self.old self.new) }
+            IfOk result (IsDrawnTurn schema.now id t (Fits t) self.old self.new) }
     {
         let _trees = schema;
         let field = &fields[self.draw(fields.len() as u64) as usize];
@@ -89,7 +89,7 @@ impl Generator {
         requires known { id < length schema.now.trees }
         requires before { elem < id }
         ensures { let t = list (type_of schema.now elem) limit in IfOk result
-            (IsTurn schema.now id t (λ v. Fits t v × HasLength n v) self.old self.new) }
+            (IsDrawnTurn schema.now id t (λ v. Fits t v × HasLength n v) self.old self.new) }
     {
         let _before = id;
         match change_of(self.draw(4), n, limit) {
@@ -114,7 +114,7 @@ impl Generator {
     // At a bitlist of n bits.
     fn turn_of_bits(&mut self, alloc: Global, limit: u64, n: u64) -> Result<Turn, AllocError>
         ensures { (types : Types) (before : ℕ) → let t = bitlist limit in IfOk result
-            (IsTurn types before t (λ v. Fits t v × HasLength n v) self.old self.new) }
+            (IsDrawnTurn types before t (λ v. Fits t v × HasLength n v) self.old self.new) }
     {
         match change_of(self.draw(4), n, limit) {
             Change::One => self.turn_to_bit(alloc, n),
@@ -136,7 +136,7 @@ impl Generator {
         requires some { 0 < length options.now }
         requires few { length options.now ≤ 128 }
         ensures { let t = union (options_over schema.now.trees options.now) in
-            IsTurn schema.now id t (IsChosen t selector) self.old self.new result }
+            IsDrawnTurn schema.now id t (IsChosen t selector) self.old self.new result }
     {
         let _trees = schema;
         if self.draw(2) == 1 {
@@ -187,7 +187,7 @@ fn beside<H: PairHash>(arena: &Arena<H>, node: NodeId) -> u64
 
 // What becomes of a list of n elements, where this number below 4 is drawn.
 fn change_of(choice: u64, n: u64, limit: u64) -> Change
-    ensures exact { meant result ≡ change_of choice n limit }
+    ensures exact { change_meant result ≡ change_of choice n limit }
     ensures some { result ≡ One → 0 < n }
 {
     if n == 0 {
@@ -214,7 +214,7 @@ fn change_of(choice: u64, n: u64, limit: u64) -> Change
 fn default_bytes(alloc: Global, schema: &Schema, id: TypeId) -> Result<ByteRun, AllocError>
     requires { id < length schema.now.trees }
     ensures { let t = type_of schema.now id in
-        IfOk result (λ run. run ≡ enc t (default_of t)) }
+        IfOk result (λ run. run ≡ serialize t (default_of t)) }
 {
     let _legal = schema.ty(id);
     let value = default_of(alloc, schema, id)?;

@@ -6,7 +6,7 @@ ghost use Rattle.ssz_arena.specs.Content.{IsNodeOf, tree_of};
 ghost use Rattle.ssz_script.specs.declared.statement.Statement.TheVariants.{Set, Append, Pop, Choose};
 ghost use Rattle.ssz_machine.specs.Drawing.{worked};
 ghost use Rattle.ssz_draws.specs.Turns.{edit_at};
-ghost use Rattle.ssz_draws.specs.Walked.{IsWalked, IsEdit};
+ghost use Rattle.ssz_draws.specs.Walked.{IsWalked, IsEditStatement};
 
 use super::generator::Generator;
 use super::turn::Turn;
@@ -36,7 +36,7 @@ impl Generator {
         requires node { IsNodeOf arena.now node }
         ensures walked { IfOk result (IsWalked (type_of schema.now id) (tree_of arena.now node)
             self.old self.new) }
-        ensures edits { IfOk result (λ edit. IfSome edit IsEdit) }
+        ensures edits { IfOk result (λ edit. IfSome edit IsEditStatement) }
         ensures err { OnErr result (self.new ≡ self.old) }
     {
         let mut walking = *self;
@@ -58,7 +58,7 @@ impl Generator {
         requires node { IsNodeOf arena.now node }
         ensures walked { IfOk result (IsWalked (type_of schema.now id) (tree_of arena.now node)
             self.old self.new) }
-        ensures edits { IfOk result (λ edit. IfSome edit IsEdit) }
+        ensures edits { IfOk result (λ edit. IfSome edit IsEditStatement) }
     {
         let mut path = Vec::new(alloc);
         let mut part = id;

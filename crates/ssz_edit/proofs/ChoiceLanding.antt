@@ -12,7 +12,7 @@ use Rattle.ssz_schema.specs.declared.path.PathStep.TheVariants.{Selector}
 use Rattle.ssz_schema.specs.Types.{SszType, Options, union}
 use Rattle.ssz_schema.specs.Sizes.{basic_size, option_count}
 use Rattle.ssz_schema.specs.Legal.{IsLegal}
-use Rattle.ssz_schema.specs.Unfolding.{Types, type_of, tree_at, options_over, IsBelow}
+use Rattle.ssz_schema.specs.Unfolding.{Types, type_of, type_tree_at, options_over, IsBelow}
 use Rattle.ssz_schema.specs.Paths.{Path, path_type, step_type}
 use Rattle.ssz_gindex.specs.Paths.{index_levels}
 use Rattle.ssz_schema.specs.Indices.{Spot, whole, byte, bit}
@@ -26,7 +26,7 @@ use Rattle.ssz_value.specs.Parts.{part}
 use Rattle.ssz_value.specs.Edits.{edited, with_choice, choice_of}
 use Rattle.ssz_value.specs.Suiting.{IsInner, inner_of}
 use Rattle.ssz_arena.specs.declared.node.NodeId.{NodeId}
-use Rattle.ssz_arena.specs.Content.{Content, tree_of}
+use Rattle.ssz_arena.specs.Content.{ArenaContent, tree_of}
 use Rattle.ssz_places.specs.Spots.{LiesWithin, with_part}
 use Rattle.ssz_places.specs.PlaceLaws.{IsTreeOf}
 use Rattle.ssz_places.specs.EditLaws.{IsChoice, choice_tree}
@@ -34,8 +34,8 @@ use Rattle.ssz_places.specs.Charges.{pairs_at, choice_pairs, choose_charge}
 use Rattle.ssz_places.proofs.Charging.{law_of_charges}
 use Rattle.ssz_gindex.proofs.HelperNodes.{some_from}
 use Rattle.ssz_places.proofs.Theorems.{law_of_choice}
-use Rattle.ssz_tree.specs.Added.{Adds, Makes}
-use Rattle.ssz_making.specs.Parts.{Part, joined, part_of, none_part}
+use Rattle.ssz_tree.specs.Added.{AddsNodes, MakesNode}
+use Rattle.ssz_making.specs.Parts.{MadePart, joined_leaf, part_of_value, none_part}
 use Rattle.ssz_tree.proofs.Adding.{MakesLeaf, MakesPair, Makes-joined}
 use Rattle.ssz_tree.proofs.FewNodes.{few_nodes}
 use Rattle.ssz_walk.specs.declared.place.Place.{Place}
@@ -94,13 +94,13 @@ below_option n (other ∷ ids) (suc k) o there all = below_option n ids k o ther
 
 -- a value of the option of this number
 fits_there : (trees : List SszType) (ids : List (Option ℕ)) (k id : ℕ) (x : SszValue)
-    → Some (Some id) ≡ slice_get ids k → Fits (tree_at trees id) x
+    → Some (Some id) ≡ slice_get ids k → Fits (type_tree_at trees id) x
     → FitsOption (options_over trees ids) k x
 fits_there trees [] k id x there fits = absurd (none-some (Some id) (sym there))
 fits_there trees (None ∷ ids) zero id x there fits = absurd (none-some id (sym (same_Some (Some id) None there)))
 fits_there trees (Some other ∷ ids) zero id x there fits =
     let same : id ≡ other = same_Some id other (same_Some (Some id) (Some other) there) in
-    subst (λ n. Fits (tree_at trees n) x) same fits
+    subst (λ n. Fits (type_tree_at trees n) x) same fits
 fits_there trees (None ∷ ids) (suc k) id x there fits = fits_there trees ids k id x there fits
 fits_there trees (Some other ∷ ids) (suc k) id x there fits =
     fits_there trees ids k id x there fits
@@ -136,12 +136,13 @@ no_none trees (Some other ∷ ids) (suc k) id there none = no_none trees ids k i
 -- the value of an option of a type
 value_there : (trees : List SszType) (ids : List (Option ℕ)) (k id : ℕ) (v : Value)
     → Some (Some id) ≡ slice_get ids k → FitsOption (options_over trees ids) k (value_of v)
-    → OptionFormed (options_over trees ids) k v → IsValue (tree_at trees id) v
+    → OptionFormed (options_over trees ids) k v → IsValue (type_tree_at trees id) v
 value_there trees [] k id v there fit formed = absurd fit
 value_there trees (None ∷ ids) zero id v there fit formed = absurd fit
 value_there trees (Some other ∷ ids) zero id v there fit formed =
     let same : id ≡ other = same_Some id other (same_Some (Some id) (Some other) there) in
-    subst (λ n. IsValue (tree_at trees n) v) (sym same) (record { fits = fit; formed = formed })
+    subst (λ n. IsValue (type_tree_at trees n) v) (sym same)
+    (record { fits = fit; formed = formed })
 value_there trees (None ∷ ids) (suc k) id v there fit formed =
     value_there trees ids k id v there fit formed
 value_there trees (Some other ∷ ids) (suc k) id v there fit formed =
@@ -208,7 +209,7 @@ module _ (types : Types) (ids : List (Option ℕ)) (k : ℕ) (option : Option �
       go (Some id) = (refl, refl)
       go None = (refl, refl)
 
-  module _ (format : Format) (arena : Content) (id : ℕ) (node : NodeId) (path : Path)
+  module _ (format : Format) (arena : ArenaContent) (id : ℕ) (node : NodeId) (path : Path)
       (place : Place) (legal : IsLegal format (type_of types id))
       (found : IsFound types arena id node path place)
       (is : type_of types place.id ≡ union os) where
@@ -227,10 +228,10 @@ module _ (types : Types) (ids : List (Option ℕ)) (k : ℕ) (option : Option �
 
     -- the answers of a choose
     pub choose_made : (x : Option SszValue) → FitsOf types option x → (v : SszValue)
-        → IsTreeOf t v (tree_of arena node) → (new : Content) (made : NodeId)
+        → IsTreeOf t v (tree_of arena node) → (new : ArenaContent) (made : NodeId)
         → IsPut arena new node place.index
-        (joined (option_part types option x) (number_chunk k)) made
-        → Adds (2 * (option_part types option x).cost + 3 + levels place.index)
+        (joined_leaf (option_part types option x) (number_chunk k)) made
+        → AddsNodes (2 * (option_part types option x).cost + 3 + levels place.index)
         ((option_part types option x).cost + 1 + levels place.index) arena new
         → Edits t arena new node (choose_charge t path k x) (edited (with_choice k x) t v path)
         made
@@ -291,7 +292,7 @@ module _ (types : Types) (option : Option ℕ) (inner : Option Given) (id : ℕ)
       subst (λ i. IsOfOption types (Some id) i) has (subst (λ o. IsOfOption types o inner) is of)
 
   pub given_part : option_part types option (option_value types option inner)
-      ≡ part_of (type_of types id) (given_value (type_of types id) g)
+      ≡ part_of_value (type_of types id) (given_value (type_of types id) g)
   given_part = ap₂ (λ o i. option_part types o (option_value types o i)) is has
 
 -- its nodes are few beside its pairs
@@ -308,16 +309,16 @@ below_more n m (Some id) more below = omega (arith, more, below)
 below_more n m None more below = tt
 
 -- a node with its selector to its right
-pub choice_made : (old a1 a2 a3 : Content) (part : Part) (k : ℕ) (chunk : List ℕ)
-    (inner number made : NodeId) → chunk ≡ number_chunk k → Makes old a1 part inner
+pub choice_made : (old a1 a2 a3 : ArenaContent) (part : MadePart) (k : ℕ) (chunk : List ℕ)
+    (inner number made : NodeId) → chunk ≡ number_chunk k → MakesNode old a1 part inner
     → MakesLeaf a1 a2 chunk number → MakesPair a2 a3 inner number made
-    → Makes old a3 (joined part (number_chunk k)) made
+    → MakesNode old a3 (joined_leaf part (number_chunk k)) made
 choice_made old a1 a2 a3 part k chunk inner number made is first second third =
-    subst (λ bytes. Makes old a3 (joined part bytes) made) is
+    subst (λ bytes. MakesNode old a3 (joined_leaf part bytes) made) is
     (Makes-joined old a1 a2 a3 part chunk inner number made first second third)
 
 -- what is one of the union at a path is given for its option, and stands for the same value
-pub chosen : (types : Types) (arena : Content) (id : ℕ) (node : NodeId) (path : Path) (k : ℕ)
+pub chosen : (types : Types) (arena : ArenaContent) (id : ℕ) (node : NodeId) (path : Path) (k : ℕ)
     (choice : Choice) → ChoosesAt types arena id node path k choice
     → (inner : Option (Bor Value))
     → IfSome (path_type (type_of types id) path) (λ u. IsInner u k (inner_of inner))

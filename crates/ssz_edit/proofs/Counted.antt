@@ -21,22 +21,22 @@ use Rattle.ssz_value.specs.Suiting.{IsElement}
 use Rattle.ssz_places.specs.Spots.{LiesWithin}
 use Rattle.ssz_places.specs.EditLaws.{is_changeable, is_mixed_in, IsCounted, count_of, element_type}
 use Rattle.ssz_places.proofs.Steps.{limits_small}
-use Rattle.ssz_edit.specs.Slots.{limit_of}
+use Rattle.ssz_edit.specs.Slots.{slot_limit}
 
 -- a list or bitlist
-pub counted_where : (u : SszType) (n : ℕ) → limit_of u ≡ Some n → IsCounted u
+pub counted_where : (u : SszType) (n : ℕ) → slot_limit u ≡ Some n → IsCounted u
 counted_where (list elem limit) n is = tt
 counted_where (bitlist limit) n is = tt
 counted_where _ n is = absurd (none-some n is)
 
 -- no other type is edited so
-pub not_more : (u : SszType) (new w : SszValue) → limit_of u ≡ None
+pub not_more : (u : SszType) (new w : SszValue) → slot_limit u ≡ None
     → with_more new u w ≡ Err NotThat
 not_more (list elem limit) new w none = absurd (none-some limit (sym none))
 not_more (bitlist limit) new w none = absurd (none-some limit (sym none))
 not_more _ new w none = refl
 
-pub not_less : (u : SszType) (w : SszValue) → limit_of u ≡ None → with_less u w ≡ Err NotThat
+pub not_less : (u : SszType) (w : SszValue) → slot_limit u ≡ None → with_less u w ≡ Err NotThat
 not_less (list elem limit) w none = absurd (none-some limit (sym none))
 not_less (bitlist limit) w none = absurd (none-some limit (sym none))
 not_less _ w none = refl
@@ -116,7 +116,7 @@ element_legal format (bitlist n) counted legal = tt
 element_legal format _ counted legal = absurd counted
 
 -- a step to an element below the limit
-pub element_step : (u : SszType) (limit i : ℕ) → limit_of u ≡ Some limit → i < limit
+pub element_step : (u : SszType) (limit i : ℕ) → slot_limit u ≡ Some limit → i < limit
     → step_type u (Index i) ≡ Some (element_type u)
 element_step (list elem n) limit i is within =
     let same : n ≡ limit = same_Some n limit is in
@@ -127,7 +127,7 @@ element_step (bitlist n) limit i is within =
 element_step _ limit i is within = absurd (none-some limit is)
 
 -- the list is full, or takes the element
-pub more_full : (u : SszType) (limit : ℕ) (new w : SszValue) → limit_of u ≡ Some limit
+pub more_full : (u : SszType) (limit : ℕ) (new w : SszValue) → slot_limit u ≡ Some limit
     → Fits u w → Fits (element_type u) new → limit ≤ count_of w → with_more new u w ≡ Err Full
 more_full (list elem n) limit new (sequence vs) is fit fits past =
     let same : n ≡ limit = same_Some n limit is in
@@ -141,7 +141,7 @@ more_full (bitlist n) limit _ (bits bs) is fit fits past = absurd fits
 more_full (bitlist n) limit new _ is fit fits past = absurd fit
 more_full _ limit new w is fit fits past = absurd (none-some limit is)
 
-pub more_made : (u : SszType) (limit : ℕ) (new w : SszValue) → limit_of u ≡ Some limit
+pub more_made : (u : SszType) (limit : ℕ) (new w : SszValue) → slot_limit u ≡ Some limit
     → Fits u w → Fits (element_type u) new → count_of w < limit
     → (y : SszValue) × (with_more new u w ≡ Ok y)
 more_made (list elem n) limit new (sequence vs) is fit fits within =
@@ -184,7 +184,7 @@ less_made _ w counted fit some = absurd counted
 
 -- a list has as many elements as its limit, and no more than a u64 counts
 pub count_small : (format : Format) (u : SszType) (limit : ℕ) (w : SszValue)
-    → limit_of u ≡ Some limit → IsLegal format u → Fits u w
+    → slot_limit u ≡ Some limit → IsLegal format u → Fits u w
     → (count_of w ≤ limit) × (count_of w < 2 ^ 64)
 count_small format (list elem n) limit (sequence vs) is legal fit =
     let same : n ≡ limit = same_Some n limit is in

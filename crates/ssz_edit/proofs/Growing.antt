@@ -6,20 +6,20 @@ use Rattle.ssz_chunk.specs.Index.{at, put, levels, way}
 use Rattle.ssz_value.specs.Trees.{mixed_in, number_chunk}
 use Rattle.ssz_value.proofs.ChunkLaw.{same_left}
 use Rattle.ssz_arena.specs.declared.node.NodeId.{NodeId}
-use Rattle.ssz_arena.specs.Content.{Content, tree_of, todo, node_at, IsNodeOf, KeepsNodes, KeepsTodo}
+use Rattle.ssz_arena.specs.Content.{ArenaContent, tree_of, todo, node_at, IsNodeOf, KeepsNodes, KeepsTodo}
 use Rattle.ssz_arena.specs.Shown.{HasChildren}
 use Rattle.ssz_arena.proofs.Keeping.{keeps_trans}
-use Rattle.ssz_tree.specs.Added.{Adds, IsPart}
-use Rattle.ssz_making.specs.Parts.{Part}
+use Rattle.ssz_tree.specs.Added.{AddsNodes, IsPartNode}
+use Rattle.ssz_making.specs.Parts.{MadePart}
 use Rattle.ssz_tree.proofs.Adding.{Adds-then, Adds-within}
 use Rattle.ssz_walk.specs.declared.place.Place.{Place}
 use Rattle.ssz_edit.specs.Slots.{HasList, IsGrown}
 use Rattle.ssz_edit.proofs.Replacing.{adds_room}
 
-module _ (old : Content) (node : NodeId) (place : Place) (below : ℕ)
+module _ (old : ArenaContent) (node : NodeId) (place : Place) (below : ℕ)
     (has : HasList old node place below) where
   module _ (content right : NodeId) (children : HasChildren old place.node content right) where
-    module _ (a1 a2 a3 : Content) (element grown len list : NodeId) (count : ℕ)
+    module _ (a1 a2 a3 : ArenaContent) (element grown len list : NodeId) (count : ℕ)
         (chunk : List ℕ) (first : KeepsNodes old a1) (first_same : KeepsTodo old a1)
         (second : KeepsNodes a1 a2) (second_same : KeepsTodo a1 a2) (third : KeepsNodes a2 a3)
         (third_same : KeepsTodo a2 a3) where
@@ -38,8 +38,8 @@ module _ (old : Content) (node : NodeId) (place : Place) (below : ℕ)
           third_same.each place.node two ∙ second_same.each place.node one
           ∙ first_same.each place.node has.inside
 
-      pub grown_made : (new : Content) (made : NodeId) (other : Part)
-          → IsPart old other element → IsNodeOf a1 grown
+      pub grown_made : (new : ArenaContent) (made : NodeId) (other : MadePart)
+          → IsPartNode old other element → IsNodeOf a1 grown
           → put (tree_of old content) below (tree_of old element) ≡ Some (tree_of a1 grown)
           → todo a1 grown ≤ todo old content + levels below + todo old element
           → tree_of a2 len ≡ leaf chunk → todo a2 len ≡ 0 → chunk ≡ number_chunk count
@@ -83,9 +83,10 @@ module _ (old : Content) (node : NodeId) (place : Place) (below : ℕ)
           }
 
 -- the nodes and pairs of the four calls
-pub adds_list : (old a1 a2 a3 new : Content) (below more : ℕ)
-    → Adds below below old a1 → Adds 1 0 a1 a2 → Adds 1 1 a2 a3 → Adds more more a3 new
-    → Adds (below + 2 + more) (below + 1 + more) old new
+pub adds_list : (old a1 a2 a3 new : ArenaContent) (below more : ℕ)
+    → AddsNodes below below old a1 → AddsNodes 1 0 a1 a2 → AddsNodes 1 1 a2 a3
+    → AddsNodes more more a3 new
+    → AddsNodes (below + 2 + more) (below + 1 + more) old new
 adds_list old a1 a2 a3 new below more first second third last =
     Adds-within (below + 1 + 1 + more) (below + 0 + 1 + more) _ _ old new
     (Adds-then (below + 1 + 1) (below + 0 + 1) more more old a3 new
@@ -94,7 +95,7 @@ adds_list old a1 a2 a3 new below more first second third last =
     (omega arith) (omega arith)
 
 -- the place of a list is kept
-pub list_kept : (old new : Content) (node : NodeId) (place : Place) (below : ℕ)
+pub list_kept : (old new : ArenaContent) (node : NodeId) (place : Place) (below : ℕ)
     → KeepsNodes old new → HasList old node place below → HasList new node place below
 list_kept old new node place below keeps has = record {
   known = omega (arith, has.known, keeps.count);
@@ -110,8 +111,8 @@ list_kept old new node place below keeps has = record {
 }
 
 -- a list that grew by an element made before
-pub grown_kept : (old mid new : Content) (node : NodeId) (place : Place) (below : ℕ)
-    (other : Part) (count : ℕ) (made : NodeId) → KeepsNodes old mid
+pub grown_kept : (old mid new : ArenaContent) (node : NodeId) (place : Place) (below : ℕ)
+    (other : MadePart) (count : ℕ) (made : NodeId) → KeepsNodes old mid
     → HasList old node place below → IsGrown mid new node place below other count made
     → IsGrown old new node place below other count made
 grown_kept old mid new node place below other count made keeps has grown = record {
@@ -123,10 +124,10 @@ grown_kept old mid new node place below other count made keeps has grown = recor
 }
 
 -- room, an element and a list
-pub adds_element : (old mid after new : Content) (nodes cost below more : ℕ)
-    → mid.nodes ≡ old.nodes → old.spare ≤ mid.spare → Adds nodes cost mid after
-    → Adds (below + 2 + more) (below + 1 + more) after new
-    → Adds (nodes + 2 + (below + more)) (cost + 1 + (below + more)) old new
+pub adds_element : (old mid after new : ArenaContent) (nodes cost below more : ℕ)
+    → mid.nodes ≡ old.nodes → old.spare ≤ mid.spare → AddsNodes nodes cost mid after
+    → AddsNodes (below + 2 + more) (below + 1 + more) after new
+    → AddsNodes (nodes + 2 + (below + more)) (cost + 1 + (below + more)) old new
 adds_element old mid after new nodes cost below more same room first second =
     Adds-within (0 + nodes + (below + 2 + more)) (0 + cost + (below + 1 + more)) _ _ old new
     (Adds-then (0 + nodes) (0 + cost) (below + 2 + more) (below + 1 + more) old after new

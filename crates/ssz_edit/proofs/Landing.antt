@@ -26,7 +26,7 @@ use Rattle.ssz_value.specs.Pairs.{pairs}
 use Rattle.ssz_value.specs.Parts.{part}
 use Rattle.ssz_value.specs.Edits.{Edited, edited, edit_fault_of}
 use Rattle.ssz_arena.specs.declared.node.NodeId.{NodeId}
-use Rattle.ssz_arena.specs.Content.{Content, tree_of}
+use Rattle.ssz_arena.specs.Content.{ArenaContent, tree_of}
 use Rattle.ssz_places.specs.Spots.{CanHold, LiesWithin, with_part}
 use Rattle.ssz_places.specs.PlaceLaws.{IsTreeOf, IsPart}
 use Rattle.ssz_places.specs.EditLaws.{is_changeable, is_mixed_in}
@@ -36,8 +36,8 @@ use Rattle.ssz_places.proofs.Lying.{can_hold, law_of_spots}
 use Rattle.ssz_places.proofs.Theorems.{law_of_places, law_of_edits, law_of_faults}
 use Rattle.ssz_walk.specs.declared.place.Place.{Place}
 use Rattle.ssz_walk.specs.Found.{spot_of, IsFound, IsLost}
-use Rattle.ssz_tree.specs.Added.{Adds}
-use Rattle.ssz_edit.specs.Edited.{IsPut, Answers, part_with}
+use Rattle.ssz_tree.specs.Added.{AddsNodes}
+use Rattle.ssz_edit.specs.Edited.{IsPut, AnswersEdit, edited_part}
 
 -- the steps from one on
 pub changeable_more : (path : Path) (i : ℕ) (step : PathStep) → i < length path
@@ -62,10 +62,10 @@ pub changeable_end : (path : Path) (i : ℕ) → length path ≤ i → true ≡ 
 changeable_end path i past = ap is_changeable (sym (drop_all i path past))
 
 -- a path that leads to no part
-pub lost_answers : (types : Types) (old new : Content) (id : ℕ) (node : NodeId) (path : Path)
+pub lost_answers : (types : Types) (old new : ArenaContent) (id : ℕ) (node : NodeId) (path : Path)
     (fault : PathFault) (charge : ℕ) (edit : SszType → SszValue → Edited) (v : SszValue)
     → IsLost types old id node path fault → IsTreeOf (type_of types id) v (tree_of old node)
-    → Answers (type_of types id) old new node charge (edited edit (type_of types id) v path)
+    → AnswersEdit (type_of types id) old new node charge (edited edit (type_of types id) v path)
     (Err (edit_fault_of fault))
 lost_answers types old new id node path BadPath charge edit v lost of =
     (law_of_faults (type_of types id) v path edit).bad_path lost
@@ -73,7 +73,8 @@ lost_answers types old new id node path Absent charge edit v lost of =
     let typed = some_from (path_type (type_of types id) path) lost.0 in
     (law_of_faults (type_of types id) v path edit).absent typed.0 typed.1 (lost.1 v of)
 
-module _ (format : Format) (types : Types) (arena : Content) (id : ℕ) (node : NodeId) (path : Path)
+module _ (format : Format) (types : Types) (arena : ArenaContent) (id : ℕ) (node : NodeId)
+    (path : Path)
     (place : Place) (legal : IsLegal format (type_of types id))
     (found : IsFound types arena id node path place) where
   abbrev t : SszType
@@ -145,12 +146,13 @@ module _ (format : Format) (types : Types) (arena : Content) (id : ℕ) (node : 
   pairs_there count = ap (λ o. option_map_or count o 0) found.led.type_at
 
   -- the answers of a set
-  pub set_made : (new : Content) (x v : SszValue) (made : NodeId) → Fits u x
+  pub set_made : (new : ArenaContent) (x v : SszValue) (made : NodeId) → Fits u x
       → is_changeable path ≡ true → IsTreeOf t v (tree_of arena node)
       → IsPut arena new node place.index
-      (part_with (spot_of place.spot) u x (tree_of arena place.node)) made
-      → Adds (2 * pairs u x + 1 + levels place.index) (pairs u x + levels place.index) arena new
-      → Answers t arena new node (set_charge t path x) (edited (λ _ _. Ok x) t v path) (Ok made)
+      (edited_part (spot_of place.spot) u x (tree_of arena place.node)) made
+      → AddsNodes (2 * pairs u x + 1 + levels place.index)
+      (pairs u x + levels place.index) arena new
+      → AnswersEdit t arena new node (set_charge t path x) (edited (λ _ _. Ok x) t v path) (Ok made)
   set_made new x v made fit free of put adds =
       let w = some_from (part t v path) (found.present v of) in
       let e = lands v of (λ _ _. Ok x) w.0 x w.1 free refl fit (tree_of new made) put.is in
@@ -168,9 +170,9 @@ module _ (format : Format) (types : Types) (arena : Content) (id : ℕ) (node : 
       )
 
   -- a length or a selector is not set
-  pub set_counted : (new : Content) (x v : SszValue) (charge : ℕ) → is_changeable path ≡ false
+  pub set_counted : (new : ArenaContent) (x v : SszValue) (charge : ℕ) → is_changeable path ≡ false
       → IsTreeOf t v (tree_of arena node)
-      → Answers t arena new node charge (edited (λ _ _. Ok x) t v path) (Err NotThat)
+      → AnswersEdit t arena new node charge (edited (λ _ _. Ok x) t v path) (Err NotThat)
   set_counted new x v charge counted of =
       let w = some_from (part t v path) (found.present v of) in
       (law_of_faults t v path (λ _ _. Ok x)).counted u w.0 x found.led.type_at w.1 counted refl

@@ -23,7 +23,7 @@ use Rattle.ssz_value.specs.Pairs.{pairs}
 use Rattle.ssz_value.specs.Parts.{part}
 use Rattle.ssz_value.specs.Edits.{Edited, edited, with_more, with_less}
 use Rattle.ssz_arena.specs.declared.node.NodeId.{NodeId}
-use Rattle.ssz_arena.specs.Content.{Content, tree_of, IsNodeOf}
+use Rattle.ssz_arena.specs.Content.{ArenaContent, tree_of, IsNodeOf}
 use Rattle.ssz_places.specs.Spots.{CanHold, HasPart, LiesWithin, with_part, without_part}
 use Rattle.ssz_places.specs.PlaceLaws.{IsTreeOf, IsPart}
 use Rattle.ssz_places.specs.EditLaws.{IsCounted, content, content_index, count_of, element_type, HasContent}
@@ -34,14 +34,14 @@ use Rattle.ssz_places.proofs.ListEdits.{law_of_append, law_of_pop, law_of_conten
 use Rattle.ssz_gindex.proofs.HelperNodes.{some_from}
 use Rattle.ssz_places.proofs.Lying.{law_of_spots}
 use Rattle.ssz_places.proofs.Theorems.{law_of_places, law_of_faults}
-use Rattle.ssz_making.specs.Parts.{Part}
-use Rattle.ssz_tree.specs.Added.{Adds}
+use Rattle.ssz_making.specs.Parts.{MadePart}
+use Rattle.ssz_tree.specs.Added.{AddsNodes}
 use Rattle.ssz_walk.specs.declared.place.Place.{Place}
 use Rattle.ssz_walk.specs.Found.{spot_of, IsFound, LeadsNowhere}
 use Rattle.ssz_walk.specs.Mixed.{HasContentNode}
 use Rattle.ssz_edit.specs.declared.lists.Slot.{Slot}
-use Rattle.ssz_edit.specs.Edited.{Answers, part_with, part_without}
-use Rattle.ssz_edit.specs.Slots.{limit_of, IsSlot, HasList, IsGrown}
+use Rattle.ssz_edit.specs.Edited.{AnswersEdit, edited_part, part_without}
+use Rattle.ssz_edit.specs.Slots.{slot_limit, IsSlot, HasList, IsGrown}
 use Rattle.ssz_edit.proofs.Counted.{counted_where, whole_counted, changeable_composite, composite_counted, element_step, more_made, less_made}
 use Rattle.ssz_edit.proofs.Landing.{lies, lands, levels_there, pairs_there}
 use Rattle.ssz_edit.proofs.Slotting.{has_position, at_left}
@@ -56,10 +56,11 @@ pub record HasListValue (format : Format) (t u : SszType) (v : SszValue) (path :
   pub is : node_tree ≡ tree u w
   pub mixed : node_tree ≡ mixed_in (count_of w) (content u w)
 
-module _ (format : Format) (types : Types) (arena : Content) (id : ℕ) (node : NodeId) (path : Path)
+module _ (format : Format) (types : Types) (arena : ArenaContent) (id : ℕ) (node : NodeId)
+    (path : Path)
     (place : Place) (legal : IsLegal format (type_of types id))
     (found : IsFound types arena id node path place) (limit : ℕ)
-    (limited : limit_of (type_of types place.id) ≡ Some limit) where
+    (limited : slot_limit (type_of types place.id) ≡ Some limit) where
   abbrev t : SszType
   t = type_of types id
 
@@ -179,7 +180,7 @@ module _ (format : Format) (types : Types) (arena : Content) (id : ℕ) (node : 
           → (edit : SszType → SszValue → Edited)
           → (l : HasListValue format t u v path (tree_of arena place.node)) (y : SszValue)
           → edit u l.w ≡ Ok y → (change : Tree → Tree) → HasContent u l.w i change y
-          → tree_of arena content_id ≡ content u l.w → (new : Content) (other : Part)
+          → tree_of arena content_id ≡ content u l.w → (new : ArenaContent) (other : MadePart)
           → other.tree ≡ change (tree_of arena slot.element.node) → (count : ℕ)
           → count ≡ count_of y → (made : NodeId)
           → IsGrown arena new node place slot.below other count made
@@ -236,17 +237,17 @@ module _ (format : Format) (types : Types) (arena : Content) (id : ℕ) (node : 
       pub append_made : (x v : SszValue) → Fits (element_type u) x
           → (of : IsTreeOf t v (tree_of arena node))
           → (l : HasListValue format t u v path (tree_of arena place.node))
-          → tree_of arena content_id ≡ content u l.w → i ≡ count_of l.w → (new : Content)
+          → tree_of arena content_id ≡ content u l.w → i ≡ count_of l.w → (new : ArenaContent)
           → (made : NodeId)
           → (CanHold (spot_of slot.element.spot) (tree_of arena slot.element.node)
           → IsGrown arena new node place slot.below
-          (part_with (spot_of slot.element.spot) (type_of types slot.element.id) x
+          (edited_part (spot_of slot.element.spot) (type_of types slot.element.id) x
           (tree_of arena slot.element.node)) (i + 1) made)
-          → Adds (2 * pairs (type_of types slot.element.id) x + 3
+          → AddsNodes (2 * pairs (type_of types slot.element.id) x + 3
           + (levels slot.below + levels place.index))
           (pairs (type_of types slot.element.id) x + 1 + (levels slot.below + levels place.index))
           arena new
-          → Answers t arena new node (append_charge t v path x)
+          → AnswersEdit t arena new node (append_charge t v path x)
           (edited (with_more x) t v path) (Ok made)
       append_made x v fits of l content_is counts new made grows adds =
           let more_is = more_made u limit x l.w limited l.fits fits (omega (arith, counts, within))
@@ -260,7 +261,7 @@ module _ (format : Format) (types : Types) (arena : Content) (id : ℕ) (node : 
           let grown = grows (can_hold_element l.w more_is.0 _ has content_is) in
           let e = list_lands v of (with_more x) l more_is.0 more_is.1
           (with_part (step_spot u (Index i)) (element_type u) x) has content_is new
-          (part_with (spot_of slot.element.spot) (type_of types slot.element.id) x
+          (edited_part (spot_of slot.element.spot) (type_of types slot.element.id) x
           (tree_of arena slot.element.node)) (with_element x) (i + 1)
           (omega (arith, counts, law.1)) made grown in
           let count_is : count_at t v path ≡ i =
@@ -288,15 +289,15 @@ module _ (format : Format) (types : Types) (arena : Content) (id : ℕ) (node : 
       -- the answer of a pop
       pub pop_made : (v : SszValue) → (of : IsTreeOf t v (tree_of arena node))
           → (l : HasListValue format t u v path (tree_of arena place.node))
-          → tree_of arena content_id ≡ content u l.w → i + 1 ≡ count_of l.w → (new : Content)
+          → tree_of arena content_id ≡ content u l.w → i + 1 ≡ count_of l.w → (new : ArenaContent)
           → (made : NodeId)
           → (CanHold (spot_of slot.element.spot) (tree_of arena slot.element.node)
           → IsGrown arena new node place slot.below
           (part_without (spot_of slot.element.spot) (type_of types slot.element.id)
           (tree_of arena slot.element.node)) i made)
-          → Adds (3 + (levels slot.below + levels place.index))
+          → AddsNodes (3 + (levels slot.below + levels place.index))
           (1 + (levels slot.below + levels place.index)) arena new
-          → Answers t arena new node (pop_charge t v path) (edited with_less t v path) (Ok made)
+          → AnswersEdit t arena new node (pop_charge t v path) (edited with_less t v path) (Ok made)
       pop_made v of l content_is counts new made grows adds =
           let less_is = less_made u l.w counted l.fits (omega (arith, counts)) in
           let law = law_of_pop format u l.w less_is.0

@@ -16,12 +16,12 @@ use Rattle.ssz_value.specs.Standing.{value_of}
 use Rattle.ssz_value.specs.Suiting.{IsElement}
 use Rattle.ssz_value.specs.Edits.{Edited, edited, edit_fault_of, with_more, with_choice}
 use Rattle.ssz_arena.specs.declared.node.NodeId.{NodeId}
-use Rattle.ssz_arena.specs.Content.{Content, tree_of}
+use Rattle.ssz_arena.specs.Content.{ArenaContent, tree_of}
 use Rattle.ssz_gindex.proofs.HelperNodes.{some_from}
 use Rattle.ssz_places.specs.PlaceLaws.{IsTreeOf}
 use Rattle.ssz_places.proofs.Theorems.{law_of_faults}
 use Rattle.ssz_walk.specs.Found.{IsLost}
-use Rattle.ssz_edit.specs.Edited.{Answers}
+use Rattle.ssz_edit.specs.Edited.{AnswersEdit}
 use Rattle.ssz_edit.specs.Targets.{CannotSet, CannotAppend, CannotChoose}
 use Rattle.ssz_edit.proofs.Counted.{counted_where, not_more, element_fits, more_full}
 use Rattle.ssz_edit.proofs.ChoiceLanding.{not_union, bad_selector}
@@ -29,25 +29,25 @@ use Rattle.ssz_edit.proofs.Landing.{lost_answers, set_counted, from_type}
 use Rattle.ssz_edit.proofs.ListLanding.{list_value, own_fault}
 
 -- a path that leads to no part
-pub lost_set : (types : Types) (arena : Content) (id : ℕ) (node : NodeId) (path : Path)
+pub lost_set : (types : Types) (arena : ArenaContent) (id : ℕ) (node : NodeId) (path : Path)
     (fault : PathFault) → IsLost types arena id node path fault
     → CannotSet types arena id node path (edit_fault_of fault)
 lost_set types arena id node path NoPath lost = lost
 lost_set types arena id node path Missing lost = lost
 
-pub lost_append : (types : Types) (arena : Content) (id : ℕ) (node : NodeId) (path : Path)
+pub lost_append : (types : Types) (arena : ArenaContent) (id : ℕ) (node : NodeId) (path : Path)
     (fault : PathFault) → IsLost types arena id node path fault
     → CannotAppend types arena id node path (edit_fault_of fault)
 lost_append types arena id node path NoPath lost = lost
 lost_append types arena id node path Missing lost = lost
 
-pub lost_choose : (types : Types) (arena : Content) (id : ℕ) (node : NodeId) (path : Path)
+pub lost_choose : (types : Types) (arena : ArenaContent) (id : ℕ) (node : NodeId) (path : Path)
     (k : ℕ) (fault : PathFault) → IsLost types arena id node path fault
     → CannotChoose types arena id node path k (edit_fault_of fault)
 lost_choose types arena id node path k NoPath lost = lost
 lost_choose types arena id node path k Missing lost = lost
 
-module _ (types : Types) (old new : Content) (id : ℕ) (node : NodeId) (path : Path)
+module _ (types : Types) (old new : ArenaContent) (id : ℕ) (node : NodeId) (path : Path)
     (legal : IsLegal types.format (type_of types id)) (charge : ℕ) (v : SszValue)
     (of : IsTreeOf (type_of types id) v (tree_of old node)) where
   abbrev t : SszType
@@ -61,7 +61,7 @@ module _ (types : Types) (old new : Content) (id : ℕ) (node : NodeId) (path : 
       fails
 
   pub set_refused : (x : SszValue) (fault : EditFault) → CannotSet types old id node path fault
-      → Answers t old new node charge (edited (λ _ _. Ok x) t v path) (Err fault)
+      → AnswersEdit t old new node charge (edited (λ _ _. Ok x) t v path) (Err fault)
   set_refused x BadPath lost =
       lost_answers types old new id node path NoPath charge (λ _ _. Ok x) v lost of
   set_refused x Absent lost =
@@ -77,7 +77,7 @@ module _ (types : Types) (old new : Content) (id : ℕ) (node : NodeId) (path : 
 
   pub append_refused : (value : Value) → IfSome (path_type t path) (λ u. IsElement u value)
       → (fault : EditFault) → CannotAppend types old id node path fault
-      → Answers t old new node charge (edited (with_more (value_of value)) t v path) (Err fault)
+      → AnswersEdit t old new node charge (edited (with_more (value_of value)) t v path) (Err fault)
   append_refused value is BadPath lost =
       lost_answers types old new id node path NoPath charge (with_more (value_of value)) v lost of
   append_refused value is Absent lost =
@@ -111,7 +111,7 @@ module _ (types : Types) (old new : Content) (id : ℕ) (node : NodeId) (path : 
 
   pub choose_refused : (k : ℕ) (x : Option SszValue) (fault : EditFault)
       → CannotChoose types old id node path k fault
-      → Answers t old new node charge (edited (with_choice k x) t v path) (Err fault)
+      → AnswersEdit t old new node charge (edited (with_choice k x) t v path) (Err fault)
   choose_refused k x BadPath lost =
       lost_answers types old new id node path NoPath charge (with_choice k x) v lost of
   choose_refused k x Absent lost =

@@ -8,10 +8,10 @@ use Rattle.ssz_chunk.specs.Tree.{Tree}
 use Rattle.ssz_chunk.specs.Index.{at, put, levels}
 use Rattle.ssz_arena.specs.declared.node.NodeId.{NodeId}
 use Rattle.ssz_arena.specs.Named.{ArenaNode as Node}
-use Rattle.ssz_arena.specs.Content.{Content, tree_of, todo, todos, is_unhashed, IsNodeOf, KeepsNodes}
+use Rattle.ssz_arena.specs.Content.{ArenaContent, tree_of, todo, todos, is_unhashed, IsNodeOf, KeepsNodes}
 use Rattle.ssz_arena.proofs.Keeping.{keeps_same}
-use Rattle.ssz_tree.specs.Added.{Adds, IsPart}
-use Rattle.ssz_making.specs.Parts.{Part}
+use Rattle.ssz_tree.specs.Added.{AddsNodes, IsPartNode}
+use Rattle.ssz_making.specs.Parts.{MadePart}
 use Rattle.ssz_edit.specs.Edited.{IsPut}
 
 -- an error is no answer
@@ -19,8 +19,8 @@ pub not_ok : {X E : Type 0} (r : Result X E) (e : E) → r ≡ Err e → IsOk r 
 not_ok r e is ok = false≢true (sym (ap is_ok is) ∙ ok)
 
 -- nothing but room was added
-pub adds_room : (old new : Content) → new.nodes ≡ old.nodes → old.spare ≤ new.spare
-    → Adds 0 0 old new
+pub adds_room : (old new : ArenaContent) → new.nodes ≡ old.nodes → old.spare ≤ new.spare
+    → AddsNodes 0 0 old new
 adds_room old new same more = record {
   keeps = keeps_same old new same;
   same = record { each = λ id known. ap (λ ns. slice_index (todos ns) id.0) same };
@@ -30,7 +30,7 @@ adds_room old new same more = record {
 }
 
 -- a node that was there
-module _ (old new : Content) (keeps : KeepsNodes old new) (node : NodeId)
+module _ (old new : ArenaContent) (keeps : KeepsNodes old new) (node : NodeId)
     (known : IsNodeOf old node)
   where
     -- has an index where it had it
@@ -40,8 +40,8 @@ module _ (old new : Content) (keeps : KeepsNodes old new) (node : NodeId)
         (sym none ∙ ap (λ t. at t index) (keeps.trees node known) ∙ is))
 
     -- and with a part put there
-    pub put_made : (index : ℕ) (other : Part) (part made : NodeId) → IsPart new other part
-        → (last : Content) → IsNodeOf last made
+    pub put_made : (index : ℕ) (other : MadePart) (part made : NodeId) → IsPartNode new other part
+        → (last : ArenaContent) → IsNodeOf last made
         → put (tree_of new node) index (tree_of new part) ≡ Some (tree_of last made)
         → todo last made ≤ todo new node + levels index + todo new part
         → IsPut old last node index other made

@@ -5,10 +5,10 @@ use Rattle.ssz_schema.specs.Types.{SszType}
 use Rattle.ssz_schema.specs.Unfolding.{Types, type_of}
 use Rattle.ssz_value.specs.declared.value.Value.{Value as Program}
 use Rattle.ssz_value.specs.Values.{SszValue, Fits}
-use Rattle.ssz_value.specs.Faults.{why}
+use Rattle.ssz_value.specs.Faults.{first_fault}
 use Rattle.ssz_value.specs.Reading.{value_in}
 use Rattle.ssz_value.specs.Standing.{value_of, IsValue}
-use Rattle.ssz_making.specs.Parts.{Part, part_of, none_part}
+use Rattle.ssz_making.specs.Parts.{MadePart, part_of_value, none_part}
 use Rattle.ssz_edit.specs.declared.given.Given.{Given}
 use Rattle.ssz_edit.specs.declared.given.Given.TheVariants.{Value, Bytes}
 
@@ -20,7 +20,7 @@ given_value t (Bytes b) = value_in t b.now
 -- it is one of the type: the bytes have no fault
 abbrev pub IsGiven : SszType → Given → Type 0
 IsGiven t (Value v) = IsValue t v.now
-IsGiven t (Bytes b) = (length b.now < 2 ^ 32) × (why t 0 b.now ≡ None)
+IsGiven t (Bytes b) = (length b.now < 2 ^ 32) × (first_fault t 0 b.now ≡ None)
 
 -- a value, where there is one
 abbrev pub values_given : Option (Bor Program) → Option Given
@@ -43,6 +43,6 @@ FitsOf types None None = Unit {0}
 FitsOf types _ _ = ⊥
 
 -- an option with a value, or None
-abbrev pub option_part : Types → Option ℕ → Option SszValue → Part
-option_part types (Some id) (Some x) = part_of (type_of types id) x
+abbrev pub option_part : Types → Option ℕ → Option SszValue → MadePart
+option_part types (Some id) (Some x) = part_of_value (type_of types id) x
 option_part types _ _ = none_part

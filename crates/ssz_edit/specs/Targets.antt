@@ -16,19 +16,20 @@ use Rattle.ssz_places.specs.Spots.{LiesWithin}
 use Rattle.ssz_places.specs.PlaceLaws.{IsTreeOf}
 use Rattle.ssz_places.specs.EditLaws.{is_changeable, count_of}
 use Rattle.ssz_arena.specs.declared.node.NodeId.{NodeId}
-use Rattle.ssz_arena.specs.Content.{Content, tree_of, IsNodeOf}
+use Rattle.ssz_arena.specs.Content.{ArenaContent, tree_of, IsNodeOf}
 use Rattle.ssz_walk.specs.declared.place.Place.{Place}
 use Rattle.ssz_walk.specs.Found.{IsFound, IsLost, spot_of}
 use Rattle.ssz_walk.specs.Mixed.{HasContentNode, IsMixed}
 use Rattle.ssz_edit.specs.declared.lists.ListEnd.{ListEnd}
 use Rattle.ssz_edit.specs.declared.choosing.Choice.{Choice}
 use Rattle.ssz_edit.specs.Chosen.{HasNoOptions}
-use Rattle.ssz_edit.specs.Slots.{HasList, IsSlot, limit_of}
+use Rattle.ssz_edit.specs.Slots.{HasList, IsSlot, slot_limit}
 
 -- An edit can be made at a target, whatever value of its type is given.
 
 -- the node has the place, where a part of its type can lie
-pub record HasPlace (types : Types) (arena : Content) (node : NodeId) (place : Place) : Type 0 where
+pub record HasPlace (types : Types) (arena : ArenaContent) (node : NodeId) (place : Place)
+    : Type 0 where
   pub known : place.id < length types.trees
   pub top : IsNodeOf arena node
   pub inside : IsNodeOf arena place.node
@@ -36,7 +37,8 @@ pub record HasPlace (types : Types) (arena : Content) (node : NodeId) (place : P
   pub there : at (tree_of arena node) place.index ≡ Some (tree_of arena place.node)
 
 -- the node has the list or bitlist, and in it the place of the element, where one can lie
-pub record HasEnd (types : Types) (arena : Content) (node : NodeId) (end : ListEnd) : Type 0 where
+pub record HasEnd (types : Types) (arena : ArenaContent) (node : NodeId) (end : ListEnd)
+    : Type 0 where
   pub known : end.slot.element.id < length types.trees
   pub few : end.count + 1 < 2 ^ 64
   pub has_list : HasList arena node end.list end.slot.below
@@ -44,7 +46,7 @@ pub record HasEnd (types : Types) (arena : Content) (node : NodeId) (end : ListE
   pub lies : LiesWithin (type_of types end.slot.element.id) (spot_of end.slot.element.spot)
 
 -- the node has the union
-pub record HasUnion (types : Types) (arena : Content) (node : NodeId) (choice : Choice)
+pub record HasUnion (types : Types) (arena : ArenaContent) (node : NodeId) (choice : Choice)
     : Type 0 where
   pub below : IsBelow (length types.trees) choice.option
   pub top : IsNodeOf arena node
@@ -54,19 +56,19 @@ pub record HasUnion (types : Types) (arena : Content) (node : NodeId) (choice : 
 -- A path leads to a target, from the node of a value of a type.
 
 -- the part at the path is there, and can be changed alone
-pub record SetsAt (types : Types) (arena : Content) (id : ℕ) (node : NodeId) (path : Path)
+pub record SetsAt (types : Types) (arena : ArenaContent) (id : ℕ) (node : NodeId) (path : Path)
     (place : Place) : Type 0 where
   pub legal : IsLegal types.format (type_of types id)
   pub found : IsFound types arena id node path place
   pub free : is_changeable path ≡ true
 
 -- a list or bitlist is there, whose length is below its limit: the element comes behind the last
-pub record AppendsAt (types : Types) (arena : Content) (id : ℕ) (node : NodeId) (path : Path)
+pub record AppendsAt (types : Types) (arena : ArenaContent) (id : ℕ) (node : NodeId) (path : Path)
     (end : ListEnd) : Type 0 where
   pub legal : IsLegal types.format (type_of types id)
   pub found : IsFound types arena id node path end.list
   pub limit : ℕ
-  pub limited : limit_of (type_of types end.list.id) ≡ Some limit
+  pub limited : slot_limit (type_of types end.list.id) ≡ Some limit
   pub within : end.count < limit
   pub content : NodeId
   pub content_node : HasContentNode arena end.list.node content
@@ -75,7 +77,7 @@ pub record AppendsAt (types : Types) (arena : Content) (id : ℕ) (node : NodeId
   pub slot : IsSlot types arena end.list.id end.list.node content end.count end.slot
 
 -- a union is there, which has the option under the selector
-pub record ChoosesAt (types : Types) (arena : Content) (id : ℕ) (node : NodeId) (path : Path)
+pub record ChoosesAt (types : Types) (arena : ArenaContent) (id : ℕ) (node : NodeId) (path : Path)
     (selector : ℕ) (choice : Choice) : Type 0 where
   pub legal : IsLegal types.format (type_of types id)
   pub found : IsFound types arena id node path choice.place
@@ -87,13 +89,14 @@ pub record ChoosesAt (types : Types) (arena : Content) (id : ℕ) (node : NodeId
 -- Why there is no target: the path leads to no part, or the part is none that can be edited so.
 
 -- so of each part at the path, and of its type
-abbrev pub OfPart : Types → Content → ℕ → NodeId → Path → (SszType → SszValue → Type 0) → Type 0
+abbrev pub OfPart : Types → ArenaContent → ℕ → NodeId → Path → (SszType → SszValue → Type 0)
+    → Type 0
 OfPart types arena id node path P =
     (place : Place) × IsFound types arena id node path place
     × ((v w : SszValue) → IsTreeOf (type_of types id) v (tree_of arena node)
     → part (type_of types id) v path ≡ Some w → P (type_of types place.id) w)
 
-abbrev pub CannotSet : Types → Content → ℕ → NodeId → Path → EditFault → Type 0
+abbrev pub CannotSet : Types → ArenaContent → ℕ → NodeId → Path → EditFault → Type 0
 CannotSet types arena id node path BadPath = IsLost types arena id node path NoPath
 CannotSet types arena id node path Absent = IsLost types arena id node path Missing
 CannotSet types arena id node path NotThat =
@@ -102,13 +105,13 @@ CannotSet types arena id node path _ = ⊥
 
 -- the value has as many elements as the limit of its type
 abbrev pub IsFull : SszType → SszValue → Type 0
-IsFull u w = (limit : ℕ) × (limit_of u ≡ Some limit) × (limit ≤ count_of w)
+IsFull u w = (limit : ℕ) × (slot_limit u ≡ Some limit) × (limit ≤ count_of w)
 
-abbrev pub CannotAppend : Types → Content → ℕ → NodeId → Path → EditFault → Type 0
+abbrev pub CannotAppend : Types → ArenaContent → ℕ → NodeId → Path → EditFault → Type 0
 CannotAppend types arena id node path BadPath = IsLost types arena id node path NoPath
 CannotAppend types arena id node path Absent = IsLost types arena id node path Missing
 CannotAppend types arena id node path NotThat =
-    OfPart types arena id node path (λ u w. limit_of u ≡ None)
+    OfPart types arena id node path (λ u w. slot_limit u ≡ None)
 CannotAppend types arena id node path Full = OfPart types arena id node path IsFull
 CannotAppend types arena id node path _ = ⊥
 
@@ -118,7 +121,7 @@ IsPast types selector u =
     (options : List (Option ℕ)) × (u ≡ union (options_over types.trees options))
     × (None ≡ slice_get options selector)
 
-abbrev pub CannotChoose : Types → Content → ℕ → NodeId → Path → ℕ → EditFault → Type 0
+abbrev pub CannotChoose : Types → ArenaContent → ℕ → NodeId → Path → ℕ → EditFault → Type 0
 CannotChoose types arena id node path selector BadPath = IsLost types arena id node path NoPath
 CannotChoose types arena id node path selector Absent = IsLost types arena id node path Missing
 CannotChoose types arena id node path selector NotThat =

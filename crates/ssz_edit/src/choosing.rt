@@ -12,10 +12,10 @@ ghost use Rattle.ssz_value.specs.Suiting.{IsInner, inner_of};
 ghost use Rattle.ssz_places.specs.PlaceLaws.{IsTreeOf};
 ghost use Rattle.ssz_places.specs.Charges.{choose_charge};
 ghost use Rattle.ssz_arena.specs.Content.{IsNodeOf, KeepsNodes, KeepsTodo, todo, tree_of};
-ghost use Rattle.ssz_tree.specs.Added.{Adds, IsPart};
+ghost use Rattle.ssz_tree.specs.Added.{AddsNodes, IsPartNode};
 ghost use Rattle.ssz_making.specs.Parts.{none_part};
 ghost use Rattle.ssz_edit.specs.Chosen.{HasNoOptions};
-ghost use Rattle.ssz_edit.specs.Edited.{Answers, Edits};
+ghost use Rattle.ssz_edit.specs.Edited.{AnswersEdit, Edits};
 ghost use Rattle.ssz_edit.specs.Given.{IsOfOption, option_part, option_value};
 ghost use Rattle.ssz_edit.specs.Targets.{CannotChoose, ChoosesAt, HasUnion};
 
@@ -91,7 +91,7 @@ pub fn choose<H: PairHash>(
         (λ u. IsInner u selector (inner_of inner)) }
     ensures answers { let t = type_of schema.now id in
         let x = option_map value_of (inner_of inner.entry) in
-        (v : SszValue) → IsTreeOf t v (tree_of arena.old node) → Answers t arena.old arena.new
+        (v : SszValue) → IsTreeOf t v (tree_of arena.old node) → AnswersEdit t arena.old arena.new
         node (choose_charge t path.now selector x) (choose_at t v path.now selector x) result }
     ensures node { IfOk result (IsNodeOf arena.new) }
     ensures keeps { KeepsNodes arena.old arena.new }
@@ -148,7 +148,7 @@ pub fn put_choice<H: PairHash>(
     ensures adds { let part = option_part schema.now choice.now.option
         (option_value schema.now choice.now.option inner.now) in
         let more = levels choice.now.place.index in
-        Adds (2 * part.cost + 3 + more) (part.cost + 1 + more) arena.old arena.new }
+        AddsNodes (2 * part.cost + 3 + more) (part.cost + 1 + more) arena.old arena.new }
     ensures err { OnErr result (arena.new.nodes ≡ arena.old.nodes) }
 {
     option_fitting(schema, choice.option, inner);
@@ -173,12 +173,12 @@ fn option_node<H: PairHash>(
     requires known { IsBelow (length schema.now.trees) option }
     requires inner { IsOfOption schema.now option inner.now }
     requires few { more < 2 ^ 32 }
-    ensures part { IfOk result (IsPart arena.new (option_part schema.now option
+    ensures part { IfOk result (IsPartNode arena.new (option_part schema.now option
         (option_value schema.now option inner.now))) }
     ensures room { OnOk result (more ≤ arena.new.spare) }
     ensures adds { let part = option_part schema.now option
         (option_value schema.now option inner.now) in
-        Adds part.nodes part.cost arena.old arena.new }
+        AddsNodes part.nodes part.cost arena.old arena.new }
     ensures err { OnErr result (arena.new.nodes ≡ arena.old.nodes) }
 {
     let Some(id) = option else {
@@ -194,9 +194,9 @@ fn option_node<H: PairHash>(
 
 // The node of the option None, which every arena has, and room for as many nodes more.
 fn none_node<H: PairHash>(arena: &mut Arena<H>, more: usize) -> Result<NodeId, AllocError>
-    ensures part { IfOk result (IsPart arena.new none_part) }
+    ensures part { IfOk result (IsPartNode arena.new none_part) }
     ensures room { OnOk result (more ≤ arena.new.spare) }
-    ensures adds { Adds 0 0 arena.old arena.new }
+    ensures adds { AddsNodes 0 0 arena.old arena.new }
     ensures err { OnErr result (arena.new.nodes ≡ arena.old.nodes) }
 {
     arena.reserve(more)?;

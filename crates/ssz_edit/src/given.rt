@@ -2,14 +2,14 @@ ghost use Rattle.std.specs.Prelude.{ℕ, ◌≡◌, ◌==◌, ◌+◌, ◌-◌, 
 ghost use Rattle.ssz_schema.specs.Types.{boolean};
 ghost use Rattle.ssz_schema.specs.Sizes.{basic_size};
 ghost use Rattle.ssz_schema.specs.Unfolding.{type_of, IsBelow};
-ghost use Rattle.ssz_value.specs.Encoding.{enc};
+ghost use Rattle.ssz_value.specs.Encoding.{serialize};
 ghost use Rattle.ssz_value.specs.Pairs.{pairs};
 ghost use Rattle.ssz_value.specs.Trees.{padded};
 ghost use Rattle.ssz_value.specs.Values.{Fits, truth};
 ghost use Rattle.ssz_value.specs.Standing.{value_of, IsValue};
-ghost use Rattle.ssz_making.specs.Parts.{part_of};
+ghost use Rattle.ssz_making.specs.Parts.{part_of_value};
 ghost use Rattle.ssz_making.specs.Nodes.{new_nodes};
-ghost use Rattle.ssz_tree.specs.Added.{Makes};
+ghost use Rattle.ssz_tree.specs.Added.{MakesNode};
 ghost use Rattle.ssz_edit.specs.Given.{given_value, option_value, values_given, FitsOf, IsGiven, IsOfOption};
 
 use ssz_arena::{Arena, NodeId};
@@ -82,7 +82,7 @@ pub(crate) fn given_node<H: PairHash>(
     requires room { let t = type_of schema.now id in
         new_nodes t (given_value t given.now) ≤ arena.old.spare }
     ensures { let t = type_of schema.now id in
-        Makes arena.old arena.new (part_of t (given_value t given.now)) result }
+        MakesNode arena.old arena.new (part_of_value t (given_value t given.now)) result }
 {
     match given {
         Given::Value(value) => value_node(arena, schema, id, value),
@@ -95,7 +95,7 @@ pub(crate) fn given_chunk(schema: &Schema, id: TypeId, given: &Given<'_>) -> Chu
     requires known { id < length schema.now.trees }
     requires given { IsGiven (type_of schema.now id) given.now }
     ensures { let t = type_of schema.now id in let x = given_value t given.now in
-        (size : ℕ) → basic_size t ≡ Some size → Fits t x → result.0 ≡ padded (enc t x) }
+        (size : ℕ) → basic_size t ≡ Some size → Fits t x → result.0 ≡ padded (serialize t x) }
 {
     match given {
         Given::Value(value) => basic_chunk(value),

@@ -9,7 +9,7 @@ ghost use Rattle.ssz_value.specs.Suiting.{IsElement};
 ghost use Rattle.ssz_places.specs.PlaceLaws.{IsTreeOf};
 ghost use Rattle.ssz_places.specs.Charges.{append_charge, pop_charge};
 ghost use Rattle.ssz_arena.specs.Content.{IsNodeOf, KeepsNodes, KeepsTodo, todo, tree_of};
-ghost use Rattle.ssz_edit.specs.Edited.{Answers};
+ghost use Rattle.ssz_edit.specs.Edited.{AnswersEdit};
 ghost use Rattle.ssz_edit.specs.Targets.{AppendsAt, CannotAppend, HasEnd};
 
 use super::given::Given;
@@ -73,7 +73,7 @@ pub fn append<H: PairHash>(
     requires value { IfSome (path_type (type_of schema.now id) path.now)
         (λ u. IsElement u value.now) }
     ensures answers { let t = type_of schema.now id in let x = value_of value.now in
-        (v : SszValue) → IsTreeOf t v (tree_of arena.old node) → Answers t arena.old arena.new
+        (v : SszValue) → IsTreeOf t v (tree_of arena.old node) → AnswersEdit t arena.old arena.new
         node (append_charge t v path.now x) (append_at t v path.now x) result }
     ensures node { IfOk result (IsNodeOf arena.new) }
     ensures keeps { KeepsNodes arena.old arena.new }
@@ -107,7 +107,7 @@ pub fn pop<H: PairHash>(
     requires known { id < length schema.now.trees }
     requires node { IsNodeOf arena.old node }
     ensures answers { let t = type_of schema.now id in
-        (v : SszValue) → IsTreeOf t v (tree_of arena.old node) → Answers t arena.old arena.new
+        (v : SszValue) → IsTreeOf t v (tree_of arena.old node) → AnswersEdit t arena.old arena.new
         node (pop_charge t v path.now) (pop_at t v path.now) result }
     ensures node { IfOk result (IsNodeOf arena.new) }
     ensures keeps { KeepsNodes arena.old arena.new }

@@ -12,13 +12,13 @@ ghost use Rattle.ssz_places.specs.PlaceLaws.{IsTreeOf};
 ghost use Rattle.ssz_places.specs.Spots.{CanHold, LiesWithin};
 ghost use Rattle.ssz_places.specs.EditLaws.{IsCounted};
 ghost use Rattle.ssz_arena.specs.Content.{IsNodeOf, todo, tree_of};
-ghost use Rattle.ssz_tree.specs.Added.{Adds, IsPart};
-ghost use Rattle.ssz_making.specs.Parts.{Part};
+ghost use Rattle.ssz_tree.specs.Added.{AddsNodes, IsPartNode};
+ghost use Rattle.ssz_making.specs.Parts.{MadePart};
 ghost use Rattle.ssz_walk.specs.Found.{LeadsNowhere, spot_of};
 ghost use Rattle.ssz_walk.specs.Mixed.{HasContentNode};
 ghost use Rattle.ssz_edit.specs.Edited.{part_without, Edits};
 ghost use Rattle.ssz_edit.specs.Given.{given_value, IsGiven};
-ghost use Rattle.ssz_edit.specs.Slots.{HasList, IsSlot, IsGrown, limit_of};
+ghost use Rattle.ssz_edit.specs.Slots.{HasList, IsSlot, IsGrown, slot_limit};
 ghost use Rattle.ssz_edit.specs.Targets.{AppendsAt, HasEnd};
 
 use super::given::{Given, fitting};
@@ -35,7 +35,7 @@ use std::alloc::AllocError;
 /// The limit of a list or bitlist, None of any other type.
 pub fn limit_of(schema: &Schema, id: TypeId) -> Option<u64>
     requires { id < length schema.now.trees }
-    ensures { result ≡ limit_of (type_of schema.now id) }
+    ensures { result ≡ slot_limit (type_of schema.now id) }
 {
     match schema.ty(id) {
         Ty::List(_, limit) | Ty::Bitlist(limit) => Some(*limit),
@@ -102,11 +102,11 @@ pub fn put_list<H: PairHash>(
     requires element { IsNodeOf arena.old element }
     requires room { levels below + 2 + levels list.now.index ≤ arena.old.spare }
     ensures node { IsNodeOf arena.new result }
-    ensures grown { (part : Part) → IsPart arena.old part element
+    ensures grown { (part : MadePart) → IsPartNode arena.old part element
         → IsGrown arena.old arena.new node list.now below part count result }
     ensures fresh { 0 < todo arena.new result }
     ensures adds { let more = levels list.now.index in
-        Adds (levels below + 2 + more) (levels below + 1 + more) arena.old arena.new }
+        AddsNodes (levels below + 2 + more) (levels below + 1 + more) arena.old arena.new }
 {
     let NodeRef::Pair(content, _) = arena.node(list.node) else {
         return node;
@@ -146,7 +146,7 @@ pub fn put_element<H: PairHash>(
     ensures adds { let t = type_of schema.now end.now.slot.element.id in
         let cost = pairs t (given_value t given.now) in
         let more = levels end.now.slot.below + levels end.now.list.index in
-        Adds (2 * cost + 3 + more) (cost + 1 + more) arena.old arena.new }
+        AddsNodes (2 * cost + 3 + more) (cost + 1 + more) arena.old arena.new }
     ensures err { OnErr result (arena.new.nodes ≡ arena.old.nodes) }
 {
     let list = &end.list;
@@ -183,7 +183,7 @@ pub fn empty_slot<H: PairHash>(
         (part_without spot u tree) count) }
     ensures fresh { IfOk result (λ made. 0 < todo arena.new made) }
     ensures adds { let more = levels slot.now.below + levels list.now.index in
-        Adds (3 + more) (1 + more) arena.old arena.new }
+        AddsNodes (3 + more) (1 + more) arena.old arena.new }
     ensures err { OnErr result (arena.new.nodes ≡ arena.old.nodes) }
 {
     let levels = slot.below.levels() as usize + list.index.levels() as usize;

@@ -5,11 +5,11 @@ ghost use Rattle.ssz_schema.specs.Sizes.{basic_size};
 ghost use Rattle.ssz_schema.specs.Indices.{byte};
 ghost use Rattle.ssz_schema.specs.Unfolding.{type_of};
 ghost use Rattle.ssz_value.specs.Pairs.{pairs};
-ghost use Rattle.ssz_places.specs.Spots.{CanHold, LiesWithin, written, bit_written};
+ghost use Rattle.ssz_places.specs.Spots.{CanHold, LiesWithin, spot_written, bit_written};
 ghost use Rattle.ssz_arena.specs.Content.{IsNodeOf, todo, tree_of};
-ghost use Rattle.ssz_tree.specs.Added.{Adds, IsPart};
+ghost use Rattle.ssz_tree.specs.Added.{AddsNodes, IsPartNode};
 ghost use Rattle.ssz_walk.specs.Found.{spot_of};
-ghost use Rattle.ssz_edit.specs.Edited.{part_with, part_without};
+ghost use Rattle.ssz_edit.specs.Edited.{edited_part, part_without};
 ghost use Rattle.ssz_edit.specs.Given.{given_value, IsGiven};
 
 use super::given::{Given, fitting, given_chunk, given_flag, given_node};
@@ -38,10 +38,10 @@ pub fn part_node<H: PairHash>(
     ensures due { let t = type_of schema.now id in
         todo arena.new result ≤ pairs t (given_value t given.now) }
     ensures part { let t = type_of schema.now id in CanHold (spot_of spot) (tree_of arena.old old)
-        → IsPart arena.new (part_with (spot_of spot) t (given_value t given.now)
+        → IsPartNode arena.new (edited_part (spot_of spot) t (given_value t given.now)
         (tree_of arena.old old)) result }
     ensures adds { let t = type_of schema.now id in let cost = pairs t (given_value t given.now) in
-        Adds (2 * cost + 1) cost arena.old arena.new }
+        AddsNodes (2 * cost + 1) cost arena.old arena.new }
 {
     fitting(schema, id, given);
     match spot {
@@ -67,9 +67,9 @@ pub fn emptied_node<H: PairHash>(
     requires lies { LiesWithin (type_of schema.now id) (spot_of spot) }
     requires room { 0 < arena.old.spare }
     ensures node { IsNodeOf arena.new result }
-    ensures part { CanHold (spot_of spot) (tree_of arena.old old) → IsPart arena.new
+    ensures part { CanHold (spot_of spot) (tree_of arena.old old) → IsPartNode arena.new
         (part_without (spot_of spot) (type_of schema.now id) (tree_of arena.old old)) result }
-    ensures adds { Adds 1 0 arena.old arena.new }
+    ensures adds { AddsNodes 1 0 arena.old arena.new }
 {
     match spot {
         Spot::Whole => arena.zero(0),
@@ -95,8 +95,8 @@ fn byte_part<H: PairHash>(
     ensures due { todo arena.new result ≡ 0 }
     ensures tree { let size = unwrap_or (basic_size (type_of schema.now id)) 0 in
         (chunk : List ℕ) → tree_of arena.old old ≡ leaf chunk
-        → tree_of arena.new result ≡ leaf (written chunk at (take size bytes.now.0)) }
-    ensures adds { Adds 1 0 arena.old arena.new }
+        → tree_of arena.new result ≡ leaf (spot_written chunk at (take size bytes.now.0)) }
+    ensures adds { AddsNodes 1 0 arena.old arena.new }
 {
     let size = schema.basic_size(id).unwrap_or(0) as usize;
     match arena.node(old) {
@@ -116,7 +116,7 @@ fn bit_part<H: PairHash>(arena: &mut Arena<H>, old: NodeId, at: u8, flag: bool) 
     ensures due { todo arena.new result ≡ 0 }
     ensures tree { (chunk : List ℕ) → tree_of arena.old old ≡ leaf chunk
         → tree_of arena.new result ≡ leaf (bit_written chunk at flag) }
-    ensures adds { Adds 1 0 arena.old arena.new }
+    ensures adds { AddsNodes 1 0 arena.old arena.new }
 {
     match arena.node(old) {
         NodeRef::Leaf(chunk) => {

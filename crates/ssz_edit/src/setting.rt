@@ -11,7 +11,7 @@ ghost use Rattle.ssz_places.specs.PlaceLaws.{IsTreeOf};
 ghost use Rattle.ssz_places.specs.EditLaws.{is_changeable, is_mixed_in};
 ghost use Rattle.ssz_places.specs.Charges.{set_charge};
 ghost use Rattle.ssz_arena.specs.Content.{IsNodeOf, KeepsNodes, KeepsTodo, node_count, todo, tree_of};
-ghost use Rattle.ssz_edit.specs.Edited.{Answers};
+ghost use Rattle.ssz_edit.specs.Edited.{AnswersEdit};
 ghost use Rattle.ssz_edit.specs.Targets.{CannotSet, HasPlace, SetsAt};
 
 use super::given::Given;
@@ -67,7 +67,7 @@ pub fn set<H: PairHash>(
     requires value { IfSome (path_type (type_of schema.now id) path.now)
         (λ u. IsValue u value.now) }
     ensures answers { let t = type_of schema.now id in let x = value_of value.now in
-        (v : SszValue) → IsTreeOf t v (tree_of arena.old node) → Answers t arena.old arena.new
+        (v : SszValue) → IsTreeOf t v (tree_of arena.old node) → AnswersEdit t arena.old arena.new
         node (set_charge t path.now x) (set_at t v path.now x) result }
     ensures node { IfOk result (IsNodeOf arena.new) }
     ensures keeps { KeepsNodes arena.old arena.new }

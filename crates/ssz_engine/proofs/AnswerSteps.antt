@@ -16,11 +16,11 @@ use Rattle.ssz_machine.specs.Rules.{Row}
 use Rattle.ssz_machine.specs.Machine.{reply_in}
 use Rattle.ssz_machine.specs.Changes.{Touch, touch}
 use Rattle.ssz_engine.specs.Answered.{DoesAnswer, Effects, IsAnswered}
-use Rattle.ssz_decisions.specs.Content.{Content, Grows, SameNodes}
-use Rattle.ssz_decisions.specs.Decisions.{Comes, IsOf, MakesFork}
-use Rattle.ssz_decisions.specs.Carried.{Does, IsCarriedOut, outcome_of, reply_to}
+use Rattle.ssz_decisions.specs.Content.{EngineContent, Grows, SameNodes}
+use Rattle.ssz_decisions.specs.Decisions.{DecidesRow, IsOf, MakesFork}
+use Rattle.ssz_decisions.specs.Carried.{DecisionDoes, IsCarriedOut, outcome_of, reply_to}
 use Rattle.ssz_decisions.specs.Roots.{LeavesHashed}
-use Rattle.ssz_engine.specs.Steps.{Decides, Keeps, MakesUpgrade, Touches, TouchesWhere}
+use Rattle.ssz_engine.specs.Steps.{Decides, KeepsEngine, MakesUpgrade, Touches, TouchesWhere}
 use Rattle.ssz_engine.specs.Tops.{MakesTop}
 use Rattle.ssz_decisions.specs.declared.decision.Decision.{Decision}
 use Rattle.ssz_decisions.specs.declared.decision.Decision.TheVariants as decision
@@ -33,8 +33,8 @@ use Rattle.ssz_engine.proofs.TopSteps.{tops}
 use Rattle.ssz_engine.proofs.UpgradeSteps.{upgrades}
 
 -- the reply to a decision is that of the row which it comes to
-pub replies-as : (old new : Content) (before after writer line : ℕ) (versions : Versions)
-    (row : Row) (made : Decision) → Comes old new before after writer versions row made
+pub replies-as : (old new : EngineContent) (before after writer line : ℕ) (versions : Versions)
+    (row : Row) (made : Decision) → DecidesRow old new before after writer versions row made
     → reply_to line made ≡ reply_in line row
 replies-as old new before after writer line versions row (decision.Refused code) comes =
     sym (ap (reply_in line) comes)
@@ -55,7 +55,8 @@ replies-as old new before after writer line versions row (decision.Saved name by
 
 -- a decision that is carried out changes what its statement touches
 touched : (made : Decision) (does : Touch) (writer : ℕ) (first mid new : Entries) → mid ≡ first
-    → IsOf does made → Does made writer mid new → TouchesWhere (outcome_of made) does writer first new
+    → IsOf does made → DecisionDoes made writer mid new
+    → TouchesWhere (outcome_of made) does writer first new
 touched (decision.Refused code) does writer first mid new same of out = out ∙ same
 touched (decision.BadBytes fault) does writer first mid new same of out = out ∙ same
 touched (decision.BadJson fault) does writer first mid new same of out = out ∙ same
@@ -75,7 +76,7 @@ touched (decision.Dropped name) does writer first mid new same of out =
 touched (decision.Saved name bytes) does writer first mid new same of out =
     subst (λ (t : Touch). Touches t writer first new) (sym of) (out ∙ same)
 
-module _ (first mid new : Content) (grows : Grows first mid) (same : SameNodes mid new)
+module _ (first mid new : EngineContent) (grows : Grows first mid) (same : SameNodes mid new)
     (before after writer line : ℕ) (told_old told_new : Option Files) (pair_of : PairOf)
     (place : Place) (statement : Statement) (made : Decision)
     (found : Decides pair_of place statement writer (before - first.base) told_old first mid before
@@ -149,7 +150,7 @@ module _ (first mid new : Content) (grows : Grows first mid) (same : SameNodes m
       told_new) (sym out.says) (answers reply out)
 
 -- and so does a compaction
-pub compact-answer : (first new : Content) → Keeps first new
+pub compact-answer : (first new : EngineContent) → KeepsEngine first new
     → IsCompacted first.entries new.entries first.arena new.arena
     → (pair_of : PairOf) (place : Place) (writer line count : ℕ) (told : Option Files)
     → DoesAnswer pair_of place writer line Compact first new count count told told Done

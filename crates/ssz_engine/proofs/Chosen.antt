@@ -4,10 +4,10 @@ use Rattle.ssz_bytes.specs.declared.fault.Fault.{Fault}
 use Rattle.ssz_bytes.specs.Faults.{extra}
 use Rattle.ssz_schema.specs.Types.{SszType, Options}
 use Rattle.ssz_schema.specs.Paths.{option_type}
-use Rattle.ssz_schema.specs.Unfolding.{Types, type_of, tree_at, options_over}
+use Rattle.ssz_schema.specs.Unfolding.{Types, type_of, type_tree_at, options_over}
 use Rattle.ssz_value.specs.declared.value.Value.{Value}
 use Rattle.ssz_value.specs.Defaults.{default_of}
-use Rattle.ssz_value.specs.Faults.{why, option_fault}
+use Rattle.ssz_value.specs.Faults.{first_fault, option_fault}
 use Rattle.ssz_value.specs.Reading.{value_in}
 use Rattle.ssz_value.specs.Suiting.{inner_of}
 use Rattle.ssz_edit.specs.declared.given.Given.{Given}
@@ -20,15 +20,15 @@ use Rattle.ssz_engine.specs.Inner.{IsDefault, IsLiteral}
 -- the option at a number has this type
 pub record IsTyped (os : Options) (k : ℕ) (t : SszType) : Type 0 where
   pub type : option_type os k ≡ Some t
-  pub fault : (b : List ℕ) → option_fault os k 0 b ≡ why t 0 b
+  pub fault : (b : List ℕ) → option_fault os k 0 b ≡ first_fault t 0 b
 
 pub typed : (trees : List SszType) (ids : List (Option ℕ)) (k id : ℕ)
-    → slice_get ids k ≡ Some (Some id) → IsTyped (options_over trees ids) k (tree_at trees id)
+    → slice_get ids k ≡ Some (Some id) → IsTyped (options_over trees ids) k (type_tree_at trees id)
 typed trees [] k id there = cc
 typed trees (None ∷ ids) zero id there = cc
 typed trees (Some other ∷ ids) zero id there =
     let same : other ≡ id = cc in
-    subst (λ n. IsTyped (options_over trees (Some other ∷ ids)) 0 (tree_at trees n)) same
+    subst (λ n. IsTyped (options_over trees (Some other ∷ ids)) 0 (type_tree_at trees n)) same
     (record { type = refl; fault = λ b. refl })
 typed trees (None ∷ ids) (suc k) id there =
     let rest = typed trees ids k id there in record { type = rest.type; fault = rest.fault }
@@ -76,7 +76,7 @@ module _ (types : Types) (ids : List (Option ℕ)) (k : ℕ) where
       let option = typed types.trees ids k id there in (
         (
           subst (λ (c : List ℕ). length c < 2 ^ 32) (sym is) short,
-          ap (why t 0) is ∙ sym (option.fault bytes) ∙ none,
+          ap (first_fault t 0) is ∙ sym (option.fault bytes) ∙ none,
         ),
         literal_value None (Some t) bytes none option.type
             ∙ ap (λ c. Ok (Some (value_in t c))) (sym is),

@@ -6,7 +6,7 @@ use Rattle.std.proofs.lemmas.Bool.{or_parts}
 use Rattle.std.proofs.lemmas.List.{map-append}
 use Rattle.ssz_arena.specs.Content.{unhashed}
 use Rattle.ssz_outside.specs.Content.{Content as Files}
-use Rattle.ssz_outside.specs.Outcome.{Tears}
+use Rattle.ssz_outside.specs.Outcome.{WritesPart}
 use Rattle.ssz_outside.specs.Pieces.{Told, told_append}
 use Rattle.ssz_outside.proofs.Told.{told_append-twice}
 use Rattle.ssz_outside.specs.declared.status.Status.TheVariants as status
@@ -15,16 +15,16 @@ use Rattle.ssz_schema.specs.Unfolding.{Types}
 use Rattle.ssz_script.specs.Texts.{reply_line}
 use Rattle.ssz_machine.specs.declared.place.Place.{Place}
 use Rattle.ssz_machine.specs.Machine.{Line, Turn, step, reply_of, state_of, is_refused, misses}
-use Rattle.ssz_machine.specs.Plays.{Event, says, front, play, shown, shown_all, charges}
+use Rattle.ssz_machine.specs.Plays.{Event, says, line_prefix, play, shown, shown_all, charges}
 use Rattle.ssz_machine.specs.Runs.{IsUnderWay}
 use Rattle.ssz_machine.proofs.UnderWay.{line_follows, under_way_line}
 use Rattle.ssz_machine.proofs.Endings.{ends_without_memory, ends_unread, ends_torn_file, ends_torn_line, ends_ahead, steps_without_memory, steps_unread, steps_torn_file, steps_torn_line, steps_ahead}
-use Rattle.ssz_decisions.specs.Content.{Content, rules_of}
-use Rattle.ssz_engine.specs.Steps.{Keeps, SavesPart, is_refusal}
+use Rattle.ssz_decisions.specs.Content.{EngineContent, rules_of}
+use Rattle.ssz_engine.specs.Steps.{KeepsEngine, SavesPart, is_refusal}
 use Rattle.ssz_decisions.specs.Standing.{StaysFor}
 use Rattle.ssz_engine.specs.Scripts.{IsStopped, Scene, files_reached, point_of}
-use Rattle.ssz_engine.specs.Points.{Course, Comes, IsCutShort, Pays, turns_of}
-use Rattle.ssz_engine.specs.Lines.{Makes, Missed}
+use Rattle.ssz_engine.specs.Points.{Course, RunReaches, IsCutShort, PaysSteps, turns_of}
+use Rattle.ssz_engine.specs.Lines.{MakesTurn, Missed}
 use Rattle.ssz_decisions.specs.declared.outcome.Outcome.{Outcome}
 use Rattle.ssz_engine.proofs.Paying.{pays_step, pays_total}
 use Rattle.ssz_engine.proofs.Reaching.{reached_at}
@@ -32,7 +32,7 @@ use Rattle.ssz_engine.proofs.Settling.{pays_nothing, settled}
 use Rattle.ssz_engine.proofs.Stopping.{stopped_at}
 
 -- the rules stay where types and limit do
-pub same_rules : (pair_of : PairOf) (old new : Content) → Keeps old new
+pub same_rules : (pair_of : PairOf) (old new : EngineContent) → KeepsEngine old new
     → rules_of pair_of new ≡ rules_of pair_of old
 same_rules pair_of old new keeps =
     ap₂ (λ (types : Types) (most : ℕ). rules_of pair_of (record old { types = types; most = most }))
@@ -96,7 +96,7 @@ module _ (pair_of : PairOf) (place : Place) (course : Course) where
 
   -- what was hashed in a line that was not done was left before it
   owed_still : (before after : Scene) (done : List Turn)
-      → Pays course.base done course.hashed course.left before.hashed
+      → PaysSteps course.base done course.hashed course.left before.hashed
       (unhashed before.engine.arena)
       → Passes before after → after.hashed ≤ course.hashed + course.left + charges done
   owed_still before after done pays passes =
@@ -107,7 +107,7 @@ module _ (pair_of : PairOf) (place : Place) (course : Course) where
 
   -- no memory between two lines
   pub no_memory : (left : List Event) (refused : Bool) (before after : Scene)
-      → Comes pair_of place course left refused before → after.told ≡ before.told
+      → RunReaches pair_of place course left refused before → after.told ≡ before.told
       → after.pieces ≡ before.pieces → Passes before after
       → IsCutShort place course status.Memory before after
   no_memory left refused before after c told pieces passes =
@@ -139,7 +139,7 @@ module _ (pair_of : PairOf) (place : Place) (course : Course) where
       }
 
   module _ (writer : ℕ) (line : Line) (left : List Event) (was : Bool) (before after : Scene)
-      (c : Comes pair_of place course (says writer line ∷ left) was before) where
+      (c : RunReaches pair_of place course (says writer line ∷ left) was before) where
     abbrev number : ℕ
     number = before.hashed - course.base
 
@@ -158,7 +158,8 @@ module _ (pair_of : PairOf) (place : Place) (course : Course) where
     numbers_before = on.numbers ++ last before left
 
     -- paid for, as if nothing were hashed in this line
-    pays_before : Pays course.base (turns_of place course numbers_before) course.hashed course.left
+    pays_before : PaysSteps course.base
+        (turns_of place course numbers_before) course.hashed course.left
         before.hashed (unhashed before.engine.arena)
     pays_before =
         settled course.rules place course.base before.hashed (unhashed before.engine.arena)
@@ -221,7 +222,8 @@ module _ (pair_of : PairOf) (place : Place) (course : Course) where
         → Passes before after → IsCutShort place course status.WriteFault before after
     line_unwritten part pieces passes =
         let printed = pieces ∙ c.at.printed in
-        let tears = subst (λ (told : Option Files). Tears part.0.name part.0.bytes told after.told)
+        let tears = subst (λ (told : Option Files).
+        WritesPart part.0.name part.0.bytes told after.told)
         c.at.files part.2 in
         record {
           numbers = numbers_before;
@@ -247,9 +249,10 @@ module _ (pair_of : PairOf) (place : Place) (course : Course) where
         no_memory (says writer line ∷ left) was before after c told pieces passes
 
     module _ (made : Outcome) (text piece : List ℕ)
-        (makes : Makes course.rules course.base turn made (point_of before) (point_of after) text
+        (makes : MakesTurn course.rules course.base turn made (point_of before)
+        (point_of after) text
         piece)
-        (fronted : text ≡ front place writer) where
+        (fronted : text ≡ line_prefix place writer) where
       is_shown : piece ≡ shown place turn
       is_shown = makes.line ∙ ap (λ t. t ++ reply_line (reply_of turn)) fronted
 
@@ -258,7 +261,8 @@ module _ (pair_of : PairOf) (place : Place) (course : Course) where
           map-append (shown place) c.done (turn ∷ [])
           ∙ ap (λ (p : List ℕ). shown_all place c.done ++ p ∷ []) (sym is_shown)
 
-      pays_after : Pays course.base (c.done ++ turn ∷ []) course.hashed course.left after.hashed
+      pays_after : PaysSteps course.base
+          (c.done ++ turn ∷ []) course.hashed course.left after.hashed
           (unhashed after.engine.arena)
       pays_after =
           pays_step course.base c.done turn course.hashed course.left before.hashed
@@ -267,8 +271,8 @@ module _ (pair_of : PairOf) (place : Place) (course : Course) where
 
       -- the line was done and printed
       pub line_done : after.pieces ≡ told_append before.pieces (piece ∷ [])
-          → Keeps before.engine after.engine → after.ample ≡ before.ample
-          → Comes pair_of place course left (is_refusal made || was) after
+          → KeepsEngine before.engine after.engine → after.ample ≡ before.ample
+          → RunReaches pair_of place course left (is_refusal made || was) after
       line_done printed keeps ample = record {
         done = c.done ++ turn ∷ [];
         state = state_of turn;
@@ -293,7 +297,7 @@ module _ (pair_of : PairOf) (place : Place) (course : Course) where
       abbrev numbers_after : List ℕ
       numbers_after = on.numbers ++ last after left
 
-      pays_settled : Pays course.base (turns_of place course numbers_after) course.hashed
+      pays_settled : PaysSteps course.base (turns_of place course numbers_after) course.hashed
           course.left after.hashed (unhashed after.engine.arena)
       pays_settled =
           settled course.rules place course.base after.hashed (unhashed after.engine.arena)

@@ -11,7 +11,7 @@ use Rattle.ssz_schema.specs.Indices.{generalized_index, spot}
 use Rattle.ssz_gindex.proofs.HelperNodes.{some_from}
 use Rattle.ssz_value.specs.declared.edit_fault.EditFault.TheVariants.{Empty}
 use Rattle.ssz_value.specs.Values.{SszValue, sequence, bits, items, Fits}
-use Rattle.ssz_value.specs.Faults.{why}
+use Rattle.ssz_value.specs.Faults.{first_fault}
 use Rattle.ssz_value.specs.Reading.{value_in}
 use Rattle.ssz_value.specs.Parts.{part}
 use Rattle.ssz_value.specs.Edits.{Edited, edited, with_less, set_at, append_at, pop_at, choose_at}
@@ -21,7 +21,7 @@ use Rattle.ssz_places.proofs.Joining.{law_of_indices}
 use Rattle.ssz_places.proofs.Theorems.{law_of_faults, law_of_places}
 use Rattle.ssz_script.specs.declared.reply.TheConstants.Reply.{NO_VERSION, BAD_PATH, ABSENT, NOT_THAT, FULL, EMPTY, BAD_SELECTOR}
 use Rattle.ssz_machine.specs.State.{Name, Version, Versions, version_of}
-use Rattle.ssz_machine.specs.Rules.{Outcome, Refusal, Row, ◌>>=◌, ◌>>◌, code_of, coded, faultless, need, refuse, edits}
+use Rattle.ssz_machine.specs.Rules.{Outcome, Refusal, Row, ◌>>=◌, ◌>>◌, edit_code, coded, faultless, need, refuse, edits}
 use Rattle.ssz_machine.specs.Making.{decoded}
 use Rattle.ssz_machine.specs.Editing.{element_of, ends_beside, limit_of, options_of, inner_value, set, append, pop, choose}
 use Rattle.ssz_engine.proofs.EditTests.{settable, appendable, choosable}
@@ -39,7 +39,7 @@ part_fits format t u v w path legal fits typed there =
 -- what comes behind the tests of the part's own edit
 abbrev after : Edited → Row → Row
 after (Ok x) rest = rest
-after (Err fault) rest = Err (coded (code_of fault))
+after (Err fault) rest = Err (coded (edit_code fault))
 
 -- the tests of `pop` are those of the edit of the list
 abbrev pub popped : SszType → SszValue → Row → Row
@@ -223,7 +223,7 @@ choose_row versions name version path k literal held =
 
 -- what a literal comes to
 reads : (u : SszType) (literal : List ℕ) (fault : Option Fault) (next : SszValue → Row)
-    → why u 0 literal ≡ fault
+    → first_fault u 0 literal ≡ fault
     → (decoded u literal >>= next) ≡ (faultless fault >> next (value_in u literal))
 reads u literal fault next is =
     ap (λ f. (faultless f >> Ok (value_in u literal)) >>= next) is ∙ by fault
@@ -250,7 +250,7 @@ module _ (versions : Versions) (name : Name) (version : Version) (path : Path)
         ∙ ap (λ o. o >>= set_end versions name version path literal) is
 
     pub set_read : (u : SszType) (fault : Option Fault) → settable t v path ≡ Ok u
-        → why u 0 literal ≡ fault
+        → first_fault u 0 literal ≡ fault
         → set versions name path literal
         ≡ (faultless fault >> edits versions name t (set_at t v path (value_in u literal))
         (set_charge t path (value_in u literal)))
@@ -265,7 +265,7 @@ module _ (versions : Versions) (name : Name) (version : Version) (path : Path)
         ∙ ap (λ o. o >>= append_end versions name version path literal) is
 
     pub append_read : (u : SszType) (fault : Option Fault) → appendable t v path ≡ Ok u
-        → why u 0 literal ≡ fault
+        → first_fault u 0 literal ≡ fault
         → append versions name path literal
         ≡ (faultless fault >> edits versions name t (append_at t v path (value_in u literal))
         (append_charge t v path (value_in u literal)))

@@ -8,7 +8,7 @@ use Rattle.ssz_schema.specs.Unfolding.{Types, type_of}
 use Rattle.ssz_value.specs.Values.{SszValue}
 use Rattle.ssz_value.specs.Parts.{part}
 use Rattle.ssz_arena.specs.declared.node.NodeId.{NodeId}
-use Rattle.ssz_arena.specs.Content.{Content as Nodes, tree_of}
+use Rattle.ssz_arena.specs.Content.{ArenaContent as Nodes, tree_of}
 use Rattle.ssz_places.specs.PlaceLaws.{IsTreeOf}
 use Rattle.ssz_places.specs.EditLaws.{count_of}
 use Rattle.ssz_script.specs.declared.reply.TheConstants.Reply.{BAD_PATH, ABSENT, NOT_THAT, FULL, BAD_SELECTOR}

@@ -10,18 +10,18 @@ use Rattle.ssz_value.specs.Values.{SszValue}
 use Rattle.ssz_value.specs.Edits.{Edited as EditedValue}
 use Rattle.ssz_arena.specs.Named.{ArenaNode as Node}
 use Rattle.ssz_arena.specs.declared.node.NodeId.{NodeId}
-use Rattle.ssz_arena.specs.Content.{Content as Nodes, node_count, tree_of, unhashed}
+use Rattle.ssz_arena.specs.Content.{ArenaContent as Nodes, node_count, tree_of, unhashed}
 use Rattle.ssz_places.specs.PlaceLaws.{IsTreeOf}
-use Rattle.ssz_edit.specs.Edited.{Answers as AnswersEdit}
+use Rattle.ssz_edit.specs.Edited.{AnswersEdit}
 use Rattle.ssz_proof.specs.Calculation.{PairOf}
 use Rattle.ssz_versions.specs.Content.{Entries, Held, held_at}
 use Rattle.ssz_machine.specs.State.{Name, Versions, version_of}
-use Rattle.ssz_machine.specs.Rules.{Rules, Refusal, Row, bad_bytes, code_of, coded, edits}
+use Rattle.ssz_machine.specs.Rules.{Rules, Refusal, Row, bad_bytes, edit_code, coded, edits}
 use Rattle.ssz_machine.specs.Machine.{charge_in}
 use Rattle.ssz_machine.specs.Changes.{puts}
-use Rattle.ssz_decisions.specs.Content.{Content, rules_of}
+use Rattle.ssz_decisions.specs.Content.{EngineContent, rules_of}
 use Rattle.ssz_decisions.specs.Decisions.{AnswersWith}
-use Rattle.ssz_engine.specs.Finished.{finished, Finishes}
+use Rattle.ssz_engine.specs.Finished.{finished_edit, FinishesEdit}
 use Rattle.ssz_decisions.specs.Standing.{AreVersions, Match}
 use Rattle.ssz_decisions.specs.declared.decision.Decision.{Decision}
 use Rattle.ssz_decisions.specs.declared.fault.EngineFault.{EngineFault}
@@ -55,7 +55,7 @@ module _ (pair_of : PairOf) (types : Types) (most : ℕ) (entries : Entries) (ba
   abbrev t : SszType
   t = type_of types held.0
 
-  abbrev engine : Nodes → Content
+  abbrev engine : Nodes → EngineContent
   engine arena = over types most entries base arena
 
   -- the row is the edit of the value
@@ -176,7 +176,7 @@ module _ (pair_of : PairOf) (types : Types) (most : ℕ) (entries : Entries) (ba
     faulty-answers : (fault : EditFault) → new.nodes ≡ old.nodes
         → ((value : SszValue) → IsTreeOf t value (tree_of old held.1) → edit value ≡ Err fault)
         → AnswersWith pair_of row (puts name.now) writer (engine old) (engine new)
-        (Refused (code_of fault))
+        (Refused (edit_code fault))
     faulty-answers fault same fails = λ count. record {
       can = tt;
       of = tt;
@@ -195,7 +195,7 @@ module _ (pair_of : PairOf) (types : Types) (most : ℕ) (entries : Entries) (ba
     finish-answers : (result : Result NodeId EditFault)
         → OnErr result (new.nodes ≡ old.nodes)
         → IsDone edit charge result
-        → IfOk (finished name result)
+        → IfOk (finished_edit name result)
         (AnswersWith pair_of row (puts name.now) writer (engine old) (engine new))
     finish-answers (Ok node) same done = edited-answers node done
     finish-answers (Err edit_fault.Memory) same done = tt
@@ -221,7 +221,7 @@ pub finished-answers : (pair_of : PairOf) (types : Types) (most : ℕ) (entries 
     → (edited : Result NodeId EditFault) → OnErr edited (new.nodes ≡ old.nodes)
     → ((value : SszValue) → IsTreeOf (type_of types held.0) value (tree_of old held.1)
     → AnswersEdit (type_of types held.0) old new held.1 (charge value) (edit value) edited)
-    → (result : Result Decision EngineFault) → Finishes name edited result
+    → (result : Result Decision EngineFault) → FinishesEdit name edited result
     → IfOk result (AnswersWith pair_of (row name) (puts name) writer
     (over types most entries base old) (over types most entries base new))
 finished-answers pair_of types most entries base old new writer name held row edit charge is_row

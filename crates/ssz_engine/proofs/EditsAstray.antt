@@ -13,7 +13,7 @@ use Rattle.ssz_machine.specs.State.{Name}
 use Rattle.ssz_machine.specs.Rules.{◌>>=◌, ◌>>◌, need, refuse, edits}
 use Rattle.ssz_machine.specs.Editing.{element_of, ends_beside, limit_of, options_of, set, append, pop, choose}
 use Rattle.ssz_machine.specs.Changes.{puts}
-use Rattle.ssz_decisions.specs.Content.{Content}
+use Rattle.ssz_decisions.specs.Content.{EngineContent}
 use Rattle.ssz_decisions.specs.Decisions.{AnswersWith}
 use Rattle.ssz_decisions.specs.Ways.{IsAstray}
 use Rattle.ssz_decisions.specs.declared.decision.Decision.TheVariants.{Refused}
@@ -21,7 +21,7 @@ use Rattle.ssz_decisions.proofs.Brought.{refused-answers}
 use Rattle.ssz_engine.proofs.EditRows.{append_end, choose_end, popped, set_end}
 use Rattle.ssz_decisions.proofs.Straying.{astray}
 
-module _ (pair_of : PairOf) (store : Content) (writer : ℕ) (v : Name) (path : Path) (code : ℕ)
+module _ (pair_of : PairOf) (store : EngineContent) (writer : ℕ) (v : Name) (path : Path) (code : ℕ)
     (leads : IsAstray store writer v path code) where
   pub set-astray : (literal : List ℕ)
       → AnswersWith pair_of (λ rules versions. set versions v path literal) (puts v) writer store

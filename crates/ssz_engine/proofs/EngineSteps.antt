@@ -2,7 +2,7 @@
 use Rattle.std.proofs.Common.{ℕ, ◌+◌, ◌-◌, ◌≤◌, ◌≡◌, Bool, true, false, List, [], Option, Some, None, refl, sym, ap, ◌∙◌, subst}
 use Rattle.std.specs.Prelude.{Result, Ok, Err, IfOk, IfErr, OnOk, OnErr, is_some, ◌≢◌, ◌&&◌}
 use Rattle.std.specs.List.{AllByRecursion}
-use Rattle.ssz_arena.specs.Content.{Content as Nodes, unhashed}
+use Rattle.ssz_arena.specs.Content.{ArenaContent as Nodes, unhashed}
 use Rattle.ssz_outside.specs.Content.{CanRead, Content as Files, may_fail}
 use Rattle.ssz_proof.specs.Calculation.{PairOf}
 use Rattle.ssz_script.specs.declared.statement.Statement.{Statement}
@@ -16,9 +16,9 @@ use Rattle.ssz_machine.specs.Machine.{Turn, step, state_of, charge_of, is_refuse
 use Rattle.ssz_machine.specs.Changes.{Touch, nothing, puts, takes}
 use Rattle.ssz_machine.specs.Counts.{asks_root, hashes_row}
 use Rattle.ssz_engine.specs.Compacting.{compacted, is_compact}
-use Rattle.ssz_decisions.specs.Content.{Content, rules_of}
-use Rattle.ssz_decisions.specs.Outside.{Holds}
-use Rattle.ssz_engine.specs.Steps.{DoesStep, Finds, Leaves, SavesPart, Stops, TouchesWhere, file_read, is_refusal, turn_at}
+use Rattle.ssz_decisions.specs.Content.{EngineContent, rules_of}
+use Rattle.ssz_decisions.specs.Outside.{FilesHold}
+use Rattle.ssz_engine.specs.Steps.{DoesStep, StatementFindsFile, StepLeaves, SavesPart, Stops, TouchesWhere, file_read, is_refusal, turn_at}
 use Rattle.ssz_engine.specs.Scripts.{Point, file_named, name_before}
 use Rattle.ssz_engine.specs.Lines.{DoesLine, LeavesOthers, type_held}
 use Rattle.ssz_decisions.specs.declared.outcome.Outcome.{Outcome}
@@ -35,13 +35,13 @@ not-both e = cc
 
 -- files that told go on telling
 stays_told : (old new : Option Files) (f g : Files) → is_some new ≡ is_some old → old ≡ Some f
-    → Holds new g → new ≡ Some g
+    → FilesHold new g → new ≡ Some g
 stays_told old None f g same is holds = absurd (not-both (same ∙ ap is_some is))
 stays_told old (Some h) f g same is holds = ap Some holds
 
 -- what they hold is what they tell
-holds_is : (told : Option Files) (f g : Files) → told ≡ Some f → Holds told g → g ≡ f
-holds_is told f g is holds = sym (subst (λ t. Holds t g) is holds)
+holds_is : (told : Option Files) (f g : Files) → told ≡ Some f → FilesHold told g → g ≡ f
+holds_is told f g is holds = sym (subst (λ t. FilesHold t g) is holds)
 
 -- a step that may hash nothing hashed nothing
 quiet : (P : Type 0) (row : Row) (asks : Bool) (made : Outcome)
@@ -93,7 +93,7 @@ module _ (pair_of : PairOf) (place : Place) (writer line : ℕ) (statement : Sta
 
   -- the turn over what the files hold is the turn of the state
   at_files : (P : Turn → Type 0) (state : State) (files : Files) → before.told ≡ Some state.files
-      → Holds before.told files
+      → FilesHold before.told files
       → P (turn_at pair_of before.engine place number writer line statement state.versions files)
       → P (turn_of state)
   at_files P state files told tells is =
@@ -107,11 +107,12 @@ module _ (pair_of : PairOf) (place : Place) (writer line : ℕ) (statement : Sta
       → is_some after.told ≡ is_some before.told → before.hashed ≤ after.hashed
       → (asks_root (Some statement) ≡ false → after.hashed ≡ before.hashed)
       → (made ≡ Refused → after.hashed ≡ before.hashed)
-      → Finds pair_of before.engine writer statement before.told
+      → StatementFindsFile pair_of before.engine writer statement before.told
       → DoesLine pair_of place writer (line, Some statement) (Ok made) before after text more
   step_makes made does same rises still refused finds state stands told =
-      let leaves : Leaves (turn_of state) made after.engine after.told text more =
-      at_files (λ turn. Leaves turn made after.engine after.told text more) state does.files told
+      let leaves : StepLeaves (turn_of state) made after.engine after.told text more =
+      at_files (λ turn. StepLeaves turn made after.engine after.told text more) state does.files
+      told
       does.tells (does.leaves state.versions stands) in
       let spends : after.hashed + unhashed after.engine.arena
       ≤ before.hashed + unhashed before.engine.arena + charge_of (turn_of state) =
@@ -178,7 +179,7 @@ module _ (pair_of : PairOf) (place : Place) (writer line : ℕ) (statement : Sta
       → result ≢ Err Read)
       → ((name : Name) → file_read statement ≡ Some name → CanRead before.told name
       → result ≢ Err Read)
-      → OnOk result (Finds pair_of before.engine writer statement before.told)
+      → OnOk result (StatementFindsFile pair_of before.engine writer statement before.told)
       → DoesLine pair_of place writer (line, Some statement) result before after text more
   step_does (Ok made) does stops same rises still refused fails present finds =
       step_makes made does same rises still refused finds
@@ -250,11 +251,11 @@ stays_uncompacted statement (Ok Refused) none = refl
 stays_uncompacted statement (Err fault) none = refl
 
 -- a statement that reads no file finds each that it reads
-pub finds_alone : (pair_of : PairOf) (engine : Content) (writer : ℕ) (statement : Statement)
+pub finds_alone : (pair_of : PairOf) (engine : EngineContent) (writer : ℕ) (statement : Statement)
     (told : Option Files)
     → ((v t file : Name) → statement ≡ Load v t file → ⊥)
     → ((v t file : Name) → statement ≡ LoadJson v t file → ⊥)
-    → Finds pair_of engine writer statement told
+    → StatementFindsFile pair_of engine writer statement told
 finds_alone pair_of engine writer statement told no_load no_json held is versions stands asks =
     by statement refl
   where

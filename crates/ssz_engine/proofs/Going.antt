@@ -9,28 +9,29 @@ use Rattle.ssz_proof.specs.Calculation.{PairOf}
 use Rattle.ssz_machine.specs.declared.place.Place.{Place}
 use Rattle.ssz_machine.specs.Plays.{Event}
 use Rattle.ssz_engine.specs.Scripts.{Scene, files_named}
-use Rattle.ssz_engine.specs.Points.{Comes, Counts, Course, GoesTo, Runs, RunsSome, RunsUpTo, lines_in}
+use Rattle.ssz_engine.specs.Points.{RunReaches, CountsFaults, Course, RunContinues, Runs, RunsSome, RunsUpTo, lines_in}
 use Rattle.ssz_engine.proofs.Comings.{no_memory, passes_none}
 use Rattle.ssz_engine.proofs.Leading.{StaysReadable, earlier, keeps_on}
 use Rattle.ssz_engine.proofs.LinesDone.{named_parts, none_parts}
 use Rattle.ssz_engine.proofs.Reaching.{all_names}
 
 counts-then : (result : Result (Unit {0}) Status) (before mid after : Scene)
-    → Counts (Ok tt) before mid → Counts result mid after → Counts result before after
+    → CountsFaults (Ok tt) before mid → CountsFaults result mid after
+    → CountsFaults result before after
 counts-then (Ok x) before mid after first then =
     (then.0 ∙ first.0, then.1 ∙ first.1, then.2 ∙ first.2)
 counts-then (Err ended) before mid after first then =
-    subst (λ n. Counts (Err ended) (record before { sink_faults = n }) after) first.2
-    (subst (λ n. Counts (Err ended)
+    subst (λ n. CountsFaults (Err ended) (record before { sink_faults = n }) after) first.2
+    (subst (λ n. CountsFaults (Err ended)
     (record before { put_faults = n; sink_faults = mid.sink_faults }) after) first.1
-    (subst (λ n. Counts (Err ended)
+    (subst (λ n. CountsFaults (Err ended)
     (record before { get_faults = n; put_faults = mid.put_faults; sink_faults = mid.sink_faults })
     after) first.0 then))
 
 goes-earlier : (pair_of : PairOf) (place : Place) (course : Course) (left : List Event)
     (result : Result (Unit {0}) Status) (refused : Bool) (before mid after : Scene)
-    → StaysReadable before mid → GoesTo pair_of place course left result refused mid after
-    → GoesTo pair_of place course left result refused before after
+    → StaysReadable before mid → RunContinues pair_of place course left result refused mid after
+    → RunContinues pair_of place course left result refused before after
 goes-earlier pair_of place course left (Ok x) refused before mid after readable comes = comes
 goes-earlier pair_of place course left (Err ended) refused before mid after readable cut =
     earlier place course ended before mid after readable cut
@@ -65,10 +66,10 @@ module _ {pair_of : PairOf} {place : Place} where
   }
 
   comes-first : (course : Course) (a b left : List Event) (was : Bool) (scene : Scene)
-      → Comes pair_of place course ((a ++ b) ++ left) was scene
-      → Comes pair_of place course (a ++ (b ++ left)) was scene
+      → RunReaches pair_of place course ((a ++ b) ++ left) was scene
+      → RunReaches pair_of place course (a ++ (b ++ left)) was scene
   comes-first course a b left was scene comes =
-      subst (λ (events : List Event). Comes pair_of place course events was scene)
+      subst (λ (events : List Event). RunReaches pair_of place course events was scene)
       (append_assoc a b left) comes
 
   -- some events were done, and whatever became of those behind them became of both

@@ -3,8 +3,8 @@ use Rattle.std.proofs.Common.{◌∙◌}
 use Rattle.ssz_outside.specs.declared.status.Status.{Status}
 use Rattle.ssz_machine.specs.declared.place.Place.{Place}
 use Rattle.ssz_machine.specs.State.{Name}
-use Rattle.ssz_decisions.specs.Content.{Content}
-use Rattle.ssz_engine.specs.Steps.{Keeps}
+use Rattle.ssz_decisions.specs.Content.{EngineContent}
+use Rattle.ssz_engine.specs.Steps.{KeepsEngine}
 use Rattle.ssz_engine.specs.Scripts.{Scene, files_reached}
 use Rattle.ssz_engine.specs.Points.{Course, IsCutShort, turns_of}
 use Rattle.ssz_engine.proofs.Reaching.{all_names}
@@ -33,7 +33,8 @@ earlier place course ended before mid after readable cut = record {
 }
 
 -- what two parts keep
-pub keeps_on : {old mid new : Content} → Keeps old mid → Keeps mid new → Keeps old new
+pub keeps_on : {old mid new : EngineContent} → KeepsEngine old mid → KeepsEngine mid new
+    → KeepsEngine old new
 keeps_on first then = record {
   types = then.types ∙ first.types;
   most = then.most ∙ first.most;

@@ -7,11 +7,11 @@ use Rattle.ssz_proof.specs.Calculation.{PairOf}
 use Rattle.ssz_machine.specs.declared.place.Place.{Place}
 use Rattle.ssz_machine.specs.Rules.{Rules}
 use Rattle.ssz_machine.specs.Machine.{Line, step}
-use Rattle.ssz_machine.specs.Plays.{Event, says, front}
-use Rattle.ssz_engine.specs.Steps.{Keeps, is_refusal}
+use Rattle.ssz_machine.specs.Plays.{Event, says, line_prefix}
+use Rattle.ssz_engine.specs.Steps.{KeepsEngine, is_refusal}
 use Rattle.ssz_engine.specs.Scripts.{Scene, point_of}
-use Rattle.ssz_engine.specs.Points.{Course, Comes, Goes, Counts, Runs}
-use Rattle.ssz_engine.specs.Lines.{Does, DoesLine, Prints, ended_by, CountsPrint, Tries}
+use Rattle.ssz_engine.specs.Points.{Course, RunReaches, AnyRunContinues, CountsFaults, Runs}
+use Rattle.ssz_engine.specs.Lines.{TurnDoes, DoesLine, PrintsLine, ended_by, CountsPrint, Tries}
 use Rattle.ssz_decisions.specs.declared.outcome.Outcome.{Outcome}
 use Rattle.ssz_decisions.specs.declared.fault.EngineFault.{EngineFault}
 use Rattle.ssz_decisions.specs.declared.fault.EngineFault.TheVariants.{Read, Write, Memory}
@@ -39,16 +39,16 @@ module _ (pair_of : PairOf) (place : Place) (writer : ℕ) (line : Line) (was : 
     (before after : Scene) (text more : List ℕ) where
   -- what a line does, by the rules and the base of the run
   line_does : (result : Result Outcome EngineFault) (course : Course) (left : List Event)
-      (c : Comes pair_of place course (says writer line ∷ left) was before)
+      (c : RunReaches pair_of place course (says writer line ∷ left) was before)
       → DoesLine pair_of place writer line result (point_of before) (point_of after) text more
-      → Does course.rules course.base
+      → TurnDoes course.rules course.base
       (step course.rules place (before.hashed - course.base) c.state writer line) result
       (point_of before) (point_of after) text more
   line_does result course left c does =
-      subst (λ base. Does course.rules base
+      subst (λ base. TurnDoes course.rules base
       (step course.rules place (before.hashed - base) c.state writer line) result
       (point_of before) (point_of after) text more) c.at.base
-      (subst (λ (rules : Rules). Does rules before.engine.base
+      (subst (λ (rules : Rules). TurnDoes rules before.engine.base
       (step rules place (before.hashed - before.engine.base) c.state writer line) result
       (point_of before) (point_of after) text more) c.at.rules
       (does c.state c.at.versions c.at.files))
@@ -57,7 +57,8 @@ module _ (pair_of : PairOf) (place : Place) (writer : ℕ) (line : Line) (was : 
   pub stop_goes : (fault : EngineFault)
       → DoesLine pair_of place writer line (Err fault) (point_of before) (point_of after) text more
       → after.pieces ≡ before.pieces → Passes before after
-      → Goes pair_of place (says writer line ∷ []) (Err (ended_by fault)) was was before after
+      → AnyRunContinues pair_of place (says writer line ∷ [])
+      (Err (ended_by fault)) was was before after
   stop_goes Read does pieces passes course left c =
       line_unread pair_of place course writer line left was before after c
       (line_does (Err Read) course left c does) pieces passes
@@ -71,10 +72,12 @@ module _ (pair_of : PairOf) (place : Place) (writer : ℕ) (line : Line) (was : 
   -- it was done, and was printed or not
   pub print_goes : (printed : Result (Unit {0}) Status) (made : Outcome)
       → DoesLine pair_of place writer line (Ok made) (point_of before) (point_of after) text more
-      → text ≡ front place writer → Prints printed more before.pieces after.pieces
-      → Keeps before.engine after.engine → (printed ≡ Err status.Memory → before.ample ≡ false)
+      → text ≡ line_prefix place writer → PrintsLine printed more before.pieces after.pieces
+      → KeepsEngine before.engine after.engine
+      → (printed ≡ Err status.Memory → before.ample ≡ false)
       → after.ample ≡ before.ample
-      → Goes pair_of place (says writer line ∷ []) printed was (is_refusal made || was) before after
+      → AnyRunContinues pair_of place (says writer line ∷ []) printed was
+      (is_refusal made || was) before after
   print_goes (Ok x) made does fronted prints keeps memory ample course left c =
       line_done pair_of place course writer line left was before after c made text more
       (line_does (Ok made) course left c does) fronted prints keeps ample
@@ -98,15 +101,15 @@ module _ (pair_of : PairOf) (place : Place) (writer : ℕ) (line : Line) (was : 
   -- the faults that were counted
   stop-counts : (fault : EngineFault)
       → Tries {T = Outcome} (line ∷ []) (Err fault) (point_of before) (point_of after)
-      → after.sink_faults ≡ before.sink_faults → Counts (Err (ended_by fault)) before after
+      → after.sink_faults ≡ before.sink_faults → CountsFaults (Err (ended_by fault)) before after
   stop-counts Read tries sinks = (tries.gets, tries.puts, sinks)
   stop-counts Write tries sinks = (tries.gets, inl (tries.puts, sinks))
   stop-counts Memory tries sinks = (tries.gets, tries.puts, sinks)
 
   print-counts : (printed : Result (Unit {0}) Status) (made : Outcome)
       → Tries {T = Outcome} (line ∷ []) (Ok made) (point_of before) (point_of after)
-      → Prints printed more before.pieces after.pieces
-      → CountsPrint printed before.sink_faults after.sink_faults → Counts printed before after
+      → PrintsLine printed more before.pieces after.pieces
+      → CountsPrint printed before.sink_faults after.sink_faults → CountsFaults printed before after
   print-counts (Ok x) made tries prints sinks = (tries.gets, tries.puts, sinks)
   print-counts (Err status.WriteFault) made tries prints sinks =
       (tries.gets, inr (tries.puts, sinks))
@@ -141,7 +144,7 @@ module _ (pair_of : PairOf) (place : Place) (writer : ℕ) (line : Line) (was : 
   pub print_runs : (printed : Result (Unit {0}) Status) (made : Outcome)
       → Tries {T = Outcome} (line ∷ []) (Ok made) (point_of before) (point_of after)
       → DoesLine pair_of place writer line (Ok made) (point_of before) (point_of after) text more
-      → text ≡ front place writer → Prints printed more before.pieces after.pieces
+      → text ≡ line_prefix place writer → PrintsLine printed more before.pieces after.pieces
       → CountsPrint printed before.sink_faults after.sink_faults
       → IfErr printed (λ ended. ¬ IsFinished ended)
       → (printed ≡ Err status.Memory → before.ample ≡ false) → after.ample ≡ before.ample
@@ -156,5 +159,5 @@ module _ (pair_of : PairOf) (place : Place) (writer : ℕ) (line : Line) (was : 
     counts = print-counts printed made tries prints sinks;
     stops = stops;
     fails = λ all same. subst (λ (r : Result (Unit {0}) Status).
-        Prints r more before.pieces after.pieces) same prints;
+        PrintsLine r more before.pieces after.pieces) same prints;
   }

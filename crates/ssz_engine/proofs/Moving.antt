@@ -3,7 +3,7 @@ use Rattle.std.proofs.lemmas.Bool.{false≢true}
 use Rattle.std.proofs.Common.{◌≡◌, ◌++◌, ℕ, List, Option, Some, None, refl, sym, ap, subst, ◌∙◌, arith}
 use Rattle.ssz_outside.specs.Content.{Content as Files}
 use Rattle.ssz_schema.specs.Unfolding.{Types, type_of}
-use Rattle.ssz_arena.specs.Content.{Content as Nodes, KeepsNodes}
+use Rattle.ssz_arena.specs.Content.{ArenaContent as Nodes, KeepsNodes}
 use Rattle.ssz_arena.specs.Compacted.{IsSameNode}
 use Rattle.ssz_arena.proofs.Keeping.{keeps_same}
 use Rattle.ssz_proof.specs.Calculation.{PairOf}
@@ -15,11 +15,11 @@ use Rattle.ssz_versions.specs.Compacted.{HasNodes, IsCompacted, IsMoved}
 use Rattle.ssz_machine.specs.declared.place.Place.{Place}
 use Rattle.ssz_machine.specs.State.{Name, Version, Versions, version_of}
 use Rattle.ssz_machine.specs.Changes.{nothing, puts}
-use Rattle.ssz_decisions.specs.Content.{Content}
+use Rattle.ssz_decisions.specs.Content.{EngineContent}
 use Rattle.ssz_engine.specs.Lines.{type_held}
-use Rattle.ssz_decisions.specs.Outside.{Holds}
+use Rattle.ssz_decisions.specs.Outside.{FilesHold}
 use Rattle.ssz_decisions.specs.Standing.{AreVersions, IsSomeVersion, IsVersion, Match, StandsForVersions, StandsForWriter}
-use Rattle.ssz_engine.specs.Steps.{DoesStep, Keeps}
+use Rattle.ssz_engine.specs.Steps.{DoesStep, KeepsEngine}
 use Rattle.ssz_decisions.specs.declared.outcome.Outcome.TheVariants.{Accepted}
 use Rattle.ssz_decisions.proofs.Entries.{some_held}
 use Rattle.ssz_engine.proofs.Found.{no-files}
@@ -90,16 +90,16 @@ are-moved types before after old new all is = record {
 }
 
 -- what is there where nothing was changed
-pub kept-whole : (old new : Content) → new ≡ old → KeepsNodes old.arena new.arena
+pub kept-whole : (old new : EngineContent) → new ≡ old → KeepsNodes old.arena new.arena
 kept-whole old new same =
-    keeps_same old.arena new.arena (ap (λ (engine : Content). engine.arena.nodes) same)
+    keeps_same old.arena new.arena (ap (λ (engine : EngineContent). engine.arena.nodes) same)
 
 -- some content that files may have, the told one where they tell it
 files-held : Option Files → Files
 files-held None = no-files
 files-held (Some told) = told
 
-holds-them : (told : Option Files) → Holds told (files-held told)
+holds-them : (told : Option Files) → FilesHold told (files-held told)
 unfolding files-held
 holds-them None = tt
 holds-them (Some told) = refl
@@ -107,7 +107,7 @@ holds-them (Some told) = refl
 nothing-puts : (P : Type 0) (name : Name) → nothing ≡ puts name → P
 nothing-puts P name e = cc
 
-module _ (first new : Content) (keeps : Keeps first new)
+module _ (first new : EngineContent) (keeps : KeepsEngine first new)
     (is : IsCompacted first.entries new.entries first.arena new.arena) where
   -- a writer's entries stand for the versions for which they stood
   stand-moved : (writer : ℕ) (versions : Versions) → StandsForWriter first writer versions

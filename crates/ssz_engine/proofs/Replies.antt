@@ -9,8 +9,8 @@ use Rattle.ssz_script.specs.declared.statement.Statement.TheVariants.{New, Lit, 
 use Rattle.ssz_value.specs.Values.{SszValue}
 use Rattle.ssz_machine.specs.declared.place.Place.{Place}
 use Rattle.ssz_machine.specs.State.{Name, Versions, State, View, view_of}
-use Rattle.ssz_machine.specs.Rules.{Rules, Effect, Row, coded, bad_bytes, bad_json, makes, says}
-use Rattle.ssz_machine.specs.Machine.{Line, effect, step, reply_in, reply_of, said}
+use Rattle.ssz_machine.specs.Rules.{Rules, Effect, Row, coded, bad_bytes, bad_json, makes, says_reply}
+use Rattle.ssz_machine.specs.Machine.{Line, effect, step, reply_in, reply_of, row_said}
 use Rattle.ssz_machine.specs.Counts.{number_said}
 use Rattle.ssz_machine.proofs.Rowwise.{Does, given, passed, edited}
 
@@ -22,39 +22,39 @@ made_says : {number : ℕ} (versions : Versions) (name : Name) (type : SszType) 
     (charge : ℕ) → Does (Says number) (makes versions name type value charge)
 made_says versions name type value charge = record { is = λ n says. cc }
 
-done_says : {number : ℕ} (versions : Versions) → Does (Says number) (says versions Done)
+done_says : {number : ℕ} (versions : Versions) → Does (Says number) (says_reply versions Done)
 done_says versions = record { is = λ n says. cc }
 
 listed_says : {number : ℕ} (versions : Versions) (names : List Name)
-    → Does (Says number) (says versions (Listed names))
+    → Does (Says number) (says_reply versions (Listed names))
 listed_says versions names = record { is = λ n says. cc }
 
 root_says : {number : ℕ} (versions : Versions) (chunk : Chunk)
-    → Does (Says number) (says versions (RootIs chunk))
+    → Does (Says number) (says_reply versions (RootIs chunk))
 root_says versions chunk = record { is = λ n says. cc }
 
 bytes_say : {number : ℕ} (versions : Versions) (bytes : List ℕ)
-    → Does (Says number) (says versions (BytesAre bytes))
+    → Does (Says number) (says_reply versions (BytesAre bytes))
 bytes_say versions bytes = record { is = λ n says. cc }
 
 json_says : {number : ℕ} (versions : Versions) (text : List ℕ)
-    → Does (Says number) (says versions (JsonIs text))
+    → Does (Says number) (says_reply versions (JsonIs text))
 json_says versions text = record { is = λ n says. cc }
 
 len_says : {number : ℕ} (versions : Versions) (count : ℕ)
-    → Does (Says number) (says versions (LenIs count))
+    → Does (Says number) (says_reply versions (LenIs count))
 len_says versions count = record { is = λ n says. cc }
 
 gindex_says : {number : ℕ} (versions : Versions) (index : ℕ)
-    → Does (Says number) (says versions (GindexIs index))
+    → Does (Says number) (says_reply versions (GindexIs index))
 gindex_says versions index = record { is = λ n says. cc }
 
 proof_says : {number : ℕ} (versions : Versions) (text : List ℕ)
-    → Does (Says number) (says versions (ProofIs text))
+    → Does (Says number) (says_reply versions (ProofIs text))
 proof_says versions text = record { is = λ n says. cc }
 
 hashes_say : (number : ℕ) (versions : Versions)
-    → Does (Says number) (says versions (Hashed number))
+    → Does (Says number) (says_reply versions (Hashed number))
 hashes_say number versions = record { is = λ n says. cc }
 
 save_says : {number : ℕ} (file : Name) (versions : Versions) (bytes : List ℕ)
@@ -104,7 +104,7 @@ by_row number line (Err (bad_json fault)) is n says = cc
 
 by_line : (rules : Rules) (place : Place) (number line : ℕ) (view : View)
     (statement : Option Statement) (n : ℕ)
-    → number_said (reply_in line (said rules place number view statement)) ≡ Some n → n ≡ number
+    → number_said (reply_in line (row_said rules place number view statement)) ≡ Some n → n ≡ number
 by_line rules place number line view None n says = cc
 by_line rules place number line view (Some statement) n says =
     by_row number line (effect rules place number view statement)

@@ -2,19 +2,19 @@
 use Rattle.std.proofs.Common.{◌≡◌, ◌∙◌, ℕ, List, [], ◌∷◌, ◌++◌, Option, Some, None, refl, sym, ap, subst, arith}
 use Rattle.std.specs.List.{AllByRecursion}
 use Rattle.ssz_outside.specs.Content.{Content as Files}
-use Rattle.ssz_arena.specs.Content.{Content as Nodes, KeepsNodes, todo}
+use Rattle.ssz_arena.specs.Content.{ArenaContent as Nodes, KeepsNodes, todo}
 use Rattle.ssz_script.specs.declared.statement.Statement.{Statement}
 use Rattle.ssz_script.specs.declared.statement.Statement.TheVariants.{Root}
 use Rattle.ssz_versions.specs.Content.{Entries, Held, held_at}
 use Rattle.ssz_machine.specs.State.{Name, Version, Versions}
 use Rattle.ssz_machine.specs.Machine.{Turn, state_of}
 use Rattle.ssz_machine.specs.Changes.{nothing, puts, takes, touch}
-use Rattle.ssz_decisions.specs.Content.{Content, SameNodes}
+use Rattle.ssz_decisions.specs.Content.{EngineContent, SameNodes}
 use Rattle.ssz_decisions.specs.Decisions.{IsOf}
 use Rattle.ssz_decisions.specs.Standing.{Match, StandsForWriter}
-use Rattle.ssz_decisions.specs.Carried.{Does, IsCarriedOut}
+use Rattle.ssz_decisions.specs.Carried.{DecisionDoes, IsCarriedOut}
 use Rattle.ssz_decisions.specs.Roots.{LeavesHashed}
-use Rattle.ssz_engine.specs.Works.{AreHashed, IsHashed, MakesRoot}
+use Rattle.ssz_engine.specs.Works.{IsRootHashed, IsHashed, MakesRoot}
 use Rattle.ssz_decisions.specs.declared.decision.Decision.{Decision}
 use Rattle.ssz_decisions.specs.declared.decision.Decision.TheVariants as decision
 use Rattle.ssz_decisions.specs.declared.outcome.Outcome.{Outcome}
@@ -27,7 +27,7 @@ not-takes name e = cc
 
 -- a decision that touches no name leaves the entries
 stays : (made : Decision) (writer : ℕ) (old new : Entries) → IsOf nothing made
-    → Does made writer old new → new ≡ old
+    → DecisionDoes made writer old new → new ≡ old
 stays (decision.Refused code) writer old new of does = does
 stays (decision.BadBytes fault) writer old new of does = does
 stays (decision.BadJson fault) writer old new of does = does
@@ -37,7 +37,7 @@ stays (decision.Edited name node) writer old new of does = not-puts name.now of
 stays (decision.Dropped name) writer old new of does = not-takes name.now of
 stays (decision.Saved name bytes) writer old new of does = does
 
-module _ (made : Decision) (writer line : ℕ) (mid new : Content) (same : SameNodes mid new)
+module _ (made : Decision) (writer line : ℕ) (mid new : EngineContent) (same : SameNodes mid new)
     (done : Outcome) (told_old told_new : Option Files) (out_old out_new : List ℕ)
     (out : IsCarriedOut made writer line mid.entries new.entries done told_old told_new out_old
     out_new) where
@@ -51,7 +51,7 @@ module _ (made : Decision) (writer line : ℕ) (mid new : Content) (same : SameN
   roots other of leaves = tt
 
 -- what is held for a version
-held-hashed : (engine : Content) (version : Version) (held : Option Held)
+held-hashed : (engine : EngineContent) (version : Version) (held : Option Held)
     → ((it : Held) → held ≡ Some it → todo engine.arena it.1 ≡ 0)
     → Match engine.types engine.arena held (Some version) → IsHashed engine.arena version
 held-hashed engine version None leaves match = absurd match
@@ -59,9 +59,9 @@ held-hashed engine version (Some it) leaves match =
     record { node = it.1; there = match.node; tree = match.tree; hashed = leaves it refl }
 
 -- the version that the name of a root stands for has a node for which nothing is left to be hashed
-pub root-made : (engine : Content) (writer : ℕ) (statement : Statement) (versions : Versions)
+pub root-made : (engine : EngineContent) (writer : ℕ) (statement : Statement) (versions : Versions)
     → StandsForWriter engine writer versions → LeavesHashed statement writer engine
-    → AreHashed engine.arena (Some statement) versions
+    → IsRootHashed engine.arena (Some statement) versions
 root-made engine writer (Root v) versions stands leaves = λ version there.
     held-hashed engine version (held_at engine.entries writer v) leaves
     (subst (Match engine.types engine.arena (held_at engine.entries writer v)) there
@@ -77,8 +77,8 @@ module _ (old new : Nodes) (keeps : KeepsNodes old new) where
     hashed = omega (arith, keeps.todo is.node is.there, is.hashed);
   }
 
-  root-kept : (asked : Option Statement) (versions : Versions) → AreHashed old asked versions
-      → AreHashed new asked versions
+  root-kept : (asked : Option Statement) (versions : Versions) → IsRootHashed old asked versions
+      → IsRootHashed new asked versions
   root-kept (Some (Root v)) versions all = λ version there.
       hashed-kept version (all version there)
   root-kept other versions all = tt

@@ -22,7 +22,7 @@ use Rattle.ssz_machine.proofs.Endings.{ends_done}
 use Rattle.ssz_decisions.specs.Content.{rules_of}
 use Rattle.ssz_decisions.specs.Standing.{StandsFor}
 use Rattle.ssz_engine.specs.Scripts.{EndsRun, EndsScript, Scene}
-use Rattle.ssz_engine.specs.Points.{Comes, Course, Goes, IsCutShort, Pays, finished, turns_of}
+use Rattle.ssz_engine.specs.Points.{RunReaches, Course, AnyRunContinues, IsCutShort, PaysSteps, finished_status, turns_of}
 use Rattle.ssz_engine.proofs.Paying.{pays_counts, pays_total}
 use Rattle.ssz_engine.proofs.Reaching.{same_files}
 
@@ -32,17 +32,17 @@ told_append-none (Some taken) = ap Some (sym (append-nil taken))
 
 -- the numbers of steps that were paid for from a fresh engine on
 fresh_counts : (base : ℕ) (turns : List Turn) (a b c d : ℕ) → base ≡ a → b ≡ 0
-    → Pays base turns a b c d → AreCounts turns (c - a)
+    → PaysSteps base turns a b c d → AreCounts turns (c - a)
 fresh_counts base turns a b c d start none pays =
     subst (λ n. AreCounts turns (c - n)) start
-    (pays_counts base turns b c d (subst (λ n. Pays base turns n b c d) (sym start) pays) none)
+    (pays_counts base turns b c d (subst (λ n. PaysSteps base turns n b c d) (sym start) pays) none)
 
-finished_ends : (refused : Bool) → IsFinished (finished refused)
+finished_ends : (refused : Bool) → IsFinished (finished_status refused)
 finished_ends true = tt
 finished_ends false = tt
 
 -- a run that was done ended with no fault
-finished_no_fault : (refused : Bool) → finished refused ≢ status.ReadFault
+finished_no_fault : (refused : Bool) → finished_status refused ≢ status.ReadFault
 finished_no_fault true e = cc
 finished_no_fault false e = cc
 
@@ -62,9 +62,9 @@ module _ (pair_of : PairOf) (place : Place) (events : List Event) (before after 
 
   -- at the start all its lines are left
   pub start : StandsFor before.engine first.versions → before.told ≡ Some first.files
-      → Comes pair_of place course (events ++ []) false before
+      → RunReaches pair_of place course (events ++ []) false before
   start versions files =
-      subst (λ (left : List Event). Comes pair_of place course left false before)
+      subst (λ (left : List Event). RunReaches pair_of place course left false before)
       (sym (append-nil events)) (record {
         done = [];
         state = first;
@@ -85,8 +85,8 @@ module _ (pair_of : PairOf) (place : Place) (events : List Event) (before after 
       })
 
   -- all were done
-  pub run_done : (refused : Bool) → Comes pair_of place course [] refused after
-      → EndsRun course.rules place events first (finished refused) before after
+  pub run_done : (refused : Bool) → RunReaches pair_of place course [] refused after
+      → EndsRun course.rules place events first (finished_status refused) before after
   run_done refused c =
       let u = c.at.under in
       let numbers = u.numbers ++ [] in
@@ -95,15 +95,15 @@ module _ (pair_of : PairOf) (place : Place) (events : List Event) (before after 
       let every : turns_of place course numbers ≡ c.done =
       ap (λ es. play course.rules place numbers first es) whole
       ∙ under_way_all course.rules place first c.at.front c.done c.state u numbers follow in
-      let pays : Pays course.base (turns_of place course numbers) course.hashed course.left
+      let pays : PaysSteps course.base (turns_of place course numbers) course.hashed course.left
       after.hashed (unhashed after.engine.arena) =
-      subst (λ turns. Pays course.base turns course.hashed course.left after.hashed
+      subst (λ turns. PaysSteps course.base turns course.hashed course.left after.hashed
       (unhashed after.engine.arena)) (sym every) c.at.pays in
       let total = pays_total course.base (turns_of place course numbers) course.hashed course.left
       after.hashed (unhashed after.engine.arena) pays in
       record {
         numbers = numbers;
-        ends = subst (λ (r : Bool). Ends before.ample (finished r)
+        ends = subst (λ (r : Bool). Ends before.ample (finished_status r)
             (job_from course.rules place events first numbers) before.pieces after.pieces
             after.told) (sym c.at.answer)
             (ends_done course.rules place events first c.at.front c.done c.state c.at.all u
@@ -158,8 +158,8 @@ module _ (pair_of : PairOf) (script : List ℕ) (before after : Scene) (refused 
   events = all_of 0 (statements_in script)
 
   -- all lines of a script were done
-  pub script_done : Goes pair_of Run events (Ok tt) false refused before after
-      → EndsScript pair_of script (finished refused) before after
+  pub script_done : AnyRunContinues pair_of Run events (Ok tt) false refused before after
+      → EndsScript pair_of script (finished_status refused) before after
   script_done goes first versions files =
       run_done pair_of Run events before after first refused
       (goes (course pair_of Run events before after first) []
@@ -167,7 +167,7 @@ module _ (pair_of : PairOf) (script : List ℕ) (before after : Scene) (refused 
 
   -- or a fault or want of memory ended it
   pub script_stopped : (ended : Status)
-      → Goes pair_of Run events (Err ended) false refused before after
+      → AnyRunContinues pair_of Run events (Err ended) false refused before after
       → EndsScript pair_of script ended before after
   script_stopped ended goes first versions files =
       run_stopped pair_of Run events before after first ended

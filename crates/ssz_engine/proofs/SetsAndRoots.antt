@@ -19,7 +19,7 @@ use Rattle.ssz_machine.specs.Rules.{Outcome, ◌>>=◌, ◌>>◌, need, refuse, 
 use Rattle.ssz_machine.specs.Making.{decoded}
 use Rattle.ssz_machine.specs.Editing.{ends_beside, set}
 use Rattle.ssz_machine.specs.Machine.{charge_in}
-use Rattle.ssz_engine.specs.Laws.{LawOfSets}
+use Rattle.ssz_engine.specs.Laws.{LawOfSetCosts}
 use Rattle.ssz_engine.proofs.EditRows.{set_end}
 use Rattle.ssz_decisions.proofs.Entries.{held-there-now}
 use Rattle.ssz_decisions.proofs.Showing.{held-there}
@@ -83,7 +83,7 @@ module _ (versions : Versions) (name : Name) (version : Version) (path : Path) (
         ≤ index_levels version.type path) (sym typed)
         (tested_charge (is_none (part_of version.type version.value path)) (ends_beside path)))
 
-pub law_of_sets : LawOfSets
+pub law_of_sets : LawOfSetCosts
 law_of_sets pair_of place writer line v path literal old mid first between last told_old told_mid
     out_old out_mid was part both (versions, stands) there hashed typed basic =
     let is : Held = both.entry.0 in

@@ -9,7 +9,7 @@ use Rattle.ssz_machine.specs.Rules.{Rules}
 use Rattle.ssz_machine.specs.Machine.{Line, Turn, step, state_of}
 use Rattle.ssz_machine.specs.Plays.{Event, says, adopts, adopted, numbers_after, play}
 use Rattle.ssz_machine.specs.Runs.{IsUnderWay}
-use Rattle.ssz_engine.specs.Points.{Pays, PaysStep}
+use Rattle.ssz_engine.specs.Points.{PaysSteps, PaysStep}
 use Rattle.ssz_engine.proofs.Paying.{pays_append}
 use Rattle.ssz_engine.proofs.Replies.{said_number}
 
@@ -40,7 +40,7 @@ module _ (rules : Rules) (place : Place) (base h l : ℕ) where
   }
 
   rest_pays : (left : List Event) (k : ℕ) (state : State) → length left ≤ k
-      → Pays base (play rules place (replicate k number) state left) h l h l
+      → PaysSteps base (play rules place (replicate k number) state left) h l h l
   rest_pays [] k state few = (refl, refl)
   rest_pays (adopts writer ∷ left) k state few =
       rest_pays left k (adopted writer state) (omega arith)
@@ -51,7 +51,7 @@ module _ (rules : Rules) (place : Place) (base h l : ℕ) where
         h,
         l,
         pays_nothing state writer line,
-        subst (λ numbers. Pays base (play rules place numbers (state_of turn) left) h l h l)
+        subst (λ numbers. PaysSteps base (play rules place numbers (state_of turn) left) h l h l)
             (sym t.left)
             (rest_pays left t.count (state_of turn) (let more = t.enough in omega arith)),
       )
@@ -59,12 +59,12 @@ module _ (rules : Rules) (place : Place) (base h l : ℕ) where
   -- A run that is under way was paid for whole, as if nothing were hashed any more.
   pub settled : (events front : List Event) (first : State) (done : List Turn) (state : State)
       (left : List Event) (a b : ℕ) → events ≡ front ++ left
-      → (u : IsUnderWay rules place front first done state) → Pays base done a b h l
-      → Pays base (play rules place (u.numbers ++ replicate (length left) number) first events)
+      → (u : IsUnderWay rules place front first done state) → PaysSteps base done a b h l
+      → PaysSteps base (play rules place (u.numbers ++ replicate (length left) number) first events)
       a b h l
   settled events front first done state left a b all u pays =
       let numbers = replicate (length left) number in
-      subst (λ turns. Pays base turns a b h l)
+      subst (λ turns. PaysSteps base turns a b h l)
       (sym (ap (λ es. play rules place (u.numbers ++ numbers) first es) all
       ∙ u.turns left numbers))
       (pays_append base done

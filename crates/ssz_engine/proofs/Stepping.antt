@@ -2,7 +2,7 @@
 use Rattle.std.proofs.lemmas.Bool.{false≢true}
 use Rattle.std.proofs.Common.{◌≡◌, ◌≤◌, ◌+◌, ◌-◌, ℕ, Bool, true, false, List, Option, Some, None, sym, ap, subst, ◌∙◌, arith}
 use Rattle.ssz_outside.specs.Content.{Content as Files}
-use Rattle.ssz_arena.specs.Content.{Content as Nodes, todo, unhashed}
+use Rattle.ssz_arena.specs.Content.{ArenaContent as Nodes, todo, unhashed}
 use Rattle.ssz_proof.specs.Calculation.{PairOf}
 use Rattle.ssz_script.specs.declared.statement.Statement.{Statement}
 use Rattle.ssz_versions.specs.Content.{Entries, Held, held_at, with_held}
@@ -11,8 +11,8 @@ use Rattle.ssz_machine.specs.State.{Name, Versions}
 use Rattle.ssz_machine.specs.Rules.{Rules, Row}
 use Rattle.ssz_machine.specs.Machine.{charge_in, effect}
 use Rattle.ssz_machine.specs.Changes.{Touch, nothing, puts, takes, touch}
-use Rattle.ssz_decisions.specs.Content.{Content, Grows, SameNodes}
-use Rattle.ssz_decisions.specs.Decisions.{CanDo, Comes, IsOf, IsPaid, MakesFew, Pays}
+use Rattle.ssz_decisions.specs.Content.{EngineContent, Grows, SameNodes}
+use Rattle.ssz_decisions.specs.Decisions.{CanDo, DecidesRow, IsOf, IsPaid, MakesFew, PaysRow}
 use Rattle.ssz_engine.specs.Steps.{AddsFew, Decides, DoesStep, PaysAnew, Stops, makes_anew}
 use Rattle.ssz_decisions.specs.Carried.{Fails, IsCarriedOut, outcome_of}
 use Rattle.ssz_decisions.specs.declared.decision.Decision.{Decision}
@@ -43,13 +43,13 @@ nothing-put name e = cc
 takes-put : (a b : Name) → takes a ≡ puts b → ⊥
 takes-put a b e = cc
 
-module _ (first mid new : Content) (grows : Grows first mid) (same : SameNodes mid new)
+module _ (first mid new : EngineContent) (grows : Grows first mid) (same : SameNodes mid new)
     (before after : ℕ) (writer line : ℕ) (done : Outcome) (told_old told_new : Option Files)
     (out_old out_new : List ℕ) where
   -- an edit is paid for
   pub edit-paid : (made : Decision) (versions : Versions) (row : Row) (does : Touch) (name : Name)
       (was is : Held) → CanDo mid writer made → IsOf does made
-      → Comes first mid before after writer versions row made
+      → DecidesRow first mid before after writer versions row made
       → IsCarriedOut made writer line mid.entries new.entries done told_old told_new out_old
       out_new
       → does ≡ puts name → done ≡ Accepted
@@ -181,7 +181,8 @@ module _ (first mid new : Content) (grows : Grows first mid) (same : SameNodes m
   module _ (pair_of : PairOf) (place : Place) (statement : Statement) where
     -- by the flag of the statement
     pub paid-anew : (row : Rules → Versions → Row) (flag : Bool) (made : Decision) → flag ≡ true
-        → PaysAnew flag pair_of row writer first mid made → Pays pair_of row writer first mid made
+        → PaysAnew flag pair_of row writer first mid made
+        → PaysRow pair_of row writer first mid made
     paid-anew row true made some pays = pays
     paid-anew row false made some pays = absurd (false≢true some)
 

@@ -9,14 +9,14 @@ use Rattle.ssz_machine.specs.Machine.{Turn}
 use Rattle.ssz_machine.specs.Plays.{Event, charges}
 use Rattle.ssz_machine.specs.Runs.{IsUnderWay}
 use Rattle.ssz_machine.proofs.UnderWay.{Follow, under_way_all, under_way_last}
-use Rattle.ssz_decisions.specs.Content.{Content}
+use Rattle.ssz_decisions.specs.Content.{EngineContent}
 use Rattle.ssz_engine.specs.Scripts.{IsStopped, Scene}
 use Rattle.ssz_decisions.specs.Standing.{StandsFor, StandsForVersions, StaysFor}
-use Rattle.ssz_engine.specs.Steps.{Keeps}
+use Rattle.ssz_engine.specs.Steps.{KeepsEngine}
 use Rattle.ssz_decisions.proofs.Standing.{stand-kept}
 
 -- entries that stay stand for the same over an arena that keeps its nodes
-pub stays-for : (old new : Content) → Keeps old new → KeepsNodes old.arena new.arena
+pub stays-for : (old new : EngineContent) → KeepsEngine old new → KeepsNodes old.arena new.arena
     → new.entries ≡ old.entries → StaysFor old new
 stays-for old new keeps nodes same versions stands = record {
   each = λ writer.
@@ -29,7 +29,8 @@ stays-for old new keeps nodes same versions stands = record {
 }
 
 -- so it is of a statement that was not done
-pub err-stays : {A E : Type 0} (r : Result A E) (old new : Content) (P : Type 0) → Keeps old new
+pub err-stays : {A E : Type 0} (r : Result A E) (old new : EngineContent) (P : Type 0)
+    → KeepsEngine old new
     → OnErr r (KeepsNodes old.arena new.arena) → OnErr r ((new.entries ≡ old.entries) × P)
     → OnErr r (StaysFor old new)
 err-stays (Ok x) old new P keeps nodes same = same

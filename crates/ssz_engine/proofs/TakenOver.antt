@@ -4,7 +4,7 @@ use Rattle.std.specs.Prelude.{nat_lt, Ok, Err}
 use Rattle.std.proofs.lemmas.Bool.Decides.{nat_tests, Decides-eqb}
 use Rattle.std.proofs.lemmas.List.{append-nil}
 use Rattle.ssz_schema.specs.Unfolding.{Types}
-use Rattle.ssz_arena.specs.Content.{Content as Nodes, unhashed, KeepsNodes}
+use Rattle.ssz_arena.specs.Content.{ArenaContent as Nodes, unhashed, KeepsNodes}
 use Rattle.ssz_outside.specs.declared.status.Status.TheVariants as status
 use Rattle.ssz_proof.specs.Calculation.{PairOf}
 use Rattle.ssz_versions.specs.Content.{Entries, Held, held_at}
@@ -17,11 +17,11 @@ use Rattle.ssz_machine.specs.Plays as plays
 use Rattle.ssz_machine.specs.Plays.{Event, adopted, adoptions, base_writer}
 use Rattle.ssz_machine.specs.Runs.{IsUnderWay}
 use Rattle.ssz_machine.proofs.UnderWay.{under_way_adopts}
-use Rattle.ssz_decisions.specs.Content.{Content, SameNodes, rules_of}
+use Rattle.ssz_decisions.specs.Content.{EngineContent, SameNodes, rules_of}
 use Rattle.ssz_decisions.specs.Standing.{Match, StandsFor, StandsForVersions, HoldsNone}
 use Rattle.ssz_engine.proofs.Comings.{no_memory, passes_none}
 use Rattle.ssz_engine.proofs.Leading.{earlier}
-use Rattle.ssz_engine.specs.Points.{Comes, Course, IsCutShort, Pays, Runs}
+use Rattle.ssz_engine.specs.Points.{RunReaches, Course, IsCutShort, PaysSteps, Runs}
 use Rattle.ssz_engine.specs.Weaves.{AdoptsAll, AdoptsSome}
 use Rattle.ssz_arena.proofs.Keeping.{keeps_same}
 use Rattle.ssz_engine.specs.Scripts.{Scene}
@@ -117,7 +117,7 @@ taken_over types arena old new from to versions same stand = record {
       Match types arena held (version_of name versions)) (sym (same name)) (stand.each name);
 }
 
-module _ (scripts : List (List Line)) (state : State) (old new : Content)
+module _ (scripts : List (List Line)) (state : State) (old new : EngineContent)
     (few : length scripts ≤ base_writer) (nodes : SameNodes old new)
     (adopts : AdoptsAll (length scripts) old.entries new.entries)
     (stands : StandsFor old state.versions) where
@@ -186,13 +186,13 @@ first_adopt n (suc k) (script ∷ scripts) =
 
 -- the adoptions of a run were done
 pub comes_adopted : (pair_of : PairOf) (course : Course) (scripts : List (List Line))
-    (left : List Event) (refused : Bool) (before : Scene) (new : Content)
+    (left : List Event) (refused : Bool) (before : Scene) (new : EngineContent)
     → length scripts ≤ base_writer → SameNodes before.engine new
     → AdoptsAll (length scripts) before.engine.entries new.entries
-    → Comes pair_of Weave course (adoptions 0 scripts ++ left) refused before
-    → Comes pair_of Weave course left refused (record before { engine = new })
+    → RunReaches pair_of Weave course (adoptions 0 scripts ++ left) refused before
+    → RunReaches pair_of Weave course left refused (record before { engine = new })
 comes_adopted pair_of course scripts left refused before new few nodes adopts c =
-    let old : Content = before.engine in
+    let old : EngineContent = before.engine in
     record {
       done = c.done;
       state = after_all 0 scripts c.state;
@@ -213,7 +213,7 @@ comes_adopted pair_of course scripts left refused before new few nodes adopts c 
         ample = c.at.ample;
         answer = c.at.answer;
         found = c.at.found;
-        pays = subst (λ (arena : Nodes). Pays course.base c.done
+        pays = subst (λ (arena : Nodes). PaysSteps course.base c.done
             course.hashed course.left before.hashed (unhashed arena)) (sym nodes.arena) c.at.pays;
       };
     }
@@ -226,19 +226,20 @@ length_first (suc k) (script ∷ scripts) few = ap suc (length_first k scripts (
 
 -- some of them were done, and there was no memory for the others
 pub cut_adopting : (pair_of : PairOf) (course : Course) (scripts : List (List Line))
-    (left : List Event) (refused : Bool) (before : Scene) (new : Content)
+    (left : List Event) (refused : Bool) (before : Scene) (new : EngineContent)
     → length scripts ≤ base_writer → SameNodes before.engine new
     → AdoptsSome (length scripts) before.engine.entries new.entries
-    → Comes pair_of Weave course (adoptions 0 scripts ++ left) refused before
+    → RunReaches pair_of Weave course (adoptions 0 scripts ++ left) refused before
     → IsCutShort Weave course status.Memory before (record before { engine = new })
 cut_adopting pair_of course scripts left refused before new few nodes adopts c =
     let k = adopts.0 in
     let after : Scene = record before { engine = new } in
     let first = first_adopt 0 k scripts in
     let count = length_first k scripts adopts.1 in
-    let begun : Comes pair_of Weave course (adoptions 0 (take k scripts) ++ (first.left ++ left))
+    let begun : RunReaches pair_of Weave course
+    (adoptions 0 (take k scripts) ++ (first.left ++ left))
     refused before =
-    subst (λ (events : List Event). Comes pair_of Weave course events refused before)
+    subst (λ (events : List Event). RunReaches pair_of Weave course events refused before)
     (ap (λ (es : List Event). es ++ left) first.are
     ∙ append_assoc (adoptions 0 (take k scripts)) first.left left) c in
     earlier Weave course status.Memory before after after (λ name is. is)
@@ -248,12 +249,13 @@ cut_adopting pair_of course scripts left refused before new few nodes adopts c =
     (subst (λ n. AdoptsAll n before.engine.entries new.entries) (sym count) adopts.2) begun)
     refl refl (passes_none after))
 
-adopted-kept : (old new : Content) → SameNodes old new → KeepsNodes old.arena new.arena
+adopted-kept : (old new : EngineContent) → SameNodes old new → KeepsNodes old.arena new.arena
 adopted-kept old new nodes =
     subst (λ (arena : Nodes). KeepsNodes old.arena arena) (sym nodes.arena) (keeps_same _ _ refl)
 
 module _ {pair_of : PairOf} {was : Bool} (scripts : List (List Line)) (before : Scene)
-    (new : Content) (few : length scripts ≤ base_writer) (nodes : SameNodes before.engine new) where
+    (new : EngineContent) (few : length scripts ≤ base_writer)
+    (nodes : SameNodes before.engine new) where
   -- the adoptions, as a part of a run
   pub runs_adopted : AdoptsAll (length scripts) before.engine.entries new.entries
       → Runs pair_of Weave (adoptions 0 scripts) (Ok tt) was was before

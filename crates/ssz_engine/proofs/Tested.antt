@@ -19,14 +19,14 @@ use Rattle.ssz_value.specs.declared.path_fault.PathFault.TheVariants.{BadPath, A
 use Rattle.ssz_value.specs.Values.{SszValue}
 use Rattle.ssz_value.specs.Parts.{part}
 use Rattle.ssz_arena.specs.declared.node.NodeId.{NodeId}
-use Rattle.ssz_arena.specs.Content.{Content as Nodes, tree_of}
+use Rattle.ssz_arena.specs.Content.{ArenaContent as Nodes, tree_of}
 use Rattle.ssz_places.specs.PlaceLaws.{IsTreeOf}
 use Rattle.ssz_places.specs.EditLaws.{content, count_of, element_type, is_changeable}
 use Rattle.ssz_places.proofs.PathLaws.{composite}
 use Rattle.ssz_walk.specs.declared.place.Place.{Place}
 use Rattle.ssz_walk.specs.Found.{IsFound, IsLost}
 use Rattle.ssz_script.specs.declared.reply.TheConstants.Reply.{BAD_PATH, ABSENT, NOT_THAT, FULL, BAD_SELECTOR}
-use Rattle.ssz_machine.specs.Rules.{Outcome, ◌>>=◌, ◌>>◌, code_of, coded, need, refuse}
+use Rattle.ssz_machine.specs.Rules.{Outcome, ◌>>=◌, ◌>>◌, edit_code, coded, need, refuse}
 use Rattle.ssz_machine.specs.Editing.{element_of, ends_beside, limit_of, options_of}
 use Rattle.ssz_edit.proofs.Counted.{changeable_composite, count_small}
 use Rattle.ssz_edit.proofs.ListLanding.{list_value, element_type_is}
@@ -34,7 +34,7 @@ use Rattle.ssz_edit.specs.declared.lists.ListEnd.{ListEnd}
 use Rattle.ssz_edit.specs.declared.choosing.Choice.{Choice}
 use Rattle.ssz_edit.specs.Targets.{AppendsAt, CannotAppend, CannotChoose, CannotSet, ChoosesAt, SetsAt}
 use Rattle.ssz_edit.specs.Chosen.{HasNoOptions}
-use Rattle.ssz_edit.specs.Slots.{limit_of as limit_in}
+use Rattle.ssz_edit.specs.Slots.{slot_limit as limit_in}
 use Rattle.ssz_engine.proofs.EditTests.{at_part, settable, appendable, choosable, ComesTo}
 use Rattle.ssz_decisions.specs.Shown.{path_code}
 
@@ -193,7 +193,7 @@ module _ (trees : List SszType) (ids : List (Option ℕ)) (u : SszType) (k : ℕ
 -- what opens a place, and what refuses it, is what the tests come to
 module _ (types : Types) (arena : Nodes) (id : ℕ) (node : NodeId) (path : Path) where
   pub cannot_set : (fault : EditFault) → CannotSet types arena id node path fault
-      → ComesTo types arena id node (λ t v. settable t v path) (Err (coded (code_of fault)))
+      → ComesTo types arena id node (λ t v. settable t v path) (Err (coded (edit_code fault)))
   cannot_set edit_fault.BadPath lost =
       lost_tests types arena id node path BadPath
       (λ u w. refuse NOT_THAT (ends_beside path) >> Ok u) lost
@@ -218,7 +218,7 @@ module _ (types : Types) (arena : Nodes) (id : ℕ) (node : NodeId) (path : Path
       (beside (type_of types id) path u at.found.led.type_at ∙ ap not at.free))
 
   pub cannot_append : (fault : EditFault) → CannotAppend types arena id node path fault
-      → ComesTo types arena id node (λ t v. appendable t v path) (Err (coded (code_of fault)))
+      → ComesTo types arena id node (λ t v. appendable t v path) (Err (coded (edit_code fault)))
   cannot_append edit_fault.BadPath lost =
       lost_tests types arena id node path BadPath append_tests lost
   cannot_append edit_fault.Absent lost =
@@ -252,7 +252,7 @@ module _ (types : Types) (arena : Nodes) (id : ℕ) (node : NodeId) (path : Path
 
   pub cannot_choose : (k : ℕ) (fault : EditFault)
       → CannotChoose types arena id node path k fault
-      → ComesTo types arena id node (λ t v. choosable t v path k) (Err (coded (code_of fault)))
+      → ComesTo types arena id node (λ t v. choosable t v path k) (Err (coded (edit_code fault)))
   cannot_choose k edit_fault.BadPath lost =
       lost_tests types arena id node path BadPath (λ u w. choose_tests u k) lost
   cannot_choose k edit_fault.Absent lost =

@@ -6,16 +6,16 @@ use Rattle.ssz_schema.specs.Unfolding.{Types, type_of}
 use Rattle.ssz_gindex.specs.Paths.{index_levels}
 use Rattle.ssz_value.specs.declared.edit_fault.EditFault.{EditFault}
 use Rattle.ssz_value.specs.declared.edit_fault.EditFault.TheVariants as edit_fault
-use Rattle.ssz_arena.specs.Content.{Content as Nodes, todo}
+use Rattle.ssz_arena.specs.Content.{ArenaContent as Nodes, todo}
 use Rattle.ssz_arena.specs.declared.node.NodeId.{NodeId}
 use Rattle.ssz_script.specs.declared.statement.Statement.{Statement}
 use Rattle.ssz_script.specs.declared.statement.Statement.TheVariants as statement
 use Rattle.ssz_versions.specs.Content.{Entries, Held, held_at}
 use Rattle.ssz_machine.specs.State.{Name}
 use Rattle.ssz_machine.specs.Changes.{puts, touch}
-use Rattle.ssz_decisions.specs.Content.{Content, SameNodes}
+use Rattle.ssz_decisions.specs.Content.{EngineContent, SameNodes}
 use Rattle.ssz_decisions.specs.Decisions.{IsOf}
-use Rattle.ssz_engine.specs.Finished.{Finishes, finished}
+use Rattle.ssz_engine.specs.Finished.{FinishesEdit, finished_edit}
 use Rattle.ssz_decisions.specs.Carried.{IsCarriedOut}
 use Rattle.ssz_engine.specs.Tops.{HasDue, IsDue, MakesTop, Tops, TopsWhere}
 use Rattle.ssz_decisions.specs.declared.decision.Decision.{Decision}
@@ -31,7 +31,7 @@ same-name a b e = cc
 accepted-refused : Accepted ≡ Refused → ⊥
 accepted-refused e = cc
 
-module _ (writer line : ℕ) (first mid new : Content) (same : SameNodes mid new)
+module _ (writer line : ℕ) (first mid new : EngineContent) (same : SameNodes mid new)
     (told_old told_new : Option Files) (out_old out_new : List ℕ) where
   -- it was carried out
   abbrev IsDone : Decision → Outcome → Type 0
@@ -97,7 +97,7 @@ module _ (writer line : ℕ) (first mid new : Content) (same : SameNodes mid new
 
 -- an edit's node is to be hashed where it was found to be so
 pub finished-due : (arena : Nodes) (v : Bor (List ℕ)) (edited : Result NodeId EditFault)
-    → IfOk edited (λ made. 0 < todo arena made) → IfOk (finished v edited) (IsDue arena)
+    → IfOk edited (λ made. 0 < todo arena made) → IfOk (finished_edit v edited) (IsDue arena)
 finished-due arena v (Ok made) due = due
 finished-due arena v (Err edit_fault.Memory) due = tt
 finished-due arena v (Err edit_fault.BadPath) due = tt
@@ -109,7 +109,7 @@ finished-due arena v (Err edit_fault.BadSelector) due = tt
 
 pub finishes-due : (arena : Nodes) (name : Name) (edited : Result NodeId EditFault)
     (result : Result Decision EngineFault) → IfOk edited (λ made. 0 < todo arena made)
-    → Finishes name edited result → IfOk result (IsDue arena)
+    → FinishesEdit name edited result → IfOk result (IsDue arena)
 finishes-due arena name edited result due finishes =
     subst (λ (r : Result Decision EngineFault). IfOk r (IsDue arena)) (sym finishes.2)
     (finished-due arena finishes.0 edited due)

@@ -2,15 +2,15 @@
 use Rattle.std.proofs.Common.{Bor, Bool, ◌≡◌, ◌≤◌, ◌<◌, ◌+◌, ◌*◌, ℕ, List, length, Option, Some, None, Ok, Err, false, is_some, option_map, refl, sym, ap, subst, ◌∙◌, arith}
 use Rattle.std.proofs.lemmas.Bool.{false≢true}
 use Rattle.ssz_schema.specs.Types.{SszType}
-use Rattle.ssz_schema.specs.Unfolding.{Types, type_of, number_of}
+use Rattle.ssz_schema.specs.Unfolding.{Types, type_of, type_number}
 use Rattle.ssz_value.specs.Values.{SszValue}
 use Rattle.ssz_arena.specs.Named.{ArenaNode as Node}
 use Rattle.ssz_arena.specs.declared.node.NodeId.{NodeId}
-use Rattle.ssz_arena.specs.Content.{Content as Nodes, node_count, todo, tree_of, unhashed}
+use Rattle.ssz_arena.specs.Content.{ArenaContent as Nodes, node_count, todo, tree_of, unhashed}
 use Rattle.ssz_places.specs.PlaceLaws.{IsTreeOf}
 use Rattle.ssz_forms.specs.declared.upgrade_fault.UpgradeFault.TheVariants.{NotContainer}
 use Rattle.ssz_forms.specs.Upgrades.{upgraded, upgrade_charge}
-use Rattle.ssz_upgrade.specs.Upgraded.{Answers as AnswersUpgrade}
+use Rattle.ssz_upgrade.specs.Upgraded.{AnswersUpgrade}
 use Rattle.ssz_proof.specs.Calculation.{PairOf}
 use Rattle.ssz_script.specs.declared.reply.TheConstants.Reply.{NO_TYPE, NO_VERSION, NAME_TAKEN, NOT_CONTAINER}
 use Rattle.ssz_versions.specs.Content.{Entries, Held, held_at}
@@ -19,7 +19,7 @@ use Rattle.ssz_machine.specs.Rules.{Rules, Row, ◌>>=◌, ◌>>◌, coded, need
 use Rattle.ssz_machine.specs.Machine.{charge_in}
 use Rattle.ssz_machine.specs.Making.{contained, upgrade}
 use Rattle.ssz_machine.specs.Changes.{puts}
-use Rattle.ssz_decisions.specs.Content.{Content, rules_of}
+use Rattle.ssz_decisions.specs.Content.{EngineContent, rules_of}
 use Rattle.ssz_decisions.specs.Decisions.{AnswersWith}
 use Rattle.ssz_engine.specs.Steps.{IsUpgradeOf}
 use Rattle.ssz_decisions.specs.Standing.{AreVersions, StandsForWriter}
@@ -38,21 +38,21 @@ tested versions w type version taken =
 
 module _ (pair_of : PairOf) (types : Types) (most : ℕ) (entries : Entries) (base : ℕ)
     (old : Nodes) (writer : ℕ) (v w t : Name) where
-  abbrev engine : Content
+  abbrev engine : EngineContent
   engine = over types most entries base old
 
   abbrev pub row : Rules → Versions → Row
   row rules versions = upgrade rules versions v w t
 
   -- no type has the name
-  pub no-type : number_of types t ≡ None → (versions : Versions)
+  pub no-type : type_number types t ≡ None → (versions : Versions)
       → row (rules_of pair_of engine) versions ≡ Err (coded NO_TYPE)
   no-type unknown versions =
       ap (λ (o : Option ℕ). tested versions w (option_map (type_of types) o)
       (version_of v versions) (has_version w versions)) unknown
 
   -- no version has the name
-  pub no-version : (id : ℕ) → number_of types t ≡ Some id → held_at entries writer v ≡ None
+  pub no-version : (id : ℕ) → type_number types t ≡ Some id → held_at entries writer v ≡ None
       → (versions : Versions) → StandsForWriter engine writer versions
       → row (rules_of pair_of engine) versions ≡ Err (coded NO_VERSION)
   no-version id known missing versions stand =
@@ -61,7 +61,7 @@ module _ (pair_of : PairOf) (types : Types) (most : ℕ) (entries : Entries) (ba
       ∙ ap (λ (o : Option Version). tested versions w (Some (type_of types id)) o
       (has_version w versions)) (free-there types old _ _ missing (stand.each v))
 
-  module _ (id : ℕ) (known : number_of types t ≡ Some id) (held : Held)
+  module _ (id : ℕ) (known : type_number types t ≡ Some id) (held : Held)
       (there : held_at entries writer v ≡ Some held) (versions : Versions)
       (stand : StandsForWriter engine writer versions) where
     abbrev from : IsThere types old held v versions
@@ -99,7 +99,7 @@ module _ (pair_of : PairOf) (types : Types) (most : ℕ) (entries : Entries) (ba
         (free-there types old _ _ free (stand.each w))
 
   -- the upgrade is refused
-  pub refused : (id : ℕ) → number_of types t ≡ Some id → (held : Held)
+  pub refused : (id : ℕ) → type_number types t ≡ Some id → (held : Held)
       → held_at entries writer v ≡ Some held → held_at entries writer w ≡ None
       → ((x : SszValue) → IsTreeOf (type_of types held.0) x (tree_of old held.1)
       → upgraded (type_of types held.0) x (type_of types id) ≡ Err NotContainer)
@@ -115,7 +115,8 @@ module _ (pair_of : PairOf) (types : Types) (most : ℕ) (entries : Entries) (ba
 pub upgrade-answers : (pair_of : PairOf) (types : Types) (most : ℕ) (entries : Entries) (base : ℕ)
     (old new : Nodes) (writer : ℕ) (v : Name) (w : Bor (List ℕ)) (t : Name) (id : ℕ)
     (held : Held) (node : NodeId) (room : Unit {0}) → id < length types.trees
-    → number_of types t ≡ Some id → AreVersions types old entries → held_at entries writer v ≡ Some held
+    → type_number types t ≡ Some id → AreVersions types old entries
+    → held_at entries writer v ≡ Some held
     → held_at entries writer w.now ≡ None
     → ((x : SszValue) → IsTreeOf (type_of types held.0) x (tree_of old held.1)
     → AnswersUpgrade (type_of types held.0) (type_of types id) old new held.1

@@ -2,14 +2,14 @@
 use Rattle.std.proofs.Common.{Bor, ◌≡◌, ◌≤◌, ◌+◌, ◌∙◌, ℕ, List, Option, Some, sym, ap, subst}
 use Rattle.ssz_outside.specs.Content.{Content as Files}
 use Rattle.ssz_schema.specs.Unfolding.{type_of}
-use Rattle.ssz_arena.specs.Content.{Content as Nodes, todo}
+use Rattle.ssz_arena.specs.Content.{ArenaContent as Nodes, todo}
 use Rattle.ssz_arena.specs.declared.node.NodeId.{NodeId}
 use Rattle.ssz_forms.specs.Upgrades.{upgrade_charge}
 use Rattle.ssz_script.specs.declared.statement.Statement.{Statement}
 use Rattle.ssz_script.specs.declared.statement.Statement.TheVariants as statement
 use Rattle.ssz_versions.specs.Content.{Entries, Held, held_at}
 use Rattle.ssz_machine.specs.State.{Name}
-use Rattle.ssz_decisions.specs.Content.{Content, SameNodes}
+use Rattle.ssz_decisions.specs.Content.{EngineContent, SameNodes}
 use Rattle.ssz_decisions.specs.Carried.{IsCarriedOut}
 use Rattle.ssz_engine.specs.Steps.{MakesUpgrade, UpgradesWhere}
 use Rattle.ssz_decisions.specs.declared.decision.Decision.{Decision}
@@ -18,7 +18,7 @@ use Rattle.ssz_decisions.specs.declared.outcome.Outcome.{Outcome}
 use Rattle.ssz_decisions.specs.declared.outcome.Outcome.TheVariants.{Accepted, Refused}
 use Rattle.ssz_decisions.proofs.Entries.{held-there-now, some_held}
 
-module _ (writer line : ℕ) (first mid new : Content) (same : SameNodes mid new)
+module _ (writer line : ℕ) (first mid new : EngineContent) (same : SameNodes mid new)
     (told_old told_new : Option Files) (out_old out_new : List ℕ) where
   -- it was carried out
   abbrev IsDone : Decision → Outcome → Type 0

@@ -17,7 +17,7 @@ use Rattle.ssz_machine.proofs.Numbering.{same_run}
 use Rattle.ssz_decisions.specs.Content.{rules_of}
 use Rattle.ssz_decisions.specs.Standing.{StandsFor}
 use Rattle.ssz_engine.specs.Scripts.{EndsRun, Scene}
-use Rattle.ssz_engine.specs.Points.{Goes, finished}
+use Rattle.ssz_engine.specs.Points.{AnyRunContinues, finished_status}
 use Rattle.ssz_engine.specs.Weaves.{EndsWeave, EndsWeaveFrom}
 use Rattle.ssz_engine.proofs.Scripts.{course, run_done, run_stopped, start}
 
@@ -80,17 +80,18 @@ module _ (pair_of : PairOf) (base order : List ℕ) (scripts : List (List ℕ)) 
         }
 
     -- all lines of a weave were done
-    pub weave_done : (refused : Bool) → Goes pair_of Weave events (Ok tt) false refused before after
-        → EndsWeave pair_of base order scripts (finished refused) before after
+    pub weave_done : (refused : Bool)
+        → AnyRunContinues pair_of Weave events (Ok tt) false refused before after
+        → EndsWeave pair_of base order scripts (finished_status refused) before after
     weave_done refused goes first versions files =
-        without_numbers (rules_of pair_of before.engine) first (finished refused)
+        without_numbers (rules_of pair_of before.engine) first (finished_status refused)
         (run_done pair_of Weave events before after first refused
         (goes (course pair_of Weave events before after first) []
         (start pair_of Weave events before after first versions files)))
 
     -- or a fault or want of memory ended it
     pub weave_stopped : (refused : Bool) (ended : Status)
-        → Goes pair_of Weave events (Err ended) false refused before after
+        → AnyRunContinues pair_of Weave events (Err ended) false refused before after
         → EndsWeave pair_of base order scripts ended before after
     weave_stopped refused ended goes first versions files =
         without_numbers (rules_of pair_of before.engine) first ended

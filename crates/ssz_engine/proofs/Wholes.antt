@@ -5,13 +5,13 @@ use Rattle.ssz_outside.specs.Content.{Content as Files}
 use Rattle.ssz_value.specs.declared.edit_fault.EditFault.{EditFault}
 use Rattle.ssz_value.specs.declared.edit_fault.EditFault.TheVariants as fault
 use Rattle.ssz_arena.specs.declared.node.NodeId.{NodeId}
-use Rattle.ssz_arena.specs.Content.{Content as Nodes, node_count}
+use Rattle.ssz_arena.specs.Content.{ArenaContent as Nodes, node_count}
 use Rattle.ssz_proof.specs.Calculation.{PairOf}
 use Rattle.ssz_script.specs.declared.statement.Statement.{Statement}
 use Rattle.ssz_machine.specs.declared.place.Place.{Place}
-use Rattle.ssz_decisions.specs.Content.{Content, SameNodes}
+use Rattle.ssz_decisions.specs.Content.{EngineContent, SameNodes}
 use Rattle.ssz_decisions.specs.Decisions.{MakesFew}
-use Rattle.ssz_engine.specs.Finished.{Finishes, finished}
+use Rattle.ssz_engine.specs.Finished.{FinishesEdit, finished_edit}
 use Rattle.ssz_decisions.specs.Standing.{StandsForSome}
 use Rattle.ssz_decisions.specs.Carried.{CanLack}
 use Rattle.ssz_engine.specs.Steps.{Decides}
@@ -32,7 +32,7 @@ none-made (decision.Dropped name) charge old new lacks few = absurd lacks
 none-made (decision.Saved name bytes) charge old new lacks few = few
 
 pub whole : (pair_of : PairOf) (place : Place) (statement : Statement) (writer number : ℕ)
-    (told : Option Files) (first mid new : Content) (before after : ℕ) (made : Decision)
+    (told : Option Files) (first mid new : EngineContent) (before after : ℕ) (made : Decision)
     → Decides pair_of place statement writer number told first mid before after made
     → SameNodes mid new → StandsForSome first → {A E : Type 0} (r : Result A E)
     → OnErr r (CanLack made) → OnErr r (node_count new.arena ≡ node_count first.arena)
@@ -50,8 +50,9 @@ on-err P (Ok x) is = tt
 on-err P (Err e) is = is
 
 -- an edit that was not made added none
-pub edit-whole : (seen : Content) (new : Nodes) (name : List ℕ) (edited : Result NodeId EditFault)
-    (result : Result Decision EngineFault) → Finishes name edited result
+pub edit-whole : (seen : EngineContent) (new : Nodes) (name : List ℕ)
+    (edited : Result NodeId EditFault)
+    (result : Result Decision EngineFault) → FinishesEdit name edited result
     → OnErr edited (new.nodes ≡ seen.arena.nodes)
     → OnErr result (node_count new ≡ node_count seen.arena)
 edit-whole seen new name edited result is same =
@@ -60,7 +61,7 @@ edit-whole seen new name edited result is same =
   where
     by : (v : Bor (List ℕ)) (e : Result NodeId EditFault)
         → OnErr e (new.nodes ≡ seen.arena.nodes)
-        → OnErr (finished v e) (node_count new ≡ node_count seen.arena)
+        → OnErr (finished_edit v e) (node_count new ≡ node_count seen.arena)
     by v (Ok node) same = tt
     by v (Err fault.Memory) same = ap length same
     by v (Err fault.BadPath) same = tt

@@ -13,10 +13,10 @@ use Rattle.ssz_script.specs.Texts.{line}
 use Rattle.ssz_machine.specs.State.{Name, State}
 use Rattle.ssz_machine.specs.Rules.{Rules}
 use Rattle.ssz_machine.specs.Drawing.{worked}
-use Rattle.ssz_machine.specs.Work.{Worked, done, work_of}
+use Rattle.ssz_machine.specs.Work.{Worked, turn_done, work_of}
 use Rattle.ssz_script.specs.declared.statement.Statement.TheVariants.{Root}
 use Rattle.ssz_decisions.specs.Content.{rules_of}
-use Rattle.ssz_engine.specs.Lines.{Prints, ended_by}
+use Rattle.ssz_engine.specs.Lines.{PrintsLine, ended_by}
 use Rattle.ssz_decisions.specs.Outside.{CountsWrites}
 use Rattle.ssz_engine.specs.Scripts.{Point, Scene, point_of}
 use Rattle.ssz_decisions.specs.Roots.{RisesBy}
@@ -37,7 +37,8 @@ module _ (ample : Bool) (held : Files) (first second : List ℕ) where
 
   -- the first line was not, or in part
   pub lines_first : (ended : Status) (old new : Told)
-      → Prints {T = Unit {0}} (Err ended) first old new → Ends ample ended job old new (Some held)
+      → PrintsLine {T = Unit {0}} (Err ended) first old new
+      → Ends ample ended job old new (Some held)
   lines_first status.WriteFault old new prints = (
     0,
     omega arith,
@@ -73,7 +74,7 @@ module _ (ample : Bool) (held : Files) (first second : List ℕ) where
     }
 
     -- the second was not, or in part
-    pub lines_second : (ended : Status) → Prints {T = Unit {0}} (Err ended) second mid new
+    pub lines_second : (ended : Status) → PrintsLine {T = Unit {0}} (Err ended) second mid new
         → Ends ample ended job old new (Some held)
     lines_second status.WriteFault prints = (
       1,
@@ -150,7 +151,7 @@ module _ (pair_of : PairOf) (type_name : Name) (seed count : ℕ) (before after 
   -- it was done, and the lines were printed or not
   pub work_done : (ended : Status) (made : ℕ) (reply : List ℕ)
       → AreDone whole.turns whole.state old new → made ≡ work.edits
-      → Replies (done rules work.state (Root worked)) reply
+      → Replies (turn_done rules work.state (Root worked)) reply
       → Ends before.ample ended (two_lines_job first.files
       (line (codes "work" ∷ decimal count ∷ decimal made ∷ [])) reply) before.pieces after.pieces
       (Some first.files)

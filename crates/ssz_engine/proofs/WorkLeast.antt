@@ -4,7 +4,7 @@ use Rattle.std.proofs.lemmas.Bool.{false≢true, ltb-true}
 use Rattle.ssz_schema.specs.Types.{SszType}
 use Rattle.ssz_schema.specs.Unfolding.{type_of}
 use Rattle.ssz_gindex.specs.Paths.{index_levels}
-use Rattle.ssz_draws.specs.Walked.{IsEdit}
+use Rattle.ssz_draws.specs.Walked.{IsEditStatement}
 use Rattle.ssz_script.specs.declared.statement.Statement.{Statement}
 use Rattle.ssz_script.specs.declared.statement.Statement.TheVariants.{Set, Append, Pop, Choose, Root}
 use Rattle.ssz_versions.specs.Content.{Held, held_at}
@@ -12,8 +12,8 @@ use Rattle.ssz_machine.specs.State.{Name, Version, State, version_of}
 use Rattle.ssz_machine.specs.Rules.{Rules}
 use Rattle.ssz_machine.specs.Machine.{is_refused}
 use Rattle.ssz_machine.specs.Drawing.{Walk, worked}
-use Rattle.ssz_machine.specs.Work.{alters, changes_below, done, tops_of}
-use Rattle.ssz_decisions.specs.Content.{Content}
+use Rattle.ssz_machine.specs.Work.{alters, changes_below, turn_done, tops_of}
+use Rattle.ssz_decisions.specs.Content.{EngineContent}
 use Rattle.ssz_decisions.specs.Standing.{Match}
 use Rattle.ssz_engine.specs.Steps.{is_refusal}
 use Rattle.ssz_engine.specs.Tops.{HasDue, Tops, TopsWhere}
@@ -30,7 +30,8 @@ rises-then n m before mid after first then = λ few.
     omega (arith, one, second)
 
 -- an edit that changes a version below the top leaves the pair there to be hashed
-typed-due : (old new : Content) (edit : Statement) (t : SszType) (was : Held) → IsEdit edit
+typed-due : (old new : EngineContent) (edit : Statement) (t : SszType) (was : Held)
+    → IsEditStatement edit
     → held_at old.entries 0 worked ≡ Some was → type_of old.types was.0 ≡ t
     → changes_below t edit ≡ true → Tops edit 0 old new → HasDue worked 0 new
 typed-due old new (Set v path literal) t was named there typed below tops =
@@ -48,8 +49,8 @@ typed-due old new (Choose v path k (Some literal)) t was named there typed below
     absurd named
 typed-due old new other t was named there typed below tops = absurd (false≢true below)
 
-version-due : (old new : Content) (edit : Statement) (held : Option Held)
-    (version : Option Version) → IsEdit edit → held_at old.entries 0 worked ≡ held
+version-due : (old new : EngineContent) (edit : Statement) (held : Option Held)
+    (version : Option Version) → IsEditStatement edit → held_at old.entries 0 worked ≡ held
     → Match old.types old.arena held version → alters version edit ≡ true
     → Tops edit 0 old new → HasDue worked 0 new
 version-due old new edit (Some was) (Some version) named there is below tops =
@@ -67,27 +68,27 @@ both-true true b is = absurd (false≢true is)
 both-true false b is = (refl, is)
 
 -- an accepted edit leaves what it says of the top
-accepted-tops : (made : Outcome) (edit : Statement) (old new : Content)
+accepted-tops : (made : Outcome) (edit : Statement) (old new : EngineContent)
     → is_refusal made ≡ false → TopsWhere made edit 0 old new → Tops edit 0 old new
 accepted-tops Accepted edit old new is tops = tops
 accepted-tops Refused edit old new is tops = absurd (false≢true (sym is))
 
 -- an edit, and the root behind it
 pub round-least : (rules : Rules) (state : State) (way : Walk) (edit : Statement) (seed : ℕ)
-    (old mid : Content) (before between after : ℕ) (made : Outcome)
-    → way ≡ record { edit = Some edit; seed = seed } → IsEdit edit
+    (old mid : EngineContent) (before between after : ℕ) (made : Outcome)
+    → way ≡ record { edit = Some edit; seed = seed } → IsEditStatement edit
     → Match old.types old.arena (held_at old.entries 0 worked)
     (version_of worked (state.versions 0))
-    → is_refusal made ≡ is_refused (done rules state edit) → TopsWhere made edit 0 old mid
+    → is_refusal made ≡ is_refused (turn_done rules state edit) → TopsWhere made edit 0 old mid
     → before ≤ between → between ≤ after → HashesSome (Root worked) 0 mid between after
     → RisesBy (tops_of rules state way.edit) before after
 round-least rules state way edit seed old mid before between after made is named matches outcome
     tops first then some =
     let version : Option Version = version_of worked (state.versions 0) in
     subst (λ (w : Walk). RisesBy (tops_of rules state w.edit) before after) (sym is)
-    (one-or-none (not (is_refused (done rules state edit)) && alters version edit) before after
+    (one-or-none (not (is_refused (turn_done rules state edit)) && alters version edit) before after
     (λ test.
-    let both = both-true (is_refused (done rules state edit)) (alters version edit) test in
+    let both = both-true (is_refused (turn_done rules state edit)) (alters version edit) test in
     let due = version-due old mid edit (held_at old.entries 0 worked) version named refl matches
     both.1 (accepted-tops made edit old mid (outcome ∙ both.0) tops) in
     let rise = some due.held due.there due.due in

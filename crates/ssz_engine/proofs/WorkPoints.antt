@@ -8,10 +8,10 @@ use Rattle.ssz_machine.specs.Machine.{Turn, state_of}
 use Rattle.ssz_machine.specs.Drawing.{Walk, worked}
 use Rattle.ssz_proof.specs.Calculation.{PairOf}
 use Rattle.ssz_machine.specs.Rules.{Rules}
-use Rattle.ssz_decisions.specs.Content.{Content, rules_of}
-use Rattle.ssz_machine.specs.Work.{Worked, done, round}
+use Rattle.ssz_decisions.specs.Content.{EngineContent, rules_of}
+use Rattle.ssz_machine.specs.Work.{Worked, turn_done, round}
 use Rattle.ssz_decisions.specs.Standing.{StandsFor}
-use Rattle.ssz_engine.specs.Steps.{Keeps}
+use Rattle.ssz_engine.specs.Steps.{KeepsEngine}
 use Rattle.ssz_engine.specs.Scripts.{Point}
 use Rattle.ssz_engine.specs.Works.{AreBroken, AreDone, Works}
 use Rattle.ssz_decisions.specs.declared.fault.EngineFault.{EngineFault}
@@ -20,7 +20,7 @@ use Rattle.ssz_engine.proofs.Comings.{same_rules}
 use Rattle.ssz_engine.proofs.WorkSteps.{broken_here, done_then}
 
 -- what was made by the rules of an engine was made by those of the one before
-pub by_first_rules : (pair_of : PairOf) (old new : Content) (keeps : Keeps old new)
+pub by_first_rules : (pair_of : PairOf) (old new : EngineContent) (keeps : KeepsEngine old new)
     (P : Rules → Type 0) → P (rules_of pair_of new) → P (rules_of pair_of old)
 by_first_rules pair_of old new keeps P is = subst P (same_rules pair_of old new keeps) is
 
@@ -35,14 +35,14 @@ works_exit result work Is before after fault was is same broken =
 -- an edit that a walk comes to was done, and then the root
 pub round_done : (rules : Rules) (state : State) (way : Walk) (edit : Statement) (seed : ℕ)
     (before mid after : Point) → way ≡ record { edit = Some edit; seed = seed }
-    → AreDone (done rules state edit ∷ []) (state_of (done rules state edit)) before mid
-    → AreDone (done rules (state_of (done rules state edit)) (Root worked) ∷ [])
-    (state_of (done rules (state_of (done rules state edit)) (Root worked))) mid after
+    → AreDone (turn_done rules state edit ∷ []) (state_of (turn_done rules state edit)) before mid
+    → AreDone (turn_done rules (state_of (turn_done rules state edit)) (Root worked) ∷ [])
+    (state_of (turn_done rules (state_of (turn_done rules state edit)) (Root worked))) mid after
     → AreDone (round rules state way.edit).turns (round rules state way.edit).state before after
     × ((1 ≡ (round rules state way.edit).edits) × (seed ≡ way.seed))
 round_done rules state way edit seed before mid after is first then =
-    let turn : Turn = done rules state edit in
-    let asked : Turn = done rules (state_of turn) (Root worked) in
+    let turn : Turn = turn_done rules state edit in
+    let asked : Turn = turn_done rules (state_of turn) (Root worked) in
     subst (λ (w : Walk). AreDone (round rules state w.edit).turns (round rules state w.edit).state
     before after × ((1 ≡ (round rules state w.edit).edits) × (seed ≡ w.seed))) (sym is) (
       done_then (turn ∷ []) (asked ∷ []) (state_of turn) (state_of asked) before mid after first
@@ -55,7 +55,7 @@ pub round_here : (rules : Rules) (state : State) (edit : Option Statement) (here
     → StandsFor here.engine state.versions
     → AreBroken (round rules state edit).turns Memory here here
 round_here rules state None here stands =
-    broken_here (done rules state (Root worked)) [] here stands
+    broken_here (turn_done rules state (Root worked)) [] here stands
 round_here rules state (Some edit) here stands =
-    let turn : Turn = done rules state edit in
-    broken_here turn (done rules (state_of turn) (Root worked) ∷ []) here stands
+    let turn : Turn = turn_done rules state edit in
+    broken_here turn (turn_done rules (state_of turn) (Root worked) ∷ []) here stands

@@ -6,7 +6,7 @@ use Rattle.ssz_machine.specs.Rules.{Rules}
 use Rattle.ssz_machine.specs.Machine.{Turn}
 use Rattle.ssz_machine.specs.Drawing.{Walk, worked}
 use Rattle.ssz_machine.specs.Runs.{IsWorking}
-use Rattle.ssz_machine.specs.Work.{Worked, joined, round, walk_from, worked_on}
+use Rattle.ssz_machine.specs.Work.{Worked, joined_work, round, walk_from, worked_on}
 use Rattle.ssz_machine.proofs.Working.{works_ends, works_on}
 use Rattle.ssz_decisions.specs.Roots.{RisesBy}
 use Rattle.ssz_engine.specs.Scripts.{Point}
@@ -30,7 +30,7 @@ module _ (rules : Rules) (count seed : ℕ) (state : State) where
   abbrev none : Worked
   none = record { turns = []; edits = 0; tops = 0; state = state }
 
-  nothing_before : whole ≡ joined none whole
+  nothing_before : whole ≡ joined_work none whole
   nothing_before i =
       let same : whole.edits ≡ 0 + whole.edits = omega arith in
       let tops : whole.tops ≡ 0 + whole.tops = omega arith in
@@ -65,8 +65,8 @@ module _ (rules : Rules) (count seed : ℕ) (state : State) where
         → y ≡ way.seed → RisesBy next.tops mid.hashed after.hashed
         → AreRounds left y (made + more) before after
     rounds_on more y done edits seed_is rise = record {
-      so_far = joined rounds.so_far next;
-      working = subst (IsWorking rules whole (joined rounds.so_far next) left) (sym seed_is)
+      so_far = joined_work rounds.so_far next;
+      working = subst (IsWorking rules whole (joined_work rounds.so_far next) left) (sym seed_is)
           (works_on rules whole rounds.so_far left x rounds.working);
       done = done_then rounds.so_far.turns next.turns rounds.so_far.state next.state before mid
           after rounds.done done;

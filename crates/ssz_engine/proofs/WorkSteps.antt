@@ -15,11 +15,11 @@ use Rattle.ssz_machine.specs.Rules.{Row, Rules}
 use Rattle.ssz_machine.specs.Machine.{Turn, charge_of, effect, is_refused, save_in, save_of, saved, state_in, state_of, step}
 use Rattle.ssz_machine.specs.Changes.{IsChange, SavesInto}
 use Rattle.ssz_machine.specs.Plays.{charges}
-use Rattle.ssz_machine.specs.Work.{done}
+use Rattle.ssz_machine.specs.Work.{turn_done}
 use Rattle.ssz_machine.proofs.Moves.{statements_change_their_entry_lem}
 use Rattle.ssz_engine.specs.Compacting.{is_compact}
 use Rattle.ssz_decisions.specs.Content.{rules_of}
-use Rattle.ssz_engine.specs.Lines.{Does, DoesLine}
+use Rattle.ssz_engine.specs.Lines.{TurnDoes, DoesLine}
 use Rattle.ssz_decisions.specs.Outside.{CountsReads}
 use Rattle.ssz_engine.specs.Scripts.{Point, name_before}
 use Rattle.ssz_decisions.specs.Standing.{StandsFor, StaysFor}
@@ -34,7 +34,7 @@ use Rattle.ssz_engine.proofs.Rooting.{root-made, roots-joined, roots-kept}
 -- their steps do not depend on what was hashed
 same_step : (rules : Rules) (number : ℕ) (state : State) (statement : Statement)
     → IsOfWork statement
-    → step rules Run number state 0 (0, Some statement) ≡ done rules state statement
+    → step rules Run number state 0 (0, Some statement) ≡ turn_done rules state statement
 same_step rules number state (New v t) is = refl
 same_step rules number state (Set v path literal) is = refl
 same_step rules number state (Append v path literal) is = refl
@@ -88,12 +88,12 @@ not-some : {A : Type 0} (x : A) (P : Type 0) → None ≡ Some x → P
 not-some x P e = cc
 
 module _ (rules : Rules) (state : State) (statement : Statement) (is : IsOfWork statement) where
-  no_save : save_of (done rules state statement) ≡ None
+  no_save : save_of (turn_done rules state statement) ≡ None
   no_save =
       row_saves_none statement state (effect rules Run 0 (view_of 0 state) statement) is
       (statements_change_their_entry_lem rules Run 0 (view_of 0 state) statement)
 
-  same_files : (state_of (done rules state statement)).files ≡ state.files
+  same_files : (state_of (turn_done rules state statement)).files ≡ state.files
   same_files = row_keeps_files state (effect rules Run 0 (view_of 0 state) statement) no_save
 
 module _ (pair_of : PairOf) (statement : Statement) (is : IsOfWork statement)
@@ -102,13 +102,13 @@ module _ (pair_of : PairOf) (statement : Statement) (is : IsOfWork statement)
   rules = rules_of pair_of old.engine
 
   abbrev turn : Turn
-  turn = done rules state statement
+  turn = turn_done rules state statement
 
   does : (result : Result Outcome EngineFault)
       → DoesLine pair_of Run 0 (0, Some statement) result old new [] reply
-      → IsAtState state old → Does rules old.engine.base turn result old new [] reply
+      → IsAtState state old → TurnDoes rules old.engine.base turn result old new [] reply
   does result line at =
-      subst (λ (t : Turn). Does rules old.engine.base t result old new [] reply)
+      subst (λ (t : Turn). TurnDoes rules old.engine.base t result old new [] reply)
       (same_step rules (old.hashed - old.engine.base) state statement is)
       (line state at.versions at.files)
 

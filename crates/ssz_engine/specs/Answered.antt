@@ -11,13 +11,13 @@ use Rattle.ssz_machine.specs.State.{Versions}
 use Rattle.ssz_machine.specs.Machine.{Turn, reply_of, state_of}
 use Rattle.ssz_machine.specs.Changes.{touch}
 use Rattle.ssz_engine.specs.Compacting.{is_compact}
-use Rattle.ssz_decisions.specs.Content.{Content}
+use Rattle.ssz_decisions.specs.Content.{EngineContent}
 use Rattle.ssz_decisions.specs.Standing.{StandsFor}
-use Rattle.ssz_decisions.specs.Carried.{Does, reply_to, told_after}
+use Rattle.ssz_decisions.specs.Carried.{DecisionDoes, reply_to, told_after}
 use Rattle.ssz_decisions.specs.Roots.{LeavesHashed}
 use Rattle.ssz_engine.specs.Steps.{DoesStep, ForksWhere, TouchesWhere, UpgradesWhere, turn_at}
 use Rattle.ssz_engine.specs.Tops.{TopsWhere}
-use Rattle.ssz_decisions.specs.Outside.{Holds}
+use Rattle.ssz_decisions.specs.Outside.{FilesHold}
 use Rattle.ssz_decisions.specs.declared.decision.Decision.{Decision}
 use Rattle.ssz_decisions.specs.declared.outcome.Outcome.{Outcome}
 use Rattle.ssz_decisions.specs.declared.outcome.Outcome.TheVariants.{Refused}
@@ -25,20 +25,20 @@ use Rattle.ssz_decisions.specs.declared.outcome.Outcome.TheVariants.{Refused}
 -- A decision was carried out, and this is the reply.
 pub record IsAnswered (made : Decision) (writer line : ℕ) (old new : Entries)
     (told_old told_new : Option Files) (reply : Reply) : Type 0 where
-  pub entries : Does made writer old new
+  pub entries : DecisionDoes made writer old new
   pub files : told_new ≡ told_after made told_old
   pub says : reply ≡ reply_to line made
 
 -- A statement was answered as the turn says: with its reply, and the engine and the files stand
 -- for the state after it.
-pub record IsTurn (turn : Turn) (reply : Reply) (engine : Content) (told : Option Files)
+pub record IsTurn (turn : Turn) (reply : Reply) (engine : EngineContent) (told : Option Files)
     : Type 0 where
   pub says : reply ≡ reply_of turn
   pub versions : StandsFor engine (state_of turn).versions
-  pub files : Holds told (state_of turn).files
+  pub files : FilesHold told (state_of turn).files
 
 -- What a statement that was done leaves of the names and the nodes, by how it ended.
-pub record Effects (statement : Statement) (writer : ℕ) (old new : Content) (made : Outcome)
+pub record Effects (statement : Statement) (writer : ℕ) (old new : EngineContent) (made : Outcome)
     : Type 0 where
   -- only what the table of statements names changes; `compact` moves all
   pub entries : is_compact statement ≡ false
@@ -55,7 +55,7 @@ pub record Effects (statement : Statement) (writer : ℕ) (old new : Content) (m
 -- A statement was answered: it was done as by a step that says the reply's line alone, and the
 -- reply is that of the machine's turn, whatever versions the engine stood for.
 pub record DoesAnswer (pair_of : PairOf) (place : Place) (writer line : ℕ) (statement : Statement)
-    (old new : Content) (before after : ℕ) (told_old told_new : Option Files) (reply : Reply)
+    (old new : EngineContent) (before after : ℕ) (told_old told_new : Option Files) (reply : Reply)
     : Type 0 where
   pub made : Outcome
   pub step : DoesStep pair_of place writer line statement old new before after told_old told_new

@@ -13,7 +13,7 @@ use Rattle.ssz_versions.specs.Content.{Held, held_at}
 use Rattle.ssz_machine.specs.declared.place.Place.{Place}
 use Rattle.ssz_machine.specs.State.{Name}
 use Rattle.ssz_machine.specs.Changes.{puts}
-use Rattle.ssz_decisions.specs.Content.{Content}
+use Rattle.ssz_decisions.specs.Content.{EngineContent}
 use Rattle.ssz_decisions.specs.Roots.{HashesDue}
 use Rattle.ssz_decisions.specs.Standing.{StandsForSome}
 use Rattle.ssz_engine.specs.Steps.{DoesStep, TouchesWhere}
@@ -22,7 +22,7 @@ use Rattle.ssz_decisions.specs.declared.outcome.Outcome.TheVariants.{Accepted}
 -- A part is set, and then the root of its version is asked for: what the clauses of `Engine::step`
 -- say of both, with the counts of pairs before the first, between them and after the second.
 pub record SetsAndRoots (pair_of : PairOf) (place : Place) (writer line : ℕ) (v : Name)
-    (path : Path) (literal : List ℕ) (old mid : Content) (first between last : ℕ)
+    (path : Path) (literal : List ℕ) (old mid : EngineContent) (first between last : ℕ)
     (told_old told_mid : Option Files) (out_old out_mid : List ℕ) : Type 0 where
   pub sets : DoesStep pair_of place writer line (Set v path literal) old mid first between told_old
       told_mid out_old out_mid Accepted
@@ -31,9 +31,9 @@ pub record SetsAndRoots (pair_of : PairOf) (place : Place) (writer line : ℕ) (
 
 -- Where the root of the version was known and the part is basic, both hash at most one pair a level
 -- of the part's index, whatever is to be hashed for other versions.
-abbrev pub LawOfSets : Type 0
-LawOfSets = (pair_of : PairOf) (place : Place) (writer line : ℕ) (v : Name) (path : Path)
-    (literal : List ℕ) (old mid : Content) (first between last : ℕ)
+abbrev pub LawOfSetCosts : Type 0
+LawOfSetCosts = (pair_of : PairOf) (place : Place) (writer line : ℕ) (v : Name) (path : Path)
+    (literal : List ℕ) (old mid : EngineContent) (first between last : ℕ)
     (told_old told_mid : Option Files) (out_old out_mid : List ℕ) (was : Held) (part : SszType)
     → SetsAndRoots pair_of place writer line v path literal old mid first between last told_old
     told_mid out_old out_mid

@@ -14,7 +14,7 @@ use Rattle.ssz_machine.specs.Rules.{Rules}
 use Rattle.ssz_machine.specs.Machine.{Line, Turn, step, reply_of, state_of, is_refused, may_stop, misses, reads_file}
 use Rattle.ssz_decisions.specs.Content.{rules_of}
 use Rattle.ssz_decisions.specs.Standing.{StandsFor}
-use Rattle.ssz_engine.specs.Steps.{SavesPart, is_refusal, Keeps}
+use Rattle.ssz_engine.specs.Steps.{SavesPart, is_refusal, KeepsEngine}
 use Rattle.ssz_engine.specs.Scripts.{AreNamedReadable, Point, file_named}
 use Rattle.ssz_engine.specs.Points.{PaysStep}
 use Rattle.ssz_decisions.specs.declared.outcome.Outcome.{Outcome}
@@ -25,7 +25,8 @@ use Rattle.ssz_decisions.specs.Outside.{CountsReads, CountsWrites}
 
 -- The turn was made and paid for: its line is appended, and what is there stands for the state
 -- after it.
-pub record Makes (rules : Rules) (base : ℕ) (turn : Turn) (made : Outcome) (before after : Point)
+pub record MakesTurn (rules : Rules) (base : ℕ) (turn : Turn) (made : Outcome)
+    (before after : Point)
     (text more : List ℕ) : Type 0 where
   pub outcome : is_refusal made ≡ is_refused turn
   pub found : misses rules turn ≡ false
@@ -45,13 +46,14 @@ pub record Missed (rules : Rules) (turn : Turn) (before after : Point) : Type 0 
   pub unread : before.readable name → ⊥
 
 -- What a line comes to at a turn of the machine, by an engine with this base.
-abbrev pub Does : Rules → ℕ → Turn → Result Outcome EngineFault → Point → Point → List ℕ → List ℕ
+abbrev pub TurnDoes : Rules → ℕ → Turn → Result Outcome EngineFault → Point → Point → List ℕ
+    → List ℕ
     → Type 0
-Does rules base turn (Ok made) before after text more =
-    Makes rules base turn made before after text more
-Does rules base turn (Err Read) before after text more = Missed rules turn before after
-Does rules base turn (Err Write) before after text more = SavesPart turn before.told after.told
-Does rules base turn (Err Memory) before after text more = after.told ≡ before.told
+TurnDoes rules base turn (Ok made) before after text more =
+    MakesTurn rules base turn made before after text more
+TurnDoes rules base turn (Err Read) before after text more = Missed rules turn before after
+TurnDoes rules base turn (Err Write) before after text more = SavesPart turn before.told after.told
+TurnDoes rules base turn (Err Memory) before after text more = after.told ≡ before.told
 
 -- So it does from whatever state is stood for, where the files tell what they hold. A number that
 -- `hashes` prints is the hasher's count less the base.
@@ -59,7 +61,7 @@ abbrev pub DoesLine : PairOf → Place → ℕ → Line → Result Outcome Engin
     → List ℕ → List ℕ → Type 0
 DoesLine pair_of place writer line result before after text more =
     (state : State) → StandsFor before.engine state.versions → before.told ≡ Some state.files
-    → Does (rules_of pair_of before.engine) before.engine.base
+    → TurnDoes (rules_of pair_of before.engine) before.engine.base
     (step (rules_of pair_of before.engine) place (before.hashed - before.engine.base) state writer
     line) result before after text more
 
@@ -68,7 +70,7 @@ DoesLine pair_of place writer line result before after text more =
 -- read fails only of a file that a line names.
 pub record Tries {T : Type 0} (lines : List Line) (result : Result T EngineFault)
     (before after : Point) : Type 0 where
-  pub keeps : Keeps before.engine after.engine
+  pub keeps : KeepsEngine before.engine after.engine
   pub nodes : NoneCompacts lines → KeepsNodes before.engine.arena after.engine.arena
   pub rises : before.hashed ≤ after.hashed
   pub readable : (name : Name) → before.readable name → after.readable name
@@ -95,12 +97,12 @@ ended_by Write = status.WriteFault
 ended_by Memory = status.Memory
 
 -- what a sink has after a line was printed: the line, or a part of it, or nothing of it
-abbrev pub Prints : {T : Type 0} → Result T Status → List ℕ → Told → Told → Type 0
-Prints (Ok done) piece old new = new ≡ told_append old (piece ∷ [])
-Prints (Err status.WriteFault) piece old new =
+abbrev pub PrintsLine : {T : Type 0} → Result T Status → List ℕ → Told → Told → Type 0
+PrintsLine (Ok done) piece old new = new ≡ told_append old (piece ∷ [])
+PrintsLine (Err status.WriteFault) piece old new =
     (count : ℕ) × (new ≡ told_append old (take count piece ∷ []))
-Prints (Err status.Memory) piece old new = new ≡ old
-Prints (Err other) piece old new = ⊥
+PrintsLine (Err status.Memory) piece old new = new ≡ old
+PrintsLine (Err other) piece old new = ⊥
 
 -- a failed print is counted once
 abbrev pub CountsPrint : {T : Type 0} → Result T Status → ℕ → ℕ → Type 0

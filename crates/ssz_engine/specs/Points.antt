@@ -18,7 +18,7 @@ use Rattle.ssz_decisions.specs.Content.{rules_of}
 use Rattle.ssz_decisions.specs.Standing.{StandsFor}
 use Rattle.ssz_engine.specs.Scripts.{IsStopped, Scene, files_reached, AreNamedReadable}
 use Rattle.ssz_engine.specs.Compacting.{NoneCompacts}
-use Rattle.ssz_engine.specs.Steps.{Keeps}
+use Rattle.ssz_engine.specs.Steps.{KeepsEngine}
 
 -- A step was paid for. Before it `was` pairs were hashed and `left` were to be hashed, behind it
 -- `now` and `rest`; where it prints a number, that is what was hashed since the count was `base`.
@@ -29,11 +29,11 @@ pub record PaysStep (base : ℕ) (turn : Turn) (was left now rest : ℕ) : Type 
   pub said : (n : ℕ) → number_said (reply_of turn) ≡ Some n → n ≡ was - base
 
 -- each of some steps was, one behind another
-abbrev pub Pays : ℕ → List Turn → ℕ → ℕ → ℕ → ℕ → Type 0
-Pays base [] was left now rest = (now ≡ was) × (rest ≡ left)
-Pays base (turn ∷ turns) was left now rest =
+abbrev pub PaysSteps : ℕ → List Turn → ℕ → ℕ → ℕ → ℕ → Type 0
+PaysSteps base [] was left now rest = (now ≡ was) × (rest ≡ left)
+PaysSteps base (turn ∷ turns) was left now rest =
     (mid : ℕ) × (mid_left : ℕ) × PaysStep base turn was left mid mid_left
-    × Pays base turns mid mid_left now rest
+    × PaysSteps base turns mid mid_left now rest
 
 -- What a run began with: its rules, its events, the first state, the engine's base, the pairs that
 -- were hashed and that were left to be hashed, the pieces of the sink, and whether it always finds
@@ -67,11 +67,11 @@ pub record IsAt (pair_of : PairOf) (place : Place) (course : Course) (done : Lis
   pub ample : scene.ample ≡ course.ample
   pub answer : refused ≡ list_any is_refused done
   pub found : list_any (misses course.rules) done ≡ false
-  pub pays : Pays course.base done course.hashed course.left scene.hashed
+  pub pays : PaysSteps course.base done course.hashed course.left scene.hashed
       (unhashed scene.engine.arena)
 
 -- it has come to some point with these events left
-pub record Comes (pair_of : PairOf) (place : Place) (course : Course) (events : List Event)
+pub record RunReaches (pair_of : PairOf) (place : Place) (course : Course) (events : List Event)
     (refused : Bool) (scene : Scene) : Type 0 where
   pub done : List Turn
   pub state : State
@@ -87,7 +87,8 @@ pub record IsCutShort (place : Place) (course : Course) (ended : Status) (before
       course.pieces after.pieces after.told
   pub now : ℕ
   pub rest : ℕ
-  pub pays : Pays course.base (turns_of place course numbers) course.hashed course.left now rest
+  pub pays : PaysSteps course.base
+      (turns_of place course numbers) course.hashed course.left now rest
   pub most : now ≤ after.hashed
   pub least : after.hashed ≤ now + rest
   pub broken : IsFinished ended → ⊥
@@ -100,30 +101,33 @@ pub record IsCutShort (place : Place) (course : Course) (ended : Status) (before
       after.told ends) (course.hashed + course.left) after
 
 -- the run went on, or it ended
-abbrev pub GoesTo : PairOf → Place → Course → List Event → Result (Unit {0}) Status → Bool → Scene
+abbrev pub RunContinues : PairOf → Place → Course → List Event → Result (Unit {0}) Status → Bool
+    → Scene
     → Scene → Type 0
-GoesTo pair_of place course events (Ok x) refused before after =
-    Comes pair_of place course events refused after
-GoesTo pair_of place course events (Err ended) refused before after =
+RunContinues pair_of place course events (Ok x) refused before after =
+    RunReaches pair_of place course events refused after
+RunContinues pair_of place course events (Err ended) refused before after =
     IsCutShort place course ended before after
 
 -- Whatever run had come to these events, they are done, or it has ended.
-abbrev pub Goes : PairOf → Place → List Event → Result (Unit {0}) Status → Bool → Bool → Scene
+abbrev pub AnyRunContinues : PairOf → Place → List Event → Result (Unit {0}) Status → Bool → Bool
+    → Scene
     → Scene → Type 0
-Goes pair_of place these result was refused before after =
-    (course : Course) (left : List Event) → Comes pair_of place course (these ++ left) was before
-    → GoesTo pair_of place course left result refused before after
+AnyRunContinues pair_of place these result was refused before after =
+    (course : Course) (left : List Event)
+    → RunReaches pair_of place course (these ++ left) was before
+    → RunContinues pair_of place course left result refused before after
 
 -- the status of a run that no fault ended
-abbrev pub finished : Bool → Status
-finished refused = if refused then status.Refused else status.Accepted
+abbrev pub finished_status : Bool → Status
+finished_status refused = if refused then status.Refused else status.Accepted
 
 -- no fault was counted but the one that ended it
-abbrev pub Counts : Result (Unit {0}) Status → Scene → Scene → Type 0
-Counts (Ok x) before after =
+abbrev pub CountsFaults : Result (Unit {0}) Status → Scene → Scene → Type 0
+CountsFaults (Ok x) before after =
     CountsNone before.get_faults after.get_faults before.put_faults after.put_faults
     before.sink_faults after.sink_faults
-Counts (Err ended) before after =
+CountsFaults (Err ended) before after =
     CountsRun ended before.get_faults after.get_faults before.put_faults after.put_faults
     before.sink_faults after.sink_faults
 
@@ -138,12 +142,12 @@ lines_in (adopts writer ∷ events) = lines_in events
 -- read; and a fault ends it and is counted. A read fails only of a file that a line names.
 pub record Runs (pair_of : PairOf) (place : Place) (events : List Event)
     (result : Result (Unit {0}) Status) (was refused : Bool) (before after : Scene) : Type 0 where
-  pub goes : Goes pair_of place events result was refused before after
-  pub keeps : Keeps before.engine after.engine
+  pub goes : AnyRunContinues pair_of place events result was refused before after
+  pub keeps : KeepsEngine before.engine after.engine
   pub nodes : NoneCompacts (lines_in events) → KeepsNodes before.engine.arena after.engine.arena
   pub rises : before.hashed ≤ after.hashed
   pub readable : (name : Name) → before.readable name → after.readable name
-  pub counts : Counts result before after
+  pub counts : CountsFaults result before after
   pub stops : IfErr result (λ ended. ¬ IsFinished ended)
   pub fails : AreNamedReadable before.readable (lines_in events) → result ≢ Err status.ReadFault
 

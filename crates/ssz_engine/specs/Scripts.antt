@@ -22,7 +22,7 @@ use Rattle.ssz_machine.specs.Plays.{Event, all_of, charges, play, state_after}
 use Rattle.ssz_machine.specs.Jobs.{job_of}
 use Rattle.ssz_machine.specs.Runs.{steps_done}
 use Rattle.ssz_machine.specs.Counts.{AreCounts}
-use Rattle.ssz_decisions.specs.Content.{Content, rules_of}
+use Rattle.ssz_decisions.specs.Content.{EngineContent, rules_of}
 use Rattle.ssz_decisions.specs.Standing.{StandsFor}
 use Rattle.ssz_engine.specs.Steps.{file_read}
 
@@ -58,7 +58,7 @@ files_reached rules (turn ∷ turns) =
 -- What is there before or after a line: the engine, the hasher's count, what the files tell, which
 -- of them can be read, and how many of their reads and writes have failed.
 pub record Point : Type 1 where
-  pub engine : Content
+  pub engine : EngineContent
   pub hashed : ℕ
   pub told : Option Files
   pub readable : Name → Type 0
@@ -66,7 +66,7 @@ pub record Point : Type 1 where
   pub put_faults : ℕ
 
 -- that of an engine with these files and this hasher
-abbrev pub point : {F H : Type 0} → files.Ghosts F → hash.Ghosts H → Content → F → H → Point
+abbrev pub point : {F H : Type 0} → files.Ghosts F → hash.Ghosts H → EngineContent → F → H → Point
 point of_files of_hash engine its_files its_hasher = record {
   engine = engine;
   hashed = of_hash.pairs its_hasher;
@@ -79,7 +79,7 @@ point of_files of_hash engine its_files its_hasher = record {
 -- What is there before or after a run: that, and of the sink the pieces that it has, whether it
 -- always finds memory, and how many puts have failed.
 pub record Scene : Type 1 where
-  pub engine : Content
+  pub engine : EngineContent
   pub hashed : ℕ
   pub told : Option Files
   pub readable : Name → Type 0
@@ -90,7 +90,8 @@ pub record Scene : Type 1 where
   pub sink_faults : ℕ
 
 -- that of an engine with these files, this sink and this hasher
-abbrev pub scene : {F S H : Type 0} → files.Ghosts F → sink.Ghosts S → hash.Ghosts H → Content → F
+abbrev pub scene : {F S H : Type 0} → files.Ghosts F → sink.Ghosts S → hash.Ghosts H → EngineContent
+    → F
     → S → H → Scene
 scene of_files of_sink of_hash engine its_files its_sink its_hasher = record {
   engine = engine;
@@ -116,7 +117,7 @@ point_of scene = record {
 }
 
 -- as behind `start`: nothing is left to be hashed, and `hashes` prints 0
-pub record IsFresh (scene : Scene) : Type 0 where
+pub record IsFreshScene (scene : Scene) : Type 0 where
   pub base : scene.engine.base ≡ scene.hashed
   pub left : unhashed scene.engine.arena ≡ 0
 
@@ -158,7 +159,7 @@ pub record EndsRun (rules : Rules) (place : Place) (events : List Event) (first 
   -- what was hashed is at most what was left to be hashed before, and the charges
   pub paid : after.hashed ≤ before.hashed + unhashed before.engine.arena
       + charges (play rules place numbers first events)
-  pub counts : IsFresh before → HasCounts ended (play rules place numbers first events)
+  pub counts : IsFreshScene before → HasCounts ended (play rules place numbers first events)
       (after.hashed - before.hashed)
   -- a read failed only of a file that the steps read, whatever numbers are printed
   pub reached : (others : List ℕ)

@@ -2,8 +2,8 @@
 use Rattle.std.specs.Prelude.{◌≡◌, ◌≤◌, ◌+◌, ◌-◌, ◌*◌, ℕ, IsTrue, Bool, true, false, List, ◌++◌, Option, Some, None}
 use Rattle.ssz_outside.specs.Content.{Content as Files}
 use Rattle.ssz_outside.specs.Job.{Save}
-use Rattle.ssz_outside.specs.Outcome.{Tears}
-use Rattle.ssz_arena.specs.Content.{Content as Nodes, node_count, todo, unhashed}
+use Rattle.ssz_outside.specs.Outcome.{WritesPart}
+use Rattle.ssz_arena.specs.Content.{ArenaContent as Nodes, node_count, todo, unhashed}
 use Rattle.ssz_arena.specs.declared.node.NodeId.{NodeId}
 use Rattle.ssz_schema.specs.Unfolding.{type_of}
 use Rattle.ssz_forms.specs.Upgrades.{upgrade_charge}
@@ -19,10 +19,10 @@ use Rattle.ssz_machine.specs.Rules.{Rules, Row}
 use Rattle.ssz_machine.specs.Machine.{Turn, step, effect, names_absent, reads, reply_of, state_of, save_of, charge_of, is_refused}
 use Rattle.ssz_machine.specs.Changes.{Touch, nothing, puts, takes, touch}
 use Rattle.ssz_engine.specs.Compacting.{is_compact}
-use Rattle.ssz_decisions.specs.Content.{Content, rules_of}
+use Rattle.ssz_decisions.specs.Content.{EngineContent, rules_of}
 use Rattle.ssz_decisions.specs.Standing.{StandsFor, StandsForWriter}
-use Rattle.ssz_decisions.specs.Decisions.{Answers, Pays}
-use Rattle.ssz_decisions.specs.Outside.{Holds}
+use Rattle.ssz_decisions.specs.Decisions.{AnswersRow, PaysRow}
+use Rattle.ssz_decisions.specs.Outside.{FilesHold}
 use Rattle.ssz_decisions.specs.declared.decision.Decision.{Decision}
 use Rattle.ssz_decisions.specs.declared.decision.Decision.TheVariants as decision
 use Rattle.ssz_decisions.specs.declared.outcome.Outcome.{Outcome}
@@ -36,12 +36,12 @@ is_refusal Refused = true
 
 -- What a step leaves that was done as the turn says: the line of its reply is appended, and the
 -- engine and the files stand for the state after it.
-pub record Leaves (turn : Turn) (made : Outcome) (engine : Content) (told : Option Files)
+pub record StepLeaves (turn : Turn) (made : Outcome) (engine : EngineContent) (told : Option Files)
     (out_old out_new : List ℕ) : Type 0 where
   pub outcome : is_refusal made ≡ is_refused turn
   pub text : out_new ≡ out_old ++ reply_line (reply_of turn)
   pub versions : StandsFor engine (state_of turn).versions
-  pub files : Holds told (state_of turn).files
+  pub files : FilesHold told (state_of turn).files
 
 -- only what the table of statements names changes of the entries
 abbrev pub Touches : Touch → ℕ → Entries → Entries → Type 0
@@ -54,30 +54,30 @@ TouchesWhere Accepted touch writer old new = Touches touch writer old new
 TouchesWhere Refused touch writer old new = new ≡ old
 
 -- a fork holds what its source holds
-abbrev pub Forks : Statement → ℕ → Entries → Entries → Type 0
-Forks (Fork v w) writer old new = held_at new writer w ≡ held_at old writer v
-Forks _ writer old new = Unit {0}
+abbrev pub StatementForks : Statement → ℕ → Entries → Entries → Type 0
+StatementForks (Fork v w) writer old new = held_at new writer w ≡ held_at old writer v
+StatementForks _ writer old new = Unit {0}
 
 abbrev pub ForksWhere : Outcome → Statement → ℕ → Entries → Entries → Type 0
-ForksWhere Accepted statement writer old new = Forks statement writer old new
+ForksWhere Accepted statement writer old new = StatementForks statement writer old new
 ForksWhere Refused statement writer old new = Unit {0}
 
 -- For what an upgrade makes no more is to be hashed than for what it takes the fields of, and the
 -- charge.
-abbrev pub Upgrades : Statement → ℕ → Content → Content → Type 0
-Upgrades (Upgrade v w t) writer old new =
+abbrev pub StatementUpgrades : Statement → ℕ → EngineContent → EngineContent → Type 0
+StatementUpgrades (Upgrade v w t) writer old new =
     (was is : Held) → held_at old.entries writer v ≡ Some was
     → held_at new.entries writer w ≡ Some is
     → todo new.arena is.1 ≤ todo old.arena was.1
     + upgrade_charge (type_of old.types was.0) (type_of old.types is.0)
-Upgrades _ writer old new = Unit {0}
+StatementUpgrades _ writer old new = Unit {0}
 
-abbrev pub UpgradesWhere : Outcome → Statement → ℕ → Content → Content → Type 0
-UpgradesWhere Accepted statement writer old new = Upgrades statement writer old new
+abbrev pub UpgradesWhere : Outcome → Statement → ℕ → EngineContent → EngineContent → Type 0
+UpgradesWhere Accepted statement writer old new = StatementUpgrades statement writer old new
 UpgradesWhere Refused statement writer old new = Unit {0}
 
 -- a node that an upgrade makes, under its name
-pub record IsUpgradeOf (v w : Name) (writer : ℕ) (old new : Content) (name : Name) (id : ℕ)
+pub record IsUpgradeOf (v w : Name) (writer : ℕ) (old new : EngineContent) (name : Name) (id : ℕ)
     (node : NodeId) : Type 0 where
   pub named : name ≡ w
   pub due : (was : Held) → held_at old.entries writer v ≡ Some was
@@ -85,7 +85,7 @@ pub record IsUpgradeOf (v w : Name) (writer : ℕ) (old new : Content) (name : N
       + upgrade_charge (type_of old.types was.0) (type_of old.types id)
 
 -- an upgrade is found to come to that, or is refused
-abbrev pub MakesUpgrade : Statement → ℕ → Content → Content → Decision → Type 0
+abbrev pub MakesUpgrade : Statement → ℕ → EngineContent → EngineContent → Decision → Type 0
 MakesUpgrade (Upgrade v w t) writer old new (decision.Refused code) = Unit {0}
 MakesUpgrade (Upgrade v w t) writer old new (decision.Made name id node room) =
     IsUpgradeOf v w writer old new name.now id node
@@ -94,7 +94,7 @@ MakesUpgrade _ writer old new made = Unit {0}
 
 -- the turn of the machine for a statement, where the writers have these versions and the files hold
 -- this
-abbrev pub turn_at : PairOf → Content → Place → ℕ → ℕ → ℕ → Statement
+abbrev pub turn_at : PairOf → EngineContent → Place → ℕ → ℕ → ℕ → Statement
     → (ℕ → Versions) → Files → Turn
 turn_at pair_of engine place number writer line statement versions files =
     step (rules_of pair_of engine) place number
@@ -109,18 +109,20 @@ makes_anew (LoadJson v t file) = true
 makes_anew _ = false
 
 -- then no more is to be hashed for it than the charge
-abbrev pub PaysAnew : Bool → PairOf → (Rules → Versions → Row) → ℕ → Content → Content → Decision
+abbrev pub PaysAnew : Bool → PairOf → (Rules → Versions → Row) → ℕ → EngineContent → EngineContent
+    → Decision
     → Type 0
-PaysAnew true pair_of row writer old new made = Pays pair_of row writer old new made
+PaysAnew true pair_of row writer old new made = PaysRow pair_of row writer old new made
 PaysAnew false pair_of row writer old new made = Unit {0}
 
 -- A statement is found to come to a decision: for some content of the files, the told one where
 -- they tell it, it answers the machine's row.
 pub record Decides (pair_of : PairOf) (place : Place) (statement : Statement) (writer number : ℕ)
-    (told : Option Files) (old new : Content) (before after : ℕ) (made : Decision) : Type 0 where
+    (told : Option Files) (old new : EngineContent) (before after : ℕ) (made : Decision)
+    : Type 0 where
   pub files : Files
-  pub tells : Holds told files
-  pub answers : Answers pair_of
+  pub tells : FilesHold told files
+  pub answers : AnswersRow pair_of
       (λ rules versions. effect rules place number
       (record { versions = versions; files = files }) statement)
       (touch statement) writer old new before after made
@@ -129,10 +131,11 @@ pub record Decides (pair_of : PairOf) (place : Place) (statement : Statement) (w
       (record { versions = versions; files = files }) statement) writer old new made
 
 -- the same of a statement that reads no file
-abbrev pub DecidesAlone : PairOf → Place → Statement → ℕ → ℕ → Content → Content → ℕ → ℕ → Decision
+abbrev pub DecidesAlone : PairOf → Place → Statement → ℕ → ℕ → EngineContent → EngineContent → ℕ → ℕ
+    → Decision
     → Type 0
 DecidesAlone pair_of place statement writer number old new before after made =
-    (files : Files) → Answers pair_of
+    (files : Files) → AnswersRow pair_of
     (λ rules versions. effect rules place number
     (record { versions = versions; files = files }) statement)
     (touch statement) writer old new before after made
@@ -141,14 +144,14 @@ DecidesAlone pair_of place statement writer number old new before after made =
     (record { versions = versions; files = files }) statement) writer old new made
 
 -- a file is read by a statement that reads one
-abbrev pub CanAsk : PairOf → Content → ℕ → Statement → Type 0
+abbrev pub CanAsk : PairOf → EngineContent → ℕ → Statement → Type 0
 CanAsk pair_of engine writer statement =
     (versions : Versions) → StandsForWriter engine writer versions
     → IsTrue (reads (rules_of pair_of engine) versions (Some statement))
 
 -- the file is there where one is read, where the files tell what they hold
-abbrev pub Finds : PairOf → Content → ℕ → Statement → Option Files → Type 0
-Finds pair_of engine writer statement told =
+abbrev pub StatementFindsFile : PairOf → EngineContent → ℕ → Statement → Option Files → Type 0
+StatementFindsFile pair_of engine writer statement told =
     (held : Files) → told ≡ Some held → (versions : Versions)
     → StandsForWriter engine writer versions
     → reads (rules_of pair_of engine) versions (Some statement) ≡ true
@@ -165,12 +168,12 @@ AddsFew Refused touch charge old new = node_count new ≡ node_count old
 -- A statement was done: for some content of the files, the told one where they tell it, and
 -- whatever versions the engine stood for, the turn of the machine.
 pub record DoesStep (pair_of : PairOf) (place : Place) (writer line : ℕ) (statement : Statement)
-    (old new : Content) (before after : ℕ) (told_old told_new : Option Files)
+    (old new : EngineContent) (before after : ℕ) (told_old told_new : Option Files)
     (out_old out_new : List ℕ) (made : Outcome) : Type 0 where
   pub files : Files
-  pub tells : Holds told_old files
+  pub tells : FilesHold told_old files
   pub leaves : (versions : ℕ → Versions) → StandsFor old versions
-      → Leaves (turn_at pair_of old place (before - old.base) writer line statement versions
+      → StepLeaves (turn_at pair_of old place (before - old.base) writer line statement versions
       files) made new told_new out_old out_new
   -- what is hashed, and what is then to be hashed, is at most what was to be hashed and the charge
   pub spends : (versions : ℕ → Versions) → StandsFor old versions
@@ -198,19 +201,20 @@ pub record DoesStep (pair_of : PairOf) (place : Place) (writer line : ℕ) (stat
 -- what the turn was to write into a file was written in part, or not at all
 abbrev pub SavesPart : Turn → Option Files → Option Files → Type 0
 SavesPart turn old new =
-    (save : Save) × (save_of turn ≡ Some save) × Tears save.name save.bytes old new
+    (save : Save) × (save_of turn ≡ Some save) × WritesPart save.name save.bytes old new
 
 -- A failed write: for some content of the files, the told one where they tell it.
 pub record SaveFails (pair_of : PairOf) (place : Place) (writer line number : ℕ)
-    (statement : Statement) (old : Content) (told_old told_new : Option Files) : Type 0 where
+    (statement : Statement) (old : EngineContent) (told_old told_new : Option Files) : Type 0 where
   pub files : Files
-  pub tells : Holds told_old files
+  pub tells : FilesHold told_old files
   pub part : (versions : ℕ → Versions) → StandsFor old versions
       → SavesPart (turn_at pair_of old place number writer line statement versions files)
       told_old told_new
 
 -- Why a statement was not done, and what is then left of the files.
-abbrev pub Stops : EngineFault → PairOf → Place → ℕ → ℕ → ℕ → Statement → Content → Option Files
+abbrev pub Stops : EngineFault → PairOf → Place → ℕ → ℕ → ℕ → Statement → EngineContent
+    → Option Files
     → Option Files → Type 0
 Stops Read pair_of place writer line number statement old told_old told_new =
     (told_new ≡ told_old) × CanAsk pair_of old writer statement
@@ -225,7 +229,7 @@ file_read (LoadJson v t file) = Some file
 file_read _ = None
 
 -- what no statement changes: the types, the limit and the base
-pub record Keeps (old new : Content) : Type 0 where
+pub record KeepsEngine (old new : EngineContent) : Type 0 where
   pub types : new.types ≡ old.types
   pub most : new.most ≡ old.most
   pub base : new.base ≡ old.base

@@ -2,7 +2,7 @@
 use Rattle.std.specs.Prelude.{◌≡◌, ◌≢◌, ◌≤◌, ⊤, ℕ, ◌+◌, false, List, [], ◌∷◌, ◌++◌, take, Option, Some, None, Result, Ok, Err}
 use Rattle.std.specs.List.{AllByRecursion}
 use Rattle.ssz_value.specs.Trees.{tree}
-use Rattle.ssz_arena.specs.Content.{Content as Nodes, IsNodeOf, KeepsNodes, todo, tree_of, unhashed}
+use Rattle.ssz_arena.specs.Content.{ArenaContent as Nodes, IsNodeOf, KeepsNodes, todo, tree_of, unhashed}
 use Rattle.ssz_arena.specs.declared.node.NodeId.{NodeId}
 use Rattle.ssz_outside.specs.Content.{Content as Files}
 use Rattle.ssz_outside.specs.Job.{Ends, Job}
@@ -17,7 +17,7 @@ use Rattle.ssz_machine.specs.Rules.{Rules}
 use Rattle.ssz_machine.specs.Machine.{Turn, reply_of, state_of}
 use Rattle.ssz_machine.specs.Plays.{charges}
 use Rattle.ssz_machine.specs.Drawing.{worked}
-use Rattle.ssz_machine.specs.Work.{Worked, done, joined, walk_from, work_job, work_of}
+use Rattle.ssz_machine.specs.Work.{Worked, turn_done, joined_work, walk_from, work_job, work_of}
 use Rattle.ssz_decisions.specs.Content.{rules_of}
 use Rattle.ssz_decisions.specs.Standing.{StandsFor}
 use Rattle.ssz_engine.specs.Scripts.{IsThrough, Point, Scene}
@@ -43,7 +43,7 @@ one_step turn = record { turns = turn ∷ []; edits = 0; tops = 0; state = state
 abbrev pub whole_work : Rules → State → Name → ℕ → ℕ → Worked
 whole_work rules state type_name seed count =
     let work = work_of rules state type_name seed count in
-    joined work (one_step (done rules work.state (Root worked)))
+    joined_work work (one_step (turn_done rules work.state (Root worked)))
 
 -- what is there stands for a state of the machine
 pub record IsAtState (state : State) (point : Point) : Type 0 where
@@ -58,14 +58,14 @@ pub record IsHashed (arena : Nodes) (version : Version) : Type 0 where
   pub hashed : todo arena node ≡ 0
 
 -- There is one for what the name of a `root` then stands for.
-abbrev pub AreHashed : Nodes → Option Statement → Versions → Type 0
-AreHashed arena (Some (Root v)) versions =
+abbrev pub IsRootHashed : Nodes → Option Statement → Versions → Type 0
+IsRootHashed arena (Some (Root v)) versions =
     (version : Version) → version_of v versions ≡ Some version → IsHashed arena version
-AreHashed arena other versions = Unit {0}
+IsRootHashed arena other versions = Unit {0}
 
 -- A step that asks for a root made it.
 abbrev pub MakesRoot : Nodes → Turn → Type 0
-MakesRoot arena turn = AreHashed arena turn.line.1 ((state_of turn).versions turn.writer)
+MakesRoot arena turn = IsRootHashed arena turn.line.1 ((state_of turn).versions turn.writer)
 
 -- Some steps to this state were made from one point to another, with each root that they ask for,
 -- and paid for; no file changed.
@@ -86,9 +86,9 @@ pub record AreBroken (turns : List Turn) (fault : EngineFault) (before after : P
     pub done : List Turn
     pub next : Turn
     pub left : List Turn
-    pub all : turns ≡ done ++ next ∷ left
+    pub all : turns ≡ turn_done ++ next ∷ left
     pub stands : StandsFor after.engine next.before.versions
-    pub paid : after.hashed ≤ before.hashed + unhashed before.engine.arena + charges done
+    pub paid : after.hashed ≤ before.hashed + unhashed before.engine.arena + charges turn_done
 
 -- They were made, with an answer of which this is so, or there was no memory for them.
 abbrev pub Works : {T : Type 0} → Result T EngineFault → Worked → (T → Type 0) → Point → Point
@@ -125,9 +125,9 @@ before_of last (turn ∷ turns) = turn.before
 pub record StopsAmong (turns : List Turn) (last : State) (owed : ℕ) (after : Scene) : Type 0 where
   pub done : List Turn
   pub left : List Turn
-  pub all : turns ≡ done ++ left
+  pub all : turns ≡ turn_done ++ left
   pub stands : StandsFor after.engine (before_of last left).versions
-  pub paid : after.hashed ≤ owed + charges done
+  pub paid : after.hashed ≤ owed + charges turn_done
 
 -- A work from a first state ended, as its job does.
 pub record EndsWorkFrom (rules : Rules) (type_name : Name) (seed count : ℕ) (first : State)

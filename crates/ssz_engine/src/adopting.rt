@@ -6,7 +6,7 @@ ghost use Rattle.ssz_decisions.specs.Content.{SameNodes};
 ghost use Rattle.ssz_engine.specs.Weaves.{AdoptsAll, AdoptsSome};
 ghost use Rattle.ssz_decisions.specs.Standing.{HoldsNone};
 
-use super::line::BASE;
+use super::script_line::BASE;
 use ssz_chunk::PairHash;
 use ssz_decisions::Store;
 use ssz_versions::Writer;

@@ -12,7 +12,7 @@ ghost use Rattle.ssz_decisions.specs.Decisions.{CanDo};
 ghost use Rattle.ssz_decisions.specs.Roots.{HashesDue, HashesSome};
 ghost use Rattle.ssz_decisions.specs.Outside.{CountsReads, CountsWrites};
 ghost use Rattle.ssz_decisions.specs.Carried.{CanLack, Fails};
-ghost use Rattle.ssz_engine.specs.Steps.{Finds, Keeps, Stops, file_read};
+ghost use Rattle.ssz_engine.specs.Steps.{StatementFindsFile, KeepsEngine, Stops, file_read};
 
 use super::compaction::compact;
 use super::deciding::decide;
@@ -99,7 +99,7 @@ impl<H: PairHash> Engine<H> {
         hasher: &mut H,
     ) -> Result<Reply, EngineFault>
         requires { HasShortLiteral statement.now }
-        ensures keeps { Keeps self.old self.new }
+        ensures keeps { KeepsEngine self.old self.new }
         // Each node is there, with the same tree and no more to be hashed; but `compact` gives up
         // what no version reaches.
         ensures nodes { is_compact statement.now ≡ false
@@ -130,7 +130,7 @@ impl<H: PairHash> Engine<H> {
         // such a one it does.
         ensures present { (name : List ℕ) → file_read statement.now ≡ Some name
             → CanRead (F.content files.old) name → result ≢ Err EngineFault.Read }
-        ensures found { OnOk result (Finds H.pair_of self.old writer.0 statement.now
+        ensures found { OnOk result (StatementFindsFile H.pair_of self.old writer.0 statement.now
             (F.content files.old)) }
         ensures asks { file_read statement.now ≡ None → result ≢ Err EngineFault.Read }
         ensures readable { (other : List ℕ) → F.readable files.old other

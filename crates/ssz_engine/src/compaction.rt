@@ -3,7 +3,7 @@ ghost use Rattle.std.specs.Prelude.{◌≡◌, ◌++◌, OnOk, OnErr};
 ghost use Rattle.ssz_script.specs.Texts.{reply_line};
 ghost use Rattle.ssz_script.specs.declared.reply.Reply.TheVariants.{Done};
 ghost use Rattle.ssz_versions.specs.Compacted.{IsCompacted};
-ghost use Rattle.ssz_engine.specs.Steps.{Keeps};
+ghost use Rattle.ssz_engine.specs.Steps.{KeepsEngine};
 
 use ssz_chunk::PairHash;
 use ssz_decisions::{Store, say_done};
@@ -15,7 +15,7 @@ pub(crate) fn compact<H: PairHash>(
     store: &mut Store<H>,
     out: &mut Vec<u8>,
 ) -> Result<(), AllocError>
-    ensures keeps { Keeps store.old store.new }
+    ensures keeps { KeepsEngine store.old store.new }
     ensures ok { OnOk result (IsCompacted store.old.entries store.new.entries store.old.arena
         store.new.arena) }
     ensures text { OnOk result (out.new.items ≡ out.old.items ++ reply_line Done) }

@@ -7,7 +7,7 @@ ghost use Rattle.ssz_engine.specs.Compacting.{is_compact};
 ghost use Rattle.ssz_decisions.specs.Content.{Grows};
 ghost use Rattle.ssz_decisions.specs.Outside.{CountsReads};
 ghost use Rattle.ssz_decisions.specs.Roots.{HashesDue, LeavesHashed, HashesSome};
-ghost use Rattle.ssz_engine.specs.Steps.{CanAsk, Decides, DecidesAlone, Finds, MakesUpgrade, file_read};
+ghost use Rattle.ssz_engine.specs.Steps.{CanAsk, Decides, DecidesAlone, StatementFindsFile, MakesUpgrade, file_read};
 ghost use Rattle.ssz_decisions.specs.Decisions.{MakesFork};
 ghost use Rattle.ssz_decisions.specs.Carried.{outcome_of};
 ghost use Rattle.ssz_engine.specs.Tops.{MakesTop};
@@ -62,7 +62,7 @@ pub(crate) fn decide<'a, F: Files, H: PairHash>(
         → F.readable files.old name → result ≢ Err EngineFault.Read }
     ensures present { (name : List ℕ) → file_read statement.now ≡ Some name
         → CanRead (F.content files.old) name → result ≢ Err EngineFault.Read }
-    ensures found { OnOk result (Finds H.pair_of store.old writer.0 statement.now
+    ensures found { OnOk result (StatementFindsFile H.pair_of store.old writer.0 statement.now
         (F.content files.old)) }
     ensures asks { file_read statement.now ≡ None → result ≢ Err EngineFault.Read }
     ensures readable { (other : List ℕ) → F.readable files.old other → F.readable files.new other }

@@ -11,10 +11,10 @@ ghost use Rattle.ssz_machine.specs.Editing.{append, choose, pop, set};
 ghost use Rattle.ssz_machine.specs.Changes.{puts};
 ghost use Rattle.ssz_decisions.specs.Content.{Grows};
 ghost use Rattle.ssz_decisions.specs.Decisions.{AnswersWith};
-ghost use Rattle.ssz_engine.specs.Finished.{Finishes};
+ghost use Rattle.ssz_engine.specs.Finished.{FinishesEdit};
 ghost use Rattle.ssz_engine.specs.Tops.{IsDue, SetsTop};
 
-use super::inner::{literal_given, option_default, option_fault};
+use super::option_given::{literal_given, option_default, option_fault};
 use ssz_arena::NodeId;
 use ssz_bytes::ByteRun;
 use ssz_chunk::PairHash;
@@ -33,7 +33,7 @@ fn finish<'a>(
     v: &'a Identifier,
     edited: Result<NodeId, EditFault>,
 ) -> Result<Decision<'a>, EngineFault>
-    ensures { Finishes v.now edited result }
+    ensures { FinishesEdit v.now edited result }
 {
     match edited {
         Ok(node) => Ok(Decision::Edited(v, node)),

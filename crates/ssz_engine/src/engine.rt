@@ -12,7 +12,7 @@ ghost use Rattle.ssz_engine.specs.Compacting.{compacted, is_compact};
 ghost use Rattle.ssz_decisions.specs.Standing.{StandsForSome, StandsFor, HoldsNone};
 ghost use Rattle.ssz_decisions.specs.Outside.{CountsReads, CountsWrites};
 ghost use Rattle.ssz_decisions.specs.Roots.{HashesDue, LeavesHashed, HashesSome};
-ghost use Rattle.ssz_engine.specs.Steps.{DoesStep, Finds, ForksWhere, Keeps, Stops, TouchesWhere, UpgradesWhere, file_read};
+ghost use Rattle.ssz_engine.specs.Steps.{DoesStep, StatementFindsFile, ForksWhere, KeepsEngine, Stops, TouchesWhere, UpgradesWhere, file_read};
 ghost use Rattle.ssz_engine.specs.Tops.{TopsWhere};
 
 use super::compaction::compact;
@@ -36,9 +36,9 @@ pub struct Engine<H: PairHash> {
 impl<H: PairHash> Model for Engine<H> {
     ghost use Rattle.std.specs.Coded.{codes};
     ghost use Rattle.ssz_schema.specs.Unfolding.{coded_types};
-    ghost use Rattle.ssz_decisions.specs.Content.{Content, entries_code};
+    ghost use Rattle.ssz_decisions.specs.Content.{EngineContent, entries_code};
 
-    ghost Value = { Content };
+    ghost Value = { EngineContent };
 
     ghost coded = { Prim.hlevel (codes, coded_types, entries_code) };
 
@@ -93,7 +93,7 @@ impl<H: PairHash> Engine<H> {
         out: &mut Vec<u8>,
     ) -> Result<Outcome, EngineFault>
         requires { HasShortLiteral statement.now }
-        ensures keeps { Keeps self.old self.new }
+        ensures keeps { KeepsEngine self.old self.new }
         // Each node is there, with the same tree and no more to be hashed; but `compact` gives up
         // what no version reaches.
         ensures nodes { compacted statement.now result ≡ false
@@ -146,7 +146,7 @@ impl<H: PairHash> Engine<H> {
         // such a one it does.
         ensures present { (name : List ℕ) → file_read statement.now ≡ Some name
             → CanRead (F.content files.old) name → result ≢ Err EngineFault.Read }
-        ensures found { OnOk result (Finds H.pair_of self.old writer.0 statement.now
+        ensures found { OnOk result (StatementFindsFile H.pair_of self.old writer.0 statement.now
             (F.content files.old)) }
         ensures asks { file_read statement.now ≡ None → result ≢ Err EngineFault.Read }
         ensures readable { (other : List ℕ) → F.readable files.old other

@@ -7,12 +7,12 @@ ghost use Rattle.ssz_script.specs.Lines.{statements_in};
 ghost use Rattle.ssz_machine.specs.Plays.{all_of};
 ghost use Rattle.ssz_engine.specs.Compacting.{NoneCompacts};
 ghost use Rattle.ssz_engine.specs.Lines.{LeavesOthers};
-ghost use Rattle.ssz_engine.specs.Points.{Runs, finished};
+ghost use Rattle.ssz_engine.specs.Points.{Runs, finished_status};
 ghost use Rattle.ssz_engine.specs.Scripts.{EndsScript, files_named, scene};
-ghost use Rattle.ssz_engine.specs.Steps.{Keeps};
+ghost use Rattle.ssz_engine.specs.Steps.{KeepsEngine};
 
 use super::engine::Engine;
-use super::line::run_line;
+use super::script_line::run_line;
 use ssz_chunk::PairHash;
 use ssz_machine::Place;
 use ssz_outside::{Files, Sink, Status};
@@ -50,7 +50,7 @@ pub(crate) fn run_lines<F: Files, S: Sink, H: PairHash>(
 
 /// The status of a run that no fault ended.
 pub(crate) fn status_after(refused: bool) -> Status
-    ensures { result ≡ finished refused }
+    ensures { result ≡ finished_status refused }
 {
     if refused {
         Status::Refused
@@ -73,7 +73,7 @@ impl<H: PairHash> Engine<H> {
         out: &mut S,
         hasher: &mut H,
     ) -> Status
-        ensures keeps { Keeps self.old self.new }
+        ensures keeps { KeepsEngine self.old self.new }
         // Each node is there, with the same tree and no more to be hashed, where no line gives up
         // nodes.
         ensures nodes { NoneCompacts (statements_in script.now)

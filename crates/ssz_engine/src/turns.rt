@@ -6,8 +6,8 @@ ghost use Rattle.ssz_engine.specs.Points.{Runs, RunsUpTo};
 ghost use Rattle.ssz_engine.specs.Scripts.{scene};
 
 use super::engine::Engine;
-use super::line::run_line;
 use super::run::run_lines;
+use super::script_line::run_line;
 use ssz_chunk::PairHash;
 use ssz_machine::Place;
 use ssz_outside::{Files, Sink, Status};

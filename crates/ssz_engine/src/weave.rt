@@ -10,14 +10,14 @@ ghost use Rattle.ssz_machine.specs.declared.place.Place.TheVariants.{Weave};
 ghost use Rattle.ssz_engine.specs.Compacting.{NoneCompacts};
 ghost use Rattle.ssz_engine.specs.Points.{Runs};
 ghost use Rattle.ssz_engine.specs.Scripts.{AreNamedReadable, scene};
-ghost use Rattle.ssz_engine.specs.Steps.{Keeps};
+ghost use Rattle.ssz_engine.specs.Steps.{KeepsEngine};
 ghost use Rattle.ssz_engine.specs.Weaves.{EndsWeave, IsolatesWriters};
 ghost use Rattle.ssz_decisions.specs.Standing.{HoldsNone};
 
 use super::adopting::adopt_all;
 use super::engine::Engine;
-use super::line::BASE;
 use super::run::{run_lines, status_after};
+use super::script_line::BASE;
 use super::turns::run_woven;
 use ssz_bytes::ByteRun;
 use ssz_chunk::PairHash;
@@ -122,7 +122,7 @@ impl<H: PairHash> Engine<H> {
         requires known { All (λ writer. writer < length scripts.now) order.now }
         requires none { (writer : ℕ) → writer < length scripts.now
             → HoldsNone self.old.entries writer }
-        ensures keeps { Keeps self.old self.new }
+        ensures keeps { KeepsEngine self.old self.new }
         // Each node is there, with the same tree and no more to be hashed, where no line gives up
         // nodes.
         ensures nodes { AllByRecursion NoneCompacts (map statements_in (base.now ∷ scripts.now))

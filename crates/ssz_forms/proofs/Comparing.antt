@@ -3,7 +3,7 @@ use Rattle.std.proofs.Common.{ℕ, zero, suc, ◌+◌, ◌<◌, ◌≡◌, ◌&&
 use Rattle.std.specs.List.{AllByRecursion}
 use Rattle.std.proofs.lemmas.Bool.{and_from}
 use Rattle.ssz_schema.specs.Types.{SszType}
-use Rattle.ssz_schema.specs.Unfolding.{tree_at, fields_over, options_over, IsBelow}
+use Rattle.ssz_schema.specs.Unfolding.{type_tree_at, fields_over, options_over, IsBelow}
 use Rattle.ssz_schema.proofs.WalkFields.{drop_at}
 use Rattle.ssz_value.proofs.PartLemmas.{Part}
 use Rattle.ssz_forms.specs.Answers.{same_option}
@@ -17,7 +17,8 @@ options_alike trees xs ys = same_options (options_over trees xs) (options_over t
 
 -- one field is like the other
 abbrev pub field_alike : List SszType → Part → Part → Bool
-field_alike trees x y = bytes_eq x.0 y.0 && same_type (tree_at trees x.1) (tree_at trees y.1)
+field_alike trees x y =
+    bytes_eq x.0 y.0 && same_type (type_tree_at trees x.1) (type_tree_at trees y.1)
 
 -- lists of other lengths are not the same
 pub fields_unlike : (trees : List SszType) (xs ys : List Part) → (length xs ≡ length ys → ⊥)
@@ -72,7 +73,8 @@ fields_step trees xs ys i x y so_far in_xs in_ys is_x is_y =
 pub FieldsFrom-more : (trees : List SszType) (xs ys : List Part) (i : ℕ) (x y : Part)
     → FieldsFrom trees xs ys i → i < length xs → i < length ys → x ≡ get_or xs i x
     → y ≡ get_or ys i y → bytes_eq x.0 y.0 ≡ true
-    → same_type (tree_at trees x.1) (tree_at trees y.1) ≡ true → FieldsFrom trees xs ys (i + 1)
+    → same_type (type_tree_at trees x.1) (type_tree_at trees y.1) ≡ true
+    → FieldsFrom trees xs ys (i + 1)
 FieldsFrom-more trees xs ys i x y so_far in_xs in_ys is_x is_y names types =
     let alike : field_alike trees x y ≡ true = and_from (bytes_eq x.0 y.0) _ names types in
     record {
@@ -85,13 +87,14 @@ pub FieldsFrom-names : (trees : List SszType) (xs ys : List Part) (i : ℕ) (x y
     → y ≡ get_or ys i y → bytes_eq x.0 y.0 ≡ false → fields_alike trees xs ys ≡ false
 FieldsFrom-names trees xs ys i x y so_far in_xs in_ys is_x is_y names =
     fields_step trees xs ys i x y so_far in_xs in_ys is_x is_y
-    ∙ ap (λ b. (b && same_type (tree_at trees x.1) (tree_at trees y.1))
+    ∙ ap (λ b. (b && same_type (type_tree_at trees x.1) (type_tree_at trees y.1))
     && fields_alike trees (drop (i + 1) xs) (drop (i + 1) ys)) names
 
 pub FieldsFrom-types : (trees : List SszType) (xs ys : List Part) (i : ℕ) (x y : Part)
     → FieldsFrom trees xs ys i → i < length xs → i < length ys → x ≡ get_or xs i x
     → y ≡ get_or ys i y → bytes_eq x.0 y.0 ≡ true
-    → same_type (tree_at trees x.1) (tree_at trees y.1) ≡ false → fields_alike trees xs ys ≡ false
+    → same_type (type_tree_at trees x.1) (type_tree_at trees y.1) ≡ false
+    → fields_alike trees xs ys ≡ false
 FieldsFrom-types trees xs ys i x y so_far in_xs in_ys is_x is_y names types =
     fields_step trees xs ys i x y so_far in_xs in_ys is_x is_y
     ∙ ap₂ (λ a b. (a && b) && fields_alike trees (drop (i + 1) xs) (drop (i + 1) ys)) names types

@@ -5,7 +5,7 @@ use Rattle.std.specs.Option.{option_and_then}
 use Rattle.std.proofs.lemmas.List.{append-nil, drop_all}
 use Rattle.std.proofs.lemmas.Slice.Eq.{bytes_eq-Decides}
 use Rattle.ssz_schema.specs.Types.{SszType}
-use Rattle.ssz_schema.specs.Unfolding.{Types, tree_at, fields_over}
+use Rattle.ssz_schema.specs.Unfolding.{Types, type_tree_at, fields_over}
 use Rattle.ssz_schema.specs.Paths.{field_type, field_number}
 use Rattle.ssz_schema.specs.Lookup.{lookup_name}
 use Rattle.ssz_schema.proofs.WalkFields.{drop_at}
@@ -20,8 +20,8 @@ use Rattle.ssz_value.proofs.PartLemmas.{Part}
 use Rattle.ssz_forms.specs.declared.forms.Forms.{Forms}
 use Rattle.ssz_forms.specs.Answers.{AreRight}
 use Rattle.ssz_forms.specs.SameType.{same_type}
-use Rattle.ssz_forms.specs.Taking.{AreNumbers}
-use Rattle.ssz_forms.specs.Upgrades.{taken, all_taken}
+use Rattle.ssz_forms.specs.Taking.{AreFieldNumbers}
+use Rattle.ssz_forms.specs.Upgrades.{field_taken, all_taken}
 
 -- the numbers of the first i fields are found
 pub record TakenSoFar (types : Types) (old new : List Part) (i : ℕ) (found : List (Option ℕ))
@@ -38,7 +38,7 @@ TakenSoFar-start types old new forms right = record { value = refl; right = righ
 pub TakenSoFar-more : (types : Types) (old new : List Part) (i : ℕ) (found more : List (Option ℕ))
     (forms after : Forms) (part : Part) (number : Option ℕ)
     → TakenSoFar types old new i found forms → i < length new → part ≡ get_or new i part
-    → number ≡ taken (fields_over types.trees old) part.0 (tree_at types.trees part.1)
+    → number ≡ field_taken (fields_over types.trees old) part.0 (type_tree_at types.trees part.1)
     → more ≡ found ++ number ∷ [] → AreRight types after
     → TakenSoFar types old new (i + 1) more after
 TakenSoFar-more types old new i found more forms after part number h below e is pushed right =
@@ -69,8 +69,8 @@ TakenSoFar-end types old new i found forms h all =
 pub taken_where : (trees : List SszType) (old : List Part) (name : List ℕ) (t : SszType)
     (k : ℕ) (part : Part) (same : Bool)
     → position_from (λ (p : Part). bytes_eq p.0 name) 0 old ≡ Some k → part ≡ get_or old k part
-    → same ≡ same_type (tree_at trees part.1) t
-    → taken (fields_over trees old) name t ≡ cond same (Some k) None
+    → same ≡ same_type (type_tree_at trees part.1) t
+    → field_taken (fields_over trees old) name t ≡ cond same (Some k) None
 taken_where trees old name t k part same found at is =
     let here = found_field trees old name k found in
     ap (option_and_then (λ u. cond (same_type u t)
@@ -79,7 +79,7 @@ taken_where trees old name t k part same found at is =
 
 pub taken_nowhere : (trees : List SszType) (old : List Part) (name : List ℕ) (t : SszType)
     → position_from (λ (p : Part). bytes_eq p.0 name) 0 old ≡ None
-    → taken (fields_over trees old) name t ≡ None
+    → field_taken (fields_over trees old) name t ≡ None
 taken_nowhere trees old name t missing =
     ap (option_and_then (λ u. cond (same_type u t)
     (Some (field_number (fields_over trees old) name)) None)) (missing_type old 0 missing)
@@ -94,7 +94,8 @@ taken_nowhere trees old name t missing =
             → field_type (fields_over trees parts) name ≡ None)
             → cond b (Some i) (position_from (λ (q : Part). bytes_eq q.0 name) (i + 1) parts)
             ≡ None
-            → cond b (Some (tree_at trees p.1)) (field_type (fields_over trees parts) name) ≡ None
+            → cond b (Some (type_tree_at trees p.1)) (field_type (fields_over trees parts) name)
+            ≡ None
         go true rest e = cc
         go false rest e = rest e
 
@@ -128,7 +129,7 @@ numbers_more fields j i part key old new next below at is made so_far name =
 
 -- the number of a field in a table is its place
 pub numbered_at : (fields : List Part) (numbers : BTreeMap Key ℕ) (name : List ℕ)
-    (got : Option ℕ) → AreNumbers fields numbers
+    (got : Option ℕ) → AreFieldNumbers fields numbers
     → got ≡ lookup (λ k. is_eq (slice_cmp nat_cmp name k.items)) numbers.entries
     → position_from (λ (p : Part). bytes_eq p.0 name) 0 fields ≡ got
 numbered_at fields numbers name got are is =
@@ -138,10 +139,10 @@ numbered_at fields numbers name got are is =
 pub taken_at : (trees : List SszType) (old new : List Part) (i : ℕ) (part : Part)
     → i < length new → part ≡ get_or new i part
     → slice_index_or (all_taken (fields_over trees old) (fields_over trees new)) i None
-    ≡ taken (fields_over trees old) part.0 (tree_at trees part.1)
+    ≡ field_taken (fields_over trees old) part.0 (type_tree_at trees part.1)
 taken_at trees old [] i part below at = absurd (omega arith)
 taken_at trees old (p ∷ new) zero part below at =
-    ap (λ (q : Part). taken (fields_over trees old) q.0 (tree_at trees q.1)) (sym at)
+    ap (λ (q : Part). field_taken (fields_over trees old) q.0 (type_tree_at trees q.1)) (sym at)
 taken_at trees old (p ∷ new) (suc i) part below at =
     taken_at trees old new i part (omega arith) at
 

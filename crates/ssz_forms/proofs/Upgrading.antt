@@ -7,7 +7,7 @@ use Rattle.std.specs.Option.{option_and_then}
 use Rattle.std.proofs.lemmas.List.{append-nil, drop_all}
 use Rattle.std.proofs.lemmas.Option.{same_Some, slice_get_read}
 use Rattle.ssz_schema.specs.Types.{SszType, Fields, container, no_fields, field}
-use Rattle.ssz_schema.specs.Unfolding.{Types, tree_at, fields_over}
+use Rattle.ssz_schema.specs.Unfolding.{Types, type_tree_at, fields_over}
 use Rattle.ssz_schema.specs.Legal.{IsLegal}
 use Rattle.ssz_schema.specs.Paths.{field_type, field_number}
 use Rattle.ssz_schema.proofs.WalkFields.{drop_at}
@@ -23,8 +23,8 @@ use Rattle.ssz_value.proofs.ValueLemmas.{seq_is}
 use Rattle.ssz_value.proofs.SizeLaw.{default_fits}
 use Rattle.ssz_value.proofs.Sequences.{items-values}
 use Rattle.ssz_forms.specs.SameType.{same_type}
-use Rattle.ssz_forms.specs.Taking.{IsTaken, AreUpgraded, StandsUpgraded}
-use Rattle.ssz_forms.specs.Upgrades.{taken, field_value, upgraded, upgraded_fields}
+use Rattle.ssz_forms.specs.Taking.{IsFieldTaken, AreUpgraded, StandsUpgraded}
+use Rattle.ssz_forms.specs.Upgrades.{field_taken, field_value, upgraded, upgraded_fields}
 use Rattle.ssz_forms.proofs.TypesAlike.{type_alike}
 
 -- the first i fields are made
@@ -43,9 +43,9 @@ UpgradedSoFar-start trees old parts new = record { value = refl; are = λ rest a
 pub UpgradedSoFar-more : (trees : List SszType) (old : List Part) (parts : List Value)
     (new : List Part) (i : ℕ) (made more : List Value) (part : Part) (v : Value)
     → UpgradedSoFar trees old parts new i made → i < length new → part ≡ get_or new i part
-    → value_of v ≡ field_value (map value_of parts) (tree_at trees part.1)
-    (taken (fields_over trees old) part.0 (tree_at trees part.1))
-    → IsValue (tree_at trees part.1) v
+    → value_of v ≡ field_value (map value_of parts) (type_tree_at trees part.1)
+    (field_taken (fields_over trees old) part.0 (type_tree_at trees part.1))
+    → IsValue (type_tree_at trees part.1) v
     → more ≡ made ++ v ∷ [] → UpgradedSoFar trees old parts new (i + 1) more
 UpgradedSoFar-more trees old parts new i made more part v h below e stands fit is =
     let here = ap (λ ps. upgraded_fields (fields_over trees old) (map value_of parts)
@@ -80,13 +80,13 @@ UpgradedSoFar-end trees old parts new i made h all = record {
 
 -- a field that is taken is one of the values, and is one of the new field's type
 pub taken_part : (old : Fields) (parts : List Value) (name : List ℕ) (t : SszType)
-    → AreFields old parts → IsTaken parts t (taken old name t)
+    → AreFields old parts → IsFieldTaken parts t (field_taken old name t)
 taken_part no_fields parts name t fit = tt
 taken_part (field a u fs) [] name t fit = absurd fit
 taken_part (field a u fs) (v ∷ parts) name t fit =
     go (bytes_eq a name) (taken_part fs parts name t fit.1)
   where
-    equal : (b : Bool) → same_type u t ≡ b → IsTaken (v ∷ parts) t (cond b (Some 0) None)
+    equal : (b : Bool) → same_type u t ≡ b → IsFieldTaken (v ∷ parts) t (cond b (Some 0) None)
     equal true same = (
       omega arith,
       λ w here. subst (λ x. IsValue t x) (same_Some v w here)
@@ -95,19 +95,19 @@ taken_part (field a u fs) (v ∷ parts) name t fit =
     equal false same = tt
 
     later : (found : Option SszType) (k : ℕ)
-        → IsTaken parts t (option_and_then (λ x. cond (same_type x t) (Some k) None) found)
-        → IsTaken (v ∷ parts) t
+        → IsFieldTaken parts t (option_and_then (λ x. cond (same_type x t) (Some k) None) found)
+        → IsFieldTaken (v ∷ parts) t
         (option_and_then (λ x. cond (same_type x t) (Some (suc k)) None) found)
     later None k is = tt
     later (Some x) k is = shifted (same_type x t) is
       where
-        shifted : (b : Bool) → IsTaken parts t (cond b (Some k) None)
-            → IsTaken (v ∷ parts) t (cond b (Some (suc k)) None)
+        shifted : (b : Bool) → IsFieldTaken parts t (cond b (Some k) None)
+            → IsFieldTaken (v ∷ parts) t (cond b (Some (suc k)) None)
         shifted true is = (omega (arith, is.0), is.1)
         shifted false is = tt
 
-    go : (b : Bool) → IsTaken parts t (taken fs name t)
-        → IsTaken (v ∷ parts) t (option_and_then
+    go : (b : Bool) → IsFieldTaken parts t (field_taken fs name t)
+        → IsFieldTaken (v ∷ parts) t (option_and_then
         (λ x. cond (same_type x t) (Some (cond b 0 (suc (field_number fs name)))) None)
         (cond b (Some u) (field_type fs name)))
     go true rest = equal (same_type u t) refl
@@ -132,7 +132,7 @@ plain_done s t old new value parts made is_old is_new is done = record {
 
 -- a copy of a part that is taken is one of the new field's type
 pub copy_is : (parts : List Value) (t : SszType) (k : ℕ) (v : Value)
-    → IsTaken parts t (Some k) → v ≡ get_or parts k v → (result : Result Value AllocError)
+    → IsFieldTaken parts t (Some k) → v ≡ get_or parts k v → (result : Result Value AllocError)
     → IfOk result (IsCopy v) → IfOk result (IsValue t)
 copy_is parts t k v is at result copied =
     let old = is.1 v (slice_get_read parts (length parts) k v refl is.0 at) in

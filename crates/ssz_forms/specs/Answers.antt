@@ -5,7 +5,7 @@ use Rattle.std.specs.declared.cmp.Ordering.{Ordering}
 use Rattle.std.specs.Ordering.{ordering_then, nat_cmp}
 use Rattle.std.specs.declared.alloc.AllocError.{AllocError}
 use Rattle.ssz_schema.specs.Types.{SszType}
-use Rattle.ssz_schema.specs.Unfolding.{Types, type_of, tree_at}
+use Rattle.ssz_schema.specs.Unfolding.{Types, type_of, type_tree_at}
 use Rattle.ssz_forms.specs.declared.forms.Forms.{Forms}
 use Rattle.ssz_forms.specs.SameType.{same_type}
 
@@ -23,7 +23,7 @@ pub record AreRight (types : Types) (forms : Forms) : Type 0 where
 abbrev pub same_option : List SszType → Option ℕ → Option ℕ → Bool
 same_option trees None None = true
 same_option trees (Some first) (Some second) =
-    same_type (tree_at trees first) (tree_at trees second)
+    same_type (type_tree_at trees first) (type_tree_at trees second)
 same_option trees _ _ = false
 
 -- the answer, unless memory runs out; what is kept is right

@@ -19,8 +19,8 @@ use Rattle.ssz_forms.specs.Answers.{AreRight}
 use Rattle.ssz_forms.specs.Upgrades.{upgraded, upgraded_fields}
 
 -- the map has the number of each field by its name
-abbrev pub AreNumbers : List (List ℕ × ℕ) → BTreeMap (Vec ℕ Global) ℕ → Type 0
-AreNumbers fields numbers = (name : List ℕ)
+abbrev pub AreFieldNumbers : List (List ℕ × ℕ) → BTreeMap (Vec ℕ Global) ℕ → Type 0
+AreFieldNumbers fields numbers = (name : List ℕ)
     → lookup_name (names_in numbers) name ≡ position_from (λ part. bytes_eq part.0 name) 0 fields
 
 -- the number, unless memory runs out; what is kept of types is right
@@ -30,9 +30,9 @@ pub record FindsTaken (types : Types) (number : Option ℕ) (result : Result (Op
   pub right : AreRight types new
 
 -- the value at this number, if any, is one of the type
-abbrev pub IsTaken : List Value → SszType → Option ℕ → Type 0
-IsTaken parts t None = Unit {0}
-IsTaken parts t (Some k) =
+abbrev pub IsFieldTaken : List Value → SszType → Option ℕ → Type 0
+IsFieldTaken parts t None = Unit {0}
+IsFieldTaken parts t (Some k) =
     (k < length parts) × ((v : Value) → slice_get parts k ≡ Some v → IsValue t v)
 
 -- the values stand for the upgraded fields, and each is one of its type
@@ -47,7 +47,7 @@ pub record StandsUpgraded (s : SszType) (v : SszValue) (t : SszType) (new : Valu
   pub is : IsValue t new
 
 -- the upgraded value, or why there is none
-abbrev pub Upgrades : SszType → SszValue → SszType → Result Value UpgradeFault → Type 0
-Upgrades s v t (Ok new) = StandsUpgraded s v t new
-Upgrades s v t (Err NotContainer) = upgraded s v t ≡ Err NotContainer
-Upgrades s v t (Err Memory) = Unit {0}
+abbrev pub UpgradesValue : SszType → SszValue → SszType → Result Value UpgradeFault → Type 0
+UpgradesValue s v t (Ok new) = StandsUpgraded s v t new
+UpgradesValue s v t (Err NotContainer) = upgraded s v t ≡ Err NotContainer
+UpgradesValue s v t (Err Memory) = Unit {0}

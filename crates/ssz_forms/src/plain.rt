@@ -3,7 +3,7 @@ ghost use Rattle.std.specs.List.{AllByRecursion};
 ghost use Rattle.ssz_schema.specs.Unfolding.{type_of, fields_over};
 ghost use Rattle.ssz_value.specs.Standing.{value_of, IsValue, Stands};
 ghost use Rattle.ssz_value.specs.Shapes.{AreFields};
-ghost use Rattle.ssz_forms.specs.Taking.{IsTaken, Upgrades, AreUpgraded};
+ghost use Rattle.ssz_forms.specs.Taking.{IsFieldTaken, UpgradesValue, AreUpgraded};
 ghost use Rattle.ssz_forms.specs.Upgrades.{field_value, all_taken};
 
 use super::taking::fields_taken;
@@ -25,7 +25,7 @@ pub fn plain_upgrade(
     requires from { from < length schema.now.trees }
     requires to { to < length schema.now.trees }
     requires value { IsValue (type_of schema.now from) value.now }
-    ensures { Upgrades (type_of schema.now from) (value_of value.now) (type_of schema.now to)
+    ensures { UpgradesValue (type_of schema.now from) (value_of value.now) (type_of schema.now to)
         result }
 {
     let Ty::Container(old) = schema.ty(from) else {
@@ -83,7 +83,7 @@ fn upgraded_part(
     taken: Option<usize>,
 ) -> Result<Value, AllocError>
     requires known { id < length schema.now.trees }
-    requires taken { IsTaken parts.now (type_of schema.now id) taken }
+    requires taken { IsFieldTaken parts.now (type_of schema.now id) taken }
     ensures stands { let t = type_of schema.now id in
         IfOk result (Stands t (field_value (map value_of parts.now) t taken)) }
     ensures is { IfOk result (IsValue (type_of schema.now id)) }

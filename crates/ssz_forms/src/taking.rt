@@ -1,9 +1,9 @@
 ghost use Rattle.std.specs.Prelude.{◌≡◌, ◌<◌, length, IfOk};
 ghost use Rattle.std.specs.List.{AllByRecursion};
-ghost use Rattle.ssz_schema.specs.Unfolding.{tree_at, fields_over};
+ghost use Rattle.ssz_schema.specs.Unfolding.{type_tree_at, fields_over};
 ghost use Rattle.ssz_forms.specs.Answers.{AreRight};
-ghost use Rattle.ssz_forms.specs.Taking.{AreNumbers, FindsTaken};
-ghost use Rattle.ssz_forms.specs.Upgrades.{taken, all_taken};
+ghost use Rattle.ssz_forms.specs.Taking.{AreFieldNumbers, FindsTaken};
+ghost use Rattle.ssz_forms.specs.Upgrades.{field_taken, all_taken};
 
 use super::forms::Forms;
 use ssz_schema::{Name, Schema, TypeId};
@@ -42,13 +42,13 @@ fn field_taken(
     old: &[(Name, TypeId)],
     field: &(Name, TypeId),
 ) -> Result<Option<usize>, AllocError>
-    requires numbers { AreNumbers old.now numbers.now }
+    requires numbers { AreFieldNumbers old.now numbers.now }
     requires old { AllByRecursion (λ part. part.1 < length schema.now.trees) old.now }
     requires field { field.now.1 < length schema.now.trees }
     requires right { AreRight schema.now forms.old }
     ensures { FindsTaken schema.now
-        (taken (fields_over schema.now.trees old.now) field.now.0
-        (tree_at schema.now.trees field.now.1)) result forms.new }
+        (field_taken (fields_over schema.now.trees old.now) field.now.0
+        (type_tree_at schema.now.trees field.now.1)) result forms.new }
 {
     match numbers.get(field.0.as_bytes()).copied() {
         Some(number) => {
@@ -64,7 +64,7 @@ fn field_numbers(
     alloc: Global,
     fields: &[(Name, TypeId)],
 ) -> Result<BTreeMap<Vec<u8>, usize>, AllocError>
-    ensures { IfOk result (AreNumbers fields.now) }
+    ensures { IfOk result (AreFieldNumbers fields.now) }
 {
     let mut numbers = BTreeMap::new(alloc);
     let mut i = fields.len();

@@ -5,7 +5,7 @@ use Rattle.std.specs.declared.cmp.Ordering.TheVariants.{Less, Equal, Greater}
 use Rattle.std.specs.Ordering.{nat_cmp, is_lt}
 use Rattle.std.proofs.lemmas.List.{get_or_default}
 use Rattle.std.proofs.lemmas.Bool.{cases_eq, cases_lt, lt-ltb, le-ltb, cond-true, cond-false}
-use Rattle.ssz_gindex.specs.Helpers.{is_within, AreNested, AreNamed}
+use Rattle.ssz_gindex.specs.Helpers.{is_within, AreNested, AreGreatestNested}
 use Rattle.ssz_gindex.specs.Walk.{IsUpper}
 use Rattle.ssz_gindex.proofs.Within.{within_least}
 
@@ -90,7 +90,7 @@ lowest-greater indices upper lowest i index greater small here is within e =
 
 pub lowest-all : (indices : List ℕ) (upper lowest i : ℕ) → length indices ≤ i
     → IsUpper indices upper
-    → IsLowest indices upper lowest i → AreNamed indices upper lowest
+    → IsLowest indices upper lowest i → AreGreatestNested indices upper lowest
 lowest-all indices upper lowest i all is_upper is =
     let reach : (d : ℕ) → AreNested indices upper d → d ≤ lowest = (λ d nested.
     let place = nested.lower in

@@ -9,19 +9,19 @@ use Rattle.ssz_schema.specs.declared.format.Format.TheVariants.{One, Two}
 use Rattle.ssz_schema.specs.declared.path.PathStep.{PathStep}
 use Rattle.ssz_schema.specs.declared.path.PathStep.TheVariants.{Field}
 use Rattle.ssz_schema.specs.Types.{SszType, uint, boolean, container, vector, list, bitvector, bitlist, union}
-use Rattle.ssz_schema.specs.Sizes.{levels}
+use Rattle.ssz_schema.specs.Sizes.{type_levels}
 use Rattle.ssz_schema.specs.Legal.{IsLegal, IsWithinLimits}
 use Rattle.ssz_schema.specs.Paths.{Path, step_type}
 use Rattle.ssz_schema.specs.Indices.{step_levels, step_position, step_index, generalized_index, generalized_index_from}
 use Rattle.ssz_schema.specs.Steps.{lead_number}
 use Rattle.ssz_gindex.proofs.StepRoom.{step_room}
 
-few_levels : (format : Format) (t : SszType) → IsWithinLimits format t → levels t ≤ 126
+few_levels : (format : Format) (t : SszType) → IsWithinLimits format t → type_levels t ≤ 126
 few_levels One t limits = omega (arith, limits.levels)
 few_levels Two t limits = limits.levels
 
 -- a legal type has few levels
-pub legal_levels : (format : Format) (t : SszType) → IsLegal format t → levels t ≤ 126
+pub legal_levels : (format : Format) (t : SszType) → IsLegal format t → type_levels t ≤ 126
 legal_levels format (uint w) legal = omega arith
 legal_levels format boolean legal = omega arith
 legal_levels format (container fs) legal = few_levels format (container fs) legal.3
@@ -36,15 +36,15 @@ pub record IsAlong (t : SszType) (path : Path) (index : ℕ) (u : SszType)
     (rest : Path) : Type 0 where
   pub same : generalized_index t path ≡ generalized_index_from index u rest
   pub some : 0 < index
-  pub room : (index + 1) * 2 ^ levels u ≤ 2 ^ 127
+  pub room : (index + 1) * 2 ^ type_levels u ≤ 2 ^ 127
 
-pub along-start : (t : SszType) (path : Path) → levels t ≤ 126 → IsAlong t path 1 t path
+pub along-start : (t : SszType) (path : Path) → type_levels t ≤ 126 → IsAlong t path 1 t path
 along-start t path few = record {
   same = refl;
   some = omega arith;
-  room = let most : 2 ^ (1 + levels t) ≤ 2 ^ 127 =
-      pow-le-pow_right (omega arith) (let le : 1 + levels t ≤ 127 = omega arith in le) in
-      omega (arith, most, pow-add 2 1 (levels t));
+  room = let most : 2 ^ (1 + type_levels t) ≤ 2 ^ 127 =
+      pow-le-pow_right (omega arith) (let le : 1 + type_levels t ≤ 127 = omega arith in le) in
+      omega (arith, most, pow-add 2 1 (type_levels t));
 }
 
 pub along-step : (t : SszType) (path : Path) (index : ℕ) (u : SszType) (step : PathStep)

@@ -10,7 +10,7 @@ use Rattle.std.proofs.lemmas.List.{length-append, append_assoc, take-append-drop
 use Rattle.ssz_gindex.specs.Helpers.{helpers}
 use Rattle.ssz_gindex.specs.Laws.{IsDescending, contains}
 use Rattle.ssz_gindex.specs.Faults.{AreHelpers}
-use Rattle.ssz_gindex.specs.Walk.{IsUpper, Walks, Met}
+use Rattle.ssz_gindex.specs.Walk.{IsUpper, WalksHelpers, Met}
 use Rattle.ssz_gindex.proofs.HelperLists.{lacks, at_most_first, has_first, contains-helpers, IsDescending-helpers}
 
 -- a descending list begins with another one that has just those of its numbers that are not below
@@ -63,7 +63,7 @@ longer xs a more e = absurd (omega (arith, ap (λ ns. length ns) e, length-appen
 
 -- another helper comes next
 pub other-helper : (indices : List ℕ) (new : BTreeSet ℕ) (found : List ℕ) (helper node : ℕ)
-    → Walks indices new (found ++ helper ∷ [])
+    → WalksHelpers indices new (found ++ helper ∷ [])
     → helper ≢ node → (rest : List ℕ) → AreHelpers indices (found ++ node ∷ rest) → ⊥
 other-helper indices new found helper node walks other rest are =
     let front = front-helpers indices (has nat_cmp new) (found ++ helper ∷ []) walks.0 walks.1 in
@@ -72,7 +72,7 @@ other-helper indices new found helper node walks other rest are =
 
 -- a helper is left
 pub more-helpers : (indices : List ℕ) (new : BTreeSet ℕ) (found : List ℕ) (helper : ℕ)
-    → Walks indices new (found ++ helper ∷ [])
+    → WalksHelpers indices new (found ++ helper ∷ [])
     → AreHelpers indices found → ⊥
 more-helpers indices new found helper walks are =
     let front = front-helpers indices (has nat_cmp new) (found ++ helper ∷ []) walks.0 walks.1 in
@@ -102,8 +102,8 @@ take-next nodes i node below is =
 
 -- what the end of a walk tells of all nodes
 pub ends-all : (indices nodes : List ℕ) (set : BTreeSet ℕ) (answer : Result Bool AllocError)
-    → Walks indices set nodes
-    → IfOk answer (λ same. (others found : List ℕ) → Walks others set found
+    → WalksHelpers indices set nodes
+    → IfOk answer (λ same. (others found : List ℕ) → WalksHelpers others set found
     → (IsTrue same ↔ AreHelpers others found))
     → IfOk answer (λ same. IsTrue same ↔ AreHelpers indices nodes)
 ends-all indices nodes set (Ok same) walks tells = tells indices nodes walks

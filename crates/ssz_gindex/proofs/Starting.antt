@@ -7,7 +7,7 @@ use Rattle.std.specs.BTreeSet.{BTreeSet, contains as has, Updates}
 use Rattle.std.proofs.lemmas.Bool.{cases_eq, or_cases, eqb-true, false≢true}
 use Rattle.ssz_gindex.specs.Helpers.{sibling, greatest}
 use Rattle.ssz_gindex.specs.Laws.{contains}
-use Rattle.ssz_gindex.specs.Walk.{Walks}
+use Rattle.ssz_gindex.specs.Walk.{WalksHelpers}
 use Rattle.ssz_gindex.proofs.Within.{on_paths-small, within_self, on_paths_from}
 use Rattle.ssz_gindex.proofs.Walking.{contains_from, contains-append, append-front, append-last, helper_is, sibling_near}
 use Rattle.ssz_gindex.proofs.NodeSets.{changed-there, changed-other}
@@ -63,7 +63,8 @@ contains-small (i ∷ indices) k e = elim (or_cases (eqb i k) (contains indices 
 ]
 
 -- nothing was met, and no helper was found
-pub starts : (indices : List ℕ) (set : BTreeSet ℕ) → Gathered indices set → Walks indices set []
+pub starts : (indices : List ℕ) (set : BTreeSet ℕ) → Gathered indices set
+    → WalksHelpers indices set []
 starts indices set gathered = (
   2 * (greatest indices + 1),
   record {
@@ -106,7 +107,7 @@ gathered-next indices set new i index some below is gathered inserts =
 
 pub gathered-all : (indices : List ℕ) (set : BTreeSet ℕ) (i : ℕ) → i ≡ length indices
     → Gathered (take i indices) set
-    → Walks indices set []
+    → WalksHelpers indices set []
 gathered-all indices set i all gathered =
     let whole : take i indices ≡ indices = ap (λ n. take n indices) all ∙ take-length indices in
     starts indices set (subst (λ (xs : List ℕ). Gathered xs set) whole gathered)

@@ -5,7 +5,7 @@ use Rattle.std.proofs.Math.Nat.{mul-le-mul_left, mul-le-mul_right, pow-le-pow_ri
 use Rattle.std.proofs.lemmas.Bool.{false≢true}
 use Rattle.ssz_schema.specs.declared.path.PathStep.{PathStep}
 use Rattle.ssz_schema.specs.Types.{SszType}
-use Rattle.ssz_schema.specs.Sizes.{levels}
+use Rattle.ssz_schema.specs.Sizes.{type_levels}
 use Rattle.ssz_schema.specs.Paths.{step_type}
 use Rattle.ssz_schema.specs.Indices.{step_levels, step_position, step_index}
 use Rattle.ssz_schema.proofs.PathLemmas.{step-levels, step-below}
@@ -14,33 +14,33 @@ pub record HasStepRoom (k : ℕ) (t u : SszType) (step : PathStep) : Type 0 wher
   pub power : 2 ^ step_levels t step ≤ 2 ^ 127
   pub room : (k + 1) * 2 ^ step_levels t step ≤ 2 ^ 127
   pub place : step_position t step < 2 ^ step_levels t step
-  pub next : (step_index k t step + 1) * 2 ^ levels u ≤ 2 ^ 127
+  pub next : (step_index k t step + 1) * 2 ^ type_levels u ≤ 2 ^ 127
 
-pub step_room : (k : ℕ) (t u : SszType) (step : PathStep) → (k + 1) * 2 ^ levels t ≤ 2 ^ 127
+pub step_room : (k : ℕ) (t u : SszType) (step : PathStep) → (k + 1) * 2 ^ type_levels t ≤ 2 ^ 127
     → step_type t step ≡ Some u → HasStepRoom k t u step
 step_room k t u step whole fits =
-    let down : step_levels t step + levels u ≤ levels t = step-levels t step u fits in
-    let less : step_levels t step ≤ levels t = omega arith in
-    let power : 2 ^ step_levels t step ≤ 2 ^ levels t = pow-le-pow_right (omega arith) less in
-    let room : (k + 1) * 2 ^ step_levels t step ≤ (k + 1) * 2 ^ levels t =
+    let down : step_levels t step + type_levels u ≤ type_levels t = step-levels t step u fits in
+    let less : step_levels t step ≤ type_levels t = omega arith in
+    let power : 2 ^ step_levels t step ≤ 2 ^ type_levels t = pow-le-pow_right (omega arith) less in
+    let room : (k + 1) * 2 ^ step_levels t step ≤ (k + 1) * 2 ^ type_levels t =
     mul-le-mul_left (k + 1) power in
     let one : 1 ≤ k + 1 = omega arith in
     let single : 1 * 2 ^ step_levels t step ≤ (k + 1) * 2 ^ step_levels t step =
     mul-le-mul_right (2 ^ step_levels t step) one in
     let below : step_position t step < 2 ^ step_levels t step = step-below t step u fits in
     let index : step_index k t step + 1 ≤ (k + 1) * 2 ^ step_levels t step = omega arith in
-    let deep : 2 ^ (step_levels t step + levels u) ≤ 2 ^ levels t =
+    let deep : 2 ^ (step_levels t step + type_levels u) ≤ 2 ^ type_levels t =
     pow-le-pow_right (omega arith) down in
-    let all : (k + 1) * 2 ^ (step_levels t step + levels u) ≤ (k + 1) * 2 ^ levels t =
+    let all : (k + 1) * 2 ^ (step_levels t step + type_levels u) ≤ (k + 1) * 2 ^ type_levels t =
     mul-le-mul_left (k + 1) deep in
-    let joined : (k + 1) * 2 ^ (step_levels t step + levels u)
-    ≡ (k + 1) * (2 ^ step_levels t step * 2 ^ levels u) =
-    ap (λ n. (k + 1) * n) (pow-add 2 (step_levels t step) (levels u)) in
+    let joined : (k + 1) * 2 ^ (step_levels t step + type_levels u)
+    ≡ (k + 1) * (2 ^ step_levels t step * 2 ^ type_levels u) =
+    ap (λ n. (k + 1) * n) (pow-add 2 (step_levels t step) (type_levels u)) in
     record {
       power = omega (arith, single, room, whole);
       room = omega (arith, room, whole);
       place = below;
-      next = omega (arith, mul-le-mul_right (2 ^ levels u) index, all, joined, whole);
+      next = omega (arith, mul-le-mul_right (2 ^ type_levels u) index, all, joined, whole);
     }
 
 -- a type that is there

@@ -2,12 +2,12 @@
 use Rattle.std.specs.Prelude.{ℕ, ◌≡◌, List}
 use Rattle.ssz_gindex.specs.declared.fault.HelperFault.{HelperFault}
 use Rattle.ssz_gindex.specs.declared.fault.HelperFault.TheVariants.{Nested, Memory}
-use Rattle.ssz_gindex.specs.Helpers.{helpers, AreFlat, AreNamed}
+use Rattle.ssz_gindex.specs.Helpers.{helpers, AreFlat, AreGreatestNested}
 
 -- two nested indices, of which it is settled; want of memory says nothing
-abbrev pub IsFault : List ℕ → HelperFault → Type 0
-IsFault indices (Nested a b) = AreNamed indices a b
-IsFault indices Memory = Unit {0}
+abbrev pub IsHelperFault : List ℕ → HelperFault → Type 0
+IsHelperFault indices (Nested a b) = AreGreatestNested indices a b
+IsHelperFault indices Memory = Unit {0}
 
 -- no index is an ancestor of another, and these nodes are the helper indices
 pub record AreHelpers (indices nodes : List ℕ) : Type 0 where

@@ -45,7 +45,7 @@ abbrev pub AreFlat : List ℕ → Type 0
 AreFlat indices = (a b : ℕ) → AreNested indices a b → ⊥
 
 -- the greatest index that is an ancestor of another, and the greatest of those below it
-pub record AreNamed (indices : List ℕ) (a b : ℕ) : Type 0 where
+pub record AreGreatestNested (indices : List ℕ) (a b : ℕ) : Type 0 where
   pub nested : AreNested indices a b
   pub upper : (c d : ℕ) → AreNested indices c d → c ≤ a
   pub lower : (d : ℕ) → AreNested indices a d → d ≤ b

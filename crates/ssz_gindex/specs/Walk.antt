@@ -35,8 +35,8 @@ pub record Met (indices : List ℕ) (waiting : ℕ → Bool) (found : List ℕ) 
   pub all : (k : ℕ) → is_helper indices k ≡ true → bound ≤ k → contains found k ≡ true
 
 -- a walk with these nodes waiting, which has found these helpers
-abbrev pub Walks : List ℕ → BTreeSet ℕ → List ℕ → Type 0
-Walks indices waiting found = (bound : ℕ) × Met indices (has nat_cmp waiting) found bound
+abbrev pub WalksHelpers : List ℕ → BTreeSet ℕ → List ℕ → Type 0
+WalksHelpers indices waiting found = (bound : ℕ) × Met indices (has nat_cmp waiting) found bound
 
 -- the greatest index that is an ancestor of another
 pub record IsUpper (indices : List ℕ) (a : ℕ) : Type 0 where
@@ -44,10 +44,11 @@ pub record IsUpper (indices : List ℕ) (a : ℕ) : Type 0 where
   pub greatest : (c d : ℕ) → AreNested indices c d → c ≤ a
 
 -- the walk comes to one more helper, to its end, or to an index that is an ancestor of another
-abbrev pub Comes : List ℕ → List ℕ → BTreeSet ℕ → Step → Type 0
-Comes indices found waiting (Helper helper) = Walks indices waiting (found ++ helper ∷ [])
-Comes indices found waiting Root = (found ≡ helpers indices) × AreFlat indices
-Comes indices found waiting (Nested a) = IsUpper indices a
+abbrev pub WalkReaches : List ℕ → List ℕ → BTreeSet ℕ → Step → Type 0
+WalkReaches indices found waiting (Helper helper) =
+    WalksHelpers indices waiting (found ++ helper ∷ [])
+WalkReaches indices found waiting Root = (found ≡ helpers indices) × AreFlat indices
+WalkReaches indices found waiting (Nested a) = IsUpper indices a
 
 -- where it comes to a helper, it is nearer to the root
 abbrev pub GoesUp : BTreeSet ℕ → BTreeSet ℕ → Step → Type 0

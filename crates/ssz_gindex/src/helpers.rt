@@ -1,7 +1,7 @@
 ghost use Rattle.std.specs.Prelude.{◌≡◌, ◌↔◌, ◌++◌, ℕ, List, [], ◌∷◌, IfOk, OnOk, IfErr, IsTrue, false};
-ghost use Rattle.ssz_gindex.specs.Helpers.{helpers, AreFlat, AreNamed};
-ghost use Rattle.ssz_gindex.specs.Faults.{IsFault, AreHelpers};
-ghost use Rattle.ssz_gindex.specs.Walk.{IsUpper, Walks};
+ghost use Rattle.ssz_gindex.specs.Helpers.{helpers, AreFlat, AreGreatestNested};
+ghost use Rattle.ssz_gindex.specs.Faults.{IsHelperFault, AreHelpers};
+ghost use Rattle.ssz_gindex.specs.Walk.{IsUpper, WalksHelpers};
 
 use super::fault::HelperFault;
 use super::gindex::Gindex;
@@ -17,7 +17,7 @@ use std::alloc::{AllocError, Global};
 pub fn helper_indices(alloc: Global, indices: &[Gindex]) -> Result<Vec<Gindex>, HelperFault>
     ensures helpers { IfOk result (λ list. list.items ≡ helpers indices.now) }
     ensures flat { OnOk result (AreFlat indices.now) }
-    ensures fault { IfErr result (IsFault indices.now) }
+    ensures fault { IfErr result (IsHelperFault indices.now) }
 {
     let mut walk = Walk::start(alloc, indices)?;
     let mut found = Vec::new(alloc);
@@ -50,10 +50,10 @@ pub fn are_helpers(alloc: Global, indices: &[Gindex], nodes: &[Gindex]) -> Resul
 // Whether the walk comes to this helper next.
 fn next_is(walk: &mut Walk, node: Gindex) -> Result<bool, AllocError>
     ensures same { IfOk result (λ same. IsTrue same → (indices found : List ℕ)
-        → Walks indices walk.old.waiting found
-        → Walks indices walk.new.waiting (found ++ node ∷ [])) }
+        → WalksHelpers indices walk.old.waiting found
+        → WalksHelpers indices walk.new.waiting (found ++ node ∷ [])) }
     ensures other { IfOk result (λ same. same ≡ false → (indices found : List ℕ)
-        → Walks indices walk.old.waiting found
+        → WalksHelpers indices walk.old.waiting found
         → (rest : List ℕ) → AreHelpers indices (found ++ node ∷ rest) → ⊥) }
 {
     match walk.step()? {
@@ -65,7 +65,8 @@ fn next_is(walk: &mut Walk, node: Gindex) -> Result<bool, AllocError>
 // Whether the walk has no more helper, and comes to no index that is an ancestor of another.
 fn is_at_root(walk: &mut Walk) -> Result<bool, AllocError>
     ensures { IfOk result (λ answer. (indices found : List ℕ)
-        → Walks indices walk.old.waiting found → (IsTrue answer ↔ AreHelpers indices found)) }
+        → WalksHelpers indices walk.old.waiting found
+        → (IsTrue answer ↔ AreHelpers indices found)) }
 {
     match walk.step()? {
         Step::Root => Ok(true),
@@ -76,7 +77,7 @@ fn is_at_root(walk: &mut Walk) -> Result<bool, AllocError>
 // The greatest index below another one that is an ancestor of some.
 fn greatest_below(indices: &[Gindex], upper: Gindex) -> Gindex
     requires { IsUpper indices.now upper }
-    ensures { AreNamed indices.now upper result }
+    ensures { AreGreatestNested indices.now upper result }
 {
     let mut lowest = upper;
     for index in indices {

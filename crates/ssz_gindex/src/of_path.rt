@@ -2,7 +2,7 @@
 ghost use Rattle.std.specs.Prelude.{◌≡◌, ◌+◌, ◌*◌, ◌<◌, ◌≤◌, ◌^◌, length, IsSome};
 ghost use Rattle.std.specs.Option.{ForSome};
 ghost use Rattle.ssz_schema.specs.Unfolding.{type_of};
-ghost use Rattle.ssz_schema.specs.Sizes.{levels};
+ghost use Rattle.ssz_schema.specs.Sizes.{type_levels};
 ghost use Rattle.ssz_schema.specs.declared.path.PathStep.TheVariants.{Index};
 ghost use Rattle.ssz_schema.specs.Paths.{step_type};
 ghost use Rattle.ssz_schema.specs.Steps.{lead_number};
@@ -39,7 +39,7 @@ impl Gindex {
     pub fn step(self, schema: &Schema, id: TypeId, step: &PathStep) -> Gindex
         requires known { id < length schema.now.trees }
         requires fits { IsSome (step_type (type_of schema.now id) step.now) }
-        requires room { (self + 1) * 2 ^ levels (type_of schema.now id) ≤ 2 ^ 127 }
+        requires room { (self + 1) * 2 ^ type_levels (type_of schema.now id) ≤ 2 ^ 127 }
         ensures { result ≡ step_index self (type_of schema.now id) step.now }
     {
         match schema.lead(id, step) {
@@ -56,7 +56,7 @@ impl Gindex {
         requires known { id < length schema.now.trees }
         requires fits { IsSome (step_type (type_of schema.now id) step.now) }
         requires number { number ≡ lead_number step.now (type_of schema.now id) }
-        requires room { (self + 1) * 2 ^ levels (type_of schema.now id) ≤ 2 ^ 127 }
+        requires room { (self + 1) * 2 ^ type_levels (type_of schema.now id) ≤ 2 ^ 127 }
         ensures { result ≡ step_index self (type_of schema.now id) step.now }
     {
         let levels = step_levels(schema, id, step);

@@ -1,7 +1,7 @@
 // The nodes on the paths to some indices, from the greatest to the root, by which their helpers
 // are found in order.
 ghost use Rattle.std.specs.Prelude.{ℕ, List, [], IfOk};
-ghost use Rattle.ssz_gindex.specs.Walk.{Walks, Comes, GoesUp};
+ghost use Rattle.ssz_gindex.specs.Walk.{WalksHelpers, WalkReaches, GoesUp};
 
 use super::gindex::Gindex;
 use std::alloc::{AllocError, Global};
@@ -28,7 +28,7 @@ pub enum Step {
 impl Walk {
     /// The walk up from these indices.
     pub fn start(alloc: Global, indices: &[Gindex]) -> Result<Walk, AllocError>
-        ensures { IfOk result (λ walk. Walks indices.now walk.waiting []) }
+        ensures { IfOk result (λ walk. WalksHelpers indices.now walk.waiting []) }
     {
         let mut waiting = BTreeSet::new(alloc);
         for index in indices {
@@ -42,7 +42,8 @@ impl Walk {
     /// Goes up to the next helper, in descending order.
     pub fn step(&mut self) -> Result<Step, AllocError>
         ensures comes { IfOk result (λ step. (indices found : List ℕ)
-            → Walks indices self.old.waiting found → Comes indices found self.new.waiting step) }
+            → WalksHelpers indices self.old.waiting found
+            → WalkReaches indices found self.new.waiting step) }
         ensures up { IfOk result (GoesUp self.old.waiting self.new.waiting) }
     {
         while let Some(node) = self.waiting.pop_last() {

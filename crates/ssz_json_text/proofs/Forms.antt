@@ -4,7 +4,7 @@ use Rattle.serde_json.specs.Data.{array, object, string}
 use Rattle.serde_json.specs.View.{items_of}
 use Rattle.serde_json.specs.Written.{compact_text}
 use Rattle.ssz_schema.specs.Types.{SszType, Fields, union, container}
-use Rattle.ssz_schema.specs.Unfolding.{tree_at, options_over}
+use Rattle.ssz_schema.specs.Unfolding.{type_tree_at, options_over}
 use Rattle.ssz_value.specs.declared.value.Value.{Value}
 use Rattle.ssz_value.specs.declared.value.Value.TheVariants.{Bytes, Seq}
 use Rattle.ssz_value.specs.declared.value.Value.TheOpen.{Seq as SeqF}
@@ -51,11 +51,11 @@ bytes_json elem v run is h =
 -- the JSON of the value of an option
 pub option_json_at : (trees : List SszType) (ids : List (Option ℕ)) (k id : ℕ) (w : SszValue)
     → Some (Some id) ≡ slice_get ids k
-    → option_json (options_over trees ids) k w ≡ json_of (tree_at trees id) w
+    → option_json (options_over trees ids) k w ≡ json_of (type_tree_at trees id) w
 option_json_at trees [] k id w e = cc
 option_json_at trees (None ∷ ids) zero id w e = cc
 option_json_at trees (Some other ∷ ids) zero id w e = let same : other ≡ id = cc in
-    ap (λ n. json_of (tree_at trees n) w) same
+    ap (λ n. json_of (type_tree_at trees n) w) same
 option_json_at trees (None ∷ ids) (suc k) id w e = option_json_at trees ids k id w e
 option_json_at trees (Some other ∷ ids) (suc k) id w e = option_json_at trees ids k id w e
 
@@ -63,7 +63,7 @@ option_json_at trees (Some other ∷ ids) (suc k) id w e = option_json_at trees 
 pub chosen_text : (trees : List SszType) (ids : List (Option ℕ)) (v : Value) (k id : ℕ)
     (w : SszValue) → value_of v ≡ chosen k w → Some (Some id) ≡ slice_get ids k
     → json (union (options_over trees ids)) (value_of v)
-    ≡ 91 ∷ (decimal k ++ 44 ∷ (json (tree_at trees id) w ++ 93 ∷ []))
+    ≡ 91 ∷ (decimal k ++ 44 ∷ (json (type_tree_at trees id) w ++ 93 ∷ []))
 chosen_text trees ids v k id w is here =
     ap (json (union (options_over trees ids))) is
     ∙ ap (λ d. 91 ∷ (decimal k ++ 44 ∷ (compact_text d ++ 93 ∷ [])))
@@ -78,9 +78,9 @@ none_text trees ids v k is = ap (json (union (options_over trees ids))) is
 pub chosen_length : (trees : List SszType) (ids : List (Option ℕ)) (v : Value) (k id : ℕ)
     (w : SszValue) → value_of v ≡ chosen k w → Some (Some id) ≡ slice_get ids k
     → length (json (union (options_over trees ids)) (value_of v))
-    ≡ length (decimal k) + length (json (tree_at trees id) w) + 3
+    ≡ length (decimal k) + length (json (type_tree_at trees id) w) + 3
 chosen_length trees ids v k id w is here =
-    let text = json (tree_at trees id) w in
+    let text = json (type_tree_at trees id) w in
     ap length (chosen_text trees ids v k id w is here)
     ∙ omega (
       arith,

@@ -20,7 +20,7 @@ use Rattle.ssz_schema.specs.Types.{SszType, Fields, container, no_fields, field}
 use Rattle.ssz_schema.specs.Legal.{IsLegal, field_names}
 use Rattle.ssz_schema.specs.Names.{IsName}
 use Rattle.ssz_schema.specs.Sizes.{field_count}
-use Rattle.ssz_schema.specs.Unfolding.{tree_at, fields_over}
+use Rattle.ssz_schema.specs.Unfolding.{type_tree_at, fields_over}
 use Rattle.ssz_value.specs.declared.value.Value.{Value}
 use Rattle.ssz_value.specs.Values.{SszValue}
 use Rattle.ssz_value.specs.Standing.{value_of}
@@ -219,14 +219,14 @@ pub FieldSumFrom-more : (trees : List SszType) (fields : List Part) (parts : Lis
     (i total next name text : ℕ) (part : Part) (v : Value)
     → FieldSumFrom trees fields parts i total → IsName part.0
     → i < length fields → i < length parts → part ≡ get_or fields i part → v ≡ get_or parts i v
-    → name ≡ length part.0 → text ≡ capped (length (json (tree_at trees part.1) (value_of v)))
+    → name ≡ length part.0 → text ≡ capped (length (json (type_tree_at trees part.1) (value_of v)))
     → next ≡ capped (total + capped (text + capped (name + 4)))
     → FieldSumFrom trees fields parts (i + 1) next
 FieldSumFrom-more trees fields parts i total next name text part v h named below within e is n s
     next_is =
     let quotes = length-quoted_plain part.0 (name_plain part.0 named) in
     let here : fields_size (fields_over trees (drop i fields)) (map value_of (drop i parts))
-    ≡ member_size part.0 (json_of (tree_at trees part.1) (value_of v)) + fields_size
+    ≡ member_size part.0 (json_of (type_tree_at trees part.1) (value_of v)) + fields_size
     (fields_over trees (drop (i + 1) fields)) (map value_of (drop (i + 1) parts)) =
     ap₂ (λ fs vs. fields_size (fields_over trees fs) (map value_of vs))
     (drop_at fields i part below e) (drop_at parts i v within is) in

@@ -8,7 +8,7 @@ use Rattle.serde_json.specs.Data.{Data, Members, member, put}
 use Rattle.serde_json.specs.View.{items_of}
 use Rattle.serde_json.specs.Written.{compact_text, items_text, members_text, comma_if}
 use Rattle.ssz_schema.specs.Types.{SszType}
-use Rattle.ssz_schema.specs.Unfolding.{tree_at, fields_over}
+use Rattle.ssz_schema.specs.Unfolding.{type_tree_at, fields_over}
 use Rattle.ssz_value.specs.declared.value.Value.{Value}
 use Rattle.ssz_value.specs.Values.{SszValue, number}
 use Rattle.ssz_value.specs.Standing.{value_of, IsValue}
@@ -68,7 +68,8 @@ members_moved k d b ms out one two new whole h comma key text =
 -- the JSON of the part of field i
 abbrev pub part_json : List SszType → List Part → List Value → ℕ → Data
 part_json trees fields parts i =
-    json_of (tree_at trees (get_or fields i ([], 0)).1) (get_or (map value_of parts) i (number 0))
+    json_of (type_tree_at trees (get_or fields i ([], 0)).1)
+    (get_or (map value_of parts) i (number 0))
 
 field_or : (fields : List Part) (i : ℕ) (f : Part) → i < length fields → f ≡ get_or fields i f
     → get_or fields i ([], 0) ≡ f
@@ -85,15 +86,15 @@ value_or (p ∷ parts) (suc i) v below here = value_or parts i v (omega arith) h
 pub part_json_at : (trees : List SszType) (fields : List Part) (parts : List Value) (i : ℕ)
     (f : Part) (v : Value) → i < length fields → i < length parts → f ≡ get_or fields i f
     → v ≡ get_or parts i v
-    → part_json trees fields parts i ≡ json_of (tree_at trees f.1) (value_of v)
+    → part_json trees fields parts i ≡ json_of (type_tree_at trees f.1) (value_of v)
 part_json_at trees fields parts i f v below within here is =
-    ap₂ (λ (p : Part) w. json_of (tree_at trees p.1) w) (field_or fields i f below here)
+    ap₂ (λ (p : Part) w. json_of (type_tree_at trees p.1) w) (field_or fields i f below here)
     (value_or parts i v within is)
 
 from_fields : (trees : List SszType) (fields : List Part) (ws : List SszValue) (part : ℕ → Data)
     (n : ℕ) → length fields ≡ length ws
     → ((k : ℕ) → k < length fields → part (n + k)
-    ≡ json_of (tree_at trees (get_or fields k ([], 0)).1) (get_or ws k (number 0)))
+    ≡ json_of (type_tree_at trees (get_or fields k ([], 0)).1) (get_or ws k (number 0)))
     → members_from part n fields ≡ members_json (fields_over trees fields) ws
 from_fields trees [] ws part n same is = refl
 from_fields trees (f ∷ fields) [] part n same is = absurd (omega arith)
@@ -117,12 +118,12 @@ members_of_fields trees fields parts same =
 pub value_at_field : (trees : List SszType) (fields : List Part) (parts : List Value) (i : ℕ)
     (f : Part) (v : Value) → AreFields (fields_over trees fields) parts → i < length fields
     → i < length parts → f ≡ get_or fields i f → v ≡ get_or parts i v
-    → IsValue (tree_at trees f.1) v
+    → IsValue (type_tree_at trees f.1) v
 value_at_field trees [] parts i f v all below within here is = absurd (omega arith)
 value_at_field trees (p ∷ fields) [] i f v all below within here is = absurd (omega arith)
 value_at_field trees (p ∷ fields) (w ∷ parts) zero f v all below within here is =
-    subst (λ (q : Part). IsValue (tree_at trees q.1) v) (sym here)
-    (subst (IsValue (tree_at trees p.1)) (sym is) all.0)
+    subst (λ (q : Part). IsValue (type_tree_at trees q.1) v) (sym here)
+    (subst (IsValue (type_tree_at trees p.1)) (sym is) all.0)
 value_at_field trees (p ∷ fields) (w ∷ parts) (suc i) f v all below within here is =
     value_at_field trees fields parts i f v all.1 (omega arith) (omega arith) here is
 

@@ -7,12 +7,12 @@ abbrev pub lane : ℕ → List (List ℕ) → List ℕ
 lane j vectors = map (λ vector. slice_index vector j) vectors
 
 -- the bytes at place i of a row
-abbrev pub bytes_at : List (List ℕ) → ℕ → List ℕ
-bytes_at row i = slice_index_or row i []
+abbrev pub lane_bytes : List (List ℕ) → ℕ → List ℕ
+lane_bytes row i = slice_index_or row i []
 
 -- message j: the bytes at two places that stand side by side
 abbrev pub message : List (List ℕ) → ℕ → List ℕ
-message row j = bytes_at row (2 * j) ++ bytes_at row (2 * j + 1)
+message row j = lane_bytes row (2 * j) ++ lane_bytes row (2 * j + 1)
 
 -- the block that the padding of 64 bytes fills: a bit 1, zeros, and the length in bits, 512
 abbrev pub padding_block : List ℕ

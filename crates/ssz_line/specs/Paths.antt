@@ -28,14 +28,14 @@ path_step text =
     else option_map Element (number_below (2 ^ 64) text)
 
 -- what stands between slashes
-abbrev pub parts_of : List ℕ → List (List ℕ)
-parts_of text = slice_split (λ b. b == 47) text
+abbrev pub path_parts : List ℕ → List (List ℕ)
+path_parts text = slice_split (λ b. b == 47) text
 
 -- `/` alone, the whole value; or one step or more, each after a `/`
 abbrev pub path : Reader (List PathStep)
 path word =
     if bytes_eq word (codes "/") then Some []
-    else if starts_with nat_eq word (codes "/") then read_all path_step (parts_of (drop 1 word))
+    else if starts_with nat_eq word (codes "/") then read_all path_step (path_parts (drop 1 word))
     else None
 
 -- a generalized index, a number below 2 ^ 128; or a path

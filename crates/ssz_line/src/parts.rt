@@ -1,6 +1,6 @@
 ghost use Rattle.std.specs.Prelude.{◌≡◌, ℕ, ◌<◌, ◌≤◌, ◌∷◌, ◌==◌, [], true, false, Some, None, length, slice_index, MatchOption};
 ghost use Rattle.std.specs.List.{slice_split};
-ghost use Rattle.ssz_line.specs.Paths.{parts_of};
+ghost use Rattle.ssz_line.specs.Paths.{path_parts};
 ghost use Rattle.ssz_line.specs.Parts.{parts_left};
 
 use std::marker::Model;
@@ -21,7 +21,7 @@ fn slash_place(text: &[u8]) -> usize
 
 // The part before the first slash, and what follows the slash.
 fn split_part(text: &[u8]) -> (&[u8], Option<&[u8]>)
-    ensures { parts_of text.now ≡ result.0.now ∷ parts_left result.1 }
+    ensures { path_parts text.now ≡ result.0.now ∷ parts_left result.1 }
 {
     let place = slash_place(text);
     if place < text.len() {
@@ -49,7 +49,7 @@ impl<'a> Model for Parts<'a> {
 
 impl<'a> Parts<'a> {
     pub fn new(text: &'a [u8]) -> Self
-        ensures { result ≡ parts_of text.now }
+        ensures { result ≡ path_parts text.now }
     {
         Parts { rest: Some(text) }
     }

@@ -1,5 +1,5 @@
 ghost use Rattle.std.specs.Prelude.{◌≡◌, ℕ, ◌<◌, ◌≤◌, ◌∷◌, Some, is_some};
-ghost use Rattle.ssz_line.specs.Paths.{path_step, path, index, parts_of, read_all};
+ghost use Rattle.ssz_line.specs.Paths.{path_step, path, index, path_parts, read_all};
 ghost use Rattle.ssz_line.specs.Reading.{Reads};
 
 use super::fault::LineFault;
@@ -12,7 +12,7 @@ use std::alloc::Global;
 
 // Whether each part between slashes spells a step.
 fn are_steps(text: &[u8]) -> bool
-    ensures { result ≡ is_some (read_all path_step (parts_of text.now)) }
+    ensures { result ≡ is_some (read_all path_step (path_parts text.now)) }
 {
     let mut parts = Parts::new(text);
     while let Some(part) = parts.next() {

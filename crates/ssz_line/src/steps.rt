@@ -1,10 +1,10 @@
-#![tactic(auto, unfolding(crate::specs::Steps::steps_of, crate::specs::Steps::IsReadable))]
+#![tactic(auto, unfolding(crate::specs::Steps::steps_of, crate::specs::Steps::IsReadablePath))]
 
 ghost use Rattle.std.specs.Prelude.{◌≡◌, ◌<◌, List, length, Some, None, IfOk, IsSome, MatchOption};
 ghost use Rattle.ssz_schema.specs.declared.path.PathStep.{PathStep};
 ghost use Rattle.ssz_schema.specs.Paths.{path_type};
 ghost use Rattle.ssz_schema.specs.Unfolding.{type_of};
-ghost use Rattle.ssz_line.specs.Paths.{path_step, parts_of, read_all};
+ghost use Rattle.ssz_line.specs.Paths.{path_step, path_parts, read_all};
 
 use super::collecting::{all_of, copies_of, fitting_of};
 use super::steps_left::StepsLeft;
@@ -34,11 +34,11 @@ impl Model for Steps {
 
     ghost Value = { List PathStep };
 
-    ghost use Rattle.ssz_line.specs.Steps.{steps_of, IsReadable};
+    ghost use Rattle.ssz_line.specs.Steps.{steps_of, IsReadablePath};
 
     ghost view = { λ a. steps_of a.form };
 
-    ghost invariant = { λ a. IsReadable a.form };
+    ghost invariant = { λ a. IsReadablePath a.form };
 }
 
 impl Steps {
@@ -53,8 +53,8 @@ impl Steps {
 
     /// The path of the steps that the text spells, with a slash between two.
     pub(crate) fn from_text(text: Vec<u8>) -> Self
-        requires { IsSome (read_all path_step (parts_of text.items)) }
-        ensures { read_all path_step (parts_of text.items) ≡ Some result }
+        requires { IsSome (read_all path_step (path_parts text.items)) }
+        ensures { read_all path_step (path_parts text.items) ≡ Some result }
     {
         Steps {
             form: Form::Text(text),

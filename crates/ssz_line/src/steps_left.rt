@@ -1,5 +1,5 @@
 ghost use Rattle.std.specs.Prelude.{◌≡◌, [], ◌∷◌, Some, IfOk, IsSome, MatchOption};
-ghost use Rattle.ssz_line.specs.Paths.{path_step, parts_of, read_all};
+ghost use Rattle.ssz_line.specs.Paths.{path_step, path_parts, read_all};
 
 use super::parts::Parts;
 use super::spelled::{spelled, step_of};
@@ -28,8 +28,8 @@ impl<'a> Model for StepsLeft<'a> {
 impl<'a> StepsLeft<'a> {
     /// The steps that the text spells.
     pub(crate) fn new(text: &'a [u8]) -> Self
-        requires { IsSome (read_all path_step (parts_of text.now)) }
-        ensures { read_all path_step (parts_of text.now) ≡ Some result }
+        requires { IsSome (read_all path_step (path_parts text.now)) }
+        ensures { read_all path_step (path_parts text.now) ≡ Some result }
     {
         StepsLeft {
             parts: Parts::new(text),

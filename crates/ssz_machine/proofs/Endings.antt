@@ -7,8 +7,8 @@ use Rattle.std.proofs.lemmas.Bool.{or_right}
 use Rattle.std.proofs.lemmas.List.{append-nil, map-append}
 use Rattle.std.proofs.Math.Seq.{take-append_seam, take-length}
 use Rattle.ssz_outside.specs.Content.{Content}
-use Rattle.ssz_outside.specs.Job.{Job, Moment, Save, Ends, StandsAt, Finishes}
-use Rattle.ssz_outside.specs.Outcome.{Tears}
+use Rattle.ssz_outside.specs.Job.{Job, Moment, Save, Ends, JobStandsAt, Finishes}
+use Rattle.ssz_outside.specs.Outcome.{WritesPart}
 use Rattle.ssz_outside.specs.Pieces.{Told, told_append}
 use Rattle.ssz_outside.specs.declared.status.Status.{Status}
 use Rattle.ssz_outside.specs.declared.status.Status.TheVariants as status
@@ -63,9 +63,9 @@ module _ (rules : Rules) (place : Place) (events : List Event) (first : State)
 
   stands : (old new : Told) (held : Option Content)
       → new ≡ told_append old (shown_all place done) → held ≡ Some state.files
-      → StandsAt (this_job.at (length done)) old new held
+      → JobStandsAt (this_job.at (length done)) old new held
   stands old new held printed are =
-      subst (λ (m : Moment). StandsAt m old new held) (sym moment)
+      subst (λ (m : Moment). JobStandsAt m old new held) (sym moment)
       (record { printed = printed; held = are })
 
   -- want of memory between two lines
@@ -175,7 +175,7 @@ module _ (rules : Rules) (place : Place) (events : List Event) (first : State)
   -- the line's file was not written whole
   pub ends_torn_file : (ample : Bool) (old new : Told) (held : Option Content) (save : Save)
       → save_of turn ≡ Some save → new ≡ told_append old (shown_all place done)
-      → Tears save.name save.bytes (Some state.files) held
+      → WritesPart save.name save.bytes (Some state.files) held
       → Ends ample status.WriteFault whole old new held
   ends_torn_file ample old new held save saves printed tears = (
     length done,
@@ -184,7 +184,7 @@ module _ (rules : Rules) (place : Place) (events : List Event) (first : State)
       save = save;
       saves = ap saved_by here ∙ saves;
       printed = printed ∙ ap (told_append old) (sym lines_before);
-      held = subst (λ (files : Content). Tears save.name save.bytes (Some files) held)
+      held = subst (λ (files : Content). WritesPart save.name save.bytes (Some files) held)
           (sym files_before) tears;
     }),
   )
@@ -192,7 +192,7 @@ module _ (rules : Rules) (place : Place) (events : List Event) (first : State)
   pub steps_torn_file : (ample : Bool) (old new : Told) (held : Option Content) (save : Save)
       (saves : save_of turn ≡ Some save)
       (printed : new ≡ told_append old (shown_all place done))
-      (tears : Tears save.name save.bytes (Some state.files) held)
+      (tears : WritesPart save.name save.bytes (Some state.files) held)
       → steps_done ample status.WriteFault whole old new held
       (ends_torn_file ample old new held save saves printed tears) ≡ length done
   unfolding ends_torn_file

@@ -4,7 +4,7 @@ use Rattle.std.specs.List.{concat}
 use Rattle.std.specs.Fmt.{digits as decimal_digits}
 use Rattle.hex.specs.Hex.{encode_with, decode_pairs}
 use Rattle.ssz_chunk.specs.Chunk.{xor_pair}
-use Rattle.ssz_chunk.specs.Tree.{full, grow}
+use Rattle.ssz_chunk.specs.Tree.{merkle_tree, merkle_pairs}
 use Rattle.ssz_chunk.specs.Index.{levels_within, digits}
 use Rattle.ssz_gindex.specs.Helpers.{descending}
 use Rattle.ssz_line.specs.Single.{literal}
@@ -16,7 +16,7 @@ use Rattle.ssz_schema.specs.Sizes.{exponent, depth_of}
 use Rattle.ssz_schema.specs.Lookup.{lookup_name}
 use Rattle.ssz_script.specs.Grammar.{alone, one, two, three, three_or_four, one_and_more}
 use Rattle.ssz_value.specs.Values.{chosen, number}
-use Rattle.ssz_value_json.specs.Faults.{why_json, value_spelled}
+use Rattle.ssz_value_json.specs.Faults.{first_json_fault, value_spelled}
 use Rattle.ssz_json_text.proofs.OneLine.{text_computes}
 use Rattle.ssz_machine.specs.declared.place.Place.TheVariants.{Run, Weave}
 use Rattle.ssz_machine.specs.State.{Name, fresh}
@@ -36,7 +36,7 @@ unfolding literal alone one two three three_or_four one_and_more
 grammar_computes = 0
 
 trees_compute : ℕ
-unfolding exponent depth_of full grow levels_within digits descending xor_pair
+unfolding exponent depth_of merkle_tree merkle_pairs levels_within digits descending xor_pair
 trees_compute = 0
 
 computes : ℕ
@@ -283,7 +283,7 @@ json_options held = refl
 -- the value that a file's text spells
 pub json_is_loaded : (held : Content)
     → contents held (codes "f") ≡ codes "[1,\"5\"]"
-    → why_json type_U (codes "[1,\"5\"]") ≡ None
+    → first_json_fault type_U (codes "[1,\"5\"]") ≡ None
     → value_spelled type_U (codes "[1,\"5\"]") ≡ chosen 1 (number 5)
     → run ((codes "U", type_U) ∷ []) held
     (codes "loadjson V U f\nbytes V /\nloadjson V U f\nloadjson V X f\n")
@@ -294,7 +294,7 @@ json_is_loaded held text none is = rw (text, none, is) refl
 -- the first fault of a file's text
 pub json_is_refused : (held : Content)
     → contents held (codes "f") ≡ codes "[2,null]"
-    → why_json type_U (codes "[2,null]") ≡ Some (record { code = 7; number = 0 })
+    → first_json_fault type_U (codes "[2,null]") ≡ Some (record { code = 7; number = 0 })
     → run ((codes "U", type_U) ∷ []) held (codes "loadjson V U f\nlist\n")
     ≡ codes "refused 1 18 BadJson J7 0\nlist\n"
 unfolding computes
@@ -418,7 +418,7 @@ charges_of_sets held = refl
 
 pub charges_of_texts : (held : Content)
     → contents held (codes "f") ≡ codes "[1,\"5\"]"
-    → why_json type_U (codes "[1,\"5\"]") ≡ None
+    → first_json_fault type_U (codes "[1,\"5\"]") ≡ None
     → value_spelled type_U (codes "[1,\"5\"]") ≡ chosen 1 (number 5)
     → charges ((codes "U", type_U) ∷ []) held (codes "loadjson V U f\njson V /\njson V /#1\n")
     ≡ 1 ∷ 0 ∷ 0 ∷ []

@@ -26,13 +26,13 @@ use Rattle.ssz_forms.specs.Upgrades.{upgraded}
 use Rattle.ssz_value.proofs.SizeLaw.{default_fits}
 use Rattle.ssz_machine.specs.declared.place.Place.{Place}
 use Rattle.ssz_machine.specs.State.{Name, Version, Versions, View, State, version_of, view_of}
-use Rattle.ssz_machine.specs.Rules.{Rules, Effect, Row, ◌>>◌, need, refuse, edits, makes, says}
+use Rattle.ssz_machine.specs.Rules.{Rules, Effect, Row, ◌>>◌, need, refuse, edits, makes, says_reply}
 use Rattle.ssz_machine.specs.Making.{decoded, spelled, contained, new, lit, load, loadjson, fork, upgrade, drop}
 use Rattle.ssz_machine.specs.Editing.{element_of, options_of, inner_value, set, append, pop, choose}
-use Rattle.ssz_machine.specs.Machine.{effect, said, step, state_in, state_of}
+use Rattle.ssz_machine.specs.Machine.{effect, row_said, step, state_in, state_of}
 use Rattle.ssz_machine.specs.Plays.{says as says_line, adopts, adopted, base_writer, next_number, numbers_after}
-use Rattle.ssz_machine.specs.Proofs.{IsSound}
-use Rattle.ssz_machine.specs.Sound.{AreShort, AreSound, BringsBytes, HasLegalTypes, IsSoundState, ScriptsKeepValues}
+use Rattle.ssz_machine.specs.Proofs.{IsSoundVersion}
+use Rattle.ssz_machine.specs.Sound.{AreShort, VersionsAreSound, BringsBytes, HasLegalTypes, IsSoundState, ScriptsKeepValues}
 use Rattle.ssz_machine.proofs.Rowwise.{Does, given, passed}
 use Rattle.ssz_machine.proofs.Soundness.{BringsChoice, choice_fits, decoded_fits, edit_fits, edited_is, element_fits, given_is, needed, sound_found, sound_put, sound_without, spelled_fits, upgrade_fits}
 
@@ -62,9 +62,9 @@ below os k few = grind (arith, nat_tests)
 
 module _ (rules : Rules) (format : Format) (legal : HasLegalTypes rules format) where
   abbrev Keeps : Row → Type 0
-  Keeps row = Does (λ (e : Effect). AreSound format e.versions) row
+  Keeps row = Does (λ (e : Effect). VersionsAreSound format e.versions) row
 
-  module _ (versions : Versions) (all : AreSound format versions) where
+  module _ (versions : Versions) (all : VersionsAreSound format versions) where
     made : (name : Name) (type : SszType) (value : SszValue) (charge : ℕ) → IsLegal format type
         → Fits type value → Keeps (makes versions name type value charge)
     made name type value charge is fits = record {
@@ -72,7 +72,7 @@ module _ (rules : Rules) (format : Format) (legal : HasLegalTypes rules format) 
           (record { legal = is; fits = fits }) all;
     }
 
-    told : (reply : Reply) → Keeps (says versions reply)
+    told : (reply : Reply) → Keeps (says_reply versions reply)
     told reply = record { is = all }
 
     kept : (reply : Reply) (save : Option Save) (charge : ℕ)
@@ -84,7 +84,7 @@ module _ (rules : Rules) (format : Format) (legal : HasLegalTypes rules format) 
     type_legal t type is = legal t type (needed NO_TYPE (rules.type_named t) type is)
 
     sound_of : (v : Name) (version : Version) → need NO_VERSION (version_of v versions) ≡ Ok version
-        → IsSound format version
+        → IsSoundVersion format version
     sound_of v version is =
         sound_found format v versions version all
         (needed NO_VERSION (version_of v versions) version is)
@@ -201,7 +201,7 @@ module _ (rules : Rules) (format : Format) (legal : HasLegalTypes rules format) 
 
   -- what a statement does
   statement_keeps : (place : Place) (number : ℕ) (view : View) (statement : Statement)
-      → BringsBytes view.files (Some statement) → AreSound format view.versions
+      → BringsBytes view.files (Some statement) → VersionsAreSound format view.versions
       → Keeps (effect rules place number view statement)
   statement_keeps place number view (New v t) brings all = new_keeps view.versions all v t
   statement_keeps place number view (Lit v t x) brings all =
@@ -243,20 +243,21 @@ module _ (rules : Rules) (format : Format) (legal : HasLegalTypes rules format) 
   statement_keeps place number view Compact brings all = record { is = all }
 
   said_keeps : (place : Place) (number : ℕ) (view : View) (line : Option Statement)
-      → BringsBytes view.files line → AreSound format view.versions
-      → IfOk (said rules place number view line) (λ e. AreSound format e.versions)
+      → BringsBytes view.files line → VersionsAreSound format view.versions
+      → IfOk (row_said rules place number view line) (λ e. VersionsAreSound format e.versions)
   said_keeps place number view None brings all = tt
   said_keeps place number view (Some statement) brings all =
       (statement_keeps place number view statement brings all).is
 
 -- the versions of one writer, or of another
-sound_where : (format : Format) (b : Bool) (new old : Versions) → AreSound format new
-    → AreSound format old → AreSound format (cond b new old)
+sound_where : (format : Format) (b : Bool) (new old : Versions) → VersionsAreSound format new
+    → VersionsAreSound format old → VersionsAreSound format (cond b new old)
 sound_where format true new old first second = first
 sound_where format false new old first second = second
 
 row_keeps : (format : Format) (writer : ℕ) (s : State) (row : Row) → IsSoundState format s
-    → IfOk row (λ e. AreSound format e.versions) → IsSoundState format (state_in writer s row)
+    → IfOk row (λ e. VersionsAreSound format e.versions)
+    → IsSoundState format (state_in writer s row)
 row_keeps format writer s (Ok e) sound new other =
     sound_where format (other == writer) e.versions (s.versions other) new (sound other)
 row_keeps format writer s (Err refusal) sound new other = sound other
@@ -273,7 +274,7 @@ scripts_keep_values_lem rules format place numbers s (says_line writer line ∷ 
       sound,
       scripts_keep_values_lem rules format place (numbers_after place line.1 numbers)
           (state_of (step rules place number s writer line)) events legal
-          (row_keeps format writer s (said rules place number (view_of writer s) line.1) sound
+          (row_keeps format writer s (row_said rules place number (view_of writer s) line.1) sound
           (said_keeps rules format legal place number (view_of writer s) line.1 brings.0
           (sound writer))) brings.1,
     )

@@ -9,7 +9,7 @@ use Rattle.ssz_script.specs.declared.statement.Statement.TheVariants.{New, Lit, 
 use Rattle.ssz_value.specs.Values.{SszValue}
 use Rattle.ssz_machine.specs.declared.place.Place.{Place}
 use Rattle.ssz_machine.specs.State.{Name, Versions, View, with_version, without_version}
-use Rattle.ssz_machine.specs.Rules.{Rules, Effect, makes, says}
+use Rattle.ssz_machine.specs.Rules.{Rules, Effect, makes, says_reply}
 use Rattle.ssz_machine.specs.Machine.{effect}
 use Rattle.ssz_machine.specs.Changes.{IsChange, StatementsChangeTheirEntry, Touch, puts, nothing, touch, Changes, SavesInto}
 use Rattle.ssz_machine.proofs.Rowwise.{Does, given, passed, edited}
@@ -40,7 +40,7 @@ made_changes {statement} {name} {versions} type value charge is = record {
 }
 
 told_changes : {statement : Statement} {versions : Versions} (reply : Reply) → Asks statement
-    → Does (Changing versions statement) (says versions reply)
+    → Does (Changing versions statement) (says_reply versions reply)
 told_changes {statement} {versions} reply is = record {
   is = record {
     entries = subst (λ (t : Touch). Changes t versions versions) (sym is.entry) refl;
@@ -49,7 +49,7 @@ told_changes {statement} {versions} reply is = record {
 }
 
 drop_changes : (v : Name) (versions : Versions)
-    → Does (Changing versions (Drop v)) (says (without_version v versions) Done)
+    → Does (Changing versions (Drop v)) (says_reply (without_version v versions) Done)
 drop_changes v versions = record { is = record { entries = refl; files = refl } }
 
 save_changes : (v file : Name) (versions : Versions) (bytes : List ℕ)

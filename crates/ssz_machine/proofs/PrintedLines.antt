@@ -8,7 +8,7 @@ use Rattle.std.specs.declared.cmp.Ordering.{Ordering}
 use Rattle.std.specs.declared.cmp.Ordering.TheVariants.{Less, Equal, Greater}
 use Rattle.std.proofs.lemmas.Bool.{and_parts}
 use Rattle.ssz_proof.specs.Multiproof.{Multiproof}
-use Rattle.ssz_proof.specs.Text.{text_of}
+use Rattle.ssz_proof.specs.Text.{multiproof_text}
 use Rattle.ssz_schema.specs.Names.{is_name}
 use Rattle.ssz_schema.specs.Types.{SszType}
 use Rattle.ssz_script.specs.OneLine.{is_line, FitsLine}
@@ -20,10 +20,10 @@ use Rattle.ssz_script.specs.declared.statement.Statement.TheVariants.{New, Lit, 
 use Rattle.ssz_value.specs.Values.{SszValue}
 use Rattle.ssz_machine.specs.declared.place.Place.{Place}
 use Rattle.ssz_machine.specs.State.{Name, Version, Versions, View, State, view_of, with_version, without_version}
-use Rattle.ssz_machine.specs.Rules.{Rules, Refusal, coded, bad_bytes, bad_json, Effect, Row, refusal_reply, makes, says}
+use Rattle.ssz_machine.specs.Rules.{Rules, Refusal, coded, bad_bytes, bad_json, Effect, Row, refusal_reply, makes, says_reply}
 use Rattle.ssz_machine.specs.Making.{names_of}
-use Rattle.ssz_machine.specs.Machine.{Line, effect, said, step, reply_in, state_in, state_of}
-use Rattle.ssz_machine.specs.Plays.{says as says_line, adopts, adopted, base_writer, next_number, numbers_after, front, shown}
+use Rattle.ssz_machine.specs.Machine.{Line, effect, row_said, step, reply_in, state_in, state_of}
+use Rattle.ssz_machine.specs.Plays.{says as says_line, adopts, adopted, base_writer, next_number, numbers_after, line_prefix, shown}
 use Rattle.ssz_machine.specs.Changes.{IsChange, Changes, Touch, puts, takes, nothing, touch}
 use Rattle.ssz_machine.specs.OneLine.{AreNamed, PutsName, IsNamed, IsNamedLine, PrintedLinesAreLines}
 use Rattle.ssz_machine.proofs.Rowwise.{Does, given, passed, edited}
@@ -41,18 +41,18 @@ fits_made : (versions : Versions) (name : Name) (type : SszType) (value : SszVal
 fits_made versions name type value charge = record { is = tt }
 
 fits_told : (versions : Versions) (reply : Reply) → FitsLine reply
-    → Does Fitting (says versions reply)
+    → Does Fitting (says_reply versions reply)
 fits_told versions reply fits = record { is = fits }
 
-fits_done : (versions : Versions) → Does Fitting (says versions Done)
+fits_done : (versions : Versions) → Does Fitting (says_reply versions Done)
 fits_done versions = record { is = tt }
 
 fits_proof : (versions : Versions) (proof : Multiproof)
-    → Does Fitting (says versions (Proof (text_of proof)))
+    → Does Fitting (says_reply versions (Proof (multiproof_text proof)))
 fits_proof versions proof = record { is = proof_is_line proof }
 
 fits_json : (versions : Versions) (type : SszType) (value : SszValue)
-    → Does Fitting (says versions (JsonText (json type value)))
+    → Does Fitting (says_reply versions (JsonText (json type value)))
 fits_json versions type value = record { is = json_no_feed type value }
 
 module _ (rules : Rules) where
@@ -100,7 +100,7 @@ module _ (rules : Rules) where
   row_fits line (Err refusal) is = refusal_fits line refusal
 
   said_fits : (place : Place) (number : ℕ) (view : View) → AreNamed view.versions
-      → (line : Option Statement) → IfOk (said rules place number view line) Fitting
+      → (line : Option Statement) → IfOk (row_said rules place number view line) Fitting
   said_fits place number view named None = tt
   said_fits place number view named (Some statement) =
       (replies_fit place number view named statement).is
@@ -109,8 +109,8 @@ module _ (rules : Rules) where
       → AreNamed (s.versions writer)
       → is_line (shown place (step rules place number s writer line)) ≡ true
   turn_is_line place number s writer line named =
-      let row = said rules place number (view_of writer s) line.1 in
-      is_line-behind (front place writer) _ (plain_front place writer)
+      let row = row_said rules place number (view_of writer s) line.1 in
+      is_line-behind (line_prefix place writer) _ (plain_front place writer)
       (replies_are_lines_lem (reply_in line.0 row)
       (row_fits line.0 row (said_fits place number (view_of writer s) named line.1)))
 
@@ -177,7 +177,7 @@ change_named statement old (Err refusal) is named change = tt
 
 said_named : (rules : Rules) (place : Place) (number : ℕ) (view : View)
     (line : Option Statement) → IsNamed line → AreNamed view.versions
-    → IfOk (said rules place number view line) (λ e. AreNamed e.versions)
+    → IfOk (row_said rules place number view line) (λ e. AreNamed e.versions)
 said_named rules place number view None is named = tt
 said_named rules place number view (Some statement) is named =
     change_named statement view.versions (effect rules place number view statement) is named
@@ -186,7 +186,7 @@ said_named rules place number view (Some statement) is named =
 step_named : (rules : Rules) (place : Place) (number : ℕ) (s : State) (writer : ℕ) (line : Line)
     → IsNamedLine line → AllNamed s → AllNamed (state_of (step rules place number s writer line))
 step_named rules place number s writer line is named =
-    row_keeps_named writer s (said rules place number (view_of writer s) line.1) named
+    row_keeps_named writer s (row_said rules place number (view_of writer s) line.1) named
     (said_named rules place number (view_of writer s) line.1 is (named writer))
 
 adopted_named : (writer : ℕ) (s : State) → AllNamed s → AllNamed (adopted writer s)

@@ -21,9 +21,9 @@ use Rattle.ssz_line.specs.declared.index.Index.TheVariants.{Number, Path as ByPa
 use Rattle.ssz_proof.specs.declared.entry.Entry.{Entry}
 use Rattle.ssz_proof.specs.Calculation.{PairOf, indices_of}
 use Rattle.ssz_proof.specs.Judgement.{are_flat}
-use Rattle.ssz_proof.specs.Laws.{HasChunk, IsEntry}
+use Rattle.ssz_proof.specs.Laws.{HasChunk, IsProofEntry}
 use Rattle.ssz_proof.specs.Multiproof.{IsOrdered, known_of, AscendFrom}
-use Rattle.ssz_proof.specs.Text.{text_of}
+use Rattle.ssz_proof.specs.Text.{multiproof_text}
 use Rattle.ssz_proof.proofs.Calculating.{law_of_proofs}
 use Rattle.ssz_proof.proofs.TextLaws.{law_of_texts}
 use Rattle.ssz_proof.proofs.EntryTexts.{all-weaker}
@@ -31,16 +31,16 @@ use Rattle.ssz_proof.proofs.Judged.{multiproof_of-read, calculated-given}
 use Rattle.ssz_proof.proofs.Judging.{flat-from}
 use Rattle.ssz_gindex.proofs.HelperNodes.{some_from}
 use Rattle.ssz_schema.specs.Types.{SszType}
-use Rattle.ssz_schema.specs.Sizes.{levels}
+use Rattle.ssz_schema.specs.Sizes.{type_levels}
 use Rattle.ssz_schema.specs.Paths.{Path, step_type}
 use Rattle.ssz_schema.specs.Indices.{generalized_index, generalized_index_from, step_index}
 use Rattle.ssz_script.specs.declared.reply.Reply.TheVariants.{Proof}
 use Rattle.ssz_script.specs.declared.reply.TheConstants.Reply.{BAD_PATH, NO_NODE, NESTED}
 use Rattle.ssz_value.specs.Trees.{tree, hash_tree_root}
 use Rattle.ssz_machine.specs.State.{Version, Versions}
-use Rattle.ssz_machine.specs.Rules.{Rules, Outcome, ◌>>=◌, ◌>>◌, need, refuse, says, Row, Effect}
+use Rattle.ssz_machine.specs.Rules.{Rules, Outcome, ◌>>=◌, ◌>>◌, need, refuse, says_reply, Row, Effect}
 use Rattle.ssz_machine.specs.Asking.{entry_at, proof_of, asked_index, asked_indices, ascending}
-use Rattle.ssz_machine.specs.Proofs.{MakesChunks, IsIndex, LeadsTo, PrintedProofsLead}
+use Rattle.ssz_machine.specs.Proofs.{MakesChunks, IsIndex, ProofLeadsTo, PrintedProofsLead}
 use Rattle.ssz_machine.proofs.Ascents.{all-ascending, ascends, some-ascending, ascending-has, ascends-distinct}
 use Rattle.ssz_machine.proofs.TreeChunks.{HoldsChunks, root_chunk, at_holds, tree_holds}
 
@@ -146,7 +146,7 @@ module _ (pair_of : PairOf) (makes : MakesChunks pair_of) (t : Tree) (holds : Ho
         root = sym (ap (λ o. unwrap_or (option_map (root pair_of) o) zero_chunk) node.1);
       }
 
-  is_entry : (g : ℕ) → IsPlace t g → IsEntry (entry_at pair_of t g)
+  is_entry : (g : ℕ) → IsPlace t g → IsProofEntry (entry_at pair_of t g)
   is_entry g place =
       let has = has_chunk g place in
       record {
@@ -207,7 +207,8 @@ ordered pair_of t asked are =
 -- and its text leads to the root of the tree
 leads : (pair_of : PairOf) → MakesChunks pair_of → (t : Tree) → HoldsChunks t
     → (asked : List ℕ) → AreAsked t asked
-    → LeadsTo pair_of (root pair_of t) (Proof (text_of (proof_of pair_of t (ascending asked))))
+    → ProofLeadsTo pair_of (root pair_of t)
+    (Proof (multiproof_text (proof_of pair_of t (ascending asked))))
 leads pair_of makes t holds asked are =
     let gs = ascending asked in
     let proof = proof_of pair_of t gs in
@@ -219,9 +220,9 @@ leads pair_of makes t holds asked are =
     let each : (P : Entry → Type 0) → ((g : ℕ) → IsPlace t g → P (entry_at pair_of t g))
     → AllByRecursion P (known_of proof) =
     λ P so. entries pair_of makes t holds P so gs (helpers gs) leaves nodes in
-    let back = law_of_texts proof order (each IsEntry (is_entry pair_of makes t holds)) in (
+    let back = law_of_texts proof order (each IsProofEntry (is_entry pair_of makes t holds)) in (
       back.is.lists,
-      multiproof_of-read (text_of proof) proof back.is,
+      multiproof_of-read (multiproof_text proof) proof back.is,
       calculated-given pair_of back.is.lists proof back.is.is 1
           ∙ law_of_proofs pair_of t proof.leaves proof.nodes order.is.some order.is.complete
           (each (HasChunk pair_of t) (has_chunk pair_of makes t holds)),
@@ -232,7 +233,7 @@ leads pair_of makes t holds asked are =
 path_fits : (t : SszType) (path : Path) (index : ℕ) (u : SszType) (rest : Path) (g : ℕ)
     → IsAlong t path index u rest → generalized_index_from index u rest ≡ Some g → g < 2 ^ 128
 path_fits t path index u [] g along found =
-    let unit : 1 ≤ 2 ^ levels u = pow_pos (levels u) in
+    let unit : 1 ≤ 2 ^ type_levels u = pow_pos (type_levels u) in
     omega (arith, along.room, mul-le-mul_left (index + 1) unit, same_Some index g found)
 path_fits t path index u (step ∷ rest) g along found =
     by (step_type u step) refl found (λ part is. path_fits t path (step_index index u step) part
@@ -252,7 +253,7 @@ record AreIndices (asked : List ℕ) : Type 0 where
   some : asked ≢ []
   fits : AllByRecursion (λ g. g < 2 ^ 128) asked
 
-index_fits : (t : SszType) → levels t ≤ 126 → (index : Index) → IsIndex index
+index_fits : (t : SszType) → type_levels t ≤ 126 → (index : Index) → IsIndex index
     → IfOk (asked_index t index) (λ g. g < 2 ^ 128)
 index_fits t few (Number n) is = is
 index_fits t few (ByPath path) is = by (generalized_index t path) refl
@@ -261,7 +262,7 @@ index_fits t few (ByPath path) is = by (generalized_index t path) refl
     by None found = tt
     by (Some g) found = path_fits t path 1 t path g (along-start t path few) found
 
-indices_fit : (t : SszType) → levels t ≤ 126 → (indices : List Index)
+indices_fit : (t : SszType) → type_levels t ≤ 126 → (indices : List Index)
     → AllByRecursion IsIndex indices
     → IfOk (asked_indices t indices) (AllByRecursion (λ g. g < 2 ^ 128))
 indices_fit t few [] all = tt
@@ -294,10 +295,12 @@ module _ (rules : Rules) (versions : Versions) (version : Version)
 
   abbrev Leads : Effect → Type 0
   Leads effect =
-      LeadsTo rules.pair_of (hash_tree_root rules.pair_of version.type version.value) effect.reply
+      ProofLeadsTo rules.pair_of
+      (hash_tree_root rules.pair_of version.type version.value) effect.reply
 
   abbrev printed : List ℕ → Row
-  printed asked = says versions (Proof (text_of (proof_of rules.pair_of whole (ascending asked))))
+  printed asked = says_reply versions
+      (Proof (multiproof_text (proof_of rules.pair_of whole (ascending asked))))
 
   -- after both tests
   tested : (asked : List ℕ) → HoldsChunks whole → AreIndices asked → (absent flat : Bool)

@@ -9,7 +9,7 @@ use Rattle.std.specs.declared.cmp.Ordering.TheVariants.{Less, Equal, Greater}
 use Rattle.ssz_bytes.specs.declared.fault.Fault.{Fault}
 use Rattle.ssz_forms.specs.declared.upgrade_fault.UpgradeFault.{UpgradeFault}
 use Rattle.ssz_forms.specs.SameType.{same_type}
-use Rattle.ssz_forms.specs.Upgrades.{taken, field_value, upgraded, upgraded_fields}
+use Rattle.ssz_forms.specs.Upgrades.{field_taken, field_value, upgraded, upgraded_fields}
 use Rattle.ssz_forms.proofs.TypesAlike.{same_types_are_equal_law}
 use Rattle.ssz_gindex.proofs.HelperNodes.{some_from}
 use Rattle.ssz_places.specs.PlaceLaws.{IsLegalValue, IsPart}
@@ -26,21 +26,21 @@ use Rattle.ssz_schema.specs.Types.{SszType, Fields, Options, boolean, container,
 use Rattle.ssz_value.specs.Values.{SszValue, sequence, values, items, Fits, FitFields}
 use Rattle.ssz_value.specs.Defaults.{default_of}
 use Rattle.ssz_value.specs.Edits.{Edited, edited}
-use Rattle.ssz_value.specs.Faults.{why, option_fault}
+use Rattle.ssz_value.specs.Faults.{first_fault, option_fault}
 use Rattle.ssz_value.specs.Parts.{part}
 use Rattle.ssz_value.specs.Reading.{value_in}
 use Rattle.ssz_value.proofs.ExactLaw.{faultless_is_read}
 use Rattle.ssz_value.proofs.Sequences.{items-values}
 use Rattle.ssz_value.proofs.SizeLaw.{default_fits}
 use Rattle.ssz_value_json.specs.declared.fault.JsonFault.{JsonFault}
-use Rattle.ssz_value_json.specs.Faults.{why_json, value_spelled}
+use Rattle.ssz_value_json.specs.Faults.{first_json_fault, value_spelled}
 use Rattle.ssz_value_json.proofs.Exact.{faultless_spelled}
 use Rattle.ssz_machine.specs.State.{Name, Version, Versions, version_of, with_version, without_version}
 use Rattle.ssz_machine.specs.Rules.{Outcome, Row, Effect, ◌>>=◌, ◌>>◌, need, faultless, well_spelled, edits, makes}
 use Rattle.ssz_machine.specs.Making.{decoded, spelled, contained}
 use Rattle.ssz_machine.specs.Editing.{element_of, inner_value}
-use Rattle.ssz_machine.specs.Proofs.{IsSound}
-use Rattle.ssz_machine.specs.Sound.{AreShort, AreSound}
+use Rattle.ssz_machine.specs.Proofs.{IsSoundVersion}
+use Rattle.ssz_machine.specs.Sound.{AreShort, VersionsAreSound}
 use Rattle.ssz_machine.proofs.Rowwise.{Does}
 
 -- what is there, where it was needed and found
@@ -72,40 +72,41 @@ edited_is {P} versions name type result charge each = by result refl
 -- entries
 
 pub sound_put : (format : Format) (name : Name) (version : Version) (versions : Versions)
-    → IsSound format version → AreSound format versions
-    → AreSound format (with_version name version versions)
+    → IsSoundVersion format version → VersionsAreSound format versions
+    → VersionsAreSound format (with_version name version versions)
 sound_put format name version [] is all = (is, tt)
 sound_put format name version (e ∷ es) is all =
     by (slice_cmp nat_cmp name e.0) refl (sound_put format name version es is all.1)
   where
     by : (o : Ordering) → slice_cmp nat_cmp name e.0 ≡ o
-        → AreSound format (with_version name version es)
-        → AreSound format (with_version name version (e ∷ es))
+        → VersionsAreSound format (with_version name version es)
+        → VersionsAreSound format (with_version name version (e ∷ es))
     by Less o more = rw o (is, all)
     by Equal o more = rw o (is, all.1)
     by Greater o more = rw o (all.0, more)
 
 pub sound_without : (format : Format) (name : Name) (versions : Versions)
-    → AreSound format versions → AreSound format (without_version name versions)
+    → VersionsAreSound format versions → VersionsAreSound format (without_version name versions)
 sound_without format name [] all = tt
 sound_without format name (e ∷ es) all =
     by (not (bytes_eq name e.0)) refl (sound_without format name es all.1)
   where
     by : (kept : Bool) → not (bytes_eq name e.0) ≡ kept
-        → AreSound format (without_version name es)
-        → AreSound format (without_version name (e ∷ es))
+        → VersionsAreSound format (without_version name es)
+        → VersionsAreSound format (without_version name (e ∷ es))
     by true is rest = rw is (all.0, rest)
     by false is rest = rw is rest
 
 pub sound_found : (format : Format) (name : Name) (versions : Versions) (version : Version)
-    → AreSound format versions → version_of name versions ≡ Some version → IsSound format version
+    → VersionsAreSound format versions → version_of name versions ≡ Some version
+    → IsSoundVersion format version
 sound_found format name [] version all found = let differ : None ≡ Some version = found in cc
 sound_found format name (e ∷ es) version all found =
     by (eq_by_cmp (slice_cmp nat_cmp) name e.0) (sound_found format name es version all.1) found
   where
-    by : (here : Bool) → (version_of name es ≡ Some version → IsSound format version)
-        → cond here (Some e.1) (version_of name es) ≡ Some version → IsSound format version
-    by true rest is = let same : e.1 ≡ version = cc in subst (IsSound format) same all.0
+    by : (here : Bool) → (version_of name es ≡ Some version → IsSoundVersion format version)
+        → cond here (Some e.1) (version_of name es) ≡ Some version → IsSoundVersion format version
+    by true rest is = let same : e.1 ≡ version = cc in subst (IsSoundVersion format) same all.0
     by false rest is = rest is
 
 -- what is read
@@ -119,16 +120,16 @@ read_as t bytes (Some fault) value is = cc
 pub decoded_fits : (format : Format) (t : SszType) (bytes : List ℕ) (value : SszValue)
     → IsLegal format t → AreShort bytes → decoded t bytes ≡ Ok value → Fits t value
 decoded_fits format t bytes value legal short is =
-    let read = read_as t bytes (why t 0 bytes) value is in
+    let read = read_as t bytes (first_fault t 0 bytes) value is in
     subst (Fits t) read.1 (faultless_is_read format t bytes legal short.0 short.1 read.0).fits
 
 spelled_as : (t : SszType) (bytes : List ℕ) (value : SszValue) → spelled t bytes ≡ Ok value
-    → (why_json t bytes ≡ None) × (value_spelled t bytes ≡ value)
-spelled_as t bytes value is = by (why_json t bytes) refl is
+    → (first_json_fault t bytes ≡ None) × (value_spelled t bytes ≡ value)
+spelled_as t bytes value is = by (first_json_fault t bytes) refl is
   where
-    by : (fault : Option JsonFault) → why_json t bytes ≡ fault
+    by : (fault : Option JsonFault) → first_json_fault t bytes ≡ fault
         → ◌≡◌ {A = Outcome SszValue} (well_spelled fault >> Ok (value_spelled t bytes)) (Ok value)
-        → (why_json t bytes ≡ None) × (value_spelled t bytes ≡ value)
+        → (first_json_fault t bytes ≡ None) × (value_spelled t bytes ≡ value)
     by None none is = (none, cc)
     by (Some fault) some is = cc
 
@@ -157,7 +158,7 @@ found_fits (field other t fs) (v ∷ vs) name u d fits found =
     by false rest is = rest is
 
 field_fits : (format : Format) (old : Fields) (vs : List SszValue) (name : List ℕ) (t : SszType)
-    → FitFields old vs → IsLegal format t → Fits t (field_value vs t (taken old name t))
+    → FitFields old vs → IsLegal format t → Fits t (field_value vs t (field_taken old name t))
 field_fits format old vs name t fits legal = by (field_type old name) refl
   where
     same_fits : (u : SszType) (same : Bool) → same_type u t ≡ same → field_type old name ≡ Some u

@@ -2,7 +2,7 @@
 use Rattle.std.proofs.Common.{ℕ, zero, suc, ◌+◌, ◌/◌, ◌^◌, ◌≡◌, Bool, true, false, List, [], ◌∷◌, ◌++◌, length, map, take, drop, replicate, Some, refl, subst, arith, length-take, length-append}
 use Rattle.std.specs.List.{AllByRecursion, concat}
 use Rattle.ssz_chunk.specs.Chunk.{IsChunk, zero_chunk}
-use Rattle.ssz_chunk.specs.Tree.{Tree, leaf, pair, root, full}
+use Rattle.ssz_chunk.specs.Tree.{Tree, leaf, pair, root, merkle_tree}
 use Rattle.ssz_chunk.specs.Index.{at_way, at, way}
 use Rattle.ssz_proof.specs.Calculation.{PairOf}
 use Rattle.ssz_schema.specs.declared.width.Width.{Width}
@@ -12,7 +12,7 @@ use Rattle.ssz_schema.specs.Sizes.{byte_count, basic_size, depth}
 use Rattle.ssz_bytes.specs.Bytes.{IsBytes, le_bytes, bit_value, number_of_bits}
 use Rattle.ssz_bytes.proofs.Numbers.{IsBytes-take, IsBytes-drop, IsBytes-le_bytes}
 use Rattle.ssz_value.specs.Values.{SszValue, number, wide, truth, sequence, bits, chosen, chosen_none, items, Fits, FitFields, FitsOption}
-use Rattle.ssz_value.specs.Encoding.{enc}
+use Rattle.ssz_value.specs.Encoding.{serialize}
 use Rattle.ssz_value.specs.Trees.{padded, chunks, pack, pack_bits, number_chunk, element_leaves, tree, field_trees, option_tree}
 use Rattle.ssz_machine.specs.Proofs.{MakesChunks}
 
@@ -107,8 +107,8 @@ all-drop P (suc n) [] all = tt
 all-drop P (suc n) (x ∷ xs) all = all-drop P n xs all.1
 
 full_holds : (d : ℕ) (trees : List Tree) → AllByRecursion HoldsChunks trees
-    → HoldsChunks (full d trees)
-unfolding full
+    → HoldsChunks (merkle_tree d trees)
+unfolding merkle_tree
 full_holds zero [] all = zero_is_chunk
 full_holds zero (t ∷ trees) all = all.0
 full_holds (suc d) trees all = (
@@ -125,7 +125,7 @@ bit_is_byte false = elim [ zero ↦ omega arith | suc i ↦ omega arith ]
 nothing_is_bytes : IsBytes []
 nothing_is_bytes = λ i. omega arith
 
-uint_bytes : (w : Width) (v : SszValue) → Fits (uint w) v → IsBytes (enc (uint w) v)
+uint_bytes : (w : Width) (v : SszValue) → Fits (uint w) v → IsBytes (serialize (uint w) v)
 uint_bytes w (number n) fits = IsBytes-le_bytes (byte_count w) n
 uint_bytes W256 (wide bytes) fits = fits.1
 uint_bytes W8 (wide bytes) fits = absurd fits
@@ -135,7 +135,7 @@ uint_bytes W64 (wide bytes) fits = absurd fits
 uint_bytes W128 (wide bytes) fits = absurd fits
 uint_bytes w v fits = nothing_is_bytes
 
-boolean_bytes : (v : SszValue) → IsBytes (enc boolean v)
+boolean_bytes : (v : SszValue) → IsBytes (serialize boolean v)
 boolean_bytes (truth b) = bit_is_byte b
 boolean_bytes v = nothing_is_bytes
 
@@ -157,18 +157,19 @@ pub record FieldsHold (fs : Fields) : Type 0 where
 pub record OptionsHold (os : Options) : Type 0 where
   pub all : (k : ℕ) (v : SszValue) → FitsOption os k v → HoldsChunks (option_tree os k v)
 
-basic_leaves : (elem : SszType) → ((v : SszValue) → Fits elem v → IsBytes (enc elem v))
+basic_leaves : (elem : SszType) → ((v : SszValue) → Fits elem v → IsBytes (serialize elem v))
     → (vs : List SszValue) → AllByRecursion (Fits elem) vs
-    → AllByRecursion HoldsChunks (map leaf (pack (concat (map (enc elem) vs))))
+    → AllByRecursion HoldsChunks (map leaf (pack (concat (map (serialize elem) vs))))
 basic_leaves elem bytes vs fits =
-    pack_holds (concat (map (enc elem) vs))
-    (IsBytes-concat (map (enc elem) vs) (all-map (Fits elem) IsBytes (enc elem) bytes vs fits))
+    pack_holds (concat (map (serialize elem) vs))
+    (IsBytes-concat (map (serialize elem) vs)
+    (all-map (Fits elem) IsBytes (serialize elem) bytes vs fits))
 
 -- the leaves of elements
 elements_hold : (elem : SszType) (vs : List SszValue) → AllByRecursion (Fits elem) vs
     → AllByRecursion HoldsChunks (map (tree elem) vs)
     → AllByRecursion HoldsChunks
-    (element_leaves (basic_size elem) (map (enc elem) vs) (map (tree elem) vs))
+    (element_leaves (basic_size elem) (map (serialize elem) vs) (map (tree elem) vs))
 elements_hold (uint w) vs fits trees = basic_leaves (uint w) (uint_bytes w) vs fits
 elements_hold boolean vs fits trees = basic_leaves boolean (λ v _. boolean_bytes v) vs fits
 elements_hold (container fs) vs fits trees = trees
@@ -180,13 +181,13 @@ elements_hold (union os) vs fits trees = trees
 
 sequence_holds : (elem : SszType) → TreesHold elem → (d : ℕ) (vs : List SszValue)
     → AllByRecursion (Fits elem) vs
-    → HoldsChunks (full d
-    (element_leaves (basic_size elem) (map (enc elem) vs) (map (tree elem) vs)))
+    → HoldsChunks (merkle_tree d
+    (element_leaves (basic_size elem) (map (serialize elem) vs) (map (tree elem) vs)))
 sequence_holds elem trees d vs fits =
     full_holds d _ (elements_hold elem vs fits
     (all-map (Fits elem) HoldsChunks (tree elem) trees.all vs fits))
 
-bits_hold : (d : ℕ) (bs : List Bool) → HoldsChunks (full d (map leaf (pack_bits bs)))
+bits_hold : (d : ℕ) (bs : List Bool) → HoldsChunks (merkle_tree d (map leaf (pack_bits bs)))
 bits_hold d bs =
     full_holds d _ (pack_holds (le_bytes ((length bs + 7) / 8) (number_of_bits bs))
     (IsBytes-le_bytes ((length bs + 7) / 8) (number_of_bits bs)))
@@ -251,9 +252,9 @@ option_holds t os first rest (suc k) v fits = rest.all k v fits
 mutual
   pub trees_hold : (t : SszType) → TreesHold t
   trees_hold (uint w) =
-      record { all = λ v fits. padded_is_chunk (enc (uint w) v) (uint_bytes w v fits) }
+      record { all = λ v fits. padded_is_chunk (serialize (uint w) v) (uint_bytes w v fits) }
   trees_hold boolean =
-      record { all = λ v fits. padded_is_chunk (enc boolean v) (boolean_bytes v) }
+      record { all = λ v fits. padded_is_chunk (serialize boolean v) (boolean_bytes v) }
   trees_hold (container fs) = record { all = container_holds fs (fields_hold fs) }
   trees_hold (vector elem n) = record { all = vector_holds elem n (trees_hold elem) }
   trees_hold (list elem limit) = record { all = list_holds elem limit (trees_hold elem) }

@@ -11,21 +11,21 @@ use Rattle.ssz_places.specs.EditLaws.{count_of}
 use Rattle.ssz_proof.specs.Calculation.{PairOf}
 use Rattle.ssz_proof.specs.Judgement.{are_flat}
 use Rattle.ssz_proof.specs.Multiproof.{Multiproof}
-use Rattle.ssz_proof.specs.Text.{text_of}
+use Rattle.ssz_proof.specs.Text.{multiproof_text}
 use Rattle.ssz_proof.specs.declared.entry.Entry.{Entry}
 use Rattle.ssz_schema.specs.Types.{SszType, vector, list, bitvector, bitlist}
 use Rattle.ssz_schema.specs.Paths.{Path, path_type}
 use Rattle.ssz_schema.specs.Indices.{generalized_index}
 use Rattle.ssz_script.specs.declared.reply.Reply.TheVariants.{Done, Root, Bytes, Len, Gindex, Proof, Hashes, Json}
 use Rattle.ssz_script.specs.declared.reply.TheConstants.Reply.{NO_TYPE, NO_VERSION, BAD_PATH, ABSENT, NOT_THAT, TOO_LONG, NO_NODE, NESTED, NOT_HERE}
-use Rattle.ssz_value.specs.Encoding.{enc}
+use Rattle.ssz_value.specs.Encoding.{serialize}
 use Rattle.ssz_value.specs.Parts.{part}
 use Rattle.ssz_value.specs.Trees.{tree, hash_tree_root}
 use Rattle.ssz_json_text.specs.Text.{json}
 use Rattle.ssz_machine.specs.declared.place.Place.{Place}
 use Rattle.ssz_machine.specs.declared.place.Place.TheVariants.{Run, Weave}
 use Rattle.ssz_machine.specs.State.{Name, Versions, version_of}
-use Rattle.ssz_machine.specs.Rules.{Rules, Outcome, ◌>>=◌, ◌>>◌, need, refuse, Row, says}
+use Rattle.ssz_machine.specs.Rules.{Rules, Outcome, ◌>>=◌, ◌>>◌, need, refuse, Row, says_reply}
 
 abbrev pub is_weave : Place → Bool
 is_weave Run = false
@@ -43,7 +43,8 @@ has_length other = false
 abbrev pub root_row : Rules → Versions → Name → Row
 root_row rules versions v = do
   version ← need NO_VERSION (version_of v versions)
-  says versions (Root (record { 0 = hash_tree_root rules.pair_of version.type version.value }))
+  says_reply versions (Root
+      (record { 0 = hash_tree_root rules.pair_of version.type version.value }))
 
 -- `bytes V P`: the encoding of the part at P
 abbrev pub bytes : Rules → Versions → Name → Path → Row
@@ -51,8 +52,8 @@ bytes rules versions v path = do
   version ← need NO_VERSION (version_of v versions)
   type ← need BAD_PATH (path_type version.type path)
   value ← need ABSENT (part version.type version.value path)
-  refuse TOO_LONG (nat_lt rules.max_bytes (length (enc type value)))
-  says versions (Bytes (enc type value))
+  refuse TOO_LONG (nat_lt rules.max_bytes (length (serialize type value)))
+  says_reply versions (Bytes (serialize type value))
 
 -- `json V P`: the JSON text of the part at P
 abbrev pub json_row : Rules → Versions → Name → Path → Row
@@ -61,7 +62,7 @@ json_row rules versions v path = do
   type ← need BAD_PATH (path_type version.type path)
   value ← need ABSENT (part version.type version.value path)
   refuse TOO_LONG (nat_lt rules.max_bytes (length (json type value)))
-  says versions (Json (json type value))
+  says_reply versions (Json (json type value))
 
 -- `len V P`: how many elements or bits the part at P has
 abbrev pub len : Versions → Name → Path → Row
@@ -70,18 +71,18 @@ len versions v path = do
   type ← need BAD_PATH (path_type version.type path)
   value ← need ABSENT (part version.type version.value path)
   refuse NOT_THAT (not (has_length type))
-  says versions (Len (count_of value))
+  says_reply versions (Len (count_of value))
 
 -- `save V FILE`: the file holds the encoding
 abbrev pub save : Rules → Place → Versions → Name → Name → Row
 save rules place versions v file = do
   refuse NOT_HERE (is_weave place)
   version ← need NO_VERSION (version_of v versions)
-  refuse TOO_LONG (nat_lt rules.max_bytes (length (enc version.type version.value)))
+  refuse TOO_LONG (nat_lt rules.max_bytes (length (serialize version.type version.value)))
   Ok (record {
     reply = Done;
     versions = versions;
-    save = Some (record { name = file; bytes = enc version.type version.value });
+    save = Some (record { name = file; bytes = serialize version.type version.value });
     charge = 0;
   })
 
@@ -90,7 +91,7 @@ abbrev pub gindex : Rules → Versions → Name → Path → Row
 gindex rules versions t path = do
   type ← need NO_TYPE (rules.type_named t)
   index ← need BAD_PATH (generalized_index type path)
-  says versions (Gindex index)
+  says_reply versions (Gindex index)
 
 -- an index as it is asked: a number, or that of a path by the type alone
 abbrev pub asked_index : SszType → Index → Outcome ℕ
@@ -135,11 +136,12 @@ prove rules versions v indices = do
   asked ← asked_indices version.type indices
   refuse NO_NODE (list_any (λ g. is_none (at (tree version.type version.value) g)) asked)
   refuse NESTED (not (are_flat asked))
-  says versions
-      (Proof (text_of (proof_of rules.pair_of (tree version.type version.value) (ascending asked))))
+  says_reply versions
+      (Proof (multiproof_text
+      (proof_of rules.pair_of (tree version.type version.value) (ascending asked))))
 
 -- `hashes`: how many pairs were hashed, which is given
 abbrev pub hashes : Place → ℕ → Versions → Row
 hashes place number versions = do
   refuse NOT_HERE (is_weave place)
-  says versions (Hashes number)
+  says_reply versions (Hashes number)

@@ -41,9 +41,9 @@ effect rules place number view (LoadJson v t file) =
 effect rules place number view Compact = compact view.versions
 
 -- a line that is not of the grammar is refused
-abbrev pub said : Rules → Place → ℕ → View → Option Statement → Row
-said rules place number view None = Err (coded SYNTAX)
-said rules place number view (Some statement) = effect rules place number view statement
+abbrev pub row_said : Rules → Place → ℕ → View → Option Statement → Row
+row_said rules place number view None = Err (coded SYNTAX)
+row_said rules place number view (Some statement) = effect rules place number view statement
 
 abbrev pub saved : Option Save → Content → Content
 saved None files = files
@@ -66,7 +66,7 @@ step rules place number state writer line = record {
   writer = writer;
   line = line;
   before = state;
-  row = said rules place number (view_of writer state) line.1;
+  row = row_said rules place number (view_of writer state) line.1;
 }
 
 -- the reply

@@ -6,14 +6,14 @@ use Rattle.ssz_script.specs.declared.reply.Reply.TheVariants.{Done, List as List
 use Rattle.ssz_script.specs.declared.reply.TheConstants.Reply.{NO_TYPE, NO_VERSION, NAME_TAKEN, TOO_LONG, NOT_CONTAINER}
 use Rattle.ssz_value.specs.Values.{SszValue}
 use Rattle.ssz_value.specs.Defaults.{default_of}
-use Rattle.ssz_value.specs.Faults.{why}
+use Rattle.ssz_value.specs.Faults.{first_fault}
 use Rattle.ssz_value.specs.Reading.{value_in}
 use Rattle.ssz_value.specs.Pairs.{pairs}
-use Rattle.ssz_value_json.specs.Faults.{why_json, value_spelled}
+use Rattle.ssz_value_json.specs.Faults.{first_json_fault, value_spelled}
 use Rattle.ssz_forms.specs.declared.upgrade_fault.UpgradeFault.{UpgradeFault}
 use Rattle.ssz_forms.specs.Upgrades.{upgraded, upgrade_charge}
 use Rattle.ssz_machine.specs.State.{Name, Versions, version_of, has_version, without_version}
-use Rattle.ssz_machine.specs.Rules.{Rules, Outcome, coded, ◌>>=◌, ◌>>◌, need, refuse, faultless, well_spelled, Row, says, makes}
+use Rattle.ssz_machine.specs.Rules.{Rules, Outcome, coded, ◌>>=◌, ◌>>◌, need, refuse, faultless, well_spelled, Row, says_reply, makes}
 
 -- a name holds a value that is brought in, at the charge of its pairs
 abbrev pub brings : Versions → Name → SszType → SszValue → Row
@@ -22,7 +22,7 @@ brings versions v type value = makes versions v type value (pairs type value)
 -- the value of a type that the bytes encode
 abbrev pub decoded : SszType → List ℕ → Outcome SszValue
 decoded type bytes = do
-  faultless (why type 0 bytes)
+  faultless (first_fault type 0 bytes)
   Ok (value_in type bytes)
 
 -- `new V T`: V is the default of T
@@ -52,7 +52,7 @@ load rules versions v t bytes = do
 -- the value of a type whose JSON text the bytes are
 abbrev pub spelled : SszType → List ℕ → Outcome SszValue
 spelled type bytes = do
-  well_spelled (why_json type bytes)
+  well_spelled (first_json_fault type bytes)
   Ok (value_spelled type bytes)
 
 -- `loadjson V T FILE`: V is the value of T whose JSON text the file's bytes are
@@ -89,15 +89,15 @@ upgrade rules versions v w t = do
 abbrev pub drop : Versions → Name → Row
 drop versions v = do
   version ← need NO_VERSION (version_of v versions)
-  says (without_version v versions) Done
+  says_reply (without_version v versions) Done
 
 -- `list`: the writer's names in byte order
 abbrev pub names_of : Versions → List Name
 names_of versions = map (λ entry. entry.0) versions
 
 abbrev pub list : Versions → Row
-list versions = says versions (Listed (names_of versions))
+list versions = says_reply versions (Listed (names_of versions))
 
 -- `compact`: memory that no version needs is given up
 abbrev pub compact : Versions → Row
-compact versions = says versions Done
+compact versions = says_reply versions Done

@@ -57,15 +57,15 @@ abbrev pub well_spelled : Option JsonFault → Outcome (Unit {0})
 well_spelled None = Ok tt
 well_spelled (Some fault) = Err (bad_json fault)
 
-abbrev pub code_of : EditFault → ℕ
-code_of edit_fault.BadPath = code.BAD_PATH
-code_of edit_fault.Absent = code.ABSENT
-code_of edit_fault.NotThat = code.NOT_THAT
-code_of edit_fault.Full = code.FULL
-code_of edit_fault.Empty = code.EMPTY
-code_of edit_fault.BadSelector = code.BAD_SELECTOR
+abbrev pub edit_code : EditFault → ℕ
+edit_code edit_fault.BadPath = code.BAD_PATH
+edit_code edit_fault.Absent = code.ABSENT
+edit_code edit_fault.NotThat = code.NOT_THAT
+edit_code edit_fault.Full = code.FULL
+edit_code edit_fault.Empty = code.EMPTY
+edit_code edit_fault.BadSelector = code.BAD_SELECTOR
 -- no edit of a whole value wants memory
-code_of edit_fault.Memory = 0
+edit_code edit_fault.Memory = 0
 
 -- What an accepted statement does: its reply, the versions of its writer after it, what it writes
 -- into a file, and how many pairs it may cause to be hashed.
@@ -84,8 +84,8 @@ abbrev pub said_effect : Versions → Reply → Effect
 said_effect versions reply =
     record { reply = reply; versions = versions; save = None; charge = 0 }
 
-abbrev pub says : Versions → Reply → Row
-says versions reply = Ok (said_effect versions reply)
+abbrev pub says_reply : Versions → Reply → Row
+says_reply versions reply = Ok (said_effect versions reply)
 
 -- a name holds a value of the type, at a charge
 abbrev pub made_effect : Versions → Name → SszType → SszValue → ℕ → Effect
@@ -102,4 +102,4 @@ makes versions name type value charge = Ok (made_effect versions name type value
 -- a name holds the edited value
 abbrev pub edits : Versions → Name → SszType → Result SszValue EditFault → ℕ → Row
 edits versions name type (Ok value) charge = makes versions name type value charge
-edits versions name type (Err fault) charge = Err (coded (code_of fault))
+edits versions name type (Err fault) charge = Err (coded (edit_code fault))

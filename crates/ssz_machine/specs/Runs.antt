@@ -13,7 +13,7 @@ use Rattle.ssz_machine.specs.Rules.{Rules}
 use Rattle.ssz_machine.specs.Machine.{Turn}
 use Rattle.ssz_machine.specs.Plays.{Event, play, state_after}
 use Rattle.ssz_machine.specs.Jobs.{job_of, files_after}
-use Rattle.ssz_machine.specs.Work.{Worked, joined, worked_on}
+use Rattle.ssz_machine.specs.Work.{Worked, joined_work, worked_on}
 
 -- These events make these steps from a first state, and come to this state: with the numbers so far,
 -- whatever numbers and events are still to come.
@@ -50,4 +50,4 @@ steps_done ample status.Memory job old new left (k, inr ahead) = k + 1
 -- Of a whole work some steps were made, and so many rounds are left, from this state of the
 -- generator and of the machine.
 pub record IsWorking (rules : Rules) (whole so_far : Worked) (left x : ℕ) : Type 0 where
-  pub all : whole ≡ joined so_far (worked_on rules left x so_far.state)
+  pub all : whole ≡ joined_work so_far (worked_on rules left x so_far.state)

@@ -13,7 +13,7 @@ use Rattle.ssz_machine.specs.State.{Name, Versions, State}
 use Rattle.ssz_machine.specs.Rules.{Rules}
 use Rattle.ssz_machine.specs.Machine.{Turn}
 use Rattle.ssz_machine.specs.Plays.{Event, play}
-use Rattle.ssz_machine.specs.Proofs.{IsSound}
+use Rattle.ssz_machine.specs.Proofs.{IsSoundVersion}
 
 -- each type that has a name is legal
 abbrev pub HasLegalTypes : Rules → Format → Type 0
@@ -21,12 +21,12 @@ HasLegalTypes rules format =
     (name : Name) (type : SszType) → rules.type_named name ≡ Some type → IsLegal format type
 
 -- each version of a writer is a value of a legal type
-abbrev pub AreSound : Format → Versions → Type 0
-AreSound format versions = AllByRecursion (λ entry. IsSound format entry.1) versions
+abbrev pub VersionsAreSound : Format → Versions → Type 0
+VersionsAreSound format versions = AllByRecursion (λ entry. IsSoundVersion format entry.1) versions
 
 -- and so are those of all writers
 abbrev pub IsSoundState : Format → State → Type 0
-IsSoundState format state = (writer : ℕ) → AreSound format (state.versions writer)
+IsSoundState format state = (writer : ℕ) → VersionsAreSound format (state.versions writer)
 
 -- bytes, fewer than 2 ^ 32
 abbrev pub AreShort : List ℕ → Type 0

@@ -5,18 +5,18 @@ use Rattle.std.specs.List.{AllByRecursion, sum_by}
 use Rattle.std.proofs.lemmas.Bool.{false≢true}
 use Rattle.std.proofs.lemmas.Option.{none-some}
 use Rattle.std.proofs.lemmas.List.Sums.{sum_by-cons}
-use Rattle.ssz_chunk.specs.Tree.{grow}
+use Rattle.ssz_chunk.specs.Tree.{merkle_pairs}
 use Rattle.ssz_schema.specs.declared.format.Format.{Format}
 use Rattle.ssz_schema.specs.Legal.{IsLegal}
 use Rattle.ssz_schema.specs.Types.{SszType, Fields, uint, boolean, container, vector, list, bitvector, bitlist, union, no_fields, field}
 use Rattle.ssz_schema.specs.Sizes.{basic_size, element_chunks, depth, fixed_size, part_sizes, total_size}
 use Rattle.ssz_value.specs.Values.{SszValue, sequence, bits, items, Fits, FitFields}
 use Rattle.ssz_value.specs.Pairs.{pairs, field_pairs}
-use Rattle.ssz_making.specs.Parts.{IsLike, part_of}
+use Rattle.ssz_making.specs.Parts.{IsLike, part_of_value}
 use Rattle.ssz_making.specs.Nodes.{new_nodes, field_nodes, element_nodes}
 use Rattle.ssz_value.specs.declared.value.Value.{Value}
 use Rattle.ssz_value.specs.Standing.{value_of, IsValue}
-use Rattle.ssz_value.specs.Faults.{why, Scope, scopes, bytes_of, head_fault, alike_fault, elements_fault}
+use Rattle.ssz_value.specs.Faults.{first_fault, Scope, scopes, scope_bytes, head_fault, alike_fault, elements_fault}
 use Rattle.ssz_value.specs.Reading.{value_in, elements_in}
 use Rattle.ssz_value.proofs.Agree.{IsInput, AreInputs, AreInputs-scopes, no_faults}
 use Rattle.ssz_value.proofs.ExactLaw.{agrees}
@@ -93,8 +93,8 @@ mutual
   alike (bitvector n) sized (bits bs) (bits cs) fit other =
       let chunks = ap (λ k. (k + 255) / 256) (fit ∙ sym other) in
       record {
-        pairs = ap (grow (depth (bitvector n))) chunks;
-        nodes = ap (λ k. grow (depth (bitvector n)) k + k) chunks;
+        pairs = ap (merkle_pairs (depth (bitvector n))) chunks;
+        nodes = ap (λ k. merkle_pairs (depth (bitvector n)) k + k) chunks;
       }
   alike (bitvector n) sized (bits bs) _ fit other = absurd other
   alike (bitvector n) sized _ u fit other = absurd fit
@@ -102,10 +102,11 @@ mutual
       let one = alike t (λ none. sized (ap (option_map (λ z. n * z)) none)) in
       let count = fit.0 ∙ sym other.0 in
       record {
-        pairs = ap₂ (λ k s. grow (depth (vector t n)) (element_chunks (basic_size t) k) + s) count
+        pairs = ap₂ (λ k s. merkle_pairs (depth (vector t n)) (element_chunks (basic_size t) k) + s)
+            count
             (sums_alike t (pairs t) (λ v w a b. (one v w a b).pairs) (items vs) (items ws) count
             fit.1 other.1);
-        nodes = ap₂ (λ k s. grow (depth (vector t n)) (element_chunks (basic_size t) k)
+        nodes = ap₂ (λ k s. merkle_pairs (depth (vector t n)) (element_chunks (basic_size t) k)
             + element_nodes (basic_size t) k s) count
             (sums_alike t (new_nodes t) (λ v w a b. (one v w a b).nodes) (items vs) (items ws)
             count fit.1 other.1);
@@ -115,8 +116,8 @@ mutual
   alike (container fs) sized (sequence vs) (sequence ws) fit other =
       let same = fields_alike fs sized (items vs) (items ws) fit other in
       record {
-        pairs = ap₂ (λ k s. grow (depth (container fs)) k + s) same.count same.pairs;
-        nodes = ap₂ (λ k s. grow (depth (container fs)) k + s) same.count same.nodes;
+        pairs = ap₂ (λ k s. merkle_pairs (depth (container fs)) k + s) same.count same.pairs;
+        nodes = ap₂ (λ k s. merkle_pairs (depth (container fs)) k + s) same.count same.nodes;
       }
   alike (container fs) sized (sequence vs) _ fit other = absurd other
   alike (container fs) sized _ u fit other = absurd fit
@@ -152,30 +153,31 @@ is_sized size some none = false≢true (ap is_some (sym none) ∙ some)
 
 -- what bytes without a fault stand for
 parts_fit : (format : Format) (t : SszType) → IsLegal format t → (s : ℕ) (parts : List Scope)
-    → AreInputs parts → alike_fault (why t) s parts ≡ None
-    → AllByRecursion (Fits t) (map (value_in t) (bytes_of parts))
+    → AreInputs parts → alike_fault (first_fault t) s parts ≡ None
+    → AllByRecursion (Fits t) (map (value_in t) (scope_bytes parts))
 parts_fit format t legal s [] all h = tt
 parts_fit format t legal s (part ∷ parts) all h =
-    let both = no_faults (why t (s + part.0) part.1) (alike_fault (why t) s parts) h in (
+    let both = no_faults (first_fault t (s + part.0) part.1)
+    (alike_fault (first_fault t) s parts) h in (
       ((agrees format t legal).only (s + part.0) part.1 all.0 both.0).fits,
       parts_fit format t legal s parts all.1 both.1,
     )
 
 pub elements_fit : (format : Format) (t : SszType) → IsLegal format t → (size : Option ℕ)
     (count : ℕ) (b : List ℕ) → IsInput b → fixed_size t ≡ size
-    → elements_fault (why t) size count 0 b ≡ None
+    → elements_fault (first_fault t) size count 0 b ≡ None
     → AllByRecursion (Fits t) (element_values t count b)
 elements_fit format t legal size count b input is h =
     let sizes : List (Option ℕ) = replicate count size in
     let both = no_faults (head_fault (replicate count size) 0 b)
-    (alike_fault (why t) 0 (scopes (replicate count size) 0 b)) h in
+    (alike_fault (first_fault t) 0 (scopes (replicate count size) 0 b)) h in
     subst (λ z. AllByRecursion (Fits t) (map (value_in t) (elements_in z count b))) (sym is)
     (parts_fit format t legal 0 (scopes sizes 0 b) (AreInputs-scopes sizes 0 b input) both.1)
 
 -- an element, as it was found, has no fault
 pub found_faultless : (format : Format) (t : SszType) → IsLegal format t → (size : Option ℕ)
     (count : ℕ) (b : List ℕ) (i : ℕ) (part : List ℕ) → IsInput b
-    → elements_fault (why t) size count 0 b ≡ None → i < count
+    → elements_fault (first_fault t) size count 0 b ≡ None → i < count
     → part ≡ get_or (elements_in size count b) i [] → IsFaultless t part
 found_faultless format t legal size count b i part input h below is =
     subst (IsFaultless t) (sym is) (element_faultless format t legal size count b i input h below)
@@ -200,7 +202,7 @@ module _ {X : Type 0} (P : X → Type 0)
 
 pub parts_alike : (t : SszType) → (fixed_size t ≡ None → ⊥) → (v : SszValue) (vs : List SszValue)
     → Fits t v → AllByRecursion (Fits t) vs
-    → AllByRecursion (IsLike (part_of t v)) (map (part_of t) vs)
+    → AllByRecursion (IsLike (part_of_value t v)) (map (part_of_value t) vs)
 parts_alike t sized v [] fit all = tt
 parts_alike t sized v (w ∷ vs) fit all =
     let same = alike t sized w v all.0 fit in
@@ -208,13 +210,14 @@ parts_alike t sized v (w ∷ vs) fit all =
 
 -- those of the elements behind one
 pub elements_alike : (format : Format) (t : SszType) → IsLegal format t → (count : ℕ) (b : List ℕ)
-    (i n : ℕ) (part : List ℕ) → IsInput b → elements_fault (why t) (fixed_size t) count 0 b ≡ None
+    (i n : ℕ) (part : List ℕ) → IsInput b
+    → elements_fault (first_fault t) (fixed_size t) count 0 b ≡ None
     → i < count → part ≡ get_or (elements_in (fixed_size t) count b) i []
-    → IsSome (fixed_size t) → AllByRecursion (IsLike (part_of t (value_in t part)))
-    (take n (drop (i + 1) (map (part_of t) (element_values t count b))))
+    → IsSome (fixed_size t) → AllByRecursion (IsLike (part_of_value t (value_in t part)))
+    (take n (drop (i + 1) (map (part_of_value t) (element_values t count b))))
 elements_alike format t legal count b i n part input h below is some =
-    all_take (IsLike (part_of t (value_in t part))) n _
-    (all_drop (IsLike (part_of t (value_in t part))) (i + 1) _
+    all_take (IsLike (part_of_value t (value_in t part))) n _
+    (all_drop (IsLike (part_of_value t (value_in t part))) (i + 1) _
     (parts_alike t (is_sized (fixed_size t) some) (value_in t part) (element_values t count b)
     (found_fit format t legal part
     (found_faultless format t legal (fixed_size t) count b i part input h below is))
@@ -228,10 +231,10 @@ fit_all t (v ∷ vs) all = (all.0.fits, fit_all t vs all.1)
 
 pub values_alike : (t : SszType) (vs : List Value) (i n : ℕ) (v : Value)
     → AllByRecursion (IsValue t) vs → IsValue t v → IsSome (fixed_size t)
-    → AllByRecursion (IsLike (part_of t (value_of v)))
-    (take n (drop (i + 1) (map (part_of t) (map value_of vs))))
+    → AllByRecursion (IsLike (part_of_value t (value_of v)))
+    (take n (drop (i + 1) (map (part_of_value t) (map value_of vs))))
 values_alike t vs i n v all is some =
-    all_take (IsLike (part_of t (value_of v))) n _
-    (all_drop (IsLike (part_of t (value_of v))) (i + 1) _
+    all_take (IsLike (part_of_value t (value_of v))) n _
+    (all_drop (IsLike (part_of_value t (value_of v))) (i + 1) _
     (parts_alike t (is_sized (fixed_size t) some) (value_of v) (map value_of vs) is.fits
     (fit_all t vs all)))

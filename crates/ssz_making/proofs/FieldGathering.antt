@@ -3,10 +3,10 @@ use Rattle.ssz_schema.specs.declared.format.Format.{Format}
 use Rattle.std.proofs.Common.{◌≡◌, ℕ, zero, suc, ◌+◌, ◌^◌, ◌<◌, ◌≤◌, List, [], ◌∷◌, length, take, drop, get_or, slice_range, Option, Some, None, refl, sym, ap, subst, ◌∙◌, arith}
 use Rattle.ssz_schema.specs.Types.{SszType, Fields, no_fields, field, container}
 use Rattle.ssz_schema.specs.Sizes.{head_size, depth}
-use Rattle.ssz_schema.specs.Unfolding.{tree_at, fields_over}
+use Rattle.ssz_schema.specs.Unfolding.{type_tree_at, fields_over}
 use Rattle.ssz_schema.specs.Legal.{IsLegal, AreLegalFields}
 use Rattle.ssz_value.specs.Encoding.{heads_length}
-use Rattle.ssz_value.specs.Faults.{why, scopes, bytes_of}
+use Rattle.ssz_value.specs.Faults.{first_fault, scopes, scope_bytes}
 use Rattle.ssz_value.specs.Reading.{value_in, fields_in}
 use Rattle.ssz_value.proofs.Agree.{IsInput, IsInput-range, no_faults}
 use Rattle.ssz_schema.proofs.WalkFields.{drop_at}
@@ -16,25 +16,25 @@ use Rattle.ssz_parts.proofs.FieldLemmas.{FieldsFrom, FieldsFrom-start, FieldsFro
 use Rattle.ssz_parts.proofs.Faultless.{anywhere, IsFaultless}
 use Rattle.ssz_parts.specs.PartValues.{field_values}
 use Rattle.ssz_parts.proofs.Faultless.{container_faultless}
-use Rattle.ssz_making.specs.Parts.{Part, whole, part_of, field_parts}
+use Rattle.ssz_making.specs.Parts.{MadePart, whole_of, part_of_value, field_parts}
 use Rattle.ssz_making.proofs.Forms.{container-part}
 use Rattle.ssz_making.proofs.Placing.{IsAt, IsAt-drop}
 
 -- the values of these fields, whose fixed parts begin at place
-abbrev pub parts_from : List SszType → List FieldPart → ℕ → List ℕ → List Part
+abbrev pub parts_from : List SszType → List FieldPart → ℕ → List ℕ → List MadePart
 parts_from trees parts place b = field_parts (fields_over trees parts)
-    (fields_in (fields_over trees parts) (bytes_of (scopes (sizes_of trees parts) place b)))
+    (fields_in (fields_over trees parts) (scope_bytes (scopes (sizes_of trees parts) place b)))
 
 -- the value that lies there
-abbrev pub value_from : List SszType → FieldPart → (ℕ × ℕ) → List ℕ → Part
-value_from trees part range b = part_of (tree_at trees part.1)
-    (value_in (tree_at trees part.1) (slice_range b range.0 range.1))
+abbrev pub value_from : List SszType → FieldPart → (ℕ × ℕ) → List ℕ → MadePart
+value_from trees part range b = part_of_value (type_tree_at trees part.1)
+    (value_in (type_tree_at trees part.1) (slice_range b range.0 range.1))
 
 parts_next : (trees : List SszType) (part : FieldPart) (parts : List FieldPart) (place : ℕ)
     (b : List ℕ) (size : Option ℕ) → size_at trees part ≡ size
     → field_parts (fields_over trees (part ∷ parts))
     (fields_in (fields_over trees (part ∷ parts))
-    (bytes_of (scopes (size ∷ sizes_of trees parts) place b)))
+    (scope_bytes (scopes (size ∷ sizes_of trees parts) place b)))
     ≡ value_from trees part (part_range size (sizes_of trees parts) place b) b
     ∷ parts_from trees parts (place + head_size size) b
 parts_next trees part parts place b (Some z) e = refl
@@ -45,7 +45,7 @@ pub length-parts_from : (trees : List SszType) (parts : List FieldPart) (place :
 length-parts_from trees [] place b = refl
 length-parts_from trees (part ∷ parts) place b = omega (
   arith,
-  ap (λ (ps : List Part). length ps)
+  ap (λ (ps : List MadePart). length ps)
       (parts_next trees part parts place b (size_at trees part) refl),
   length-parts_from trees parts (place + head_size (size_at trees part)) b,
 )
@@ -58,8 +58,8 @@ length-field_parts (field name t fs) [] = refl
 length-field_parts (field name t fs) (b ∷ bytes) = omega (arith, length-field_parts fs bytes)
 
 pub container-bytes : (fs : Fields) (b : List ℕ)
-    → whole (depth (container fs)) (field_parts fs (field_values fs b))
-    ≡ part_of (container fs) (value_in (container fs) b)
+    → whole_of (depth (container fs)) (field_parts fs (field_values fs b))
+    ≡ part_of_value (container fs) (value_in (container fs) b)
 container-bytes fs b = container-part fs (field_values fs b) (length-field_parts fs _)
 
 -- from the field at i on, the values are the last of all
@@ -69,7 +69,7 @@ pub record FieldsAt (trees : List SszType) (parts : List FieldPart) (b : List �
   pub rest : drop i (parts_from trees parts 0 b) ≡ parts_from trees (drop i parts) place b
 
 pub FieldsAt-start : (trees : List SszType) (parts : List FieldPart) (b : List ℕ)
-    → why (container (fields_over trees parts)) 0 b ≡ None → FieldsAt trees parts b 0 0
+    → first_fault (container (fields_over trees parts)) 0 b ≡ None → FieldsAt trees parts b 0 0
 FieldsAt-start trees parts b h = record {
   fields = FieldsFrom-start trees parts 0 b (container_faultless trees parts b h).head;
   rest = refl;
@@ -77,10 +77,10 @@ FieldsAt-start trees parts b h = record {
 
 legal_at : (format : Format) (trees : List SszType) (parts : List FieldPart) (i : ℕ)
     (part : FieldPart) → i < length parts → part ≡ get_or parts i part
-    → AreLegalFields format (fields_over trees parts) → IsLegal format (tree_at trees part.1)
+    → AreLegalFields format (fields_over trees parts) → IsLegal format (type_tree_at trees part.1)
 legal_at format trees [] i part h e legal = absurd (omega arith)
 legal_at format trees (p ∷ parts) zero part h e legal =
-    subst (λ (q : FieldPart). IsLegal format (tree_at trees q.1)) (sym e) legal.1
+    subst (λ (q : FieldPart). IsLegal format (type_tree_at trees q.1)) (sym e) legal.1
 legal_at format trees (p ∷ parts) (suc i) part h e legal =
     legal_at format trees parts i part (omega arith) e legal.2
 
@@ -111,8 +111,8 @@ pub FieldsAt-faultless : (format : Format) (trees : List SszType) (parts : List 
     (b : List ℕ) (i place : ℕ) (part : FieldPart) → FieldsAt trees parts b i place
     → i < length parts → part ≡ get_or parts i part
     → AreLegalFields format (fields_over trees parts) → IsInput b
-    → why (container (fields_over trees parts)) 0 b ≡ None
-    → IsFaultless (tree_at trees part.1)
+    → first_fault (container (fields_over trees parts)) 0 b ≡ None
+    → IsFaultless (type_tree_at trees part.1)
     (slice_range b (range_of trees parts b i place part).0 (range_of trees parts b i place part).1)
 FieldsAt-faultless format trees parts b i place part h below e legal input good =
     let range = range_of trees parts b i place part in
@@ -121,7 +121,7 @@ FieldsAt-faultless format trees parts b i place part h below e legal input good 
     let inside = IsInput-range b range.0 range.1 input in
     record {
       input = inside;
-      none = anywhere format (tree_at trees part.1)
+      none = anywhere format (type_tree_at trees part.1)
           (legal_at format trees parts i part below e legal) (0 + range.0) 0
           (slice_range b range.0 range.1) inside none;
     }
@@ -135,7 +135,7 @@ pub record IsNextField (trees : List SszType) (parts : List FieldPart) (b : List
 pub FieldsAt-next : (trees : List SszType) (parts : List FieldPart) (b : List ℕ) (i place : ℕ)
     (part : FieldPart) (range : ℕ × ℕ) → FieldsAt trees parts b i place → i < length parts
     → part ≡ get_or parts i part → range ≡ range_of trees parts b i place part
-    → why (container (fields_over trees parts)) 0 b ≡ None
+    → first_fault (container (fields_over trees parts)) 0 b ≡ None
     → IsNextField trees parts b i place part range
 FieldsAt-next trees parts b i place part range h below e is good =
     let where_is = range_of trees parts b i place part in
@@ -159,7 +159,7 @@ FieldsAt-next trees parts b i place part range h below e is good =
     }
 
 -- the first i fields were made and pushed
-pub record FirstFields {S R : Type 0} (gathered : S → S → ℕ → ℕ → List Part → R → Type 0)
+pub record FirstFields {S R : Type 0} (gathered : S → S → ℕ → ℕ → List MadePart → R → Type 0)
     (start now : S) (depth : ℕ) (rows : R) (trees : List SszType) (parts : List FieldPart)
     (b : List ℕ) (i place : ℕ) : Type 0 where
   pub fields : FieldsAt trees parts b i place
@@ -167,8 +167,8 @@ pub record FirstFields {S R : Type 0} (gathered : S → S → ℕ → ℕ → Li
 
 pub container_made : (form : SszType) (trees : List SszType) (parts : List FieldPart) (d : ℕ)
     (b : List ℕ) → form ≡ container (fields_over trees parts) → d ≡ depth form
-    → whole d (parts_from trees parts 0 b) ≡ part_of form (value_in form b)
+    → whole_of d (parts_from trees parts 0 b) ≡ part_of_value form (value_in form b)
 container_made form trees parts d b e deep =
-    ap (λ k. whole k (parts_from trees parts 0 b)) (deep ∙ ap depth e)
+    ap (λ k. whole_of k (parts_from trees parts 0 b)) (deep ∙ ap depth e)
     ∙ container-bytes (fields_over trees parts) b
-    ∙ ap (λ ty. part_of ty (value_in ty b)) (sym e)
+    ∙ ap (λ ty. part_of_value ty (value_in ty b)) (sym e)

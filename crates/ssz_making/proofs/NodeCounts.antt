@@ -2,7 +2,7 @@
 use Rattle.std.proofs.Common.{◌≡◌, ℕ, zero, suc, List, [], ◌∷◌, slice_get, Option, Some, None, refl, ap}
 use Rattle.ssz_schema.specs.Types.{SszType, uint, boolean, container, vector, list, bitvector, bitlist, union}
 use Rattle.ssz_schema.specs.Sizes.{basic_size}
-use Rattle.ssz_schema.specs.Unfolding.{tree_at, options_over}
+use Rattle.ssz_schema.specs.Unfolding.{type_tree_at, options_over}
 use Rattle.ssz_value.specs.Values.{SszValue}
 use Rattle.ssz_making.specs.Nodes.{new_nodes, option_nodes}
 
@@ -20,10 +20,10 @@ nodes-basic (union os) z v e = cc
 -- a value of an option has the nodes of the type that it stands for
 pub nodes-option : (trees : List SszType) (ids : List (Option ℕ)) (left id : ℕ) (v : SszValue)
     → slice_get ids left ≡ Some (Some id)
-    → option_nodes (options_over trees ids) left v ≡ new_nodes (tree_at trees id) v
+    → option_nodes (options_over trees ids) left v ≡ new_nodes (type_tree_at trees id) v
 nodes-option trees [] left id v e = cc
 nodes-option trees (None ∷ ids) zero id v e = cc
 nodes-option trees (Some other ∷ ids) zero id v e = let same : other ≡ id = cc in
-    ap (λ n. new_nodes (tree_at trees n) v) same
+    ap (λ n. new_nodes (type_tree_at trees n) v) same
 nodes-option trees (None ∷ ids) (suc left) id v e = nodes-option trees ids left id v e
 nodes-option trees (Some other ∷ ids) (suc left) id v e = nodes-option trees ids left id v e

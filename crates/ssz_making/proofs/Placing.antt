@@ -1,14 +1,14 @@
 -- Parts one after another: what stands at a place, and behind it.
 use Rattle.std.proofs.Common.{◌≡◌, ℕ, zero, suc, ◌+◌, ◌<◌, List, [], ◌∷◌, ◌++◌, length, map, take, drop, sym, ap, ◌∙◌, arith, append_assoc}
 use Rattle.std.proofs.lemmas.List.{append-nil, map-append, take-map, take-append-drop, length-map}
-use Rattle.ssz_making.specs.Parts.{Part}
+use Rattle.ssz_making.specs.Parts.{MadePart}
 
 -- the part stands at place i
-pub record IsAt (all : List Part) (i : ℕ) (part : Part) : Type 0 where
+pub record IsAt (all : List MadePart) (i : ℕ) (part : MadePart) : Type 0 where
   pub below : i < length all
   pub more : take (i + 1) all ≡ take i all ++ part ∷ []
 
-pub IsAt-map : {X : Type 0} (f : X → Part) (xs : List X) (i : ℕ) (x : X) → i < length xs
+pub IsAt-map : {X : Type 0} (f : X → MadePart) (xs : List X) (i : ℕ) (x : X) → i < length xs
     → take (i + 1) xs ≡ take i xs ++ x ∷ [] → IsAt (map f xs) i (f x)
 IsAt-map f xs i x below more = record {
   below = omega (arith, length-map xs f);
@@ -17,7 +17,7 @@ IsAt-map f xs i x below more = record {
 }
 
 -- behind one more
-pub IsAt-cons : (first : Part) (all : List Part) (i : ℕ) (part : Part) → IsAt all i part
+pub IsAt-cons : (first : MadePart) (all : List MadePart) (i : ℕ) (part : MadePart) → IsAt all i part
     → IsAt (first ∷ all) (suc i) part
 IsAt-cons first all i part at =
     let up : suc (i + 1) ≡ suc i + 1 = omega arith in
@@ -27,7 +27,7 @@ IsAt-cons first all i part at =
     }
 
 -- and from there on stand the others
-pub IsAt-drop : (all : List Part) (i : ℕ) (part : Part) (rest : List Part)
+pub IsAt-drop : (all : List MadePart) (i : ℕ) (part : MadePart) (rest : List MadePart)
     → drop i all ≡ part ∷ rest → IsAt all i part × (drop (i + 1) all ≡ rest)
 IsAt-drop [] zero part rest e = cc
 IsAt-drop [] (suc i) part rest e = cc
@@ -46,12 +46,12 @@ IsAt-drop (p ∷ all) (suc i) part rest e =
     )
 
 -- the parts before it, it, and the parts behind it are all
-pub split-at : (all : List Part) (i : ℕ) (part : Part) → IsAt all i part
+pub split-at : (all : List MadePart) (i : ℕ) (part : MadePart) → IsAt all i part
     → take i all ++ part ∷ drop (i + 1) all ≡ all
 split-at all i part at = sym (append_assoc (take i all) (part ∷ []) (drop (i + 1) all))
     ∙ ap (λ ps. ps ++ drop (i + 1) all) (sym at.more) ∙ take-append-drop (i + 1) all
 
 -- nothing is no part more
-pub none_more : (before more : List Part) → length more ≡ 0 → before ++ more ≡ before
+pub none_more : (before more : List MadePart) → length more ≡ 0 → before ++ more ≡ before
 none_more before [] none = append-nil before
 none_more before (part ∷ more) none = absurd (omega (arith, none))

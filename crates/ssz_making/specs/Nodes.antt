@@ -1,6 +1,6 @@
 -- How many nodes are made for a value, zero trees aside (this project's measure).
 use Rattle.std.specs.Prelude.{ℕ, zero, suc, ◌+◌, ◌/◌, List, ◌∷◌, length, Option, Some, None, sum_by}
-use Rattle.ssz_chunk.specs.Tree.{grow}
+use Rattle.ssz_chunk.specs.Tree.{merkle_pairs}
 use Rattle.ssz_schema.specs.Types.{SszType, Fields, Options, uint, boolean, container, vector, list, bitvector, bitlist, union, field, none_option, option}
 use Rattle.ssz_schema.specs.Sizes.{depth, basic_size, element_chunks}
 use Rattle.ssz_value.specs.Values.{SszValue, sequence, bits, chosen, chosen_none, items}
@@ -18,18 +18,18 @@ abbrev mutual
   new_nodes (uint w) v = 1
   new_nodes boolean v = 1
   new_nodes (container fs) (sequence vs) =
-      grow (depth (container fs)) (length (items vs)) + field_nodes fs (items vs)
+      merkle_pairs (depth (container fs)) (length (items vs)) + field_nodes fs (items vs)
   new_nodes (vector elem n) (sequence vs) =
-      grow (depth (vector elem n)) (element_chunks (basic_size elem) (length (items vs)))
+      merkle_pairs (depth (vector elem n)) (element_chunks (basic_size elem) (length (items vs)))
       + element_nodes (basic_size elem) (length (items vs)) (sum_by (new_nodes elem) (items vs))
   new_nodes (list elem limit) (sequence vs) =
-      grow (depth (list elem limit)) (element_chunks (basic_size elem) (length (items vs)))
+      merkle_pairs (depth (list elem limit)) (element_chunks (basic_size elem) (length (items vs)))
       + element_nodes (basic_size elem) (length (items vs)) (sum_by (new_nodes elem) (items vs))
       + 2
   new_nodes (bitvector n) (bits bs) =
-      grow (depth (bitvector n)) ((length bs + 255) / 256) + (length bs + 255) / 256
+      merkle_pairs (depth (bitvector n)) ((length bs + 255) / 256) + (length bs + 255) / 256
   new_nodes (bitlist limit) (bits bs) =
-      grow (depth (bitlist limit)) ((length bs + 255) / 256) + (length bs + 255) / 256 + 2
+      merkle_pairs (depth (bitlist limit)) ((length bs + 255) / 256) + (length bs + 255) / 256 + 2
   new_nodes (union os) (chosen k v) = option_nodes os k v + 2
   new_nodes (union os) (chosen_none k) = 2
   -- no other value fits

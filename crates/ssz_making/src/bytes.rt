@@ -4,10 +4,10 @@ ghost use Rattle.ssz_schema.specs.Sizes.{fixed_size, basic_size, element_chunks}
 ghost use Rattle.ssz_schema.specs.Types.{container, union};
 ghost use Rattle.ssz_schema.specs.Unfolding.{type_of, fields_over, options_over, IsBelow};
 ghost use Rattle.ssz_schema.specs.Legal.{IsLegal, AreLegalFields, AreLegalOptions};
-ghost use Rattle.ssz_value.specs.Faults.{why, elements_fault};
+ghost use Rattle.ssz_value.specs.Faults.{first_fault, elements_fault};
 ghost use Rattle.ssz_value.specs.Reading.{value_in};
 ghost use Rattle.ssz_parts.specs.PartValues.{element_values, field_values};
-ghost use Rattle.ssz_making.specs.Parts.{whole, chosen_part, elements_part, field_parts, part_of};
+ghost use Rattle.ssz_making.specs.Parts.{whole_of, chosen_part, elements_part, field_parts, part_of_value};
 ghost use Rattle.ssz_making.specs.Nodes.{new_nodes};
 
 use super::maker::Maker;
@@ -22,11 +22,11 @@ use ssz_schema::{Name, Schema, Ty, TypeId};
 pub fn bytes_part<M: Maker>(maker: &mut M, schema: &Schema, id: TypeId, bytes: &[u8]) -> M::Out
     requires known { id < length schema.now.trees }
     requires short { length bytes.now < 2 ^ 32 }
-    requires faultless { why (type_of schema.now id) 0 bytes.now ≡ None }
+    requires faultless { first_fault (type_of schema.now id) 0 bytes.now ≡ None }
     requires room { let t = type_of schema.now id in
         M.room maker.old (new_nodes t (value_in t bytes.now)) }
     ensures { M.made maker.old maker.new
-        (part_of (type_of schema.now id) (value_in (type_of schema.now id) bytes.now)) result }
+        (part_of_value (type_of schema.now id) (value_in (type_of schema.now id) bytes.now)) result }
 {
     match schema.ty(id) {
         Ty::Uint(_) => maker.leaf(&chunk_at(bytes, 0)),
@@ -76,7 +76,7 @@ fn elements_made<M: Maker>(
     requires depth { depth ≤ 126 }
     requires few { element_chunks (basic_size (type_of schema.now elem)) count ≤ 2 ^ depth }
     requires short { length bytes.now < 2 ^ 32 }
-    requires faultless { elements_fault (why (type_of schema.now elem))
+    requires faultless { elements_fault (first_fault (type_of schema.now elem))
         (fixed_size (type_of schema.now elem)) count 0 bytes.now ≡ None }
     requires room { let t = type_of schema.now elem in
         M.room maker.old (elements_part t depth (element_values t count bytes.now)).nodes }
@@ -104,13 +104,13 @@ fn parts_made<M: Maker>(
     requires depth { depth ≤ 126 }
     requires few { count ≤ 2 ^ depth }
     requires short { length bytes.now < 2 ^ 32 }
-    requires faultless { elements_fault (why (type_of schema.now elem))
+    requires faultless { elements_fault (first_fault (type_of schema.now elem))
         (fixed_size (type_of schema.now elem)) count 0 bytes.now ≡ None }
     requires room { let t = type_of schema.now elem in
         M.room maker.old
-        (whole depth (map (part_of t) (element_values t count bytes.now))).nodes }
+        (whole_of depth (map (part_of_value t) (element_values t count bytes.now))).nodes }
     ensures { let t = type_of schema.now elem in M.made maker.old maker.new
-        (whole depth (map (part_of t) (element_values t count bytes.now))) result }
+        (whole_of depth (map (part_of_value t) (element_values t count bytes.now))) result }
 {
     let size = schema.fixed_size(elem);
     let mut rows = maker.start(depth, count);
@@ -141,12 +141,13 @@ fn fields_made<M: Maker>(
     requires depth { depth ≤ 126 }
     requires few { length fields.now ≤ 2 ^ depth }
     requires short { length bytes.now < 2 ^ 32 }
-    requires faultless { why (container (fields_over schema.now.trees fields.now)) 0 bytes.now
+    requires faultless { first_fault
+        (container (fields_over schema.now.trees fields.now)) 0 bytes.now
         ≡ None }
     requires room { let fs = fields_over schema.now.trees fields.now in
-        M.room maker.old (whole depth (field_parts fs (field_values fs bytes.now))).nodes }
+        M.room maker.old (whole_of depth (field_parts fs (field_values fs bytes.now))).nodes }
     ensures { let fs = fields_over schema.now.trees fields.now in
-        M.made maker.old maker.new (whole depth (field_parts fs (field_values fs bytes.now)))
+        M.made maker.old maker.new (whole_of depth (field_parts fs (field_values fs bytes.now)))
         result }
 {
     let mut rows = maker.start(depth, fields.len() as u64);
@@ -174,12 +175,12 @@ fn union_made<M: Maker>(
     requires before { AllByRecursion (IsBelow id) options.now }
     requires legal { AreLegalOptions schema.now.format (options_over schema.now.trees options.now) }
     requires short { length bytes.now < 2 ^ 32 }
-    requires faultless { why (union (options_over schema.now.trees options.now)) 0 bytes.now
+    requires faultless { first_fault (union (options_over schema.now.trees options.now)) 0 bytes.now
         ≡ None }
     requires room { let t = union (options_over schema.now.trees options.now) in
         M.room maker.old (new_nodes t (value_in t bytes.now)) }
     ensures { let t = union (options_over schema.now.trees options.now) in
-        M.made maker.old maker.new (part_of t (value_in t bytes.now)) result }
+        M.made maker.old maker.new (part_of_value t (value_in t bytes.now)) result }
 {
     let selector = bytes[0];
     let option = options[usize::from(selector)];
@@ -200,7 +201,8 @@ fn option_made<M: Maker>(
     requires known { id < length schema.now.trees }
     requires before { IsBelow id option }
     requires short { length bytes.now < 2 ^ 32 }
-    requires faultless { IfSome option (λ some. why (type_of schema.now some) 0 bytes.now ≡ None) }
+    requires faultless { IfSome option
+        (λ some. first_fault (type_of schema.now some) 0 bytes.now ≡ None) }
     requires room { M.room maker.old (chosen_part schema.now.trees option bytes.now).nodes }
     ensures { M.made maker.old maker.new (chosen_part schema.now.trees option bytes.now) result }
 {

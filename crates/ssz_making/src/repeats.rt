@@ -1,6 +1,6 @@
 ghost use Rattle.std.specs.Prelude.{ℕ, ◌≡◌, ◌≤◌, ◌++◌, List, IsSome, length};
 ghost use Rattle.std.specs.List.{AllByRecursion};
-ghost use Rattle.ssz_making.specs.Parts.{Part, IsLike};
+ghost use Rattle.ssz_making.specs.Parts.{MadePart, IsLike};
 
 use super::maker::Maker;
 
@@ -13,7 +13,7 @@ pub(crate) fn repeats<M: Maker>(
     more: u64,
 ) -> u64
     ensures at_most { result ≤ more }
-    ensures pushed { (start first then : M) (d n : ℕ) (parts alike : List Part) (one : Part)
+    ensures pushed { (start first then : M) (d n : ℕ) (parts alike : List MadePart) (one : MadePart)
         → M.made first then one out.now
         → (IsSome size → AllByRecursion (IsLike one) alike) → length alike ≡ result
         → M.gathered start maker.old d n parts rows.old

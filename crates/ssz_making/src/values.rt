@@ -6,7 +6,7 @@ ghost use Rattle.ssz_schema.specs.Sizes.{basic_size, element_chunks};
 ghost use Rattle.ssz_schema.specs.Unfolding.{type_of, fields_over, options_over, IsBelow};
 ghost use Rattle.ssz_value.specs.Standing.{value_of, IsValue};
 ghost use Rattle.ssz_value.specs.Shapes.{IsSequence, AreFields, parts_of, part_count_of};
-ghost use Rattle.ssz_making.specs.Parts.{whole, elements_part, field_parts, part_of};
+ghost use Rattle.ssz_making.specs.Parts.{whole_of, elements_part, field_parts, part_of_value};
 ghost use Rattle.ssz_making.specs.Nodes.{new_nodes};
 
 use super::maker::Maker;
@@ -21,7 +21,8 @@ pub fn value_part<M: Maker>(maker: &mut M, schema: &Schema, id: TypeId, value: &
     requires known { id < length schema.now.trees }
     requires value { IsValue (type_of schema.now id) value.now }
     requires room { M.room maker.old (new_nodes (type_of schema.now id) (value_of value.now)) }
-    ensures { M.made maker.old maker.new (part_of (type_of schema.now id) (value_of value.now))
+    ensures { M.made maker.old maker.new
+        (part_of_value (type_of schema.now id) (value_of value.now))
         result }
 {
     match schema.ty(id) {
@@ -97,9 +98,9 @@ fn values_made<M: Maker>(
     requires few { length parts.now ≤ 2 ^ depth }
     requires values { AllByRecursion (IsValue (type_of schema.now elem)) parts.now }
     requires room { let t = type_of schema.now elem in
-        M.room maker.old (whole depth (map (part_of t) (map value_of parts.now))).nodes }
+        M.room maker.old (whole_of depth (map (part_of_value t) (map value_of parts.now))).nodes }
     ensures { let t = type_of schema.now elem in
-        M.made maker.old maker.new (whole depth (map (part_of t) (map value_of parts.now)))
+        M.made maker.old maker.new (whole_of depth (map (part_of_value t) (map value_of parts.now)))
         result }
 {
     let size = schema.fixed_size(elem);
@@ -131,9 +132,9 @@ fn container_made<M: Maker>(
     requires depth { depth ≤ LEVELS }
     requires few { length fields.now ≤ 2 ^ depth }
     requires room { let fs = fields_over schema.now.trees fields.now in
-        M.room maker.old (whole depth (field_parts fs (parts_of (value_of value.now)))).nodes }
+        M.room maker.old (whole_of depth (field_parts fs (parts_of (value_of value.now)))).nodes }
     ensures { let fs = fields_over schema.now.trees fields.now in
-        M.made maker.old maker.new (whole depth (field_parts fs (parts_of (value_of value.now))))
+        M.made maker.old maker.new (whole_of depth (field_parts fs (parts_of (value_of value.now))))
         result }
 {
     match value {
@@ -158,9 +159,9 @@ fn field_values_made<M: Maker>(
     requires depth { depth ≤ LEVELS }
     requires few { length fields.now ≤ 2 ^ depth }
     requires room { let fs = fields_over schema.now.trees fields.now in
-        M.room maker.old (whole depth (field_parts fs (map value_of parts.now))).nodes }
+        M.room maker.old (whole_of depth (field_parts fs (map value_of parts.now))).nodes }
     ensures { let fs = fields_over schema.now.trees fields.now in
-        M.made maker.old maker.new (whole depth (field_parts fs (map value_of parts.now)))
+        M.made maker.old maker.new (whole_of depth (field_parts fs (map value_of parts.now)))
         result }
 {
     let mut rows = maker.start(depth, fields.len() as u64);
@@ -186,7 +187,7 @@ fn chosen_made<M: Maker>(
     requires room { let t = union (options_over schema.now.trees options.now) in
         M.room maker.old (new_nodes t (value_of value.now)) }
     ensures { let t = union (options_over schema.now.trees options.now) in
-        M.made maker.old maker.new (part_of t (value_of value.now)) result }
+        M.made maker.old maker.new (part_of_value t (value_of value.now)) result }
 {
     match value {
         Value::Union { selector, inner } => match inner {

@@ -5,7 +5,7 @@ use Rattle.std.proofs.lemmas.Bool.{cases_lt, cases_eq}
 use Rattle.std.proofs.lemmas.List.{drop_at, take-append-le, drop-append-le, get_or-set_same, get_or-set_other}
 use Rattle.std.proofs.lemmas.Nat.{pow_pos, shr-shr}
 use Rattle.ssz_chunk.specs.declared.Chunk.{Chunk}
-use Rattle.ssz_merkle.specs.Frontier.{Frontier, Holds, block}
+use Rattle.ssz_merkle.specs.Frontier.{Frontier, FrontierHolds, chunk_block}
 use Rattle.ssz_merkle.proofs.Binary.{IsFollowed, div_at, odd_rest, shr-above, digit-below}
 use Rattle.ssz_merkle.proofs.Blocks.{start, start-right, start-within, root_over, IsTop, IsTop-right}
 use Rattle.ssz_merkle.proofs.Holding.{block-last}
@@ -46,7 +46,7 @@ row-reached n level low q whole is = ⊎_elim
 
 -- a block with a row behind it
 block-before_row : (chunks row : List (List ℕ)) (k : ℕ) → bit_at (length chunks) k ≡ 1
-    → block k chunks ≡ take (2 ^ k) (drop (start (length chunks) (suc k)) (chunks ++ row))
+    → chunk_block k chunks ≡ take (2 ^ k) (drop (start (length chunks) (suc k)) (chunks ++ row))
 block-before_row chunks row k one =
     let n : ℕ = length chunks in
     let from : ℕ = start n (suc k) in
@@ -57,7 +57,7 @@ block-before_row chunks row k one =
 
 -- the row was pushed behind these chunks, of which there are n
 module _ (pair_of : List ℕ → List ℕ → List ℕ) (chunks row : List (List ℕ)) (old : Frontier)
-    (level last : ℕ) (held : Holds pair_of chunks old) (whole : old.pushed % 2 ^ level ≡ 0)
+    (level last : ℕ) (held : FrontierHolds pair_of chunks old) (whole : old.pushed % 2 ^ level ≡ 0)
     (is_last : last ≡ old.pushed + (2 ^ level - 1)) where
   row-start : start last level ≡ length chunks
   row-start =
@@ -101,7 +101,7 @@ module _ (pair_of : List ℕ → List ℕ → List ℕ) (chunks row : List (List
       → IsFollowed last low q → level ≤ low → low < length old.roots
       → IsTop pair_of last low (chunks ++ row) carry.0
       → new.pushed ≡ old.pushed + 2 ^ level → new.roots ≡ slice_set old.roots low carry
-      → Holds pair_of (chunks ++ row) new
+      → FrontierHolds pair_of (chunks ++ row) new
   Holds-row new carry low q long followed reached within top more set =
       let all : List (List ℕ) = chunks ++ row in
       let sum : length all ≡ length chunks + length row = length-append chunks row in
@@ -118,7 +118,7 @@ module _ (pair_of : List ℕ → List ℕ → List ℕ) (chunks row : List (List
             )))
             (λ (higher : low ≤ k). ⊎_elim
             (λ (here : k ≡ low). subst (λ j. (slice_index_or new.roots j (record { 0 = [] })).0
-            ≡ root_over pair_of j (block j all)) (sym here)
+            ≡ root_over pair_of j (chunk_block j all)) (sym here)
             (ap (λ (roots : List Chunk). (slice_index_or roots low (record { 0 = [] })).0) set
             ∙ ap (λ (c : Chunk). c.0)
             (get_or-set_same old.roots low carry (record { 0 = [] }) within)

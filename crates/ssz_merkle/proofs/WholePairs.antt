@@ -8,7 +8,7 @@ use Rattle.std.proofs.lemmas.List.{map-id}
 use Rattle.std.proofs.lemmas.List.FromFn.{sum_by-map-range_with_len_more}
 use Rattle.std.proofs.lemmas.Nat.{pow_pos, pow-add}
 use Rattle.ssz_chunk.specs.Chunk.{CountsUp}
-use Rattle.ssz_chunk.specs.Tree.{grow}
+use Rattle.ssz_chunk.specs.Tree.{merkle_pairs}
 use Rattle.ssz_chunk.proofs.Counting.{CountsUp-none, CountsUp-add}
 use Rattle.ssz_chunk.proofs.Growing.{grow-zero}
 use Rattle.ssz_merkle.specs.Frontier.{whole_pairs, push_pairs}
@@ -36,9 +36,9 @@ whole_pairs-next (suc d) last low q is = ⊎_elim
 
 -- above some chunks stands, on each level past their number's last zeros, one pair that is not
 -- whole
-grow-whole_pairs : (d last low q : ℕ) → IsFollowed last low q → grow d (last + 1)
+grow-whole_pairs : (d last low q : ℕ) → IsFollowed last low q → merkle_pairs d (last + 1)
     ≡ whole_pairs d (last + 1) + (d - low)
-unfolding grow whole_pairs
+unfolding merkle_pairs whole_pairs
 grow-whole_pairs zero last low q is = omega arith
 grow-whole_pairs (suc d) last low q is = ⊎_elim
     (λ (above : low < suc d).
@@ -71,9 +71,9 @@ grow-whole_pairs (suc d) last low q is = ⊎_elim
 -- the pairs that are made at the end
 pub CountsUp-finish : (depth last low q old new : ℕ) → IsFollowed last low q
     → CountsUp (depth - low) old new
-    → CountsUp (grow depth (last + 1) - whole_pairs depth (last + 1)) old new
+    → CountsUp (merkle_pairs depth (last + 1) - whole_pairs depth (last + 1)) old new
 CountsUp-finish depth last low q old new is counted =
-    let made : depth - low ≡ grow depth (last + 1) - whole_pairs depth (last + 1) =
+    let made : depth - low ≡ merkle_pairs depth (last + 1) - whole_pairs depth (last + 1) =
     omega (arith, grow-whole_pairs depth last low q is) in
     subst (λ n. CountsUp n old new) made counted
 
@@ -86,10 +86,10 @@ CountsUp-level low level first now end above before pair =
 
 -- nothing is hashed where nothing was pushed
 pub CountsUp-empty : (depth pushed count : ℕ) → pushed ≡ 0
-    → CountsUp (grow depth pushed - whole_pairs depth pushed) count count
+    → CountsUp (merkle_pairs depth pushed - whole_pairs depth pushed) count count
 CountsUp-empty depth pushed count none =
-    let no_pair : 0 ≡ grow depth pushed - whole_pairs depth pushed =
-    omega (arith, ap (grow depth) none, grow-zero depth) in
+    let no_pair : 0 ≡ merkle_pairs depth pushed - whole_pairs depth pushed =
+    omega (arith, ap (merkle_pairs depth) none, grow-zero depth) in
     subst (λ n. CountsUp n count count) no_pair (CountsUp-none count)
 
 -- nothing is whole before the first push
@@ -109,8 +109,8 @@ whole_pairs-rises (suc d) n = omega (
 )
 
 -- the whole pairs are among all
-pub whole_pairs-le-grow : (d n : ℕ) → whole_pairs d n ≤ grow d n
-unfolding whole_pairs grow
+pub whole_pairs-le-grow : (d n : ℕ) → whole_pairs d n ≤ merkle_pairs d n
+unfolding whole_pairs merkle_pairs
 whole_pairs-le-grow zero n = omega arith
 whole_pairs-le-grow (suc d) n = omega (arith, whole_pairs-le-grow d n)
 

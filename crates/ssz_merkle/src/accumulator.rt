@@ -1,8 +1,8 @@
 ghost use Rattle.std.specs.Prelude.{◌≡◌, ◌+◌, ◌-◌, ◌%◌, ◌^◌, ◌<◌, ◌≤◌, ℕ, List, [], ◌∷◌, ◌++◌, length};
 ghost use Rattle.ssz_chunk.specs.declared.TheConstants.{LEVELS};
 ghost use Rattle.ssz_chunk.specs.Chunk.{CountsUp};
-ghost use Rattle.ssz_chunk.specs.Tree.{root, full};
-ghost use Rattle.ssz_merkle.specs.Frontier.{Holds, bytes_of, finish_pairs, leaves, push_pairs, whole_pairs};
+ghost use Rattle.ssz_chunk.specs.Tree.{root, merkle_tree};
+ghost use Rattle.ssz_merkle.specs.Frontier.{FrontierHolds, chunk_bytes, finish_pairs, leaves, push_pairs, whole_pairs};
 
 use super::rows::row_root;
 use ssz_chunk::{Chunk, LEVELS, PairHash, ZeroTable};
@@ -50,7 +50,7 @@ impl<'a, H: PairHash> Accumulator<'a, H> {
         requires { depth ≤ LEVELS }
         ensures depth { result.depth ≡ depth }
         ensures pushed { result.pushed ≡ 0 }
-        ensures holds { Holds H.pair_of [] result }
+        ensures holds { FrontierHolds H.pair_of [] result }
     {
         Accumulator {
             zeros,
@@ -71,8 +71,8 @@ impl<'a, H: PairHash> Accumulator<'a, H> {
         requires { self.old.pushed < 2 ^ self.old.depth }
         ensures depth { self.new.depth ≡ self.old.depth }
         ensures pushed { self.new.pushed ≡ self.old.pushed + 1 }
-        ensures holds { (chunks : List (List ℕ)) → Holds H.pair_of chunks self.old
-            → Holds H.pair_of (chunks ++ chunk.now.0 ∷ []) self.new }
+        ensures holds { (chunks : List (List ℕ)) → FrontierHolds H.pair_of chunks self.old
+            → FrontierHolds H.pair_of (chunks ++ chunk.now.0 ∷ []) self.new }
         ensures counts { CountsUp (push_pairs self.old.depth self.old.pushed)
             (H.pairs hasher.old) (H.pairs hasher.new) }
     {
@@ -88,9 +88,9 @@ impl<'a, H: PairHash> Accumulator<'a, H> {
         requires room { self.old.pushed + 2 ^ level ≤ 2 ^ self.old.depth }
         ensures depth { self.new.depth ≡ self.old.depth }
         ensures pushed { self.new.pushed ≡ self.old.pushed + 2 ^ level }
-        ensures holds { (chunks row : List (List ℕ)) → Holds H.pair_of chunks self.old
-            → length row ≡ 2 ^ level → chunk.now.0 ≡ root H.pair_of (full level (leaves row))
-            → Holds H.pair_of (chunks ++ row) self.new }
+        ensures holds { (chunks row : List (List ℕ)) → FrontierHolds H.pair_of chunks self.old
+            → length row ≡ 2 ^ level → chunk.now.0 ≡ root H.pair_of (merkle_tree level (leaves row))
+            → FrontierHolds H.pair_of (chunks ++ row) self.new }
         ensures counts { (start : ℕ) → CountsUp (2 ^ level - 1) start (H.pairs hasher.old)
             → CountsUp (whole_pairs self.old.depth (self.old.pushed + 2 ^ level)
             - whole_pairs self.old.depth self.old.pushed) start (H.pairs hasher.new) }
@@ -117,8 +117,8 @@ impl<'a, H: PairHash> Accumulator<'a, H> {
         requires room { self.old.pushed + 2 ^ level ≤ 2 ^ self.old.depth }
         ensures depth { self.new.depth ≡ self.old.depth }
         ensures pushed { self.new.pushed ≡ self.old.pushed + 2 ^ level }
-        ensures holds { (before : List (List ℕ)) → Holds H.pair_of before self.old
-            → Holds H.pair_of (before ++ bytes_of chunks.old) self.new }
+        ensures holds { (before : List (List ℕ)) → FrontierHolds H.pair_of before self.old
+            → FrontierHolds H.pair_of (before ++ chunk_bytes chunks.old) self.new }
         ensures counts { CountsUp (whole_pairs self.old.depth (self.old.pushed + 2 ^ level)
             - whole_pairs self.old.depth self.old.pushed)
             (H.pairs hasher.old) (H.pairs hasher.new) }
@@ -132,8 +132,8 @@ impl<'a, H: PairHash> Accumulator<'a, H> {
     /// with the root to its left.
     #[inline(always)]
     pub fn finish(self, hasher: &mut H) -> Chunk
-        ensures root { (chunks : List (List ℕ)) → Holds H.pair_of chunks self.entry
-            → result.0 ≡ root H.pair_of (full self.entry.depth (leaves chunks)) }
+        ensures root { (chunks : List (List ℕ)) → FrontierHolds H.pair_of chunks self.entry
+            → result.0 ≡ root H.pair_of (merkle_tree self.entry.depth (leaves chunks)) }
         ensures counts { CountsUp (finish_pairs self.entry.depth self.entry.pushed)
             (H.pairs hasher.old) (H.pairs hasher.new) }
     {
@@ -142,8 +142,8 @@ impl<'a, H: PairHash> Accumulator<'a, H> {
 
     // The same of a lent accumulator, so that finish moves none of its 4 KiB.
     fn root(&self, hasher: &mut H) -> Chunk
-        ensures root { (chunks : List (List ℕ)) → Holds H.pair_of chunks self.now
-            → result.0 ≡ root H.pair_of (full self.now.depth (leaves chunks)) }
+        ensures root { (chunks : List (List ℕ)) → FrontierHolds H.pair_of chunks self.now
+            → result.0 ≡ root H.pair_of (merkle_tree self.now.depth (leaves chunks)) }
         ensures counts { CountsUp (finish_pairs self.now.depth self.now.pushed)
             (H.pairs hasher.old) (H.pairs hasher.new) }
     {

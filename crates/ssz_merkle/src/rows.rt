@@ -1,7 +1,7 @@
 ghost use Rattle.std.specs.Prelude.{◌≡◌, ◌-◌, ◌^◌, length};
 ghost use Rattle.ssz_chunk.specs.Chunk.{CountsUp};
-ghost use Rattle.ssz_chunk.specs.Tree.{root, full};
-ghost use Rattle.ssz_merkle.specs.Frontier.{bytes_of, leaves};
+ghost use Rattle.ssz_chunk.specs.Tree.{root, merkle_tree};
+ghost use Rattle.ssz_merkle.specs.Frontier.{chunk_bytes, leaves};
 
 use ssz_chunk::{Chunk, PairHash};
 
@@ -9,7 +9,7 @@ use ssz_chunk::{Chunk, PairHash};
 /// are made together.
 pub fn row_root<H: PairHash>(chunks: &mut [Chunk], level: u32, hasher: &mut H) -> Chunk
     requires { length chunks.old ≡ 2 ^ level }
-    ensures root { result.0 ≡ root H.pair_of (full level (leaves (bytes_of chunks.old))) }
+    ensures root { result.0 ≡ root H.pair_of (merkle_tree level (leaves (chunk_bytes chunks.old))) }
     ensures counts { CountsUp (2 ^ level - 1) (H.pairs hasher.old) (H.pairs hasher.new) }
 {
     let mut len = chunks.len();

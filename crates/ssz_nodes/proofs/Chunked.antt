@@ -3,15 +3,15 @@ use Rattle.std.proofs.Common.{ℕ, suc, ◌+◌, ◌-◌, ◌/◌, ◌^◌, ◌<
 use Rattle.std.proofs.lemmas.Bool.{cases_lt}
 use Rattle.std.proofs.lemmas.List.{append-nil, take-take, take_at, take_all, take-append-le}
 use Rattle.ssz_chunk.specs.Chunk.{zero_chunk}
-use Rattle.ssz_chunk.specs.Tree.{Tree, leaf, full, place}
+use Rattle.ssz_chunk.specs.Tree.{Tree, leaf, merkle_tree, place}
 use Rattle.std.proofs.lemmas.Nat.{pow_pos}
 use Rattle.ssz_value.proofs.ChunkLaw.{length-chunks}
 use Rattle.ssz_chunk.proofs.Trees.{full-zero}
 use Rattle.ssz_value.specs.Trees.{padded, pack, chunks}
 use Rattle.ssz_arena.specs.declared.node.NodeId.{NodeId}
-use Rattle.ssz_arena.specs.Content.{Content, tree_of}
-use Rattle.ssz_nodes.specs.Ahead.{Ahead, Holds}
-use Rattle.ssz_nodes.specs.Shown.{Extends, ArePacked}
+use Rattle.ssz_arena.specs.Content.{ArenaContent, tree_of}
+use Rattle.ssz_nodes.specs.Ahead.{Ahead, AheadHolds}
+use Rattle.ssz_nodes.specs.Shown.{ExtendsBytes, ArePacked}
 use Rattle.ssz_nodes.proofs.Walked.{Takes}
 
 -- the first chunk of some bytes, and the others
@@ -41,14 +41,14 @@ take-chunk n bytes is = elim (cases_lt (length bytes) 32) [
 ]
 
 -- Bytes that are still to come, behind those that were appended.
-pub record BytesLeft (arena : Content) (bytes old : List ℕ) (left : ℕ) (out : List ℕ)
+pub record BytesLeft (arena : ArenaContent) (bytes old : List ℕ) (left : ℕ) (out : List ℕ)
     (places : Ahead) : Type 0 where
   pub rest : List ℕ
   pub many : left ≡ length rest
-  pub holds : Holds arena (map leaf (pack rest)) places
+  pub holds : AheadHolds arena (map leaf (pack rest)) places
   pub all : out ++ rest ≡ old ++ bytes
 
-pub BytesLeft-more : (arena : Content) (bytes old : List ℕ) (left here : ℕ)
+pub BytesLeft-more : (arena : ArenaContent) (bytes old : List ℕ) (left here : ℕ)
     (out next chunk : List ℕ) (before after : Ahead) (node : NodeId)
     → BytesLeft arena bytes old left out before → 0 < left → Takes arena before after node
     → ((c : List ℕ) → tree_of arena node ≡ leaf c → chunk ≡ c) → here ≡ min left 32
@@ -56,8 +56,8 @@ pub BytesLeft-more : (arena : Content) (bytes old : List ℕ) (left here : ℕ)
 BytesLeft-more arena bytes old left here out next chunk before after node h some takes shows is
     next_is =
     let pieces = pack-more h.rest (omega (arith, h.many)) in
-    let holds : Holds arena (leaf (padded h.rest) ∷ map leaf (pack (drop 32 h.rest))) before =
-    subst (λ (ps : List (List ℕ)). Holds arena (map leaf ps) before) pieces h.holds in
+    let holds : AheadHolds arena (leaf (padded h.rest) ∷ map leaf (pack (drop 32 h.rest))) before =
+    subst (λ (ps : List (List ℕ)). AheadHolds arena (map leaf ps) before) pieces h.holds in
     let shown : chunk ≡ padded h.rest = shows (padded h.rest) (takes.tree _ _ holds) in
     let piece : take here chunk ≡ take 32 h.rest =
     ap (take here) shown ∙ take-chunk here h.rest (omega (arith, is, h.many)) in
@@ -85,14 +85,14 @@ last_chunk node bytes left is many few = record {
       ∙ take_all 32 bytes (omega (arith, many, few));
 }
 
-pub BytesLeft-last : (arena : Content) (bytes old : List ℕ) (left : ℕ) (out : List ℕ)
+pub BytesLeft-last : (arena : ArenaContent) (bytes old : List ℕ) (left : ℕ) (out : List ℕ)
     (before after : Ahead) (node : NodeId) (h : BytesLeft arena bytes old left out before)
     → 0 < left → left ≤ 32 → Takes arena before after node
     → LastChunk (tree_of arena node) h.rest left
 BytesLeft-last arena bytes old left out before after node h some few takes =
     let pieces = pack-more h.rest (omega (arith, h.many)) in
-    let holds : Holds arena (leaf (padded h.rest) ∷ map leaf (pack (drop 32 h.rest))) before =
-    subst (λ (ps : List (List ℕ)). Holds arena (map leaf ps) before) pieces h.holds in
+    let holds : AheadHolds arena (leaf (padded h.rest) ∷ map leaf (pack (drop 32 h.rest))) before =
+    subst (λ (ps : List (List ℕ)). AheadHolds arena (map leaf ps) before) pieces h.holds in
     last_chunk (tree_of arena node) h.rest left (takes.tree _ _ holds) h.many few
 
 -- the one chunk of a tree of one place
@@ -100,7 +100,7 @@ pub only_chunk : (bytes : List ℕ) (len : ℕ) (node : Tree) → ArePacked 0 le
     → len ≤ 32 → LastChunk node bytes len
 only_chunk bytes len node are few = go bytes are.many are.tree
   where
-    go : (bytes : List ℕ) → length bytes ≡ len → node ≡ full 0 (map leaf (pack bytes))
+    go : (bytes : List ℕ) → length bytes ≡ len → node ≡ merkle_tree 0 (map leaf (pack bytes))
         → LastChunk node bytes len
     go [] many is =
         let none : len ≡ 0 = omega (arith, many) in
@@ -112,14 +112,14 @@ only_chunk bytes len node are few = go bytes are.many are.tree
     go (b ∷ bs) many is =
         let some : 0 < length (b ∷ bs) = omega arith in
         last_chunk node (b ∷ bs) len
-        (is ∙ ap (λ ps. full 0 (map leaf ps)) (pack-more (b ∷ bs) some)
+        (is ∙ ap (λ ps. merkle_tree 0 (map leaf ps)) (pack-more (b ∷ bs) some)
         ∙ full-zero (leaf (padded (b ∷ bs)) ∷ map leaf (pack (drop 32 (b ∷ bs)))))
         (sym many) few
 
 -- the first chunk, where there is no other
 pub first_chunk : (bytes : List ℕ) (len depth : ℕ) (node here : Tree)
     → ArePacked depth len bytes node → len ≤ 32
-    → ((trees : List Tree) → 0 < 2 ^ depth → node ≡ full depth trees → here ≡ place trees 0)
+    → ((trees : List Tree) → 0 < 2 ^ depth → node ≡ merkle_tree depth trees → here ≡ place trees 0)
     → LastChunk here bytes len
 first_chunk bytes len depth node here are few found =
     only_chunk bytes len here (record {
@@ -136,18 +136,18 @@ first_chunk bytes len depth node here are few found =
 
 -- what was there stays in front
 
-pub Extends-same : (old : List ℕ) → Extends old old
+pub Extends-same : (old : List ℕ) → ExtendsBytes old old
 Extends-same old = record { more = []; is = sym (append-nil old) }
 
-pub Extends-more : (old out next more : List ℕ) → Extends old out → next ≡ out ++ more
-    → Extends old next
+pub Extends-more : (old out next more : List ℕ) → ExtendsBytes old out → next ≡ out ++ more
+    → ExtendsBytes old next
 Extends-more old out next more h is = record {
   more = h.more ++ more;
   is = is ∙ ap (λ bs. bs ++ more) h.is ∙ append_assoc old h.more more;
 }
 
-pub Extends-trans : (old out next : List ℕ) → Extends old out → Extends out next
-    → Extends old next
+pub Extends-trans : (old out next : List ℕ) → ExtendsBytes old out → ExtendsBytes out next
+    → ExtendsBytes old next
 Extends-trans old out next h more = Extends-more old out next more.more h more.is
 
 -- what is true of each value that is answered is true of the answer

@@ -7,7 +7,7 @@ use Rattle.ssz_schema.specs.declared.format.Format.{Format}
 use Rattle.ssz_schema.specs.declared.format.Format.TheVariants.{One, Two}
 use Rattle.ssz_schema.specs.Types.{SszType, Fields, container, vector, list, bitvector, bitlist, union, no_fields, field}
 use Rattle.ssz_schema.specs.Sizes.{basic_size, element_chunks, depth, field_count, option_count}
-use Rattle.ssz_schema.specs.Unfolding.{tree_at, options_over}
+use Rattle.ssz_schema.specs.Unfolding.{type_tree_at, options_over}
 use Rattle.ssz_schema.specs.Legal.{IsLegal, greatest_limit}
 use Rattle.ssz_bytes.specs.Bytes.{le_bytes, number_of_bits}
 use Rattle.ssz_schema.proofs.DepthLemmas.{depth_of-holds}
@@ -16,7 +16,7 @@ use Rattle.ssz_value.specs.Values.{SszValue, Values, sequence, bits, chosen, cho
 use Rattle.ssz_value.specs.Trees.{tree, option_tree, mixed_in, pack_bits}
 use Rattle.ssz_value.proofs.ChunkLaw.{length-chunks}
 use Rattle.ssz_places.specs.PlaceLaws.{IsTreeOf}
-use Rattle.ssz_nodes.specs.Shown.{AreElements, AreFields, AreBits}
+use Rattle.ssz_nodes.specs.Shown.{AreElements, AreFieldsIn, AreBits}
 
 -- more elements have no fewer chunks
 chunks_le : (size : Option ℕ) (m n : ℕ) → m ≤ n → element_chunks size m ≤ element_chunks size n
@@ -91,7 +91,7 @@ length-fields (field name t fs) (v ∷ vs) fit = omega (arith, length-fields fs 
 pub record IsContainer (fs : Fields) (v : SszValue) (node : Tree) : Type 0 where
   pub parts : Values
   pub is : v ≡ sequence parts
-  pub are : AreFields fs (depth (container fs)) (items parts) node
+  pub are : AreFieldsIn fs (depth (container fs)) (items parts) node
 
 pub container_fields : (fs : Fields) (v : SszValue) (node : Tree) → IsTreeOf (container fs) v node
     → IsContainer fs v node
@@ -164,7 +164,7 @@ pub record HasOption (trees : List SszType) (ids : List (Option ℕ)) (k : ℕ) 
   pub value : SszValue
   pub is : v ≡ chosen k value
   pub here : slice_get ids k ≡ Some (Some id)
-  pub tree : IsTreeOf (tree_at trees id) value node
+  pub tree : IsTreeOf (type_tree_at trees id) value node
 
 -- or it is None
 pub record HasNone (ids : List (Option ℕ)) (k : ℕ) (v : SszValue) : Type 0 where
@@ -185,8 +185,8 @@ record AtOption (trees : List SszType) (ids : List (Option ℕ)) (k : ℕ) (w : 
   pub id : ℕ
   pub here : slice_get ids k ≡ Some (Some id)
   pub below : k < length ids
-  pub fits : Fits (tree_at trees id) w
-  pub tree : option_tree (options_over trees ids) k w ≡ tree (tree_at trees id) w
+  pub fits : Fits (type_tree_at trees id) w
+  pub tree : option_tree (options_over trees ids) k w ≡ tree (type_tree_at trees id) w
 
 at_option : (trees : List SszType) (ids : List (Option ℕ)) (k : ℕ) (w : SszValue)
     → FitsOption (options_over trees ids) k w → AtOption trees ids k w
@@ -228,7 +228,7 @@ pub union_option : (trees : List SszType) (ids : List (Option ℕ)) (v : SszValu
 union_option trees ids (chosen k w) node h =
     let at : AtOption trees ids k w = at_option trees ids k w h.fits in record {
       k = k;
-      content = tree (tree_at trees at.id) w;
+      content = tree (type_tree_at trees at.id) w;
       tree = h.is ∙ ap (mixed_in k) at.tree;
       below = at.below;
       option = inl (record {

@@ -10,7 +10,7 @@ use Rattle.ssz_bytes.specs.Bytes.{le_bytes, le_number, bit_value}
 use Rattle.ssz_bytes.proofs.Numbers.{le_number-le_bytes, length-le_bytes}
 use Rattle.ssz_value.specs.declared.value.Value.TheVariants.{Uint, Wide, Bool as Flag}
 use Rattle.ssz_value.specs.Values.{SszValue, number, wide, truth, Fits}
-use Rattle.ssz_value.specs.Encoding.{enc}
+use Rattle.ssz_value.specs.Encoding.{serialize}
 use Rattle.ssz_value.specs.Standing.{value_of}
 use Rattle.ssz_value.proofs.ValueLemmas.{uint_is, wide_is, flag_is}
 
@@ -36,12 +36,12 @@ is_number W128 _ narrow fit = absurd fit
 -- the number of the bytes from a place on
 pub number_there : (w : Width) (v : SszValue) (chunk : List ℕ) (from : ℕ) → w ≢ W256
     → Fits (uint w) v
-    → slice_range chunk from (from + length (enc (uint w) v)) ≡ enc (uint w) v
+    → slice_range chunk from (from + length (serialize (uint w) v)) ≡ serialize (uint w) v
     → v ≡ number (le_number (slice_range chunk from (from + byte_count w)))
 number_there w v chunk from narrow fit there =
     let h : IsNumber w v = is_number w v narrow fit in
-    let bytes : enc (uint w) v ≡ le_bytes (byte_count w) h.n = ap (enc (uint w)) h.is in
-    let long : length (enc (uint w) v) ≡ byte_count w =
+    let bytes : serialize (uint w) v ≡ le_bytes (byte_count w) h.n = ap (serialize (uint w)) h.is in
+    let long : length (serialize (uint w) v) ≡ byte_count w =
     ap length bytes ∙ length-le_bytes (byte_count w) h.n in
     h.is ∙ ap number (sym (ap le_number
     (ap (λ n. slice_range chunk from (from + n)) (sym long) ∙ there ∙ bytes)
@@ -49,7 +49,7 @@ number_there w v chunk from narrow fit there =
 
 pub number_value : (w : Width) (v : SszValue) (chunk : List ℕ) (from n : ℕ) → w ≢ W256
     → Fits (uint w) v
-    → slice_range chunk from (from + length (enc (uint w) v)) ≡ enc (uint w) v
+    → slice_range chunk from (from + length (serialize (uint w) v)) ≡ serialize (uint w) v
     → n ≡ le_number (slice_range chunk from (from + byte_count w)) → value_of (Uint n) ≡ v
 number_value w v chunk from n narrow fit there is =
     uint_is n ∙ ap number is ∙ sym (number_there w v chunk from narrow fit there)
@@ -57,7 +57,7 @@ number_value w v chunk from n narrow fit there is =
 -- the 32 bytes of a uint256 are the whole chunk
 pub wide_value : (v : SszValue) (chunk : Chunk) (from : ℕ) → from + 32 ≤ 32
     → length chunk.0 ≡ 32 → Fits (uint W256) v
-    → slice_range chunk.0 from (from + length (enc (uint W256) v)) ≡ enc (uint W256) v
+    → slice_range chunk.0 from (from + length (serialize (uint W256) v)) ≡ serialize (uint W256) v
     → value_of (Wide chunk) ≡ v
 wide_value (wide bytes) chunk from room long fit there =
     let none : from ≡ 0 = omega arith in
@@ -84,14 +84,14 @@ flag_byte b chunk from there =
     ∙ sym (get_or-take 1 (drop from chunk) 0 0 (omega arith)) ∙ ap (λ xs. get_or xs 0 0) here
 
 pub flag_there : (v : SszValue) (chunk : List ℕ) (from : ℕ) → Fits boolean v
-    → slice_range chunk from (from + length (enc boolean v)) ≡ enc boolean v
+    → slice_range chunk from (from + length (serialize boolean v)) ≡ serialize boolean v
     → truth (eqb (get_or chunk from 0) 1) ≡ v
 flag_there (truth b) chunk from fit there =
     ap (λ n. truth (eqb n 1)) (flag_byte b chunk from there) ∙ ap truth (flag_of b)
 flag_there _ chunk from fit there = absurd fit
 
 pub flag_value : (v : SszValue) (chunk : List ℕ) (from : ℕ) → Fits boolean v
-    → slice_range chunk from (from + length (enc boolean v)) ≡ enc boolean v
+    → slice_range chunk from (from + length (serialize boolean v)) ≡ serialize boolean v
     → value_of (Flag (eqb (get_or chunk from 0) 1)) ≡ v
 flag_value v chunk from fit there =
     flag_is (eqb (get_or chunk from 0) 1) ∙ flag_there v chunk from fit there

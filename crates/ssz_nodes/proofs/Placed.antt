@@ -3,22 +3,22 @@ use Rattle.std.proofs.Common.{◌≡◌, ℕ, suc, ◌+◌, ◌*◌, ◌/◌, �
 use Rattle.std.proofs.Math.Nat.{mod-eq_of_lt, mod-lt}
 use Rattle.std.proofs.lemmas.Bool.{cases_lt}
 use Rattle.std.proofs.lemmas.Nat.{pow_pos, mod-pow-add}
-use Rattle.ssz_chunk.specs.Tree.{Tree, pair, full, place}
+use Rattle.ssz_chunk.specs.Tree.{Tree, pair, merkle_tree, place}
 use Rattle.ssz_chunk.proofs.Trees.{full-suc, full-zero}
 use Rattle.ssz_chunk.proofs.FullTrees.{place-take, place-drop}
 use Rattle.ssz_arena.specs.declared.node.NodeId.{NodeId}
-use Rattle.ssz_arena.specs.Content.{Content, tree_of}
+use Rattle.ssz_arena.specs.Content.{ArenaContent, tree_of}
 
 -- The tree that is sought, at place i of a full tree of this depth, stands at the place that the
 -- low digits of i name, in the subtree of this level that was come down to.
-pub record Nearer (arena : Content) (trees : List Tree) (i level : ℕ) (here : NodeId)
+pub record Nearer (arena : ArenaContent) (trees : List Tree) (i level : ℕ) (here : NodeId)
     : Type 0 where
   pub below : List Tree
-  pub tree : tree_of arena here ≡ full level below
+  pub tree : tree_of arena here ≡ merkle_tree level below
   pub same : place below (i % 2 ^ level) ≡ place trees i
 
-pub Nearer-start : (arena : Content) (trees : List Tree) (i depth : ℕ) (node : NodeId)
-    → i < 2 ^ depth → tree_of arena node ≡ full depth trees → Nearer arena trees i depth node
+pub Nearer-start : (arena : ArenaContent) (trees : List Tree) (i depth : ℕ) (node : NodeId)
+    → i < 2 ^ depth → tree_of arena node ≡ merkle_tree depth trees → Nearer arena trees i depth node
 Nearer-start arena trees i depth node inside is = record {
   below = trees;
   tree = is;
@@ -26,14 +26,14 @@ Nearer-start arena trees i depth node inside is = record {
 }
 
 -- what the two halves of a pair are, where place i stands in one of them
-pub record Halved (arena : Content) (i level : ℕ) (node half : NodeId) : Type 0 where
+pub record Halved (arena : ArenaContent) (i level : ℕ) (node half : NodeId) : Type 0 where
   pub first : (left right : Tree) → tree_of arena node ≡ pair left right → i / 2 ^ level % 2 ≡ 0
       → tree_of arena half ≡ left
   pub second : (left right : Tree) → tree_of arena node ≡ pair left right → i / 2 ^ level % 2 ≡ 1
       → tree_of arena half ≡ right
 
 -- one level further
-pub Nearer-more : (arena : Content) (trees : List Tree) (i level : ℕ) (here next : NodeId)
+pub Nearer-more : (arena : ArenaContent) (trees : List Tree) (i level : ℕ) (here next : NodeId)
     → Nearer arena trees i (suc level) here → Halved arena i level here next
     → Nearer arena trees i level next
 Nearer-more arena trees i level here next h halved =
@@ -76,7 +76,7 @@ Nearer-more arena trees i level here next h halved =
     sum n m = omega arith
 
 -- the whole way down, it is the tree at the place
-pub Nearer-end : (arena : Content) (trees : List Tree) (i : ℕ) (here : NodeId)
+pub Nearer-end : (arena : ArenaContent) (trees : List Tree) (i : ℕ) (here : NodeId)
     → Nearer arena trees i 0 here → tree_of arena here ≡ place trees i
 Nearer-end arena trees i here h = h.tree ∙ full-zero h.below ∙ ap (place h.below) (whole i) ∙ h.same
   where

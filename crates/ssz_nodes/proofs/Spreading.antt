@@ -4,26 +4,28 @@ use Rattle.std.specs.List.{All}
 use Rattle.std.proofs.lemmas.Bool.{cases_lt}
 use Rattle.std.proofs.lemmas.List.{drop-drop}
 use Rattle.std.proofs.lemmas.List.Elements.{All-set}
-use Rattle.ssz_chunk.specs.Tree.{Tree, pair, full, place}
+use Rattle.ssz_chunk.specs.Tree.{Tree, pair, merkle_tree, place}
 use Rattle.ssz_chunk.proofs.Trees.{full-zero}
 use Rattle.ssz_chunk.proofs.FullTrees.{full-Agree, place-take, place-drop}
 use Rattle.ssz_arena.specs.declared.node.NodeId.{NodeId}
-use Rattle.ssz_arena.specs.Content.{Content, IsNodeOf, tree_of}
-use Rattle.ssz_nodes.specs.Ahead.{node_of}
+use Rattle.ssz_arena.specs.Content.{ArenaContent, IsNodeOf, tree_of}
+use Rattle.ssz_nodes.specs.Ahead.{ahead_node}
 use Rattle.ssz_nodes.proofs.Taking.{halves_of}
 
 -- The nodes from `now` on made way for their children, and those before it are as they were.
-pub record Widened (arena : Content) (len now : ℕ) (old new : List NodeId) : Type 0 where
+pub record Widened (arena : ArenaContent) (len now : ℕ) (old new : List NodeId) : Type 0 where
   pub count : length new ≡ length old
   pub all : All (IsNodeOf arena) new
-  pub low : (k : ℕ) → k < now → node_of new k ≡ node_of old k
+  pub low : (k : ℕ) → k < now → ahead_node new k ≡ ahead_node old k
   pub left : (i : ℕ) (left right : Tree) → now ≤ i → i < len
-      → tree_of arena (node_of old i) ≡ pair left right → tree_of arena (node_of new (2 * i)) ≡ left
+      → tree_of arena (ahead_node old i) ≡ pair left right
+      → tree_of arena (ahead_node new (2 * i)) ≡ left
   pub right : (i : ℕ) (left right : Tree) → now ≤ i → i < len
-      → tree_of arena (node_of old i) ≡ pair left right
-      → tree_of arena (node_of new (2 * i + 1)) ≡ right
+      → tree_of arena (ahead_node old i) ≡ pair left right
+      → tree_of arena (ahead_node new (2 * i + 1)) ≡ right
 
-pub Widened-start : (arena : Content) (len : ℕ) (nodes : List NodeId) → All (IsNodeOf arena) nodes
+pub Widened-start : (arena : ArenaContent) (len : ℕ) (nodes : List NodeId)
+    → All (IsNodeOf arena) nodes
     → Widened arena len len nodes nodes
 Widened-start arena len nodes all = record {
   count = refl;
@@ -33,12 +35,12 @@ Widened-start arena len nodes all = record {
   right = λ i l r from below is. absurd (omega arith);
 }
 
-module _ (arena : Content) (len now : ℕ) (first second : NodeId) (old nodes : List NodeId)
+module _ (arena : ArenaContent) (len now : ℕ) (first second : NodeId) (old nodes : List NodeId)
     (below : now < len) (room : 2 * len ≤ length old) (h : Widened arena len (suc now) old nodes)
     (one : IsNodeOf arena first) (two : IsNodeOf arena second)
-    (left_is : (left right : Tree) → tree_of arena (node_of nodes now) ≡ pair left right
+    (left_is : (left right : Tree) → tree_of arena (ahead_node nodes now) ≡ pair left right
     → tree_of arena first ≡ left)
-    (right_is : (left right : Tree) → tree_of arena (node_of nodes now) ≡ pair left right
+    (right_is : (left right : Tree) → tree_of arena (ahead_node nodes now) ≡ pair left right
     → tree_of arena second ≡ right) where
   abbrev pub mid : List NodeId
   mid = set nodes (2 * now) first
@@ -47,21 +49,22 @@ module _ (arena : Content) (len now : ℕ) (first second : NodeId) (old nodes : 
   new = set mid (2 * now + 1) second
 
   -- what is at other places stays
-  others : (k : ℕ) → (k ≡ 2 * now → ⊥) → (k ≡ 2 * now + 1 → ⊥) → node_of new k ≡ node_of nodes k
+  others : (k : ℕ) → (k ≡ 2 * now → ⊥) → (k ≡ 2 * now + 1 → ⊥)
+      → ahead_node new k ≡ ahead_node nodes k
   others k even odd =
       get_or-set_other mid (2 * now + 1) k second (record { 0 = 0 }) odd
       ∙ get_or-set_other nodes (2 * now) k first (record { 0 = 0 }) even
 
-  at_first : node_of new (2 * now) ≡ first
+  at_first : ahead_node new (2 * now) ≡ first
   at_first =
       get_or-set_other mid (2 * now + 1) (2 * now) second (record { 0 = 0 }) (λ e. omega arith)
       ∙ get_or-set_same nodes (2 * now) first (record { 0 = 0 }) (omega (arith, h.count))
 
-  at_second : node_of new (2 * now + 1) ≡ second
+  at_second : ahead_node new (2 * now + 1) ≡ second
   at_second = get_or-set_same mid (2 * now + 1) second (record { 0 = 0 })
       (omega (arith, h.count, length-set nodes (2 * now) first))
 
-  same_node : node_of nodes now ≡ node_of old now
+  same_node : ahead_node nodes now ≡ ahead_node old now
   same_node = h.low now (omega arith)
 
   pub Widened-more : Widened arena len now old new
@@ -75,8 +78,8 @@ module _ (arena : Content) (len now : ℕ) (first second : NodeId) (old nodes : 
           ∙ h.left i l r (omega arith) within is
       | inr here ↦
           (let same : now ≡ i = omega arith in
-          subst (λ k. tree_of arena (node_of old k) ≡ pair l r
-          → tree_of arena (node_of new (2 * k)) ≡ l) same
+          subst (λ k. tree_of arena (ahead_node old k) ≡ pair l r
+          → tree_of arena (ahead_node new (2 * k)) ≡ l) same
           (λ pair_is. ap (tree_of arena) at_first
           ∙ left_is l r (ap (tree_of arena) same_node ∙ pair_is)) is)
     ];
@@ -85,30 +88,31 @@ module _ (arena : Content) (len now : ℕ) (first second : NodeId) (old nodes : 
           ∙ h.right i l r (omega arith) within is
       | inr here ↦
           (let same : now ≡ i = omega arith in
-          subst (λ k. tree_of arena (node_of old k) ≡ pair l r
-          → tree_of arena (node_of new (2 * k + 1)) ≡ r) same
+          subst (λ k. tree_of arena (ahead_node old k) ≡ pair l r
+          → tree_of arena (ahead_node new (2 * k + 1)) ≡ r) same
           (λ pair_is. ap (tree_of arena) at_second
           ∙ right_is l r (ap (tree_of arena) same_node ∙ pair_is)) is)
     ];
   }
 
 -- The subtrees of this depth stand at the front of the row, as many as the level has.
-pub record Spread (arena : Content) (trees : List Tree) (depth level : ℕ) (row : List NodeId)
+pub record Spread (arena : ArenaContent) (trees : List Tree) (depth level : ℕ) (row : List NodeId)
     : Type 0 where
   pub rest : ℕ
   pub levels : rest + level ≡ depth
   pub each : (p : ℕ) → p < 2 ^ level
-      → tree_of arena (node_of row p) ≡ full rest (take (2 ^ rest) (drop (p * 2 ^ rest) trees))
+      → tree_of arena (ahead_node row p)
+      ≡ merkle_tree rest (take (2 ^ rest) (drop (p * 2 ^ rest) trees))
 
-pub Spread-start : (arena : Content) (trees : List Tree) (depth : ℕ) (row : List NodeId)
-    → tree_of arena (node_of row 0) ≡ full depth trees → Spread arena trees depth 0 row
+pub Spread-start : (arena : ArenaContent) (trees : List Tree) (depth : ℕ) (row : List NodeId)
+    → tree_of arena (ahead_node row 0) ≡ merkle_tree depth trees → Spread arena trees depth 0 row
 Spread-start arena trees depth row is = record {
   rest = depth;
   levels = omega arith;
   each = λ p below.
       let first : 0 ≡ p = omega (arith, below) in
-      subst (λ k. tree_of arena (node_of row k)
-      ≡ full depth (take (2 ^ depth) (drop (k * 2 ^ depth) trees))) first
+      subst (λ k. tree_of arena (ahead_node row k)
+      ≡ merkle_tree depth (take (2 ^ depth) (drop (k * 2 ^ depth) trees))) first
       (is ∙ full-Agree depth (take (2 ^ depth) (drop (0 * 2 ^ depth) trees)) trees
       (λ i within. sym (place-take (2 ^ depth) i (drop (0 * 2 ^ depth) trees) within
       ∙ place-drop (0 * 2 ^ depth) i trees
@@ -141,40 +145,43 @@ module _ (trees : List Tree) (rest p : ℕ) where
           ∙ sym (add-mul (2 * p) 1 n)
 
 -- one level further
-module _ (arena : Content) (trees : List Tree) (depth level : ℕ) (old new : List NodeId)
+module _ (arena : ArenaContent) (trees : List Tree) (depth level : ℕ) (old new : List NodeId)
     (below : level < depth) (h : Spread arena trees depth level old)
     (left_is : (i : ℕ) (left right : Tree) → i < 2 ^ level
-    → tree_of arena (node_of old i) ≡ pair left right → tree_of arena (node_of new (2 * i)) ≡ left)
+    → tree_of arena (ahead_node old i) ≡ pair left right
+    → tree_of arena (ahead_node new (2 * i)) ≡ left)
     (right_is : (i : ℕ) (left right : Tree) → i < 2 ^ level
-    → tree_of arena (node_of old i) ≡ pair left right
-    → tree_of arena (node_of new (2 * i + 1)) ≡ right) where
+    → tree_of arena (ahead_node old i) ≡ pair left right
+    → tree_of arena (ahead_node new (2 * i + 1)) ≡ right) where
   both : (rest i : ℕ) → h.rest ≡ suc rest → i < 2 ^ level
-      → tree_of arena (node_of old i)
-      ≡ pair (full rest (take (2 ^ rest) (drop (i * 2 ^ suc rest) trees)))
-      (full rest (take (2 ^ rest) (drop (2 ^ rest) (drop (i * 2 ^ suc rest) trees))))
+      → tree_of arena (ahead_node old i)
+      ≡ pair (merkle_tree rest (take (2 ^ rest) (drop (i * 2 ^ suc rest) trees)))
+      (merkle_tree rest (take (2 ^ rest) (drop (2 ^ rest) (drop (i * 2 ^ suc rest) trees))))
   both rest i is within =
-      subst (λ n. tree_of arena (node_of old i) ≡ full n (take (2 ^ n) (drop (i * 2 ^ n) trees)))
+      subst (λ n. tree_of arena (ahead_node old i)
+      ≡ merkle_tree n (take (2 ^ n) (drop (i * 2 ^ n) trees)))
       is (h.each i within)
       ∙ halves_of rest (drop (i * 2 ^ suc rest) trees)
 
   each_half : (rest p : ℕ) → h.rest ≡ suc rest → p < 2 ^ suc level
-      → tree_of arena (node_of new p) ≡ full rest (take (2 ^ rest) (drop (p * 2 ^ rest) trees))
+      → tree_of arena (ahead_node new p)
+      ≡ merkle_tree rest (take (2 ^ rest) (drop (p * 2 ^ rest) trees))
   each_half rest p is within =
       let room : 2 ^ suc level ≡ 2 ^ level * 2 = pow-suc 2 level in
       let inside : p / 2 < 2 ^ level = omega (arith, within, room) in
       elim (cases_lt (p % 2) 1) [
         | inl even ↦
             (let same : 2 * (p / 2) ≡ p = omega (arith, even) in
-            subst (λ k. tree_of arena (node_of new k)
-            ≡ full rest (take (2 ^ rest) (drop (k * 2 ^ rest) trees))) same
+            subst (λ k. tree_of arena (ahead_node new k)
+            ≡ merkle_tree rest (take (2 ^ rest) (drop (k * 2 ^ rest) trees))) same
             (left_is (p / 2) _ _ inside (both rest (p / 2) is inside)
-            ∙ ap (full rest) (first_half trees rest (p / 2))))
+            ∙ ap (merkle_tree rest) (first_half trees rest (p / 2))))
         | inr odd ↦
             (let same : 2 * (p / 2) + 1 ≡ p = omega (arith, odd) in
-            subst (λ k. tree_of arena (node_of new k)
-            ≡ full rest (take (2 ^ rest) (drop (k * 2 ^ rest) trees))) same
+            subst (λ k. tree_of arena (ahead_node new k)
+            ≡ merkle_tree rest (take (2 ^ rest) (drop (k * 2 ^ rest) trees))) same
             (right_is (p / 2) _ _ inside (both rest (p / 2) is inside)
-            ∙ ap (full rest) (second_half trees rest (p / 2))))
+            ∙ ap (merkle_tree rest) (second_half trees rest (p / 2))))
       ]
 
   pub Spread-more : Spread arena trees depth (level + 1) new
@@ -189,13 +196,14 @@ module _ (arena : Content) (trees : List Tree) (depth level : ℕ) (old new : Li
       }
 
 -- the whole way down, they are the trees at the places
-pub Spread-end : (arena : Content) (trees : List Tree) (depth level i : ℕ) (row : List NodeId)
+pub Spread-end : (arena : ArenaContent) (trees : List Tree) (depth level i : ℕ) (row : List NodeId)
     → Spread arena trees depth level row → depth ≤ level → i < 2 ^ depth
-    → tree_of arena (node_of row i) ≡ place trees i
+    → tree_of arena (ahead_node row i) ≡ place trees i
 Spread-end arena trees depth level i row h all within =
     let none : h.rest ≡ 0 = omega (arith, h.levels, all) in
     let same : depth ≡ level = omega (arith, h.levels, all) in
-    subst (λ n. tree_of arena (node_of row i) ≡ full n (take (2 ^ n) (drop (i * 2 ^ n) trees)))
+    subst (λ n. tree_of arena (ahead_node row i)
+    ≡ merkle_tree n (take (2 ^ n) (drop (i * 2 ^ n) trees)))
     none (h.each i (subst (λ n. i < 2 ^ n) same within))
     ∙ full-zero (take (2 ^ 0) (drop (i * 2 ^ 0) trees))
     ∙ place-take 1 0 (drop (i * 1) trees) (omega arith)

@@ -9,46 +9,47 @@ use Rattle.std.specs.List.{All}
 use Rattle.std.proofs.lemmas.Bool.{cases_eq}
 use Rattle.std.proofs.lemmas.List.{take-take, drop-take, drop-drop, take_all, get_or-replicate}
 use Rattle.std.proofs.lemmas.List.Elements.{All-set}
-use Rattle.ssz_chunk.specs.Tree.{Tree, pair, full, place}
+use Rattle.ssz_chunk.specs.Tree.{Tree, pair, merkle_tree, place}
 use Rattle.ssz_chunk.proofs.Trees.{full-suc}
 use Rattle.ssz_chunk.proofs.FullTrees.{place-take}
 use Rattle.ssz_arena.specs.declared.node.NodeId.{NodeId}
-use Rattle.ssz_arena.specs.Content.{Content, tree_of, IsNodeOf}
-use Rattle.ssz_nodes.specs.Ahead.{Holds, Stand, block, node_of}
+use Rattle.ssz_arena.specs.Content.{ArenaContent, tree_of, IsNodeOf}
+use Rattle.ssz_nodes.specs.Ahead.{AheadHolds, Stand, tree_block, ahead_node}
 use Rattle.ssz_nodes.proofs.Ending.{Ends, ends_within, whole, none-left, digit, digit-same, digit-gone, unit_ends, less-digit, none_below, low_rest, high_rest}
 
 -- Opened down to a level: the node has the first places there, the nodes of the levels from there
 -- to the one that was opened have the places behind as many, and those above are as before.
-pub record Opened (arena : Content) (trees : List Tree) (level now : ℕ) (node : NodeId)
+pub record Opened (arena : ArenaContent) (trees : List Tree) (level now : ℕ) (node : NodeId)
     (old nodes : List NodeId) : Type 0 where
-  pub first : tree_of arena node ≡ full now (take (2 ^ now) trees)
+  pub first : tree_of arena node ≡ merkle_tree now (take (2 ^ now) trees)
   pub low : (k : ℕ) → now ≤ k → k < level
-      → tree_of arena (node_of nodes k) ≡ full k (take (2 ^ k) (drop (2 ^ k) trees))
-  pub high : (k : ℕ) → level ≤ k → node_of nodes k ≡ node_of old k
+      → tree_of arena (ahead_node nodes k) ≡ merkle_tree k (take (2 ^ k) (drop (2 ^ k) trees))
+  pub high : (k : ℕ) → level ≤ k → ahead_node nodes k ≡ ahead_node old k
 
-pub Opened-start : (arena : Content) (trees : List Tree) (left level : ℕ) (nodes : List NodeId)
+pub Opened-start : (arena : ArenaContent) (trees : List Tree) (left level : ℕ) (nodes : List NodeId)
     → Ends left level → Stand arena trees left nodes
-    → Opened arena trees level level (node_of nodes level) nodes nodes
+    → Opened arena trees level level (ahead_node nodes level) nodes nodes
 Opened-start arena trees left level nodes is held = record {
   first = held level is.one
-      ∙ ap (λ n. full level (take (2 ^ level) (drop n trees)))
+      ∙ ap (λ n. merkle_tree level (take (2 ^ level) (drop n trees)))
       (none-left left level is level (omega arith));
   low = λ k from below. absurd (omega arith);
   high = λ k above. refl;
 }
 
 pub halves_of : (now : ℕ) (trees : List Tree)
-    → full (suc now) (take (2 ^ suc now) trees)
-    ≡ pair (full now (take (2 ^ now) trees)) (full now (take (2 ^ now) (drop (2 ^ now) trees)))
+    → merkle_tree (suc now) (take (2 ^ suc now) trees)
+    ≡ pair (merkle_tree now (take (2 ^ now) trees))
+    (merkle_tree now (take (2 ^ now) (drop (2 ^ now) trees)))
 halves_of now trees =
     let double : 2 ^ suc now ≡ 2 ^ now + 2 ^ now = omega (arith, pow-suc 2 now) in
     full-suc now (take (2 ^ suc now) trees)
-    ∙ ap₂ (λ left right. pair (full now left) (full now right))
+    ∙ ap₂ (λ left right. pair (merkle_tree now left) (merkle_tree now right))
     (take-take (2 ^ now) (2 ^ suc now) trees (omega arith))
     (ap (λ n. drop (2 ^ now) (take n trees)) double ∙ drop-take (2 ^ now) (2 ^ now) trees)
 
 -- one level further
-pub Opened-more : (arena : Content) (trees : List Tree) (level now : ℕ)
+pub Opened-more : (arena : ArenaContent) (trees : List Tree) (level now : ℕ)
     (node first second : NodeId) (old nodes : List NodeId) → now < level → level ≤ length nodes
     → Opened arena trees level (suc now) node old nodes
     → ((left right : Tree) → tree_of arena node ≡ pair left right → tree_of arena first ≡ left)
@@ -64,8 +65,8 @@ Opened-more arena trees level now node first second old nodes below room h left 
             ∙ h.low k (omega arith) within
         | inr here ↦
             (let same : k ≡ now = omega arith in
-            subst (λ j. tree_of arena (node_of (set nodes now second) j)
-            ≡ full j (take (2 ^ j) (drop (2 ^ j) trees))) (sym same)
+            subst (λ j. tree_of arena (ahead_node (set nodes now second) j)
+            ≡ merkle_tree j (take (2 ^ j) (drop (2 ^ j) trees))) (sym same)
             (ap (tree_of arena)
             (get_or-set_same nodes now second (record { 0 = 0 }) (omega arith))
             ∙ right _ _ both))
@@ -76,14 +77,14 @@ Opened-more arena trees level now node first second old nodes below room h left 
     }
 
 -- the first places of the lowest subtree are taken away, as many as a subtree below it has
-module _ (arena : Content) (trees : List Tree) (left level low q : ℕ) (node : NodeId)
+module _ (arena : ArenaContent) (trees : List Tree) (left level low q : ℕ) (node : NodeId)
     (old nodes : List NodeId) (is : Ends left level) (within : low ≤ level)
     (units : left ≡ q * 2 ^ low) (held : Stand arena trees left old)
     (h : Opened arena trees level low node old nodes) where
   behind : (k n : ℕ) → 2 ^ low + (left - 2 ^ low) % 2 ^ k ≡ n
-      → full k (take (2 ^ k) (drop n trees))
-      ≡ full k (block k (left - 2 ^ low) (drop (2 ^ low) trees))
-  behind k n same = ap (λ ts. full k (take (2 ^ k) ts))
+      → merkle_tree k (take (2 ^ k) (drop n trees))
+      ≡ merkle_tree k (tree_block k (left - 2 ^ low) (drop (2 ^ low) trees))
+  behind k n same = ap (λ ts. merkle_tree k (take (2 ^ k) ts))
       (ap (λ m. drop m trees) (sym same)
       ∙ sym (drop-drop ((left - 2 ^ low) % 2 ^ k) (2 ^ low) trees))
 
@@ -99,8 +100,8 @@ module _ (arena : Content) (trees : List Tree) (left level low q : ℕ) (node : 
       ∙ unit_bit j k at one)
 
   from_unit : (j k : ℕ) → low + j ≡ k → j + low ≡ k → bit_at (left - 2 ^ low) k ≡ 1
-      → tree_of arena (node_of nodes k)
-      ≡ full k (block k (left - 2 ^ low) (drop (2 ^ low) trees))
+      → tree_of arena (ahead_node nodes k)
+      ≡ merkle_tree k (tree_block k (left - 2 ^ low) (drop (2 ^ low) trees))
   from_unit j k at same one = elim (cases_lt j (level - low)) [
     | inl below ↦ h.low k (omega arith) (omega arith)
         ∙ behind k (2 ^ k) (subst (λ n. 2 ^ low + (left - 2 ^ low) % 2 ^ n ≡ 2 ^ n) same
@@ -127,7 +128,7 @@ module _ (arena : Content) (trees : List Tree) (left level low q : ℕ) (node : 
     | inr from ↦ from_unit (k - low) k (omega arith) (omega arith) one
   ]
 
-pub Stand-less : (arena : Content) (trees : List Tree) (left level low : ℕ) (node : NodeId)
+pub Stand-less : (arena : ArenaContent) (trees : List Tree) (left level low : ℕ) (node : NodeId)
     (old nodes : List NodeId) → Ends left level → low ≤ level → Stand arena trees left old
     → Opened arena trees level low node old nodes
     → Stand arena (drop (2 ^ low) trees) (left - 2 ^ low) nodes
@@ -140,40 +141,40 @@ drop_of : (n m : ℕ) (tree : Tree) (trees : List Tree) → n ≡ suc m
 drop_of n m tree trees is = ap (λ k. drop k (tree ∷ trees)) is
 
 -- the next place is the first of the row, and the others are left
-pub Holds-next : (arena : Content) (tree : Tree) (trees : List Tree) (row nodes : List NodeId)
+pub Holds-next : (arena : ArenaContent) (tree : Tree) (trees : List Tree) (row nodes : List NodeId)
     (from to left : ℕ) → from < to
-    → Holds arena (tree ∷ trees)
+    → AheadHolds arena (tree ∷ trees)
     (record { row = row; from = from; to = to; left = left; nodes = nodes })
-    → tree_of arena (node_of row from) ≡ tree
+    → tree_of arena (ahead_node row from) ≡ tree
 Holds-next arena tree trees row nodes from to left some held =
     let first : from + 0 ≡ from = omega arith in
-    subst (λ k. tree_of arena (node_of row k) ≡ tree) first (held.row 0 (omega arith))
+    subst (λ k. tree_of arena (ahead_node row k) ≡ tree) first (held.row 0 (omega arith))
 
-pub Holds-rest : (arena : Content) (tree : Tree) (trees : List Tree) (row nodes : List NodeId)
+pub Holds-rest : (arena : ArenaContent) (tree : Tree) (trees : List Tree) (row nodes : List NodeId)
     (from to left : ℕ) → from < to
-    → Holds arena (tree ∷ trees)
+    → AheadHolds arena (tree ∷ trees)
     (record { row = row; from = from; to = to; left = left; nodes = nodes })
-    → Holds arena trees
+    → AheadHolds arena trees
     (record { row = row; from = from + 1; to = to; left = left; nodes = nodes })
 Holds-rest arena tree trees row nodes from to left some held = record {
   few = omega (arith, held.few);
   row = λ i below.
       let next : from + suc i ≡ from + 1 + i = omega arith in
-      subst (λ k. tree_of arena (node_of row k) ≡ place trees i) next
+      subst (λ k. tree_of arena (ahead_node row k) ≡ place trees i) next
       (held.row (suc i) (omega arith));
   nodes = subst (λ ts. Stand arena ts left nodes)
       (drop_of (to - from) (to - (from + 1)) tree trees (omega arith)) held.nodes;
 }
 
 -- a row of the first places, come down to together
-pub Holds-filled : (arena : Content) (trees : List Tree) (left level low from to : ℕ)
+pub Holds-filled : (arena : ArenaContent) (trees : List Tree) (left level low from to : ℕ)
     (node : NodeId) (old nodes row filled : List NodeId) → Ends left level → low ≤ level
     → from ≡ to
     → ((ts : List Tree) → Stand arena ts left old → Opened arena ts level low node old nodes)
-    → ((ts : List Tree) → tree_of arena node ≡ full low ts → (i : ℕ) → i < 2 ^ low
-    → tree_of arena (node_of filled i) ≡ place ts i)
-    → Holds arena trees (record { row = row; from = from; to = to; left = left; nodes = old })
-    → Holds arena trees
+    → ((ts : List Tree) → tree_of arena node ≡ merkle_tree low ts → (i : ℕ) → i < 2 ^ low
+    → tree_of arena (ahead_node filled i) ≡ place ts i)
+    → AheadHolds arena trees (record { row = row; from = from; to = to; left = left; nodes = old })
+    → AheadHolds arena trees
     (record { row = filled; from = 0; to = 2 ^ low; left = left - 2 ^ low; nodes = nodes })
 Holds-filled arena trees left level low from to node old nodes row filled is within none opened
     found held =
@@ -187,7 +188,7 @@ Holds-filled arena trees left level low from to node old nodes row filled is wit
       row = λ i below.
           let inside : i < 2 ^ low = omega (arith, below) in
           let at : 0 + i ≡ i = omega arith in
-          ap (λ k. tree_of arena (node_of filled k)) at
+          ap (λ k. tree_of arena (ahead_node filled k)) at
           ∙ found (take (2 ^ low) trees) start.first i inside
           ∙ place-take (2 ^ low) i trees inside;
       nodes = subst (λ n. Stand arena (drop n trees) (left - 2 ^ low) nodes) same
@@ -195,10 +196,10 @@ Holds-filled arena trees left level low from to node old nodes row filled is wit
     }
 
 -- all places of a full tree
-pub Holds-whole : (arena : Content) (trees : List Tree) (node : NodeId) (depth : ℕ)
+pub Holds-whole : (arena : ArenaContent) (trees : List Tree) (node : NodeId) (depth : ℕ)
     (row : List NodeId) → depth < 64
-    → length trees ≤ 2 ^ depth → tree_of arena node ≡ full depth trees
-    → Holds arena trees
+    → length trees ≤ 2 ^ depth → tree_of arena node ≡ merkle_tree depth trees
+    → AheadHolds arena trees
     (record { row = row; from = 0; to = 0; left = 2 ^ depth; nodes = replicate 64 node })
 Holds-whole arena trees node depth row shallow few is = record {
   few = omega (arith, few);
@@ -206,11 +207,11 @@ Holds-whole arena trees node depth row shallow few is = record {
   nodes = λ k one. ⊎_elim
       (λ (same : k ≡ depth).
       let none : 2 ^ depth % 2 ^ depth ≡ 0 = no_rest (2 ^ depth) (pow_pos depth) in
-      subst (λ (j : ℕ). tree_of arena (node_of (replicate 64 node) j)
-      ≡ full j (take (2 ^ j) (drop (2 ^ depth % 2 ^ j) trees))) (sym same)
+      subst (λ (j : ℕ). tree_of arena (ahead_node (replicate 64 node) j)
+      ≡ merkle_tree j (take (2 ^ j) (drop (2 ^ depth % 2 ^ j) trees))) (sym same)
       (ap (tree_of arena) (get_or-replicate 64 depth node (record { 0 = 0 }) (omega arith))
-      ∙ is ∙ ap (full depth) (sym (take_all (2 ^ depth) trees few))
-      ∙ ap (λ n. full depth (take (2 ^ depth) (drop n trees))) (sym none)))
+      ∙ is ∙ ap (merkle_tree depth) (sym (take_all (2 ^ depth) trees few))
+      ∙ ap (λ n. merkle_tree depth (take (2 ^ depth) (drop n trees))) (sym none)))
       (λ (other : k ≢ depth). absurd (omega (arith, one, bit_at-pow_other depth k other)))
       (cases_eq k depth);
 }
@@ -220,7 +221,7 @@ Holds-whole arena trees node depth row shallow few is = record {
         ap (λ k. k % m) once ∙ mod-mul-add 1 m 0 positive
 
 -- what the loop down to the next place keeps
-pub record Opening (arena : Content) (left level now : ℕ) (node : NodeId)
+pub record Opening (arena : ArenaContent) (left level now : ℕ) (node : NodeId)
     (old nodes : List NodeId) : Type 0 where
   pub inside : IsNodeOf arena node
   pub count : length nodes ≡ 64
@@ -228,9 +229,9 @@ pub record Opening (arena : Content) (left level now : ℕ) (node : NodeId)
   pub each : (trees : List Tree) → Stand arena trees left old
       → Opened arena trees level now node old nodes
 
-pub Opening-start : (arena : Content) (left level : ℕ) (node : NodeId) (nodes : List NodeId)
+pub Opening-start : (arena : ArenaContent) (left level : ℕ) (node : NodeId) (nodes : List NodeId)
     → Ends left level → left ≤ 2 ^ 63 → length nodes ≡ 64 → All (IsNodeOf arena) nodes
-    → node ≡ node_of nodes level → Opening arena left level level node nodes nodes
+    → node ≡ ahead_node nodes level → Opening arena left level level node nodes nodes
 Opening-start arena left level node nodes is few count all here = record {
   inside = subst (IsNodeOf arena) (sym here)
       (all level (record { 0 = 0 }) (omega (arith, ends_within left level few is)));
@@ -240,7 +241,7 @@ Opening-start arena left level node nodes is few count all here = record {
       (Opened-start arena trees left level nodes is held);
 }
 
-pub Opening-more : (arena : Content) (left level now : ℕ) (node first second : NodeId)
+pub Opening-more : (arena : ArenaContent) (left level now : ℕ) (node first second : NodeId)
     (old nodes : List NodeId) → now < level → level ≤ 63
     → Opening arena left level (suc now) node old nodes
     → IsNodeOf arena first → IsNodeOf arena second

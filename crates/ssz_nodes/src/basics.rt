@@ -6,7 +6,7 @@ ghost use Rattle.ssz_schema.specs.Sizes.{byte_count, basic_size};
 ghost use Rattle.ssz_schema.specs.Unfolding.{type_of};
 ghost use Rattle.ssz_bytes.specs.Bytes.{le_number, bit_value};
 ghost use Rattle.ssz_value.specs.Values.{SszValue, Fits};
-ghost use Rattle.ssz_value.specs.Encoding.{enc};
+ghost use Rattle.ssz_value.specs.Encoding.{serialize};
 ghost use Rattle.ssz_value.specs.Standing.{value_of};
 ghost use Rattle.ssz_nodes.specs.Shown.{basic_type, bit_in};
 
@@ -53,8 +53,8 @@ impl Basic {
     pub fn value_at(self, chunk: &Chunk, from: usize) -> Value
         requires { IfSome (basic_size (basic_type self)) (λ size. from + size ≤ 32) }
         ensures { (v : SszValue) → Fits (basic_type self) v
-            → slice_range chunk.now.0 from (from + length (enc (basic_type self) v))
-            ≡ enc (basic_type self) v
+            → slice_range chunk.now.0 from (from + length (serialize (basic_type self) v))
+            ≡ serialize (basic_type self) v
             → value_of result ≡ v }
     {
         match self {
@@ -68,7 +68,8 @@ impl Basic {
 fn number_at(width: Width, chunk: &Chunk, from: usize) -> Value
     requires { from + byte_count width ≤ 32 }
     ensures { (v : SszValue) → Fits (uint width) v
-        → slice_range chunk.now.0 from (from + length (enc (uint width) v)) ≡ enc (uint width) v
+        → slice_range chunk.now.0 from (from + length (serialize (uint width) v))
+        ≡ serialize (uint width) v
         → value_of result ≡ v }
 {
     match width {

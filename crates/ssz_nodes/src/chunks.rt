@@ -2,7 +2,7 @@
 ghost use Rattle.std.specs.Prelude.{ℕ, ◌≡◌, ◌<◌, ◌≤◌, ◌+◌, ◌++◌, List, length, take, OnOk};
 ghost use Rattle.ssz_chunk.specs.Tree.{leaf};
 ghost use Rattle.ssz_arena.specs.Content.{IsNodeOf, tree_of};
-ghost use Rattle.ssz_nodes.specs.Shown.{ArePacked, Extends};
+ghost use Rattle.ssz_nodes.specs.Shown.{ArePacked, ExtendsBytes};
 
 use super::nodes::chunk_of;
 use super::places::{Places, Top, node_of_place};
@@ -19,7 +19,7 @@ pub fn append_chunks<H: PairHash>(
 ) -> Result<(), AllocError>
     requires depth { top.depth < 64 }
     requires node { IsNodeOf arena.now top.node }
-    ensures kept { Extends out.old.items out.new.items }
+    ensures kept { ExtendsBytes out.old.items out.new.items }
     ensures long { OnOk result (length out.new.items ≡ length out.old.items + len) }
     ensures bytes { (bytes : List ℕ) → ArePacked top.depth len bytes (tree_of arena.now top.node)
         → OnOk result (out.new.items ≡ out.old.items ++ bytes) }
@@ -41,7 +41,7 @@ fn append_many<H: PairHash>(
 ) -> Result<(), AllocError>
     requires depth { top.depth < 64 }
     requires node { IsNodeOf arena.now top.node }
-    ensures kept { Extends out.old.items out.new.items }
+    ensures kept { ExtendsBytes out.old.items out.new.items }
     ensures long { OnOk result (length out.new.items ≡ length out.old.items + len) }
     ensures bytes { (bytes : List ℕ) → ArePacked top.depth len bytes (tree_of arena.now top.node)
         → OnOk result (out.new.items ≡ out.old.items ++ bytes) }
@@ -70,7 +70,7 @@ pub fn append_leaf<H: PairHash>(
 ) -> Result<(), AllocError>
     requires len { len ≤ 32 }
     requires node { IsNodeOf arena.now node }
-    ensures kept { Extends out.old.items out.new.items }
+    ensures kept { ExtendsBytes out.old.items out.new.items }
     ensures long { OnOk result (length out.new.items ≡ length out.old.items + len) }
     ensures bytes { (chunk : List ℕ) → tree_of arena.now node ≡ leaf chunk
         → OnOk result (out.new.items ≡ out.old.items ++ take len chunk) }

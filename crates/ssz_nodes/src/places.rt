@@ -1,7 +1,7 @@
 ghost use Rattle.std.specs.Prelude.{ℕ, ◌≡◌, ◌<◌, ◌≤◌, ◌/◌, ◌%◌, ◌^◌, List, ◌∷◌, length};
-ghost use Rattle.ssz_chunk.specs.Tree.{Tree, pair, full, place};
-ghost use Rattle.ssz_arena.specs.Content.{Content, IsNodeOf, tree_of};
-ghost use Rattle.ssz_nodes.specs.Ahead.{AreNodes, Holds};
+ghost use Rattle.ssz_chunk.specs.Tree.{Tree, pair, merkle_tree, place};
+ghost use Rattle.ssz_arena.specs.Content.{ArenaContent, IsNodeOf, tree_of};
+ghost use Rattle.ssz_nodes.specs.Ahead.{AheadAreNodes, AheadHolds};
 
 use super::nodes::halves;
 use super::rows::spread;
@@ -65,9 +65,10 @@ impl Places {
     /// All places of the full tree.
     pub fn new(top: Top) -> Self
         requires { top.depth < 64 }
-        ensures nodes { (arena : Content) → IsNodeOf arena top.node → AreNodes arena result }
-        ensures holds { (arena : Content) (trees : List Tree) → length trees ≤ 2 ^ top.depth
-            → tree_of arena top.node ≡ full top.depth trees → Holds arena trees result }
+        ensures nodes { (arena : ArenaContent) → IsNodeOf arena top.node
+            → AheadAreNodes arena result }
+        ensures holds { (arena : ArenaContent) (trees : List Tree) → length trees ≤ 2 ^ top.depth
+            → tree_of arena top.node ≡ merkle_tree top.depth trees → AheadHolds arena trees result }
     {
         Places {
             row: [top.node; ROW],
@@ -81,13 +82,15 @@ impl Places {
 
     /// The node of the next place. There is one, if fewer than 2^depth were taken.
     pub fn next<H: PairHash>(&mut self, arena: &Arena<H>) -> NodeId
-        requires { AreNodes arena.now self.old }
-        ensures nodes { AreNodes arena.now self.new }
+        requires { AheadAreNodes arena.now self.old }
+        ensures nodes { AheadAreNodes arena.now self.new }
         ensures node { IsNodeOf arena.now result }
-        ensures tree { (tree : Tree) (trees : List Tree) → Holds arena.now (tree ∷ trees) self.old
+        ensures tree { (tree : Tree) (trees : List Tree)
+            → AheadHolds arena.now (tree ∷ trees) self.old
             → tree_of arena.now result ≡ tree }
-        ensures rest { (tree : Tree) (trees : List Tree) → Holds arena.now (tree ∷ trees) self.old
-            → Holds arena.now trees self.new }
+        ensures rest { (tree : Tree) (trees : List Tree)
+            → AheadHolds arena.now (tree ∷ trees) self.old
+            → AheadHolds arena.now trees self.new }
     {
         self.refill(arena);
         if self.from == self.to {
@@ -100,10 +103,10 @@ impl Places {
 
     // Comes down to the next row, where all nodes of the one before were taken.
     fn refill<H: PairHash>(&mut self, arena: &Arena<H>)
-        requires { AreNodes arena.now self.old }
-        ensures nodes { AreNodes arena.now self.new }
-        ensures holds { (trees : List Tree) → Holds arena.now trees self.old
-            → Holds arena.now trees self.new }
+        requires { AheadAreNodes arena.now self.old }
+        ensures nodes { AheadAreNodes arena.now self.new }
+        ensures holds { (trees : List Tree) → AheadHolds arena.now trees self.old
+            → AheadHolds arena.now trees self.new }
         ensures some { self.new.from ≡ self.new.to → self.new.left ≡ 0 }
     {
         if self.from < self.to {
@@ -117,12 +120,12 @@ impl Places {
 
     // Comes down to the first row of the lowest subtree.
     fn fill<H: PairHash>(&mut self, arena: &Arena<H>)
-        requires nodes { AreNodes arena.now self.old }
+        requires nodes { AheadAreNodes arena.now self.old }
         requires taken { self.old.from ≡ self.old.to }
         requires some { 0 < self.old.left }
-        ensures nodes { AreNodes arena.now self.new }
-        ensures holds { (trees : List Tree) → Holds arena.now trees self.old
-            → Holds arena.now trees self.new }
+        ensures nodes { AheadAreNodes arena.now self.new }
+        ensures holds { (trees : List Tree) → AheadHolds arena.now trees self.old
+            → AheadHolds arena.now trees self.new }
         ensures some { self.new.from < self.new.to }
     {
         let level = self.left.trailing_zeros();
@@ -166,7 +169,7 @@ pub fn node_of_place<H: PairHash>(arena: &Arena<H>, top: Top, i: usize) -> NodeI
     requires node { IsNodeOf arena.now top.node }
     ensures node { IsNodeOf arena.now result }
     ensures tree { (trees : List Tree) → i < 2 ^ top.depth
-        → tree_of arena.now top.node ≡ full top.depth trees
+        → tree_of arena.now top.node ≡ merkle_tree top.depth trees
         → tree_of arena.now result ≡ place trees i }
 {
     let mut here = top.node;

@@ -1,8 +1,8 @@
 //! Places of a full tree that are come down to together.
 ghost use Rattle.std.specs.Prelude.{ℕ, ◌≡◌, ◌+◌, ◌*◌, ◌<◌, ◌≤◌, ◌^◌, List, length, All};
-ghost use Rattle.ssz_chunk.specs.Tree.{Tree, pair, full, place};
+ghost use Rattle.ssz_chunk.specs.Tree.{Tree, pair, merkle_tree, place};
 ghost use Rattle.ssz_arena.specs.Content.{IsNodeOf, tree_of};
-ghost use Rattle.ssz_nodes.specs.Ahead.{node_of};
+ghost use Rattle.ssz_nodes.specs.Ahead.{ahead_node};
 
 use super::nodes::halves;
 use ssz_arena::{Arena, NodeId};
@@ -17,8 +17,9 @@ pub fn spread<H: PairHash>(arena: &Arena<H>, depth: u32, row: &mut [NodeId])
     requires nodes { All (IsNodeOf arena.now) row.old }
     ensures long { length row.new ≡ length row.old }
     ensures nodes { All (IsNodeOf arena.now) row.new }
-    ensures places { (trees : List Tree) → tree_of arena.now (node_of row.old 0) ≡ full depth trees
-        → (i : ℕ) → i < 2 ^ depth → tree_of arena.now (node_of row.new i) ≡ place trees i }
+    ensures places { (trees : List Tree)
+        → tree_of arena.now (ahead_node row.old 0) ≡ merkle_tree depth trees
+        → (i : ℕ) → i < 2 ^ depth → tree_of arena.now (ahead_node row.new i) ≡ place trees i }
 {
     for level in 0..depth {
         widen(arena, 1 << level, row);
@@ -33,11 +34,11 @@ fn widen<H: PairHash>(arena: &Arena<H>, len: usize, row: &mut [NodeId])
     ensures long { length row.new ≡ length row.old }
     ensures nodes { All (IsNodeOf arena.now) row.new }
     ensures left { (i : ℕ) (left right : Tree) → i < len
-        → tree_of arena.now (node_of row.old i) ≡ pair left right
-        → tree_of arena.now (node_of row.new (2 * i)) ≡ left }
+        → tree_of arena.now (ahead_node row.old i) ≡ pair left right
+        → tree_of arena.now (ahead_node row.new (2 * i)) ≡ left }
     ensures right { (i : ℕ) (left right : Tree) → i < len
-        → tree_of arena.now (node_of row.old i) ≡ pair left right
-        → tree_of arena.now (node_of row.new (2 * i + 1)) ≡ right }
+        → tree_of arena.now (ahead_node row.old i) ≡ pair left right
+        → tree_of arena.now (ahead_node row.new (2 * i + 1)) ≡ right }
 {
     for i in (0..len).rev() {
         let (first, second) = halves(arena, row[i]);

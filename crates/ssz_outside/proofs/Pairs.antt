@@ -11,16 +11,16 @@ use Rattle.std.specs.BTreeMap as tree
 use Rattle.std.specs.FinMap as map
 use Rattle.std.specs.declared.alloc.Global.{Global}
 use Rattle.std.proofs.lemmas.Map.Text.{text_cmp, btree_map_updates_text, is_eq-slice_cmp}
-use Rattle.ssz_outside.specs.Stored.{Entries, ByText, pairs, named_of, items_of}
+use Rattle.ssz_outside.specs.Stored.{StoredEntries, ByText, stored_pairs, named_of, items_of}
 
 -- a look-up in the pairs finds the bytes that the entries have
-find-pairs : (entries : Entries) (name : List ℕ)
-    → map.find (slice_cmp nat_cmp) name (pairs entries)
+find-pairs : (entries : StoredEntries) (name : List ℕ)
+    → map.find (slice_cmp nat_cmp) name (stored_pairs entries)
     ≡ items_of (lookup (tree.is_at (text_cmp name)) entries)
 find-pairs [] name = refl
 find-pairs (e ∷ entries) name =
     let here = lookup (tree.is_at (text_cmp name)) entries in
-    let there = map.find (slice_cmp nat_cmp) name (pairs entries) in
+    let there = map.find (slice_cmp nat_cmp) name (stored_pairs entries) in
     elim (is_eq (slice_cmp nat_cmp name (string_bytes e.0))) as
     (λ b. cond b (Some e.1.items) there ≡ items_of (cond b (Some e.1) here)) [
       | true ↦ refl
@@ -31,7 +31,8 @@ find-pairs (e ∷ entries) name =
 pub get-named_of : (m : ByText) (name : List ℕ)
     → map.get (named_of m) name ≡ items_of (tree.get_by_text m name)
 get-named_of m name =
-    map.get-from_entries nat_list_cmp_total (pairs m.entries) name ∙ find-pairs m.entries name
+    map.get-from_entries nat_list_cmp_total (stored_pairs m.entries) name
+    ∙ find-pairs m.entries name
 
 -- what one name reads as after an insert: the new bytes under that key, or what it read as
 get_either : (key : List ℕ) (value : Vec ℕ Global) (m : ByText) (b : Bool) (name : List ℕ)

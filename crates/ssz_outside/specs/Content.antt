@@ -7,8 +7,8 @@ use Rattle.std.specs.Cmp.Lexicographic.{slice_cmp}
 use Rattle.std.specs.FinMap as map
 
 -- a finite map from names to bytes
-abbrev pub Named : Type 0
-Named = map.FinMap (slice_cmp nat_cmp) (List ℕ)
+abbrev pub NamedBytes : Type 0
+NamedBytes = map.FinMap (slice_cmp nat_cmp) (List ℕ)
 
 -- what a name reads as that the map lacks
 pub data Missing : Type 0 where
@@ -18,7 +18,7 @@ pub data Missing : Type 0 where
 -- the names with their bytes, what any other name reads as, and whether it is told that a read fails
 -- of an absent name alone, now and later
 pub record Content : Type 0 where
-  pub named : Named
+  pub named : NamedBytes
   pub missing : Missing
   pub steady : Bool
 
@@ -28,15 +28,15 @@ bytes_of_missing absent = None
 bytes_of_missing no_bytes = Some []
 
 -- the bytes that a name holds, where it is not absent
-abbrev pub bytes_of : Content → List ℕ → Option (List ℕ)
-bytes_of content name = option_or (map.get content.named name) (bytes_of_missing content.missing)
+abbrev pub file_bytes : Content → List ℕ → Option (List ℕ)
+file_bytes content name = option_or (map.get content.named name) (bytes_of_missing content.missing)
 
 -- what a name reads as, where an absent one reads as no bytes
 abbrev pub contents : Content → List ℕ → List ℕ
-contents content name = unwrap_or (bytes_of content name) []
+contents content name = unwrap_or (file_bytes content name) []
 
 abbrev pub is_absent : Content → List ℕ → Bool
-is_absent content name = is_none (bytes_of content name)
+is_absent content name = is_none (file_bytes content name)
 
 -- whether a read of the name may fail: where a read fails of an absent name alone, only of one that
 -- is absent
@@ -57,5 +57,5 @@ abbrev pub told_with_bytes : List ℕ → List ℕ → Option Content → Option
 told_with_bytes name bytes told = option_map (with_bytes name bytes) told
 
 -- files of which no name is absent: one that the map lacks holds no bytes
-abbrev pub quiet_content : Named → Content
+abbrev pub quiet_content : NamedBytes → Content
 quiet_content named = record { named = named; missing = no_bytes; steady = true }

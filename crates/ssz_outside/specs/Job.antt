@@ -3,7 +3,7 @@ use Rattle.std.specs.Prelude.{◌≡◌, ◌≤◌, ◌<◌, ◌⊎◌, ⊤, ℕ
 use Rattle.std.specs.Prelude.{List, [], ◌∷◌, ◌++◌, take, Bool, false, IsTrue, Some, None}
 use Rattle.std.specs.declared.option.Option.{Option}
 use Rattle.ssz_outside.specs.Content.{Content}
-use Rattle.ssz_outside.specs.Outcome.{RoseOnce, Tears}
+use Rattle.ssz_outside.specs.Outcome.{RoseOnce, WritesPart}
 use Rattle.ssz_outside.specs.Pieces.{Told, told_append}
 use Rattle.ssz_outside.specs.declared.status.Status.{Status}
 use Rattle.ssz_outside.specs.declared.status.Status.TheVariants as status
@@ -33,7 +33,7 @@ pub record Job : Type 0 where
 -- memory for a piece (ample).
 
 -- the sink has the lines of a moment, and the files are its files
-pub record StandsAt (moment : Moment) (old new : Told) (left : Option Content) : Type 0 where
+pub record JobStandsAt (moment : Moment) (old new : Told) (left : Option Content) : Type 0 where
   pub printed : new ≡ told_append old moment.lines
   pub held : left ≡ Some moment.files
 
@@ -43,7 +43,7 @@ pub record TearsFile (job : Job) (k : ℕ) (old new : Told) (left : Option Conte
   pub save : Save
   pub saves : job.saves k ≡ Some save
   pub printed : new ≡ told_append old (job.at k).lines
-  pub held : Tears save.name save.bytes (Some (job.at k).files) left
+  pub held : WritesPart save.name save.bytes (Some (job.at k).files) left
 
 -- a step was done, and the one put of its line failed: a prefix of the line is the last piece
 pub record TearsLine (job : Job) (k : ℕ) (old new : Told) (left : Option Content) : Type 0 where
@@ -64,7 +64,7 @@ pub record RunsAhead (ample : Bool) (job : Job) (k : ℕ) (old new : Told) (left
 pub record Finishes (job : Job) (ended : Status) (old new : Told)
     (left : Option Content) : Type 0 where
   pub status : ended ≡ job.status
-  pub last : StandsAt (job.at job.steps) old new left
+  pub last : JobStandsAt (job.at job.steps) old new left
 
 -- What a job leaves that ended with this status. A failed read ends it at a moment at which a read
 -- of it may fail; a failed put ends it within a step, at its save or its line; want of memory ends
@@ -76,11 +76,11 @@ Ends ample status.Refused job old new left = Finishes job status.Refused old new
 Ends ample status.Usage job old new left = Finishes job status.Usage old new left
 Ends ample status.SchemaFault job old new left = Finishes job status.SchemaFault old new left
 Ends ample status.ReadFault job old new left =
-    (k : ℕ) × (k ≤ job.steps) × IsTrue (job.reads k) × StandsAt (job.at k) old new left
+    (k : ℕ) × (k ≤ job.steps) × IsTrue (job.reads k) × JobStandsAt (job.at k) old new left
 Ends ample status.WriteFault job old new left =
     (k : ℕ) × (k < job.steps) × (TearsFile job k old new left ⊎ TearsLine job k old new left)
 Ends ample status.Memory job old new left =
-    (k : ℕ) × (((k ≤ job.steps) × StandsAt (job.at k) old new left)
+    (k : ℕ) × (((k ≤ job.steps) × JobStandsAt (job.at k) old new left)
     ⊎ ((k < job.steps) × RunsAhead ample job k old new left))
 
 -- neither a fault of the outside nor want of memory

@@ -4,7 +4,7 @@ use Rattle.std.specs.Prelude.{List, [], ◌∷◌, ◌++◌, length, take, drop}
 use Rattle.std.specs.declared.result.Result.{Result}
 use Rattle.ssz_outside.specs.declared.outside.PutFault.{PutFault}
 use Rattle.ssz_outside.specs.declared.outside.PutFault.TheVariants.{Failed, Memory}
-use Rattle.ssz_outside.specs.Content.{Content, Named, absent}
+use Rattle.ssz_outside.specs.Content.{Content, NamedBytes, absent}
 use Rattle.ssz_outside.specs.Outcome.{next_count}
 use Rattle.std.specs.List.{list_any}
 use Rattle.std.specs.FinMap as map
@@ -21,7 +21,7 @@ first_half bytes = take (length bytes / 2) bytes
 -- Files in memory: the names with their bytes, the numbers of the calls that are to fail (`get`s
 -- and `put`s together, from 1), how many calls there were, and how many of them failed.
 pub record FilesState : Type 0 where
-  pub named : Named
+  pub named : NamedBytes
   pub failing : List ℕ
   pub calls : ℕ
   pub get_faults : ℕ
@@ -47,7 +47,8 @@ pub record IsReadable (files : FilesState) (name : List ℕ) : Type 0 where
   pub there : IsSome (map.get files.named name)
 
 -- what the names hold after a `put`: on a failure the name holds the first half of the bytes
-abbrev pub PutsHalf : {T : Type 0} → Result T PutFault → List ℕ → List ℕ → Named → Named → Type 0
+abbrev pub PutsHalf : {T : Type 0} → Result T PutFault → List ℕ → List ℕ → NamedBytes → NamedBytes
+    → Type 0
 PutsHalf (Ok done) name bytes old new = new ≡ map.insert old name bytes
 PutsHalf (Err Failed) name bytes old new = new ≡ map.insert old name (first_half bytes)
 PutsHalf (Err Memory) name bytes old new = new ≡ old
@@ -77,12 +78,12 @@ cut [] text = []
 cut (n ∷ lengths) text = take n text ∷ cut lengths (drop n text)
 
 -- how a map from names to bytes, and the files' record, are stored as values of contracts
-abbrev pub named_code : Coded Named
+abbrev pub named_code : Coded NamedBytes
 named_code = map.code (coded_list coded_ℕ) (coded_list coded_ℕ)
 
 abbrev pub files_code : Coded FilesState
 files_code =
-    code_by (Named × (List ℕ × (ℕ × (ℕ × ℕ))))
+    code_by (NamedBytes × (List ℕ × (ℕ × (ℕ × ℕ))))
     (coded× named_code (coded× (coded_list coded_ℕ) (coded× coded_ℕ (coded× coded_ℕ coded_ℕ))))
     (λ f. (f.named, (f.failing, (f.calls, (f.get_faults, f.put_faults)))))
     (λ p. record {

@@ -43,21 +43,21 @@ CountsPut (Err put_fault.Failed) before now = RoseOnce before now
 CountsPut (Err put_fault.Memory) before now = now ≡ before
 
 -- a failed `put` left what was held, or a prefix of the bytes under the name
-abbrev pub Tears : List ℕ → List ℕ → Option Content → Option Content → Type 0
-Tears name bytes old new =
+abbrev pub WritesPart : List ℕ → List ℕ → Option Content → Option Content → Type 0
+WritesPart name bytes old new =
     (new ≡ old) ⊎ ((count : ℕ) × (new ≡ told_with_bytes name (take count bytes) old))
 
 -- what files hold after a `put`
 abbrev pub Puts : {T : Type 0} → Result T PutFault → List ℕ → List ℕ → Option Content
     → Option Content → Type 0
 Puts (Ok done) name bytes old new = new ≡ told_with_bytes name bytes old
-Puts (Err put_fault.Failed) name bytes old new = Tears name bytes old new
+Puts (Err put_fault.Failed) name bytes old new = WritesPart name bytes old new
 Puts (Err put_fault.Memory) name bytes old new = new ≡ old
 
 -- What a sink has taken after a `put`: one more piece, which is the whole piece, or on a failure
 -- a prefix of it, perhaps empty.
-abbrev pub Takes : {T : Type 0} → Result T PutFault → List ℕ → Told → Told → Type 0
-Takes (Ok done) piece old new = new ≡ told_append old (piece ∷ [])
-Takes (Err put_fault.Failed) piece old new =
+abbrev pub SinkTakes : {T : Type 0} → Result T PutFault → List ℕ → Told → Told → Type 0
+SinkTakes (Ok done) piece old new = new ≡ told_append old (piece ∷ [])
+SinkTakes (Err put_fault.Failed) piece old new =
     (count : ℕ) × (new ≡ told_append old (take count piece ∷ []))
-Takes (Err put_fault.Memory) piece old new = new ≡ old
+SinkTakes (Err put_fault.Memory) piece old new = new ≡ old

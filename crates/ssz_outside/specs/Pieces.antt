@@ -8,8 +8,8 @@ abbrev pub Told : Type 0
 Told = Option (List (List ℕ))
 
 -- the text of pieces, one behind another
-abbrev pub text_of : List (List ℕ) → List ℕ
-text_of pieces = concat pieces
+abbrev pub text_of_pieces : List (List ℕ) → List ℕ
+text_of_pieces pieces = concat pieces
 
 -- the pieces taken, where they are told, and more pieces behind them
 abbrev pub told_append : Told → List (List ℕ) → Told
@@ -17,4 +17,4 @@ told_append told pieces = option_map (λ taken. taken ++ pieces) told
 
 -- the text taken, where it is told
 abbrev pub told_text : Told → Option (List ℕ)
-told_text told = option_map text_of told
+told_text told = option_map text_of_pieces told

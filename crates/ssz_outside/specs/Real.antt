@@ -17,8 +17,8 @@ pub record OutState : Type 0 where
   pub faults : ℕ
 
 -- what a writer holds after a `put`: the piece behind what it held, or on a failure a prefix of it
-abbrev pub Writes : {T : Type 0} → Result T PutFault → List ℕ → Option (List ℕ)
+abbrev pub WritesPiece : {T : Type 0} → Result T PutFault → List ℕ → Option (List ℕ)
     → Option (List ℕ) → Type 0
-Writes (Ok done) piece old new = Appends old new piece
-Writes (Err Failed) piece old new = (count : ℕ) × Appends old new (take count piece)
-Writes (Err Memory) piece old new = ⊥
+WritesPiece (Ok done) piece old new = Appends old new piece
+WritesPiece (Err Failed) piece old new = (count : ℕ) × Appends old new (take count piece)
+WritesPiece (Err Memory) piece old new = ⊥

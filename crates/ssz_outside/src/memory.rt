@@ -4,7 +4,7 @@ ghost use Rattle.std.specs.Prelude.{Some, Err, IfOk, OnOk, OnErr, IsErrOf, IsNon
 ghost use Rattle.std.specs.FinMap as map;
 ghost use Rattle.ssz_outside.specs.Memory.{is_listed};
 ghost use Rattle.ssz_outside.specs.Outcome.{next_count, Gets, CountsGet, CountsPut};
-ghost use Rattle.ssz_outside.specs.Pieces.{text_of};
+ghost use Rattle.ssz_outside.specs.Pieces.{text_of_pieces};
 
 use crate::outside::{Files, GetFault, Got, PutFault, Sink};
 use crate::store::Store;
@@ -223,7 +223,7 @@ impl MemSink {
 
     /// The text of all pieces that it has taken.
     pub fn taken(&self) -> &[u8]
-        ensures { result.now ≡ text_of self.now.pieces }
+        ensures { result.now ≡ text_of_pieces self.now.pieces }
     {
         self.tape.text()
     }

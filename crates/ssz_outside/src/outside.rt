@@ -1,8 +1,8 @@
 // Files and a sink as a program sees them: what each answer says, and what is counted.
 ghost use Rattle.std.specs.Prelude.{◌≡◌, ◌≢◌, ℕ, ◌≤◌, List, [], Bool, false, vec_len, Ok, Err, IfSome};
 ghost use Rattle.std.specs.declared.option.Option.{Option};
-ghost use Rattle.ssz_outside.specs.Content.{CanRead, Content, bytes_of};
-ghost use Rattle.ssz_outside.specs.Outcome.{Gets, CountsGet, Puts, CountsPut, Takes};
+ghost use Rattle.ssz_outside.specs.Content.{CanRead, Content, file_bytes};
+ghost use Rattle.ssz_outside.specs.Outcome.{Gets, CountsGet, Puts, CountsPut, SinkTakes};
 ghost use Rattle.ssz_outside.specs.declared.outside.PutFault.TheVariants as put_fault;
 
 use std::alloc::{AllocError, AllocFailed};
@@ -72,7 +72,7 @@ pub trait Files {
     fn get(&mut self, name: &str, into: &mut Vec<u8>, max: u64) -> Result<Got, GetFault>
         requires { into.old.items ≡ [] }
         ensures read { IfSome (content self.old)
-            (λ held. Gets (bytes_of held name.now) max result into.new.items) }
+            (λ held. Gets (file_bytes held name.now) max result into.new.items) }
         ensures bound { result ≡ Ok Got.Whole → vec_len into.new ≤ max }
         ensures content { content self.new ≡ content self.old }
         ensures fails { readable self.old name.now → result ≢ Err GetFault.Failed }
@@ -113,7 +113,7 @@ pub trait Sink {
     /// Takes the whole piece. A `Failed` has taken a prefix of it, perhaps nothing, and `Memory`
     /// nothing. A sink that takes nothing of a piece that is not empty has failed.
     fn put(&mut self, piece: &[u8]) -> Result<(), PutFault>
-        ensures pieces { Takes result piece.now (pieces self.old) (pieces self.new) }
+        ensures pieces { SinkTakes result piece.now (pieces self.old) (pieces self.new) }
         ensures faults { CountsPut result (faults self.old) (faults self.new) }
         ensures memory { result ≡ Err PutFault.Memory → ample self.old ≡ false }
         ensures ample { ample self.new ≡ ample self.old };

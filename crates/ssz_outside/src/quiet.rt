@@ -2,9 +2,9 @@
 ghost use Rattle.std.specs.Prelude.{◌≡◌, ◌≢◌, ◌≤◌, [], ◌∷◌, ◌++◌};
 ghost use Rattle.std.specs.Prelude.{vec_len, Ok, Err, IfOk, OnOk, OnErr, option_map};
 ghost use Rattle.std.specs.FinMap as map;
-ghost use Rattle.ssz_outside.specs.Content.{bytes_of, quiet_content};
+ghost use Rattle.ssz_outside.specs.Content.{file_bytes, quiet_content};
 ghost use Rattle.ssz_outside.specs.Outcome.{Gets};
-ghost use Rattle.ssz_outside.specs.Pieces.{text_of};
+ghost use Rattle.ssz_outside.specs.Pieces.{text_of_pieces};
 
 use crate::memory::read_held;
 use crate::outside::{Files, GetFault, Got, PutFault, Sink};
@@ -20,10 +20,10 @@ pub struct QuietFiles {
 }
 
 impl Model for QuietFiles {
-    ghost use Rattle.ssz_outside.specs.Content.{Named};
+    ghost use Rattle.ssz_outside.specs.Content.{NamedBytes};
     ghost use Rattle.ssz_outside.specs.Memory.{named_code};
 
-    ghost Value = { Named };
+    ghost Value = { NamedBytes };
 
     ghost coded = { named_code };
 
@@ -51,7 +51,7 @@ impl QuietFiles {
     /// What a name holds, which is never `None`.
     pub fn held(&self, name: &str) -> Option<&[u8]>
         ensures { option_map (λ bytes. bytes.now) result
-            ≡ bytes_of (quiet_content self.now) name.now }
+            ≡ file_bytes (quiet_content self.now) name.now }
     {
         Some(self.store.get(name).unwrap_or(&[]))
     }
@@ -72,7 +72,7 @@ impl Files for QuietFiles {
     fn get(&mut self, name: &str, into: &mut Vec<u8>, max: u64) -> Result<Got, GetFault>
         requires { into.old.items ≡ [] }
         ensures never { result ≢ Err GetFault.Failed }
-        ensures read { Gets (bytes_of (quiet_content self.old) name.now) max result into.new.items }
+        ensures read { Gets (file_bytes (quiet_content self.old) name.now) max result into.new.items }
         ensures bound { result ≡ Ok Got.Whole → vec_len into.new ≤ max }
         ensures stays { self.new ≡ self.old }
     {
@@ -126,7 +126,7 @@ impl QuietSink {
 
     /// The text of all pieces that it has taken.
     pub fn taken(&self) -> &[u8]
-        ensures { result.now ≡ text_of self.now }
+        ensures { result.now ≡ text_of_pieces self.now }
     {
         self.tape.text()
     }

@@ -1,7 +1,7 @@
 // The files of the system and a writer of std, each call counted where it fails.
 ghost use Rattle.std.specs.Prelude.{◌≡◌, ◌≢◌, ◌≤◌, [], vec_len, Ok, Err, IsErrOf};
 ghost use Rattle.ssz_outside.specs.Outcome.{next_count, CountsGet, CountsPut};
-ghost use Rattle.ssz_outside.specs.Real.{Writes};
+ghost use Rattle.ssz_outside.specs.Real.{WritesPiece};
 
 use crate::outside::{Files, GetFault, Got, PutFault, Sink};
 use crate::streams::{read_to_end, write_all};
@@ -147,7 +147,7 @@ impl<W: Write + Drop> Sink for OutSink<W> {
     ghost ample = { λ _. true };
 
     fn put(&mut self, piece: &[u8]) -> Result<(), PutFault>
-        ensures writes { Writes result piece.now self.old.written self.new.written }
+        ensures writes { WritesPiece result piece.now self.old.written self.new.written }
         ensures never { result ≢ Err PutFault.Memory }
         ensures faults { CountsPut result self.old.faults self.new.faults }
         ensures once { IsErrOf result PutFault.Failed

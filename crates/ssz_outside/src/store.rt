@@ -13,11 +13,11 @@ pub struct Store {
 }
 
 impl Model for Store {
-    ghost use Rattle.ssz_outside.specs.Content.{Named};
+    ghost use Rattle.ssz_outside.specs.Content.{NamedBytes};
     ghost use Rattle.ssz_outside.specs.Memory.{named_code};
     ghost use Rattle.ssz_outside.specs.Stored.{named_of};
 
-    ghost Value = { Named };
+    ghost Value = { NamedBytes };
 
     ghost coded = { named_code };
 

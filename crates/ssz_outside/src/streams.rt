@@ -4,7 +4,7 @@ ghost use Rattle.std.specs.Prelude.{List, [], length, vec_len, Ok, Err, Some, If
 ghost use Rattle.std.specs.Option.{ForSome};
 ghost use Rattle.std.specs.Io.KnownBytes.{Consumes, ReadConsumes, WriteAppends};
 ghost use Rattle.ssz_outside.specs.Outcome.{Gets};
-ghost use Rattle.ssz_outside.specs.Real.{Writes};
+ghost use Rattle.ssz_outside.specs.Real.{WritesPiece};
 
 use crate::outside::{GetFault, Got, PutFault};
 use std::io::{ErrorKind, Read, Write};
@@ -82,7 +82,7 @@ fn write_some<W: Write>(writer: &mut W, bytes: &[u8]) -> Result<usize, PutFault>
 
 // Writes all the bytes, or a prefix of them and fails.
 pub fn write_all<W: Write>(writer: &mut W, bytes: &[u8]) -> Result<(), PutFault>
-    ensures { Writes result bytes.now (W.contents writer.old) (W.contents writer.new) }
+    ensures { WritesPiece result bytes.now (W.contents writer.old) (W.contents writer.new) }
 {
     let mut done = 0;
     while done < bytes.len() {

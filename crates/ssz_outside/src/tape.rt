@@ -1,6 +1,6 @@
 // The pieces that a sink in memory has taken, one behind another, with their lengths.
 ghost use Rattle.std.specs.Prelude.{◌≡◌, [], ◌∷◌, ◌++◌, OnOk, OnErr};
-ghost use Rattle.ssz_outside.specs.Pieces.{text_of};
+ghost use Rattle.ssz_outside.specs.Pieces.{text_of_pieces};
 
 use std::alloc::{AllocError, Global};
 use std::marker::Model;
@@ -45,7 +45,7 @@ impl Tape {
 
     /// The pieces, one behind another.
     pub fn text(&self) -> &[u8]
-        ensures { result.now ≡ text_of self.now }
+        ensures { result.now ≡ text_of_pieces self.now }
     {
         &self.text
     }

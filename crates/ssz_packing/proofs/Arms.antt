@@ -2,7 +2,7 @@
 use Rattle.ssz_schema.specs.declared.format.Format.{Format}
 use Rattle.std.proofs.Common.{◌≡◌, ℕ, ◌+◌, ◌/◌, ◌^◌, ◌≤◌, List, length, map, replicate, Option, None, sym, ap, subst, ◌∙◌, arith}
 use Rattle.std.proofs.lemmas.List.{length-map, length-replicate}
-use Rattle.ssz_chunk.specs.Tree.{leaf, root, full, grow}
+use Rattle.ssz_chunk.specs.Tree.{leaf, root, merkle_tree, merkle_pairs}
 use Rattle.ssz_schema.specs.Types.{SszType, container, vector, list, bitvector}
 use Rattle.ssz_schema.specs.Sizes.{fixed_size, basic_size, element_chunks, field_count, depth_of, depth}
 use Rattle.ssz_bytes.specs.Bytes.{le_bytes, le_number, number_of_bits, bits_of_number}
@@ -13,7 +13,7 @@ use Rattle.ssz_bytes.proofs.Bits.{length-bits_of_number}
 use Rattle.ssz_schema.proofs.DepthLemmas.{depth_of-holds}
 use Rattle.ssz_schema.proofs.SizeLemmas.{fields_few}
 use Rattle.ssz_schema.proofs.SumLemmas.{field_count-over}
-use Rattle.ssz_value.specs.Faults.{why, elements_fault, element_count, count_fault, length_fault, scopes}
+use Rattle.ssz_value.specs.Faults.{first_fault, elements_fault, element_count, count_fault, length_fault, scopes}
 use Rattle.ssz_value.specs.Reading.{value_in, elements_in}
 use Rattle.ssz_value.specs.Trees.{tree, pack, pack_bits}
 use Rattle.ssz_value.specs.Values.{SszValue, items, values}
@@ -30,10 +30,10 @@ pub record HasElements (format : Format) (t : SszType) (count d : ℕ) (b : List
   pub legal : IsLegal format t
   pub few : element_chunks (basic_size t) count ≤ 2 ^ d
   pub shallow : d ≤ 126
-  pub faultless : elements_fault (why t) (fixed_size t) count 0 b ≡ None
+  pub faultless : elements_fault (first_fault t) (fixed_size t) count 0 b ≡ None
 
 pub vector_elements : (format : Format) (form t : SszType) (n d : ℕ) (b : List ℕ) → form
-    ≡ vector t n → IsLegal format form → why form 0 b ≡ None → d ≡ depth form
+    ≡ vector t n → IsLegal format form → first_fault form 0 b ≡ None → d ≡ depth form
     → HasElements format t n d b
 vector_elements format form t n d b e legal h deep =
     let law = subst (IsLegal format) e legal in
@@ -46,17 +46,18 @@ vector_elements format form t n d b e legal h deep =
       legal = law.0;
       few = covers;
       shallow = omega arith;
-      faultless = subst (λ ty. why ty 0 b ≡ None) e h;
+      faultless = subst (λ ty. first_fault ty 0 b ≡ None) e h;
     }
 
 pub list_elements : (format : Format) (form t : SszType) (limit count d : ℕ) (b : List ℕ) → form
-    ≡ list t limit → IsLegal format form → IsInput b → why form 0 b ≡ None
+    ≡ list t limit → IsLegal format form → IsInput b → first_fault form 0 b ≡ None
     → d ≡ depth form → count ≡ element_count (fixed_size t) b → HasElements format t count d b
 list_elements format form t limit count d b e legal input h deep is =
     let law = subst (IsLegal format) e legal in
-    let good : why (list t limit) 0 b ≡ None = subst (λ ty. why ty 0 b ≡ None) e h in
+    let good : first_fault (list t limit) 0 b ≡ None =
+    subst (λ ty. first_fault ty 0 b ≡ None) e h in
     let both = no_faults (count_fault (fixed_size t) limit 0 b)
-    (elements_fault (why t) (fixed_size t) (element_count (fixed_size t) b) 0 b) good in
+    (elements_fault (first_fault t) (fixed_size t) (element_count (fixed_size t) b) 0 b) good in
     let sizes : List (Option ℕ) = replicate (element_count (fixed_size t) b) (fixed_size t) in
     let vs : List SszValue = map (value_in t)
     (elements_in (fixed_size t) (element_count (fixed_size t) b) b) in
@@ -77,21 +78,21 @@ list_elements format form t limit count d b e legal input h deep is =
       legal = law.0;
       few = covers;
       shallow = omega arith;
-      faultless = subst (λ n. elements_fault (why t) (fixed_size t) n 0 b ≡ None) (sym is)
+      faultless = subst (λ n. elements_fault (first_fault t) (fixed_size t) n 0 b ≡ None) (sym is)
           both.1;
     }
 
 -- a bit vector is packed as it stands
 pub record IsPackedBits (pair_of : List ℕ → List ℕ → List ℕ) (form : SszType)
     (b : List ℕ) : Type 0 where
-  pub same : root pair_of (full (depth form) (leaves (pack b)))
+  pub same : root pair_of (merkle_tree (depth form) (leaves (pack b)))
       ≡ root pair_of (tree form (value_in form b))
-  pub costs : grow (depth form) ((length b + 31) / 32) ≡ pairs form (value_in form b)
+  pub costs : merkle_pairs (depth form) ((length b + 31) / 32) ≡ pairs form (value_in form b)
   pub few : (length b + 31) / 32 ≤ 2 ^ depth form
   pub shallow : depth form ≤ 126
 
 bitvector_packed : (pair_of : List ℕ → List ℕ → List ℕ) (format : Format) (n : ℕ) (b : List ℕ)
-    → IsLegal format (bitvector n) → IsInput b → why (bitvector n) 0 b ≡ None
+    → IsLegal format (bitvector n) → IsInput b → first_fault (bitvector n) 0 b ≡ None
     → IsPackedBits pair_of (bitvector n) b
 bitvector_packed pair_of format n b legal input h =
     let written = (agrees format (bitvector n) legal).only 0 b input h in
@@ -106,19 +107,20 @@ bitvector_packed pair_of format n b legal input h =
     let chunks : (length b + 31) / 32 ≡ (length (bits_of_number n (le_number b)) + 255) / 256 =
     omega (arith, len, count) in
     record {
-      same = ap (λ cs. root pair_of (full (depth (bitvector n)) (map leaf cs))) (sym packed);
-      costs = ap (grow (depth (bitvector n))) chunks;
+      same = ap (λ cs. root pair_of (merkle_tree (depth (bitvector n)) (map leaf cs))) (sym packed);
+      costs = ap (merkle_pairs (depth (bitvector n))) chunks;
       few = room.few;
       shallow = room.shallow;
     }
 
 pub IsPackedBits-bitvector : (pair_of : List ℕ → List ℕ → List ℕ) (format : Format) (form : SszType)
-    (n : ℕ) (b : List ℕ) → form ≡ bitvector n → IsLegal format form → IsInput b → why form 0 b
+    (n : ℕ) (b : List ℕ) → form ≡ bitvector n → IsLegal format form → IsInput b
+    → first_fault form 0 b
     ≡ None → IsPackedBits pair_of form b
 IsPackedBits-bitvector pair_of format form n b e legal input h =
     subst (λ ty. IsPackedBits pair_of ty b) (sym e)
     (bitvector_packed pair_of format n b (subst (IsLegal format) e legal) input
-    (subst (λ ty. why ty 0 b ≡ None) e h))
+    (subst (λ ty. first_fault ty 0 b ≡ None) e h))
 
 -- a container has no more fields than its default has bytes
 
@@ -156,13 +158,13 @@ container_room format form trees parts d e legal deep =
 pub record HasFields (format : Format) (trees : List SszType) (parts : List Part) (d : ℕ)
     (b : List ℕ) : Type 0 where
   pub room : HasFieldRoom format trees parts d
-  pub faultless : why (container (fields_over trees parts)) 0 b ≡ None
+  pub faultless : first_fault (container (fields_over trees parts)) 0 b ≡ None
 
 pub container_fields : (format : Format) (form : SszType) (trees : List SszType) (parts : List Part)
     (d : ℕ) (b : List ℕ) → form ≡ container (fields_over trees parts) → IsLegal format form
-    → why form 0 b ≡ None → d ≡ depth form → HasFields format trees parts d b
+    → first_fault form 0 b ≡ None → d ≡ depth form → HasFields format trees parts d b
 container_fields format form trees parts d b e legal h deep =
     record {
       room = container_room format form trees parts d e legal deep;
-      faultless = subst (λ ty. why ty 0 b ≡ None) e h;
+      faultless = subst (λ ty. first_fault ty 0 b ≡ None) e h;
     }

@@ -10,7 +10,7 @@ use Rattle.ssz_bytes.specs.Bytes.{le_bytes, bit_value}
 use Rattle.ssz_bytes.proofs.Numbers.{length-le_bytes}
 use Rattle.ssz_value.specs.declared.value.Value.{Value}
 use Rattle.ssz_value.specs.Values.{SszValue, number, wide, truth, sequence, bits, chosen, chosen_none, Fits}
-use Rattle.ssz_value.specs.Encoding.{enc}
+use Rattle.ssz_value.specs.Encoding.{serialize}
 use Rattle.ssz_value.specs.Standing.{value_of}
 use Rattle.ssz_value.specs.Trees.{padded}
 use Rattle.ssz_packing.specs.Elements.{encodings_of}
@@ -28,7 +28,7 @@ same_size : (k z n : ℕ) → Some k ≡ Some z → n ≡ k → n ≡ z
 same_size k z n e is = cc
 
 pub number_basic : (t : SszType) (z n : ℕ) → basic_size t ≡ Some z → Fits t (number n)
-    → (le_bytes 32 n ≡ padded (enc t (number n))) × (length (enc t (number n)) ≡ z)
+    → (le_bytes 32 n ≡ padded (serialize t (number n))) × (length (serialize t (number n)) ≡ z)
 number_basic (uint W8) z n e fits = let h = number_of_width 1 n fits in
     (h.0, same_size 1 z (length (le_bytes 1 n)) e h.1)
 number_basic (uint W16) z n e fits = let h = number_of_width 2 n fits in
@@ -50,7 +50,7 @@ number_basic (union os) z n e fits = cc
 
 -- 32 bytes
 pub wide_basic : (t : SszType) (z : ℕ) (b : List ℕ) → basic_size t ≡ Some z → Fits t (wide b)
-    → (b ≡ padded (enc t (wide b))) × (length (enc t (wide b)) ≡ z)
+    → (b ≡ padded (serialize t (wide b))) × (length (serialize t (wide b)) ≡ z)
 wide_basic (uint W256) z b e fits = (
   sym (take_at b zero_chunk 32 fits.0),
   same_size 32 z (length b) e fits.0,
@@ -70,7 +70,8 @@ wide_basic (union os) z b e fits = cc
 
 -- a truth value
 pub flag_basic : (t : SszType) (z : ℕ) (b : Bool) → basic_size t ≡ Some z → Fits t (truth b)
-    → (le_bytes 32 (bit_value b) ≡ padded (enc t (truth b))) × (length (enc t (truth b)) ≡ z)
+    → (le_bytes 32 (bit_value b) ≡ padded (serialize t (truth b)))
+    × (length (serialize t (truth b)) ≡ z)
 flag_basic boolean z false e fits = (refl, same_size 1 z 1 e refl)
 flag_basic boolean z true e fits = (refl, same_size 1 z 1 e refl)
 flag_basic (uint W8) z b e fits = absurd fits
@@ -160,7 +161,8 @@ encodings_sized t z (v ∷ vs) e fits = (
   encodings_sized t z vs e fits.1,
 )
   where
-    one : (t : SszType) (z : ℕ) (v : SszValue) → basic_size t ≡ Some z → Fits t v → length (enc t v)
+    one : (t : SszType) (z : ℕ) (v : SszValue) → basic_size t ≡ Some z → Fits t v
+        → length (serialize t v)
         ≡ z
     one t z (number n) e fits = (number_basic t z n e fits).1
     one t z (wide b) e fits = (wide_basic t z b e fits).1
@@ -173,7 +175,7 @@ encodings_sized t z (v ∷ vs) e fits = (
 -- value k of those from here on, with its encoding
 pub record IsEncodedAt (t : SszType) (vs : List Value) (from k : ℕ) (v : Value) : Type 0 where
   pub fits : Fits t (value_of v)
-  pub is : get_or (drop from (encodings_of t vs)) k [] ≡ enc t (value_of v)
+  pub is : get_or (drop from (encodings_of t vs)) k [] ≡ serialize t (value_of v)
 
 pub encoding_at : (t : SszType) (vs : List Value) (from k : ℕ) (v : Value) → k
     < length (drop from vs) → v ≡ get_or (drop from vs) k v
@@ -187,7 +189,7 @@ encoding_at t vs zero k v within is fits = at vs k within is fits
     at (w ∷ vs) zero within is fits = record {
       fits =
           subst (λ (x : Value). Fits t (value_of x)) (sym is) fits.0;
-      is = ap (λ (x : Value). enc t (value_of x)) (sym is);
+      is = ap (λ (x : Value). serialize t (value_of x)) (sym is);
     }
     at (w ∷ vs) (suc k) within is fits = let h = at vs k (omega arith) is fits.1 in
         record { fits = h.fits; is = h.is }

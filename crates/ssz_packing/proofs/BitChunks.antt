@@ -6,11 +6,11 @@ use Rattle.std.proofs.lemmas.Bool.{cases_lt, cases_eq}
 use Rattle.std.proofs.lemmas.Nat.{pow-add}
 use Rattle.std.proofs.lemmas.List.{drop-set-add, drop-set-lt, take-set-le, drop_all}
 use Rattle.ssz_chunk.specs.Chunk.{zero_chunk}
-use Rattle.ssz_chunk.specs.Tree.{root, full, grow}
+use Rattle.ssz_chunk.specs.Tree.{root, merkle_tree, merkle_pairs}
 use Rattle.ssz_schema.specs.Types.{SszType, bitlist}
 use Rattle.ssz_schema.specs.Sizes.{depth}
 use Rattle.ssz_bytes.specs.Bytes.{IsBytes, le_bytes, le_number, number_of_bits, bits_of_number}
-use Rattle.ssz_value.specs.Faults.{why}
+use Rattle.ssz_value.specs.Faults.{first_fault}
 use Rattle.ssz_value.specs.Reading.{value_in}
 use Rattle.ssz_value.specs.Trees.{tree, padded, chunks, pack, pack_bits, number_chunk}
 use Rattle.ssz_value.proofs.Agree.{IsInput}
@@ -18,7 +18,7 @@ use Rattle.ssz_value.proofs.Cut.{passes}
 use Rattle.ssz_bytes.proofs.Numbers.{length-le_bytes, le_bytes_of}
 use Rattle.ssz_basic.proofs.LastByte.{last_byte_is}
 use Rattle.ssz_merkle.specs.Frontier.{leaves}
-use Rattle.ssz_merkle.specs.Packing.{chunk_of}
+use Rattle.ssz_merkle.specs.Packing.{packed_chunk}
 use Rattle.ssz_packing.specs.Bits.{undelimited}
 use Rattle.ssz_schema.proofs.DepthLemmas.{depth_of-holds}
 use Rattle.ssz_packing.proofs.Bounds.{levels_few, limit_few}
@@ -36,7 +36,7 @@ set-append (y ∷ xs) ys (suc j) x h = ap (λ zs. y ∷ zs) (set-append xs ys j 
 
 -- the chunk in which the byte lies that is written
 pub same_chunk : (b : List ℕ) (last i x : ℕ) → last < length b → last / 32 ≡ i
-    → slice_set (chunk_of b i) (last % 32) x ≡ chunk_of (slice_set b last x) i
+    → slice_set (packed_chunk b i) (last % 32) x ≡ packed_chunk (slice_set b last x) i
 same_chunk b last i x within e =
     let place : last ≡ 32 * i + last % 32 = omega arith in
     let moved : drop (32 * i) (slice_set b last x)
@@ -48,8 +48,9 @@ same_chunk b last i x within e =
     ∙ take-set-lt 32 (drop (32 * i) b ++ zero_chunk) (last % 32) x (omega arith))
 
 -- and the others
-pub other_chunk : (b : List ℕ) (last i x : ℕ) → last < length b → (last / 32 ≡ i → ⊥) → chunk_of b i
-    ≡ chunk_of (slice_set b last x) i
+pub other_chunk : (b : List ℕ) (last i x : ℕ) → last < length b → (last / 32 ≡ i → ⊥)
+    → packed_chunk b i
+    ≡ packed_chunk (slice_set b last x) i
 other_chunk b last i x within other = ⊎_elim
     (λ (below : i < last / 32).
     let j : ℕ = last - 32 * i in
@@ -234,17 +235,17 @@ pub record HasBits (pair_of : List ℕ → List ℕ → List ℕ) (form : SszTyp
   pub few : (bitlist_length b + 255) / 256 ≤ 2 ^ d
   pub shallow : d ≤ 126
   pub below : bitlist_length b < 2 ^ 63
-  pub same : pair_of (root pair_of (full d (leaves
+  pub same : pair_of (root pair_of (merkle_tree d (leaves
       (chunks ((bitlist_length b + 255) / 256) (undelimited b))))) (number_chunk (bitlist_length b))
       ≡ root pair_of (tree form (value_in form b))
-  pub costs : grow d ((bitlist_length b + 255) / 256) + 1 ≡ pairs form (value_in form b)
+  pub costs : merkle_pairs d ((bitlist_length b + 255) / 256) + 1 ≡ pairs form (value_in form b)
 
 not_zero : (n : ℕ) → eqb n 0 ≡ false → 0 < n
 not_zero zero e = cc
 not_zero (suc n) e = omega arith
 
 bitlist_has : (pair_of : List ℕ → List ℕ → List ℕ) (format : Format) (limit : ℕ) (b : List ℕ)
-    → IsLegal format (bitlist limit) → IsInput b → why (bitlist limit) 0 b ≡ None
+    → IsLegal format (bitlist limit) → IsInput b → first_fault (bitlist limit) 0 b ≡ None
     → HasBits pair_of (bitlist limit) (depth (bitlist limit)) b
 bitlist_has pair_of format limit b legal input h =
     let one = passes (eqb (length b) 0) _ _ h in
@@ -265,23 +266,23 @@ bitlist_has pair_of format limit b legal input h =
       few = omega (arith, within, covers);
       shallow = omega (arith, legal.1.levels, levels_few format);
       below = omega (arith, within, legal.0, limit_few format);
-      same = ap (λ cs. pair_of (root pair_of (full (depth (bitlist limit)) (leaves cs)))
+      same = ap (λ cs. pair_of (root pair_of (merkle_tree (depth (bitlist limit)) (leaves cs)))
           (number_chunk (bitlist_length b))) (sym (pack_bits-undelimited b input.bytes some
           positive))
-          ∙ ap (λ n. pair_of (root pair_of (full (depth (bitlist limit))
+          ∙ ap (λ n. pair_of (root pair_of (merkle_tree (depth (bitlist limit))
           (leaves (pack_bits (bits_of_number (bitlist_length b) (le_number b)))))) (number_chunk n))
           (sym count);
-      costs = ap (λ n. grow (depth (bitlist limit)) ((n + 255) / 256) + 1) (sym count);
+      costs = ap (λ n. merkle_pairs (depth (bitlist limit)) ((n + 255) / 256) + 1) (sym count);
     }
 
 pub HasBits-bitlist : (pair_of : List ℕ → List ℕ → List ℕ) (format : Format) (form : SszType)
     (limit d : ℕ) (b : List ℕ) → form ≡ bitlist limit → IsLegal format form → IsInput b
-    → why form 0 b ≡ None → d ≡ depth form → HasBits pair_of form d b
+    → first_fault form 0 b ≡ None → d ≡ depth form → HasBits pair_of form d b
 HasBits-bitlist pair_of format form limit d b e legal input h deep =
     subst (λ k. HasBits pair_of form k b) (sym deep)
     (subst (λ ty. HasBits pair_of ty (depth ty) b) (sym e)
     (bitlist_has pair_of format limit b (subst (IsLegal format) e legal) input
-    (subst (λ ty. why ty 0 b ≡ None) e h)))
+    (subst (λ ty. first_fault ty 0 b ≡ None) e h)))
 
 -- the delimiter as the program writes it
 pub shifted : (b : List ℕ) (h : ℕ) → IsBytes b → 0 < length b → 0 < last_byte b → h

@@ -6,7 +6,7 @@ use Rattle.ssz_bytes.specs.Bytes.{le_bytes, number_of_bits, bit_value}
 use Rattle.ssz_bytes.proofs.Bits.{number_of_bits_lt, power_of_bytes, power_up}
 use Rattle.ssz_bytes.proofs.Numbers.{length-le_bytes}
 use Rattle.ssz_value.specs.Trees.{chunks, pack_bits}
-use Rattle.ssz_merkle.specs.Packing.{chunk_of}
+use Rattle.ssz_merkle.specs.Packing.{packed_chunk}
 use Rattle.ssz_packing.proofs.ChunkLaws.{chunk_of-le_bytes}
 
 -- the bytes of the bits
@@ -35,7 +35,7 @@ bits_fit bs =
 
 -- chunk i of the bytes of the bits is that of the bits behind the first 256 * i
 pub bits_chunk_is : (bs : List Bool) (i : ℕ) → 256 * i < length bs
-    → le_bytes 32 (number_of_bits (drop (256 * i) bs)) ≡ chunk_of (bytes_of_bits bs) i
+    → le_bytes 32 (number_of_bits (drop (256 * i) bs)) ≡ packed_chunk (bytes_of_bits bs) i
 bits_chunk_is bs i within =
     let power : 256 ^ (32 * i) ≡ 2 ^ (256 * i) = power_of_bytes (32 * i)
     ∙ ap (λ k. 2 ^ k) (let k : 8 * (32 * i) ≡ 256 * i = omega arith in k) in

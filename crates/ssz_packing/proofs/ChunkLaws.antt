@@ -8,7 +8,7 @@ use Rattle.ssz_chunk.specs.Chunk.{zero_chunk}
 use Rattle.ssz_bytes.specs.Bytes.{le_bytes}
 use Rattle.ssz_bytes.proofs.Numbers.{length-le_bytes}
 use Rattle.ssz_value.specs.Trees.{padded}
-use Rattle.ssz_merkle.specs.Packing.{chunk_of}
+use Rattle.ssz_merkle.specs.Packing.{packed_chunk}
 use Rattle.ssz_merkle.proofs.Padding.{take-padded}
 use Rattle.ssz_packing.proofs.Numbers.{le_bytes-zeros}
 
@@ -50,7 +50,7 @@ padded-le_bytes count n small = ⊎_elim
 
 -- chunk i of them
 pub chunk_of-le_bytes : (count n i : ℕ) → n < 256 ^ count → 32 * i ≤ count
-    → chunk_of (le_bytes count n) i ≡ le_bytes 32 (n / 256 ^ (32 * i))
+    → packed_chunk (le_bytes count n) i ≡ le_bytes 32 (n / 256 ^ (32 * i))
 chunk_of-le_bytes count n i small within =
     let parts : count ≡ 32 * i + (count - 32 * i) = omega arith in
     let power : 256 ^ count ≡ 256 ^ (32 * i) * 256 ^ (count - 32 * i) = ap (λ k. 256 ^ k) parts

@@ -6,7 +6,7 @@ use Rattle.std.proofs.lemmas.Nat.{div-mul-add}
 use Rattle.std.proofs.lemmas.Bool.{cases_lt}
 use Rattle.std.proofs.lemmas.List.{take_at, drop_at, take_all, drop-drop, append-nil, take-append-drop}
 use Rattle.ssz_value.specs.Trees.{padded}
-use Rattle.ssz_merkle.specs.Packing.{chunk_of}
+use Rattle.ssz_merkle.specs.Packing.{packed_chunk}
 use Rattle.ssz_merkle.proofs.Padding.{take-padded, drop-zeros}
 
 -- each has so many bytes
@@ -161,7 +161,7 @@ sized-drop size (suc k) (part ∷ parts) sized = sized-drop size k parts sized.1
 -- chunk i of all parts is that of the parts from its first one on
 pub chunk_of-concat : (size per i : ℕ) (parts : List (List ℕ)) → AreSized size parts → size * per
     ≡ 32 → per * i ≤ length parts → padded (concat (drop (per * i) parts))
-    ≡ chunk_of (concat parts) i
+    ≡ packed_chunk (concat parts) i
 chunk_of-concat size per i parts sized whole within =
     let place : size * (per * i) ≡ 32 * i = regroup size per i ∙ ap (λ n. n * i) whole in
     ap padded (sym (drop-concat size (per * i) parts sized within)

@@ -3,7 +3,7 @@ use Rattle.std.proofs.Common.{◌≡◌, ℕ, zero, suc, ◌<◌, List, [], ◌�
 use Rattle.std.specs.List.{AllByRecursion}
 use Rattle.std.proofs.lemmas.Option.{slice_get-get_or}
 use Rattle.ssz_schema.specs.Types.{SszType}
-use Rattle.ssz_schema.specs.Unfolding.{tree_at, options_over, IsBelow}
+use Rattle.ssz_schema.specs.Unfolding.{type_tree_at, options_over, IsBelow}
 use Rattle.ssz_value.specs.Values.{SszValue}
 use Rattle.ssz_value.specs.Trees.{tree, option_tree}
 use Rattle.ssz_value.specs.Pairs.{pairs, option_pairs}
@@ -11,12 +11,12 @@ use Rattle.ssz_value.specs.Pairs.{pairs, option_pairs}
 -- its tree and its pairs are those of the type that it stands for
 pub option_tree-some : (trees : List SszType) (ids : List (Option ℕ)) (left id : ℕ) (v : SszValue)
     → slice_get ids left ≡ Some (Some id)
-    → (option_tree (options_over trees ids) left v ≡ tree (tree_at trees id) v)
-    × (option_pairs (options_over trees ids) left v ≡ pairs (tree_at trees id) v)
+    → (option_tree (options_over trees ids) left v ≡ tree (type_tree_at trees id) v)
+    × (option_pairs (options_over trees ids) left v ≡ pairs (type_tree_at trees id) v)
 option_tree-some trees [] left id v e = cc
 option_tree-some trees (None ∷ ids) zero id v e = cc
 option_tree-some trees (Some other ∷ ids) zero id v e = let same : other ≡ id = cc in
-    (ap (λ n. tree (tree_at trees n) v) same, ap (λ n. pairs (tree_at trees n) v) same)
+    (ap (λ n. tree (type_tree_at trees n) v) same, ap (λ n. pairs (type_tree_at trees n) v) same)
 option_tree-some trees (None ∷ ids) (suc left) id v e = option_tree-some trees ids left id v e
 option_tree-some trees (Some other ∷ ids) (suc left) id v e = option_tree-some trees ids left id v e
 

@@ -3,18 +3,18 @@ use Rattle.std.proofs.Common.{◌≡◌, ℕ, zero, suc, ◌+◌, ◌*◌, ◌/�
 use Rattle.std.specs.List.{concat, sum_by, AllByRecursion}
 use Rattle.std.proofs.lemmas.List.{length-map}
 use Rattle.std.proofs.lemmas.Simd.{map-map}
-use Rattle.ssz_chunk.specs.Tree.{root, full, grow}
+use Rattle.ssz_chunk.specs.Tree.{root, merkle_tree, merkle_pairs}
 use Rattle.ssz_schema.specs.declared.format.Format.{Format}
 use Rattle.ssz_schema.specs.declared.width.Width.TheVariants.{W8}
 use Rattle.ssz_schema.specs.Types.{SszType, Fields, uint, container, vector, list, bitvector, bitlist}
 use Rattle.ssz_schema.specs.Sizes.{basic_size, element_chunks, depth}
 use Rattle.ssz_schema.specs.Legal.{IsLegal}
-use Rattle.ssz_schema.specs.Unfolding.{tree_at, fields_over}
+use Rattle.ssz_schema.specs.Unfolding.{type_tree_at, fields_over}
 use Rattle.ssz_schema.proofs.DepthLemmas.{depth_of-holds}
 use Rattle.ssz_value.specs.declared.value.Value.{Value}
 use Rattle.ssz_value.specs.declared.value.Value.TheVariants.{Bytes, Seq}
 use Rattle.ssz_value.specs.Values.{SszValue, number, sequence, bits, items, Fits, FitFields}
-use Rattle.ssz_value.specs.Encoding.{enc}
+use Rattle.ssz_value.specs.Encoding.{serialize}
 use Rattle.ssz_value.specs.Standing.{value_of, IsValue}
 use Rattle.ssz_value.specs.Shapes.{IsSequence, ElementsFit, AreFields, parts_of, part_count_of, bits_of}
 use Rattle.ssz_value.specs.Trees.{tree, pack, pack_bits, number_chunk, element_leaves, field_trees}
@@ -34,8 +34,9 @@ pub record HasBitValues (pair_of : List ℕ → List ℕ → List ℕ) (form : S
     (v : SszValue) : Type 0 where
   pub few : (length (bits_of v) + 255) / 256 ≤ 2 ^ d
   pub shallow : d ≤ 126
-  pub same : root pair_of (full d (leaves (pack_bits (bits_of v)))) ≡ root pair_of (tree form v)
-  pub costs : grow d ((length (bits_of v) + 255) / 256) ≡ pairs form v
+  pub same : root pair_of (merkle_tree d (leaves (pack_bits (bits_of v))))
+      ≡ root pair_of (tree form v)
+  pub costs : merkle_pairs d ((length (bits_of v) + 255) / 256) ≡ pairs form v
 
 bitvector_has : (pair_of : List ℕ → List ℕ → List ℕ) (format : Format) (n : ℕ) (v : SszValue)
     → IsLegal format (bitvector n) → Fits (bitvector n) v
@@ -63,9 +64,9 @@ pub record HasBitList (pair_of : List ℕ → List ℕ → List ℕ) (form : Ssz
     (v : SszValue) : Type 0 where
   pub few : (length (bits_of v) + 255) / 256 ≤ 2 ^ d
   pub shallow : d ≤ 126
-  pub same : pair_of (root pair_of (full d (leaves (pack_bits (bits_of v)))))
+  pub same : pair_of (root pair_of (merkle_tree d (leaves (pack_bits (bits_of v)))))
       (number_chunk (length (bits_of v))) ≡ root pair_of (tree form v)
-  pub costs : grow d ((length (bits_of v) + 255) / 256) + 1 ≡ pairs form v
+  pub costs : merkle_pairs d ((length (bits_of v) + 255) / 256) + 1 ≡ pairs form v
 
 bitlist_has : (pair_of : List ℕ → List ℕ → List ℕ) (format : Format) (limit : ℕ) (v : SszValue)
     → IsLegal format (bitlist limit) → Fits (bitlist limit) v
@@ -95,8 +96,9 @@ pub record HasVector (pair_of : List ℕ → List ℕ → List ℕ) (form t : Ss
     (v : SszValue) : Type 0 where
   pub few : element_chunks (basic_size t) (part_count_of v) ≤ 2 ^ d
   pub shallow : d ≤ 126
-  pub same : root pair_of (full d (element_trees t (parts_of v))) ≡ root pair_of (tree form v)
-  pub costs : grow d (element_chunks (basic_size t) (part_count_of v)) + sum_by (pairs t)
+  pub same : root pair_of (merkle_tree d (element_trees t (parts_of v)))
+      ≡ root pair_of (tree form v)
+  pub costs : merkle_pairs d (element_chunks (basic_size t) (part_count_of v)) + sum_by (pairs t)
       (parts_of v) ≡ pairs form v
 
 vector_has : (pair_of : List ℕ → List ℕ → List ℕ) (format : Format) (t : SszType) (n : ℕ)
@@ -127,9 +129,9 @@ pub record HasList (pair_of : List ℕ → List ℕ → List ℕ) (form t : SszT
     (v : SszValue) : Type 0 where
   pub few : element_chunks (basic_size t) (part_count_of v) ≤ 2 ^ d
   pub shallow : d ≤ 126
-  pub same : pair_of (root pair_of (full d (element_trees t (parts_of v))))
+  pub same : pair_of (root pair_of (merkle_tree d (element_trees t (parts_of v))))
       (number_chunk (part_count_of v)) ≡ root pair_of (tree form v)
-  pub costs : grow d (element_chunks (basic_size t) (part_count_of v)) + sum_by (pairs t)
+  pub costs : merkle_pairs d (element_chunks (basic_size t) (part_count_of v)) + sum_by (pairs t)
       (parts_of v) + 1 ≡ pairs form v
 
 list_has : (pair_of : List ℕ → List ℕ → List ℕ) (format : Format) (t : SszType) (limit : ℕ)
@@ -162,8 +164,8 @@ length-fit trees (part ∷ parts) (v ∷ vs) fit = omega (arith, length-fit tree
 
 pub record HasContainer (pair_of : List ℕ → List ℕ → List ℕ) (form : SszType) (fs : Fields)
     (d n : ℕ) (v : SszValue) : Type 0 where
-  pub same : root pair_of (full d (field_trees fs (parts_of v))) ≡ root pair_of (tree form v)
-  pub costs : grow d n + field_pairs fs (parts_of v) ≡ pairs form v
+  pub same : root pair_of (merkle_tree d (field_trees fs (parts_of v))) ≡ root pair_of (tree form v)
+  pub costs : merkle_pairs d n + field_pairs fs (parts_of v) ≡ pairs form v
 
 container_has : (pair_of : List ℕ → List ℕ → List ℕ) (trees : List SszType) (parts : List Part)
     (v : SszValue) → Fits (container (fields_over trees parts)) v
@@ -171,7 +173,7 @@ container_has : (pair_of : List ℕ → List ℕ → List ℕ) (trees : List Ssz
     (depth (container (fields_over trees parts))) (length parts) v
 container_has pair_of trees parts (sequence vs) fits = record {
   same = refl;
-  costs = ap (λ n. grow (depth (container (fields_over trees parts))) n + field_pairs
+  costs = ap (λ n. merkle_pairs (depth (container (fields_over trees parts))) n + field_pairs
       (fields_over trees parts) (items vs)) (sym (length-fit trees parts (items vs) fits));
 }
 container_has pair_of trees parts _ fits = absurd fits
@@ -201,8 +203,8 @@ seq_fit t parts h =
 pub record HasPackedValues (pair_of : List ℕ → List ℕ → List ℕ) (t : SszType) (d z : ℕ)
     (vs : List Value) (ws : List SszValue) : Type 0 where
   pub fits : AllByRecursion (Fits t) (map value_of vs)
-  pub same : root pair_of (full d (leaves (pack (concat (encodings_of t vs)))))
-      ≡ root pair_of (full d (element_trees t ws))
+  pub same : root pair_of (merkle_tree d (leaves (pack (concat (encodings_of t vs)))))
+      ≡ root pair_of (merkle_tree d (element_trees t ws))
   pub chunks : (length vs * z + 31) / 32 ≡ element_chunks (basic_size t) (length ws)
   pub no_pairs : sum_by (pairs t) ws ≡ 0
 
@@ -214,9 +216,9 @@ HasPackedValues-seq pair_of t d z parts h e =
     let ws : List SszValue = map value_of vs in
     subst (HasPackedValues pair_of t d z vs) (sym (parts_of_seq parts)) (record {
       fits = seq_fit t parts h;
-      same = ap (λ es. root pair_of (full d (leaves (pack (concat es)))))
-          (sym (map-map (enc t) value_of vs))
-          ∙ ap (λ size. root pair_of (full d (element_leaves size (map (enc t) ws)
+      same = ap (λ es. root pair_of (merkle_tree d (leaves (pack (concat es)))))
+          (sym (map-map (serialize t) value_of vs))
+          ∙ ap (λ size. root pair_of (merkle_tree d (element_leaves size (map (serialize t) ws)
           (map (tree t) ws)))) (sym e);
       chunks = ap (λ n. (n * z + 31) / 32) (sym (length-map vs value_of))
           ∙ ap (λ size. element_chunks size (length ws)) (sym e);
@@ -227,8 +229,8 @@ HasPackedValues-seq pair_of t d z parts h e =
 pub record HasValues (pair_of : List ℕ → List ℕ → List ℕ) (t : SszType) (d : ℕ) (vs : List Value)
     (ws : List SszValue) : Type 0 where
   pub are : AllByRecursion (IsValue t) vs
-  pub same : root pair_of (full d (map (tree t) (map value_of vs)))
-      ≡ root pair_of (full d (element_trees t ws))
+  pub same : root pair_of (merkle_tree d (map (tree t) (map value_of vs)))
+      ≡ root pair_of (merkle_tree d (element_trees t ws))
   pub count : length vs ≡ element_chunks (basic_size t) (length ws)
   pub costs : sum_by (pairs t) (map value_of vs) ≡ sum_by (pairs t) ws
 
@@ -239,7 +241,7 @@ HasValues-seq pair_of t d parts h e =
     let vs : List Value = parts.items in
     subst (HasValues pair_of t d vs) (sym (parts_of_seq parts)) (record {
       are = seq_elements t parts h;
-      same = ap (λ ts. root pair_of (full d ts)) (composite_trees t (map value_of vs) e);
+      same = ap (λ ts. root pair_of (merkle_tree d ts)) (composite_trees t (map value_of vs) e);
       count = sym (length-map vs value_of) ∙ ap (λ size. element_chunks size
           (length (map value_of vs))) (sym e);
       costs = refl;
@@ -248,13 +250,14 @@ HasValues-seq pair_of t d parts h e =
 -- bytes
 pub record HasByteValues (pair_of : List ℕ → List ℕ → List ℕ) (t : SszType) (d : ℕ) (run : List ℕ)
     (ws : List SszValue) : Type 0 where
-  pub same : root pair_of (full d (leaves (pack run))) ≡ root pair_of (full d (element_trees t ws))
+  pub same : root pair_of (merkle_tree d (leaves (pack run)))
+      ≡ root pair_of (merkle_tree d (element_trees t ws))
   pub chunks : (length run + 31) / 32 ≡ element_chunks (basic_size t) (length ws)
   pub no_pairs : sum_by (pairs t) ws ≡ 0
 
 -- bytes are the encodings of their numbers
 pub bytes_written : (run : List ℕ) → AllByRecursion (Fits (uint W8)) (map number run)
-    → concat (map (enc (uint W8)) (map number run)) ≡ run
+    → concat (map (serialize (uint W8)) (map number run)) ≡ run
 bytes_written [] fits = refl
 bytes_written (b ∷ run) fits = ap₂ (λ byte rest. byte ∷ rest)
     (let small : b % 256 ≡ b = omega (arith, fits.0) in small) (bytes_written run fits.1)
@@ -272,7 +275,8 @@ HasByteValues-bytes pair_of t d run h =
     (subst (λ ty. ElementsFit ty (value_of (Bytes run))) e h.fit)) in
     subst (HasByteValues pair_of t d run) (sym parts)
     (subst (λ ty. HasByteValues pair_of ty d run (map number run)) (sym e) (record {
-      same = ap (λ bs. root pair_of (full d (leaves (pack bs)))) (sym (bytes_written run fits));
+      same = ap (λ bs. root pair_of (merkle_tree d (leaves (pack bs))))
+          (sym (bytes_written run fits));
       chunks = let times : length (map number run) * 1
           ≡ length run = omega (arith, length-map run number) in
           ap (λ n. (n + 31) / 32) (sym times);
@@ -283,12 +287,12 @@ HasByteValues-bytes pair_of t d run h =
 pub field_value : (trees : List SszType) (parts : List Part) (vs : List Value) (i : ℕ) (part : Part)
     (v : Value) → AreFields (fields_over trees parts) vs → i < length parts → part
     ≡ get_or parts i part → v ≡ get_or vs i v
-    → IsValue (tree_at trees part.1) v
+    → IsValue (type_tree_at trees part.1) v
 field_value trees [] vs i part v are below e is = absurd (omega arith)
 field_value trees (p ∷ parts) [] i part v are below e is = absurd are
 field_value trees (p ∷ parts) (w ∷ vs) zero part v are below e is =
-    subst (λ (q : Part). IsValue (tree_at trees q.1) v) (sym e)
-    (subst (IsValue (tree_at trees p.1)) (sym is) are.0)
+    subst (λ (q : Part). IsValue (type_tree_at trees q.1) v) (sym e)
+    (subst (IsValue (type_tree_at trees p.1)) (sym is) are.0)
 field_value trees (p ∷ parts) (w ∷ vs) (suc i) part v are below e is =
     field_value trees parts vs i part v are.1 (omega arith) e is
 
@@ -301,5 +305,6 @@ fields_fit trees (p ∷ parts) [] are = absurd are
 fields_fit trees (p ∷ parts) (v ∷ vs) are = (are.0.fits, fields_fit trees parts vs are.1)
 
 -- parts without pairs of their own
-pub paid : (d n count costs : ℕ) → n ≡ count → costs ≡ 0 → grow d n ≡ grow d count + costs
-paid d n count costs e none = ap (grow d) e ∙ omega (arith, none)
+pub paid : (d n count costs : ℕ) → n ≡ count → costs ≡ 0
+    → merkle_pairs d n ≡ merkle_pairs d count + costs
+paid d n count costs e none = ap (merkle_pairs d) e ∙ omega (arith, none)

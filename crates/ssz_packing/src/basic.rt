@@ -3,10 +3,10 @@ ghost use Rattle.std.specs.List.{concat, AllByRecursion};
 ghost use Rattle.ssz_schema.specs.Types.{SszType};
 ghost use Rattle.ssz_schema.specs.Sizes.{basic_size};
 ghost use Rattle.ssz_value.specs.Values.{Fits};
-ghost use Rattle.ssz_value.specs.Encoding.{enc};
+ghost use Rattle.ssz_value.specs.Encoding.{serialize};
 ghost use Rattle.ssz_value.specs.Standing.{value_of};
 ghost use Rattle.ssz_value.specs.Trees.{padded};
-ghost use Rattle.ssz_merkle.specs.Packing.{chunk_of};
+ghost use Rattle.ssz_merkle.specs.Packing.{packed_chunk};
 ghost use Rattle.ssz_packing.specs.Elements.{encodings_of};
 
 use super::mixing::number_chunk;
@@ -16,7 +16,7 @@ use ssz_value::Value;
 /// The encoding of a basic value, a number or a boolean, with zeros behind it.
 pub fn basic_chunk(value: &Value) -> Chunk
     ensures { (t : SszType) (size : ℕ) → basic_size t ≡ Some size → Fits t (value_of value.now)
-        → result.0 ≡ padded (enc t (value_of value.now)) }
+        → result.0 ≡ padded (serialize t (value_of value.now)) }
 {
     match value {
         Value::Uint(number) => number_chunk(*number),
@@ -32,7 +32,7 @@ pub fn values_chunk(size: usize, i: usize, parts: &[Value]) -> Chunk
     requires within { 32 * i < length parts.now * size }
     ensures { (t : SszType) → basic_size t ≡ Some size
         → AllByRecursion (Fits t) (map value_of parts.now)
-        → result.0 ≡ chunk_of (concat (encodings_of t parts.now)) i }
+        → result.0 ≡ packed_chunk (concat (encodings_of t parts.now)) i }
 {
     let rest = &parts[32 / size * i..];
     let mut bytes = [0; 32];

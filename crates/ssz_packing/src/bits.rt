@@ -1,5 +1,5 @@
 ghost use Rattle.std.specs.Prelude.{◌≡◌, ◌<◌, ◌^◌, length};
-ghost use Rattle.ssz_merkle.specs.Packing.{chunk_of};
+ghost use Rattle.ssz_merkle.specs.Packing.{packed_chunk};
 ghost use Rattle.ssz_packing.specs.Bits.{undelimited};
 ghost use Rattle.ssz_bytes.specs.Faults.{bitlist_length, last_byte};
 
@@ -22,7 +22,7 @@ pub fn bit_chunk_at(bytes: &[u8], i: usize) -> Chunk
     requires some { 0 < length bytes.now }
     requires delimited { 0 < last_byte bytes.now }
     requires short { length bytes.now < 2 ^ 32 }
-    ensures { result.0 ≡ chunk_of (undelimited bytes.now) i }
+    ensures { result.0 ≡ packed_chunk (undelimited bytes.now) i }
 {
     let mut chunk = chunk_at(bytes, i);
     let last = bytes.len() - 1;

@@ -7,32 +7,32 @@ use Rattle.std.proofs.lemmas.List.{drop_all}
 use Rattle.std.proofs.lemmas.Option.{same_Some}
 use Rattle.ssz_schema.specs.declared.path.PathStep.{PathStep}
 use Rattle.ssz_schema.specs.Types.{SszType}
-use Rattle.ssz_schema.specs.Sizes.{levels}
+use Rattle.ssz_schema.specs.Sizes.{type_levels}
 use Rattle.ssz_schema.specs.Unfolding.{Types, type_of}
 use Rattle.ssz_schema.specs.Paths.{Path, path_type, step_type}
 use Rattle.ssz_schema.specs.Indices.{Spot, whole, step_index, step_spot}
 use Rattle.ssz_gindex.proofs.StepRoom.{step_room}
 use Rattle.ssz_proof.specs.Calculation.{Known, chunk_at}
 use Rattle.ssz_partial.specs.declared.fault.PartialFault.{PartialFault}
-use Rattle.ssz_partial.specs.Partial.{found_at, found_from, step_fault, unless}
-use Rattle.ssz_partial.specs.Spots.{Suits}
+use Rattle.ssz_partial.specs.Partial.{found_at, found_from, step_fault, unless_partial}
+use Rattle.ssz_partial.specs.Spots.{SpotSuits}
 use Rattle.ssz_partial.proofs.Paths.{goes_on}
 use Rattle.ssz_partial.proofs.Suiting.{step_suits}
 
 -- The steps before the rest lead to the node at k, which has a value of type u.
 pub record LeadsTo (known : Known) (t : SszType) (path : Path) (k : ℕ) (s : Spot) (u : SszType)
     (rest : Path) : Type 0 where
-  pub room : (k + 1) * 2 ^ levels u ≤ 2 ^ 127
+  pub room : (k + 1) * 2 ^ type_levels u ≤ 2 ^ 127
   pub fits : path_type t path ≡ path_type u rest
   pub same : found_from known 1 whole t path ≡ found_from known k s u rest
-  pub suits : Suits u s
+  pub suits : SpotSuits u s
 
-pub leads-start : (known : Known) (t : SszType) (path : Path) → levels t ≤ 126
+pub leads-start : (known : Known) (t : SszType) (path : Path) → type_levels t ≤ 126
     → LeadsTo known t path 1 whole t path
 leads-start known t path few = record {
-  room = let most : 2 ^ (1 + levels t) ≤ 2 ^ 127 =
-      pow-le-pow_right (omega arith) (let le : 1 + levels t ≤ 127 = omega arith in le) in
-      omega (arith, most, pow-add 2 1 (levels t));
+  room = let most : 2 ^ (1 + type_levels t) ≤ 2 ^ 127 =
+      pow-le-pow_right (omega arith) (let le : 1 + type_levels t ≤ 127 = omega arith in le) in
+      omega (arith, most, pow-add 2 1 (type_levels t));
   fits = refl;
   same = refl;
   suits = tt;
@@ -57,7 +57,7 @@ leads-next types known t path k s id next i step found leads below item exact is
       room = (step_room k u (type_of types next) step leads.room fits).next;
       fits = leads.fits ∙ ap (path_type u) rest ∙ ap (option_and_then (λ p. path_type p more)) fits;
       same = leads.same ∙ ap (found_from known k s u) rest
-          ∙ ap (λ f. unless f (found_from known (step_index k u step) (step_spot u step)
+          ∙ ap (λ f. unless_partial f (found_from known (step_index k u step) (step_spot u step)
           (unwrap_or (step_type u step) u) more)) free
           ∙ ap (λ o. found_from known (step_index k u step) (step_spot u step) (unwrap_or o u) more)
           fits;
@@ -86,7 +86,7 @@ pub leads-fault : (known : Known) (t : SszType) (path : Path) (k : ℕ) (s : Spo
     → Err fault ≡ found_from known 1 whole t path
 leads-fault known t path k s u i step fault leads below item is =
     sym (leads.same ∙ ap (found_from known k s u) (goes_on path i step below item).rest
-    ∙ ap (λ f. unless f (found_from known (step_index k u step) (step_spot u step)
+    ∙ ap (λ f. unless_partial f (found_from known (step_index k u step) (step_spot u step)
     (unwrap_or (step_type u step) u) (drop (i + 1) path))) is)
 
 -- a path that fits has no step that does not
@@ -110,9 +110,9 @@ leads-end known t path k s u i leads all =
 
 pub leads-suits : (types : Types) (known : Known) (t : SszType) (path : Path) (k : ℕ) (s : Spot)
     (id i : ℕ) → LeadsTo known t path k s (type_of types id) (drop i path) → length path ≤ i
-    → (u : SszType) → path_type t path ≡ Some u → Suits u s
+    → (u : SszType) → path_type t path ≡ Some u → SpotSuits u s
 leads-suits types known t path k s id i leads all u is =
     let same : type_of types id ≡ u =
     same_Some (type_of types id) u (sym (ap (path_type (type_of types id)) (drop_all i path all))
     ∙ sym leads.fits ∙ is) in
-    subst (λ v. Suits v s) same leads.suits
+    subst (λ v. SpotSuits v s) same leads.suits

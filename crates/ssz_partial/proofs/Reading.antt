@@ -28,7 +28,7 @@ use Rattle.ssz_proof.specs.Calculation.{Known, PairOf, chunk_at}
 use Rattle.ssz_proof.specs.Laws.{HasChunk}
 use Rattle.ssz_partial.specs.declared.fault.PartialFault.{PartialFault}
 use Rattle.ssz_partial.specs.declared.fault.PartialFault.TheVariants.{BadPath, NotThat, Blind, Absent}
-use Rattle.ssz_partial.specs.Partial.{Found, found_at, found_from, step_fault, unless}
+use Rattle.ssz_partial.specs.Partial.{FoundPart, found_at, found_from, step_fault, unless_partial}
 use Rattle.ssz_partial.proofs.Told.{IsTold, IsMixed, told}
 
 -- the chunk that is known at an index is the root of the tree's node there
@@ -128,7 +128,7 @@ mixed_known pair_of format all known k s u w step x held here fits (Some chunk) 
 -- what is found at a path: the part's node, whose chunk is known; where it is refused as absent,
 -- there is no part
 abbrev pub IsRead : Format → Tree → Known → ℕ → Spot → SszType → SszValue → Path → SszType
-    → Result Found PartialFault → Type 0
+    → Result FoundPart PartialFault → Type 0
 IsRead format all known k s u w path x (Ok f) =
     (y : SszValue) × (part u w path ≡ Some y) × (generalized_index_from k u path ≡ Some f.index)
     × (spot_from s u path ≡ Some f.spot) × (chunk_at known f.index ≡ Some f.chunk)
@@ -145,7 +145,7 @@ at_end format all known k s u w x (Some chunk) e = (w, refl, refl, refl, e)
 before : (format : Format) (all : Tree) (known : Known) (k : ℕ) (s : Spot) (u : SszType)
     (w : SszValue) (step : PathStep) (path : Path) (v x : SszType) (y : SszValue)
     → step_type u step ≡ Some v → step_part u w step ≡ Some y
-    → (result : Result Found PartialFault)
+    → (result : Result FoundPart PartialFault)
     → IsRead format all known (step_index k u step) (step_spot u step) v y path x result
     → IsRead format all known k s u w (step ∷ path) x result
 before format all known k s u w step path v x y fits is (Ok f) read = (
@@ -187,7 +187,7 @@ reads pair_of format all known (step ∷ path) k s u w x held here type =
         → IsRead format all known (step_index k u step) (step_spot u step) v y path x
         (found_from known (step_index k u step) (step_spot u step) v path))
         → IsRead format all known k s u w (step ∷ path) x
-        (unless fault (found_from known (step_index k u step) (step_spot u step)
+        (unless_partial fault (found_from known (step_index k u step) (step_spot u step)
         (unwrap_or (step_type u step) u) path))
     go v fits next None is rest =
         let there = some_from (step_part u w step) is in

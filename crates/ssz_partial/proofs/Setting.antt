@@ -18,7 +18,7 @@ use Rattle.ssz_schema.specs.Paths.{Path, path_type, step_type}
 use Rattle.ssz_schema.specs.Indices.{Spot, whole, byte, bit}
 use Rattle.ssz_schema.proofs.PathLemmas.{and_then_parts}
 use Rattle.ssz_value.specs.Values.{SszValue, Fits, truth}
-use Rattle.ssz_value.specs.Encoding.{enc}
+use Rattle.ssz_value.specs.Encoding.{serialize}
 use Rattle.ssz_value.specs.Trees.{tree}
 use Rattle.ssz_places.specs.Spots.{HasPart, with_part, bit_written, is_bit}
 use Rattle.ssz_places.specs.PlaceLaws.{IsLegalValue, IsPart, HasBasicPart}
@@ -34,7 +34,7 @@ use Rattle.ssz_proof.specs.Changes.{proof_with}
 use Rattle.ssz_proof.proofs.Changed.{ordered-with, with_chunk-append}
 use Rattle.ssz_partial.specs.declared.fault.PartialFault.{PartialFault}
 use Rattle.ssz_partial.specs.declared.fault.PartialFault.TheVariants.{NotThat}
-use Rattle.ssz_partial.specs.Partial.{Found, found_by, found_from, settable, ends_from, ends_mixed_in, changed, changed_in, type_at}
+use Rattle.ssz_partial.specs.Partial.{FoundPart, found_by, found_from, settable, ends_from, ends_mixed_in, chunk_changed, changed_in, type_at}
 use Rattle.ssz_partial.specs.Laws.{HasKnown, LawOfSets}
 use Rattle.ssz_partial.proofs.Reading.{IsRead, IsNodeRoot, reads}
 use Rattle.ssz_partial.proofs.Values.{start, found_of, suits_along}
@@ -80,7 +80,7 @@ changeable (step ∷ path) t v mixed type ends =
     ∙ changeable path first.0 v (is_mixed_in step) first.2 ends
 
 -- what a set that was made comes from
-record Asked (known : Known) (t : SszType) (path : Path) (f : Found) : Type 0 where
+record Asked (known : Known) (t : SszType) (path : Path) (f : FoundPart) : Type 0 where
   pub type : SszType
   pub size : ℕ
   pub type_is : path_type t path ≡ Some type
@@ -88,7 +88,7 @@ record Asked (known : Known) (t : SszType) (path : Path) (f : Found) : Type 0 wh
   pub ends : ends_mixed_in path ≡ false
   pub found_is : found_from known 1 whole t path ≡ Ok f
 
-asked_by : (known : Known) (t : SszType) (path : Path) (f : Found) (type : Option SszType)
+asked_by : (known : Known) (t : SszType) (path : Path) (f : FoundPart) (type : Option SszType)
     → path_type t path ≡ type
     → found_by type (not (ends_mixed_in path)) (found_from known 1 whole t path) ≡ Ok f
     → Asked known t path f
@@ -109,12 +109,12 @@ asked_by known t path f (Some u) is e = go (basic_size u) refl (ends_mixed_in pa
       found_is = e;
     }
 
-ok_changed : (proof new : Multiproof) (bytes : List ℕ) (r : Result Found PartialFault)
+ok_changed : (proof new : Multiproof) (bytes : List ℕ) (r : Result FoundPart PartialFault)
     → changed_in proof bytes r ≡ Ok new
-    → (f : Found) × (r ≡ Ok f)
-    × (proof_with proof f.index (record { 0 = changed f.spot bytes f.chunk }) ≡ new)
+    → (f : FoundPart) × (r ≡ Ok f)
+    × (proof_with proof f.index (record { 0 = chunk_changed f.spot bytes f.chunk }) ≡ new)
 ok_changed proof new bytes (Ok f) e =
-    let same : proof_with proof f.index (record { 0 = changed f.spot bytes f.chunk }) ≡ new =
+    let same : proof_with proof f.index (record { 0 = chunk_changed f.spot bytes f.chunk }) ≡ new =
     cc in (f, refl, same)
 ok_changed proof new bytes (Err fault) e = cc
 
@@ -126,7 +126,8 @@ same_flag false = refl
 
 bit_leaf : (place : ℕ) (w x : SszValue) (node : Tree) → HasPart (bit place) boolean w node
     → Fits boolean x → (pair_of : PairOf) (chunk : List ℕ) → root pair_of node ≡ chunk
-    → with_part (bit place) boolean x node ≡ leaf (changed (bit place) (enc boolean x) chunk)
+    → with_part (bit place) boolean x node
+    ≡ leaf (chunk_changed (bit place) (serialize boolean x) chunk)
 bit_leaf place (truth a) (truth b) (leaf c) has fits pair_of chunk is =
     ap₂ (λ bytes flag. leaf (bit_written bytes place flag)) is (sym (same_flag b))
 bit_leaf place (truth a) (truth b) (pair l r) has fits pair_of chunk is = absurd has
@@ -135,7 +136,7 @@ bit_leaf place _ x node has fits pair_of chunk is = absurd has
 
 basic_leaf : (s : Spot) (u : SszType) (w x : SszValue) (node : Tree) (size : ℕ)
     → is_bit s ≡ false → (basic : HasBasicPart s u w node size) → Fits u x
-    → with_part s u x node ≡ leaf (changed s (enc u x) basic.chunk)
+    → with_part s u x node ≡ leaf (chunk_changed s (serialize u x) basic.chunk)
 basic_leaf whole u w x node size plain basic fits = basic.changed x fits
 basic_leaf (byte place) u w x node size plain basic fits = basic.changed x fits
 basic_leaf (bit place) u w x node size plain basic fits = absurd (false≢true (sym plain))
@@ -143,16 +144,17 @@ basic_leaf (bit place) u w x node size plain basic fits = absurd (false≢true (
 same_leaf : (s : Spot) (u : SszType) (w x : SszValue) (node : Tree) (size : ℕ) (pair_of : PairOf)
     (chunk : List ℕ) → is_bit s ≡ false → HasBasicPart s u w node size → Fits u x
     → root pair_of node ≡ chunk
-    → with_part s u x node ≡ leaf (changed s (enc u x) chunk)
+    → with_part s u x node ≡ leaf (chunk_changed s (serialize u x) chunk)
 same_leaf s u w x node size pair_of chunk plain basic fits is =
     basic_leaf s u w x node size plain basic fits
-    ∙ ap (λ bytes. leaf (changed s (enc u x) bytes)) (ap (root pair_of) (sym basic.is) ∙ is)
+    ∙ ap (λ bytes. leaf (chunk_changed s (serialize u x) bytes))
+    (ap (root pair_of) (sym basic.is) ∙ is)
 
 new_leaf : (pair_of : PairOf) (format : Format) (t : SszType) (v : SszValue) (path : Path)
     (u : SszType) (w x : SszValue) (g : ℕ) (s : Spot) (chunk : List ℕ) (size : ℕ)
     → IsLegalValue format t v → IsPart t v path u w g s
     → (at : IsNodeRoot pair_of (tree t v) g chunk) → basic_size u ≡ Some size → Fits u x
-    → with_part s u x at.node ≡ leaf (changed s (enc u x) chunk)
+    → with_part s u x at.node ≡ leaf (chunk_changed s (serialize u x) chunk)
 new_leaf pair_of format t v path u w x g (bit place) chunk size value is at basic fits =
     let found = law_of_places format t v path u w g (bit place) value is in
     let same : found.0 ≡ at.node = same_Some found.0 at.node (sym found.1.found ∙ at.found) in
@@ -162,7 +164,7 @@ new_leaf pair_of format t v path u w x g (bit place) chunk size value is at basi
     (subst (λ z. HasPart (bit place) z w at.node) suits.1
     (subst (HasPart (bit place) u w) same found.1.has)) (subst (λ z. Fits z x) suits.1 fits)
     pair_of chunk at.root
-    ∙ ap (λ z. leaf (changed (bit place) (enc z x) chunk)) (sym suits.1)
+    ∙ ap (λ z. leaf (chunk_changed (bit place) (serialize z x) chunk)) (sym suits.1)
 new_leaf pair_of format t v path u w x g whole chunk size value is at basic fits =
     same_leaf whole u w x at.node size pair_of chunk refl
     (law_of_basic_parts format t v path u w g whole at.node size value is at.found basic refl) fits
@@ -185,7 +187,7 @@ is_listed (entry ∷ known) g chunk e = go (eqb entry.index g) (is_listed known 
     go false rest e = rest e
 
 known_there : (pair_of : PairOf) (format : Format) (t : SszType) (v : SszValue)
-    (proof : Multiproof) (path : Path) (u : SszType) (f : Found)
+    (proof : Multiproof) (path : Path) (u : SszType) (f : FoundPart)
     → HasKnown pair_of format t v proof → path_type t path ≡ Some u
     → found_from (known_of proof) 1 whole t path ≡ Ok f
     → chunk_at (known_of proof) f.index ≡ Some f.chunk
@@ -199,8 +201,8 @@ known_there pair_of format t v proof path u f has type is =
 pub sets_are_edits : LawOfSets
 sets_are_edits pair_of format t v proof path x new has fits e =
     let known = known_of proof in
-    let made = ok_changed proof new (enc (type_at t path) x) (settable known t path) e in
-    let f : Found = made.0 in
+    let made = ok_changed proof new (serialize (type_at t path) x) (settable known t path) e in
+    let f : FoundPart = made.0 in
     let asked = asked_by known t path f (path_type t path) refl made.1 in
     let u : SszType = asked.type in
     let of = found_of pair_of format t v proof path u f has asked.type_is asked.found_is in
@@ -209,11 +211,12 @@ sets_are_edits pair_of format t v proof path x new has fits e =
     let edited = law_of_edits format t v path u of.value x f.index f.spot of.at.node (λ _ _. Ok x)
     value of.is of.at.found (changeable path t u false asked.type_is asked.ends) refl fit in
     let type : type_at t path ≡ u = ap (λ o. unwrap_or o t) asked.type_is in
-    let bytes : List ℕ = changed f.spot (enc (type_at t path) x) f.chunk in
+    let bytes : List ℕ = chunk_changed f.spot (serialize (type_at t path) x) f.chunk in
     let chunk : Chunk = record { 0 = bytes } in
     let node : with_part f.spot u x of.at.node ≡ leaf bytes =
     new_leaf pair_of format t v path u of.value x f.index f.spot f.chunk asked.size value of.is
-    of.at asked.size_is fit ∙ ap (λ z. leaf (changed f.spot (enc z x) f.chunk)) (sym type) in
+    of.at asked.size_is fit
+    ∙ ap (λ z. leaf (chunk_changed f.spot (serialize z x) f.chunk)) (sym type) in
     let put_is : put (tree t v) f.index (leaf bytes) ≡ Some (tree t edited.0) =
     ap (put (tree t v) f.index) (sym node) ∙ edited.1.tree in
     let flat = subst (λ ns. AllBeside ns)

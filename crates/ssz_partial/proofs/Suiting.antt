@@ -11,13 +11,13 @@ use Rattle.ssz_schema.specs.Indices.{bit, element_spot, step_spot}
 use Rattle.ssz_walk.specs.declared.place.Spot.{Spot as Place}
 use Rattle.ssz_walk.specs.declared.place.Spot.TheVariants.{Whole, Byte, Bit}
 use Rattle.ssz_walk.specs.Found.{spot_of}
-use Rattle.ssz_partial.specs.Spots.{IsWithin, Suits}
+use Rattle.ssz_partial.specs.Spots.{IsWithinChunk, SpotSuits}
 
 same_size : (m z at : ℕ) → Some m ≡ Some z → at + m ≤ 32 → at + z ≤ 32
 same_size m z at e h = let same : m ≡ z = cc in omega (arith, same, h)
 
 -- an element of a basic type
-element_suits : (elem : SszType) (i : ℕ) → Suits elem (element_spot (basic_size elem) i)
+element_suits : (elem : SszType) (i : ℕ) → SpotSuits elem (element_spot (basic_size elem) i)
 element_suits (uint W8) i = λ z e. same_size 1 z (i * 1 % 32) e (omega arith)
 element_suits (uint W16) i = λ z e. same_size 2 z (i * 2 % 32) e (omega arith)
 element_suits (uint W32) i = λ z e. same_size 4 z (i * 4 % 32) e (omega arith)
@@ -33,16 +33,16 @@ element_suits (bitlist n) i = tt
 element_suits (union os) i = tt
 
 bit_suits : (i n : ℕ) (u : SszType) → cond (ltb i n) (Some boolean) None ≡ Some u
-    → Suits u (bit (i % 256))
+    → SpotSuits u (bit (i % 256))
 bit_suits i n u e = (omega arith, sym (if_within i n boolean u e).1)
 
 pub step_suits : (t u : SszType) (step : PathStep) → step_type t step ≡ Some u
-    → Suits u (step_spot t step)
+    → SpotSuits u (step_spot t step)
 step_suits (vector elem n) u (Index i) e =
-    subst (λ v. Suits v (element_spot (basic_size elem) i)) (if_within i n elem u e).1
+    subst (λ v. SpotSuits v (element_spot (basic_size elem) i)) (if_within i n elem u e).1
     (element_suits elem i)
 step_suits (list elem n) u (Index i) e =
-    subst (λ v. Suits v (element_spot (basic_size elem) i)) (if_within i n elem u e).1
+    subst (λ v. SpotSuits v (element_spot (basic_size elem) i)) (if_within i n elem u e).1
     (element_suits elem i)
 step_suits (bitvector n) u (Index i) e = bit_suits i n u e
 step_suits (bitlist n) u (Index i) e = bit_suits i n u e
@@ -57,7 +57,7 @@ step_suits (bitlist n) u _ e = tt
 
 -- the part lies within the chunk
 pub is_within : (u : SszType) (z : ℕ) (spot : Place) → basic_size u ≡ Some z → z ≤ 32
-    → Suits u (spot_of spot) → IsWithin z spot
+    → SpotSuits u (spot_of spot) → IsWithinChunk z spot
 is_within u z Whole e few suits = few
 is_within u z (Byte at) e few suits = suits z e
 is_within u z (Bit at) e few suits = suits.0

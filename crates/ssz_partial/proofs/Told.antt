@@ -17,7 +17,7 @@ use Rattle.ssz_value.specs.Parts.{step_part}
 use Rattle.ssz_proof.specs.Calculation.{Known, chunk_at}
 use Rattle.ssz_partial.specs.declared.fault.PartialFault.{PartialFault}
 use Rattle.ssz_partial.specs.declared.fault.PartialFault.TheVariants.{Absent}
-use Rattle.ssz_partial.specs.Partial.{step_fault, length_fault, selector_fault}
+use Rattle.ssz_partial.specs.Partial.{step_fault, known_length_fault, selector_fault}
 use Rattle.ssz_walk.proofs.Presence.{Tests, index_counted, index_uncounted, option_selected, field_present, len_present, selector_present}
 
 -- what a refusal of a step, or none, tells of the part
@@ -43,7 +43,7 @@ told_length : (format : Format) (u : SszType) (w : SszValue) (g i : ℕ)
     (known : Option (List ℕ)) → IsMixed known (tree u w)
     → ((result : Bool) → Tests (tree u w) (ltb i) result
     → result ≡ is_some (step_part u w (Index i)))
-    → IsTold u w (Index i) (length_fault known g i)
+    → IsTold u w (Index i) (known_length_fault known g i)
 told_length format u w g i None mixed law = tt
 told_length format u w g i (Some chunk) mixed law =
     go (ltb i (le_number chunk)) (law (ltb i (le_number chunk))

@@ -15,7 +15,7 @@ use Rattle.ssz_schema.proofs.PathLemmas.{and_then_parts}
 use Rattle.ssz_schema.specs.Indices.{Spot, whole, byte, bit, spot_from, step_spot}
 use Rattle.ssz_value.specs.Values.{SszValue, truth}
 use Rattle.ssz_value.specs.Parts.{part}
-use Rattle.ssz_value.specs.Encoding.{enc}
+use Rattle.ssz_value.specs.Encoding.{serialize}
 use Rattle.ssz_value.specs.Trees.{tree, padded}
 use Rattle.ssz_places.specs.Spots.{HasPart, is_bit, offset_of}
 use Rattle.ssz_places.specs.PlaceLaws.{IsLegalValue, IsPart, HasBasicPart}
@@ -27,8 +27,8 @@ use Rattle.ssz_proof.proofs.Calculating.{law_of_proofs}
 use Rattle.ssz_partial.specs.declared.fault.PartialFault.{PartialFault}
 use Rattle.ssz_partial.specs.declared.fault.PartialFault.TheVariants.{BadPath, NotThat, Blind, Absent}
 use Rattle.ssz_partial.specs.declared.piece.Piece.{Piece}
-use Rattle.ssz_partial.specs.Partial.{got, Found, found, found_by, found_from, piece_in, piece_of, bytes_in, size_at}
-use Rattle.ssz_partial.specs.Spots.{Suits}
+use Rattle.ssz_partial.specs.Partial.{got, FoundPart, found, found_by, found_from, piece_in, piece_of, bytes_in, size_at}
+use Rattle.ssz_partial.specs.Spots.{SpotSuits}
 use Rattle.ssz_partial.proofs.Suiting.{step_suits}
 use Rattle.ssz_partial.specs.Laws.{HasKnown, IsGot, LawOfGets, LawOfRoots}
 use Rattle.ssz_partial.proofs.Reading.{AtNode, IsRead, IsNodeRoot, known_node, reads}
@@ -47,14 +47,14 @@ start pair_of format t v proof has = record {
 }
 
 -- what an answer that is some comes from
-pub record Asked (known : Known) (t : SszType) (path : Path) (f : Found) : Type 0 where
+pub record Asked (known : Known) (t : SszType) (path : Path) (f : FoundPart) : Type 0 where
   pub type : SszType
   pub size : ℕ
   pub type_is : path_type t path ≡ Some type
   pub size_is : basic_size type ≡ Some size
   pub found_is : found_from known 1 whole t path ≡ Ok f
 
-asked_by : (known : Known) (t : SszType) (path : Path) (f : Found) (type : Option SszType)
+asked_by : (known : Known) (t : SszType) (path : Path) (f : FoundPart) (type : Option SszType)
     → path_type t path ≡ type → found_by type true (found_from known 1 whole t path) ≡ Ok f
     → Asked known t path f
 asked_by known t path f None is e = cc
@@ -87,13 +87,13 @@ same_whole chunk size = let sum : size ≡ 0 + size = omega arith in ap (slice_r
 
 basic_bytes : (s : Spot) (u : SszType) (w : SszValue) (node : Tree) (size : ℕ)
     → is_bit s ≡ false → (basic : HasBasicPart s u w node size)
-    → bytes_in size s basic.chunk ≡ enc u w
+    → bytes_in size s basic.chunk ≡ serialize u w
 basic_bytes whole u w node size plain basic = same_whole basic.chunk size ∙ basic.bytes
 basic_bytes (byte at) u w node size plain basic = basic.bytes
 basic_bytes (bit at) u w node size plain basic = absurd (false≢true (sym plain))
 
 length-basic : (s : Spot) (u : SszType) (w : SszValue) (node : Tree) (size : ℕ)
-    → (basic : HasBasicPart s u w node size) → size ≡ length (enc u w)
+    → (basic : HasBasicPart s u w node size) → size ≡ length (serialize u w)
 length-basic s u w node size basic =
     let width : offset_of s + size - offset_of s ≡ size = omega arith in
     sym (sym (ap length basic.bytes)
@@ -104,7 +104,7 @@ length-basic s u w node size basic =
 -- a bit of a leaf
 bit_bytes : (place : ℕ) (w : SszValue) (node : Tree) (chunk : List ℕ) (pair_of : PairOf)
     → HasPart (bit place) boolean w node → root pair_of node ≡ chunk
-    → get_or chunk (place / 8) 0 / 2 ^ (place % 8) % 2 ∷ [] ≡ enc boolean w
+    → get_or chunk (place / 8) 0 / 2 ^ (place % 8) % 2 ∷ [] ≡ serialize boolean w
 bit_bytes place (truth b) (leaf c) chunk pair_of has is =
     ap (λ bytes. get_or bytes (place / 8) 0 / 2 ^ (place % 8) % 2 ∷ []) (sym is)
     ∙ ap (λ n. n ∷ []) has
@@ -112,11 +112,12 @@ bit_bytes place (truth b) (pair l r) chunk pair_of has is = absurd has
 bit_bytes place _ _ chunk pair_of has is = absurd has
 
 -- the spot of a path suits its type
-pub suits_along : (path : Path) (s r : Spot) (u x : SszType) → Suits u s → path_type u path ≡ Some x
-    → spot_from s u path ≡ Some r → Suits x r
+pub suits_along : (path : Path) (s r : Spot) (u x : SszType) → SpotSuits u s
+    → path_type u path ≡ Some x
+    → spot_from s u path ≡ Some r → SpotSuits x r
 suits_along [] s r u x suits type where_is =
-    subst (Suits x) (same_Some s r where_is)
-    (subst (λ v. Suits v s) (same_Some u x type) suits)
+    subst (SpotSuits x) (same_Some s r where_is)
+    (subst (λ v. SpotSuits v s) (same_Some u x type) suits)
 suits_along (step ∷ path) s r u x suits type where_is =
     let first = and_then_parts (λ p. path_type p path) (step_type u step) x type in
     let spots = and_then_parts (λ p. spot_from (step_spot u step) p path) (step_type u step) r
@@ -127,8 +128,8 @@ suits_along (step ∷ path) s r u x suits type where_is =
 
 -- what is at a spot of the chunk, and its length
 record IsThere (u : SszType) (w : SszValue) (size : ℕ) (bytes : List ℕ) : Type 0 where
-  pub bytes_are : bytes ≡ enc u w
-  pub size_is : size ≡ length (enc u w)
+  pub bytes_are : bytes ≡ serialize u w
+  pub size_is : size ≡ length (serialize u w)
 
 there_whole : (u : SszType) (w : SszValue) (size : ℕ) (s : Spot) (node : Tree) (chunk : List ℕ)
     (pair_of : PairOf) → is_bit s ≡ false → HasBasicPart s u w node size
@@ -150,9 +151,9 @@ there_bit place u w size node chunk pair_of flag basic has is =
     let bytes = bit_bytes place w node chunk pair_of
     (subst (λ t. HasPart (bit place) t w node) flag has) is in
     record {
-      bytes_are = bytes ∙ ap (λ t. enc t w) (sym flag);
+      bytes_are = bytes ∙ ap (λ t. serialize t w) (sym flag);
       size_is = one_size u size flag basic
-          ∙ ap (λ bs. length bs) (bytes ∙ ap (λ t. enc t w) (sym flag));
+          ∙ ap (λ bs. length bs) (bytes ∙ ap (λ t. serialize t w) (sym flag));
     }
 
 there : (pair_of : PairOf) (format : Format) (t : SszType) (v : SszValue) (path : Path)
@@ -178,13 +179,13 @@ there pair_of format t v path u w g (byte place) chunk size value is at basic =
 
 -- what was found of a value
 pub record IsFoundOf (pair_of : PairOf) (format : Format) (t : SszType) (v : SszValue)
-    (path : Path) (u : SszType) (f : Found) : Type 0 where
+    (path : Path) (u : SszType) (f : FoundPart) : Type 0 where
   pub value : SszValue
   pub is : IsPart t v path u value f.index f.spot
   pub at : IsNodeRoot pair_of (tree t v) f.index f.chunk
 
 pub found_of : (pair_of : PairOf) (format : Format) (t : SszType) (v : SszValue)
-    (proof : Multiproof) (path : Path) (u : SszType) (f : Found)
+    (proof : Multiproof) (path : Path) (u : SszType) (f : FoundPart)
     → HasKnown pair_of format t v proof → path_type t path ≡ Some u
     → found_from (known_of proof) 1 whole t path ≡ Ok f
     → IsFoundOf pair_of format t v path u f
@@ -199,13 +200,14 @@ found_of pair_of format t v proof path u f has type is =
       at = known_node pair_of (tree t v) (known_of proof) f.index f.chunk has.known read.4;
     }
 
-ok_piece : (size : ℕ) (r : Result Found PartialFault) (piece : Piece) → piece_in size r ≡ Ok piece
-    → (f : Found) × (r ≡ Ok f) × (piece_of size f ≡ piece)
+ok_piece : (size : ℕ) (r : Result FoundPart PartialFault) (piece : Piece)
+    → piece_in size r ≡ Ok piece
+    → (f : FoundPart) × (r ≡ Ok f) × (piece_of size f ≡ piece)
 ok_piece size (Ok f) piece e =
     let same : piece_of size f ≡ piece = cc in (f, refl, same)
 ok_piece size (Err fault) piece e = cc
 
-err_piece : (size : ℕ) (r : Result Found PartialFault) → piece_in size r ≡ Err Absent
+err_piece : (size : ℕ) (r : Result FoundPart PartialFault) → piece_in size r ≡ Err Absent
     → r ≡ Err Absent
 err_piece size (Ok f) e = cc
 err_piece size (Err Absent) e = refl

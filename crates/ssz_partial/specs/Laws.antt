@@ -6,11 +6,11 @@ use Rattle.ssz_schema.specs.Types.{SszType}
 use Rattle.ssz_schema.specs.Legal.{IsLegal}
 use Rattle.ssz_schema.specs.Paths.{Path, path_type}
 use Rattle.ssz_value.specs.Values.{SszValue, Fits}
-use Rattle.ssz_value.specs.Encoding.{enc}
+use Rattle.ssz_value.specs.Encoding.{serialize}
 use Rattle.ssz_value.specs.Trees.{tree, padded, hash_tree_root}
 use Rattle.ssz_value.specs.Parts.{part}
 use Rattle.ssz_value.specs.Edits.{set_at}
-use Rattle.ssz_proof.specs.Calculation.{PairOf, calculated}
+use Rattle.ssz_proof.specs.Calculation.{PairOf, calculate_root}
 use Rattle.ssz_proof.specs.Multiproof.{Multiproof, IsOrdered, known_of}
 use Rattle.ssz_proof.specs.Laws.{HasChunk}
 use Rattle.ssz_partial.specs.declared.fault.PartialFault.{PartialFault}
@@ -35,7 +35,7 @@ pub record IsPieceOf (bytes : List ℕ) (piece : Piece) : Type 0 where
 abbrev pub IsGot : SszType → SszValue → Path → Result Piece PartialFault → Type 0
 IsGot t v path (Ok piece) =
     (u : SszType) × (w : SszValue) × (path_type t path ≡ Some u) × (part t v path ≡ Some w)
-    × IsPieceOf (enc u w) piece
+    × IsPieceOf (serialize u w) piece
 IsGot t v path (Err Absent) = part t v path ≡ None
 IsGot t v path (Err _) = ⊤
 
@@ -50,7 +50,7 @@ abbrev pub LawOfRoots : Type 0
 LawOfRoots =
     (pair_of : PairOf) (format : Format) (t : SszType) (v : SszValue) (proof : Multiproof)
     → HasKnown pair_of format t v proof
-    → calculated pair_of (known_of proof) 1 ≡ hash_tree_root pair_of t v
+    → calculate_root pair_of (known_of proof) 1 ≡ hash_tree_root pair_of t v
 
 -- what is set is set in the value, and its tree has the chunks that are then known
 abbrev pub LawOfSets : Type 0

@@ -8,9 +8,9 @@ use Rattle.ssz_bytes.specs.Bytes.{le_number}
 use Rattle.ssz_schema.specs.Paths.{Path, path_type, step_type}
 use Rattle.ssz_schema.specs.Indices.{Spot, whole, byte, bit, step_index, step_spot}
 use Rattle.ssz_value.specs.Values.{SszValue, Fits}
-use Rattle.ssz_value.specs.Encoding.{enc}
+use Rattle.ssz_value.specs.Encoding.{serialize}
 use Rattle.ssz_value.specs.Trees.{padded}
-use Rattle.ssz_places.specs.Spots.{written, bit_written}
+use Rattle.ssz_places.specs.Spots.{spot_written, bit_written}
 use Rattle.ssz_places.specs.EditLaws.{is_mixed_in}
 use Rattle.ssz_proof.specs.Calculation.{Known, chunk_at}
 use Rattle.ssz_proof.specs.Multiproof.{Multiproof, known_of}
@@ -23,9 +23,9 @@ use Rattle.ssz_partial.specs.declared.piece.Piece.{Piece}
 -- its type t.
 
 -- the length that stands at g is above i
-abbrev pub length_fault : Option (List ℕ) → ℕ → ℕ → Option PartialFault
-length_fault None g i = Some (Blind g)
-length_fault (Some chunk) g i = if nat_lt i (le_number chunk) then None else Some Absent
+abbrev pub known_length_fault : Option (List ℕ) → ℕ → ℕ → Option PartialFault
+known_length_fault None g i = Some (Blind g)
+known_length_fault (Some chunk) g i = if nat_lt i (le_number chunk) then None else Some Absent
 
 -- the selector that stands at g is this one
 abbrev pub selector_fault : Option (List ℕ) → ℕ → ℕ → Option PartialFault
@@ -35,35 +35,36 @@ selector_fault (Some chunk) g selector = if le_number chunk == selector then Non
 -- the first refusal of a step
 abbrev pub step_fault : Known → ℕ → SszType → PathStep → Option PartialFault
 step_fault known k (list elem limit) (Index i) =
-    length_fault (chunk_at known (2 * k + 1)) (2 * k + 1) i
+    known_length_fault (chunk_at known (2 * k + 1)) (2 * k + 1) i
 step_fault known k (bitlist limit) (Index i) =
-    length_fault (chunk_at known (2 * k + 1)) (2 * k + 1) i
+    known_length_fault (chunk_at known (2 * k + 1)) (2 * k + 1) i
 step_fault known k (union os) (Chosen selector) =
     selector_fault (chunk_at known (2 * k + 1)) (2 * k + 1) selector
 step_fault known k t step = None
 
 -- Where a part lies: the index of its node, its spot there, and the chunk of that node.
-pub record Found : Type 0 where
+pub record FoundPart : Type 0 where
   pub index : ℕ
   pub spot : Spot
   pub chunk : List ℕ
 
 -- the part whose node has this index, which has to be known
-abbrev pub found_at : ℕ → Spot → Option (List ℕ) → Result Found PartialFault
+abbrev pub found_at : ℕ → Spot → Option (List ℕ) → Result FoundPart PartialFault
 found_at k spot None = Err (Blind k)
 found_at k spot (Some chunk) = Ok (record { index = k; spot = spot; chunk = chunk })
 
 -- the fault, if there is one, and else the answer
-abbrev pub unless : Option PartialFault → Result Found PartialFault → Result Found PartialFault
-unless (Some fault) answer = Err fault
-unless None answer = answer
+abbrev pub unless_partial : Option PartialFault → Result FoundPart PartialFault
+    → Result FoundPart PartialFault
+unless_partial (Some fault) answer = Err fault
+unless_partial None answer = answer
 
 -- the part at a path that fits the type; its first needed node that is not known, or that tells
 -- that the part is absent
-abbrev pub found_from : Known → ℕ → Spot → SszType → Path → Result Found PartialFault
+abbrev pub found_from : Known → ℕ → Spot → SszType → Path → Result FoundPart PartialFault
 found_from known k spot t [] = found_at k spot (chunk_at known k)
 found_from known k spot t (step ∷ path) =
-    unless (step_fault known k t step)
+    unless_partial (step_fault known k t step)
     (found_from known (step_index k t step) (step_spot t step)
     (unwrap_or (step_type t step) t) path)
 
@@ -78,17 +79,18 @@ abbrev pub ends_mixed_in : Path → Bool
 ends_mixed_in path = ends_from false path
 
 -- the basic part or bit at a path, by the type of the path
-abbrev pub found_by : Option SszType → Bool → Result Found PartialFault → Result Found PartialFault
+abbrev pub found_by : Option SszType → Bool → Result FoundPart PartialFault
+    → Result FoundPart PartialFault
 found_by None allowed answer = Err BadPath
 found_by (Some u) allowed answer =
     if is_some (basic_size u) && allowed then answer else Err NotThat
 
 -- what is read at a path
-abbrev pub found : Known → SszType → Path → Result Found PartialFault
+abbrev pub found : Known → SszType → Path → Result FoundPart PartialFault
 found known t path = found_by (path_type t path) true (found_from known 1 whole t path)
 
 -- what is set at a path
-abbrev pub settable : Known → SszType → Path → Result Found PartialFault
+abbrev pub settable : Known → SszType → Path → Result FoundPart PartialFault
 settable known t path =
     found_by (path_type t path) (not (ends_mixed_in path)) (found_from known 1 whole t path)
 
@@ -99,13 +101,13 @@ bytes_in size (byte at) chunk = slice_range chunk at (at + size)
 bytes_in size (bit at) chunk = slice_index chunk (at / 8) / 2 ^ (at % 8) % 2 ∷ []
 
 -- the part of this size
-abbrev pub piece_of : ℕ → Found → Piece
+abbrev pub piece_of : ℕ → FoundPart → Piece
 piece_of size part = record {
   bytes = record { 0 = padded (bytes_in size part.spot part.chunk) };
   len = size;
 }
 
-abbrev pub piece_in : ℕ → Result Found PartialFault → Result Piece PartialFault
+abbrev pub piece_in : ℕ → Result FoundPart PartialFault → Result Piece PartialFault
 piece_in size (Ok part) = Ok (piece_of size part)
 piece_in size (Err fault) = Err fault
 
@@ -121,21 +123,21 @@ abbrev pub got : Known → SszType → Path → Result Piece PartialFault
 got known t path = piece_in (size_at t path) (found known t path)
 
 -- a chunk with these bytes at a spot; of a bit they are 01 or 00
-abbrev pub changed : Spot → List ℕ → List ℕ → List ℕ
-changed whole bytes chunk = written chunk 0 bytes
-changed (byte at) bytes chunk = written chunk at bytes
-changed (bit at) bytes chunk = bit_written chunk at (slice_index bytes 0 == 1)
+abbrev pub chunk_changed : Spot → List ℕ → List ℕ → List ℕ
+chunk_changed whole bytes chunk = spot_written chunk 0 bytes
+chunk_changed (byte at) bytes chunk = spot_written chunk at bytes
+chunk_changed (bit at) bytes chunk = bit_written chunk at (slice_index bytes 0 == 1)
 
-abbrev pub changed_in : Multiproof → List ℕ → Result Found PartialFault
+abbrev pub changed_in : Multiproof → List ℕ → Result FoundPart PartialFault
     → Result Multiproof PartialFault
 changed_in proof bytes (Ok part) =
-    Ok (proof_with proof part.index (record { 0 = changed part.spot bytes part.chunk }))
+    Ok (proof_with proof part.index (record { 0 = chunk_changed part.spot bytes part.chunk }))
 changed_in proof bytes (Err fault) = Err fault
 
 -- what a set makes: the proof with the encoding of the value in the place of the part's
 abbrev pub set_to : Multiproof → SszType → Path → SszValue → Result Multiproof PartialFault
 set_to proof t path v =
-    changed_in proof (enc (type_at t path) v) (settable (known_of proof) t path)
+    changed_in proof (serialize (type_at t path) v) (settable (known_of proof) t path)
 
 -- What a partial tree is seen as: the type of the value, by its number, and what is known.
 pub record Knowledge : Type 0 where

@@ -6,7 +6,7 @@ use Rattle.ssz_schema.specs.Paths.{Path}
 use Rattle.ssz_value.specs.Values.{SszValue}
 use Rattle.ssz_value.specs.Trees.{hash_tree_root}
 use Rattle.ssz_value.specs.Edits.{set_at}
-use Rattle.ssz_proof.specs.Calculation.{PairOf, calculated}
+use Rattle.ssz_proof.specs.Calculation.{PairOf, calculate_root}
 use Rattle.ssz_proof.specs.Multiproof.{Multiproof, known_of}
 use Rattle.ssz_partial.specs.declared.fault.PartialFault.{PartialFault}
 use Rattle.ssz_partial.specs.Partial.{got, set_to, FitsAt}
@@ -34,7 +34,7 @@ IsSet t v path x after same (Err fault) = same
 abbrev pub RunsAlong : PairOf → Format → SszType → List Call → SszValue → Multiproof → Type 0
 RunsAlong pair_of format t [] v proof =
     HasKnown pair_of format t v proof
-    × (calculated pair_of (known_of proof) 1 ≡ hash_tree_root pair_of t v)
+    × (calculate_root pair_of (known_of proof) 1 ≡ hash_tree_root pair_of t v)
 RunsAlong pair_of format t (reads path ∷ calls) v proof =
     IsGot t v path (got (known_of proof) t path) × RunsAlong pair_of format t calls v proof
 RunsAlong pair_of format t (sets path x ∷ calls) v proof =

@@ -6,7 +6,7 @@ use Rattle.ssz_schema.specs.Unfolding.{Types, type_of}
 use Rattle.ssz_schema.specs.Paths.{Path, path_type}
 use Rattle.ssz_proof.specs.Calculation.{Known}
 use Rattle.ssz_partial.specs.declared.fault.PartialFault.{PartialFault}
-use Rattle.ssz_partial.specs.Partial.{Found, found_by, settable, ends_mixed_in}
+use Rattle.ssz_partial.specs.Partial.{FoundPart, found_by, settable, ends_mixed_in}
 
 -- the path leads to the part's type, which is basic, and is not that of a length or a selector
 pub record IsSettableType (types : Types) (t : SszType) (path : Path) (part : ℕ) : Type 0 where
@@ -18,7 +18,7 @@ pub record IsSettableType (types : Types) (t : SszType) (path : Path) (part : �
 -- whatever is known, this is refused
 abbrev pub IsNeverSettable : SszType → Path → PartialFault → Type 0
 IsNeverSettable t path fault =
-    (answer : Result Found PartialFault)
+    (answer : Result FoundPart PartialFault)
     → found_by (path_type t path) (not (ends_mixed_in path)) answer ≡ Err fault
 
 -- a value of the part's type, which is the basic one at the path, is set there

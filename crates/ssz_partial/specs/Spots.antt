@@ -7,13 +7,13 @@ use Rattle.ssz_walk.specs.declared.place.Spot.{Spot as Place}
 use Rattle.ssz_walk.specs.declared.place.Spot.TheVariants.{Whole, Byte, Bit}
 
 -- a part of this size at a spot lies within a chunk
-abbrev pub IsWithin : ℕ → Place → Type 0
-IsWithin size Whole = size ≤ 32
-IsWithin size (Byte at) = at + size ≤ 32
-IsWithin size (Bit at) = at < 256
+abbrev pub IsWithinChunk : ℕ → Place → Type 0
+IsWithinChunk size Whole = size ≤ 32
+IsWithinChunk size (Byte at) = at + size ≤ 32
+IsWithinChunk size (Bit at) = at < 256
 
 -- a basic part of this type may lie at the spot: within the chunk, and a bit is a boolean
-abbrev pub Suits : SszType → Spot → Type 0
-Suits u whole = Unit {0}
-Suits u (byte at) = (z : ℕ) → basic_size u ≡ Some z → at + z ≤ 32
-Suits u (bit at) = (at < 256) × (u ≡ boolean)
+abbrev pub SpotSuits : SszType → Spot → Type 0
+SpotSuits u whole = Unit {0}
+SpotSuits u (byte at) = (z : ℕ) → basic_size u ≡ Some z → at + z ≤ 32
+SpotSuits u (bit at) = (at < 256) × (u ≡ boolean)

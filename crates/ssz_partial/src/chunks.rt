@@ -5,14 +5,14 @@ ghost use Rattle.ssz_schema.specs.Types.{uint, boolean};
 ghost use Rattle.ssz_schema.specs.Sizes.{byte_count, basic_size};
 ghost use Rattle.ssz_schema.specs.Unfolding.{type_of};
 ghost use Rattle.ssz_value.specs.Values.{Fits, FitsWidth};
-ghost use Rattle.ssz_value.specs.Encoding.{enc};
+ghost use Rattle.ssz_value.specs.Encoding.{serialize};
 ghost use Rattle.ssz_value.specs.Standing.{value_of};
 ghost use Rattle.ssz_value.specs.Trees.{padded};
 ghost use Rattle.ssz_schema.specs.Indices.{bit};
-ghost use Rattle.ssz_places.specs.Spots.{written};
-ghost use Rattle.ssz_partial.specs.Partial.{bytes_in, changed};
+ghost use Rattle.ssz_places.specs.Spots.{spot_written};
+ghost use Rattle.ssz_partial.specs.Partial.{bytes_in, chunk_changed};
 ghost use Rattle.ssz_walk.specs.Found.{spot_of};
-ghost use Rattle.ssz_partial.specs.Spots.{IsWithin, Suits};
+ghost use Rattle.ssz_partial.specs.Spots.{IsWithinChunk, SpotSuits};
 
 use super::piece::Piece;
 use ssz_basic::{put_uint, read_uint};
@@ -46,7 +46,7 @@ pub fn is_number(chunk: &Chunk, number: u8) -> bool
 
 /// The part of this size at a spot of a chunk.
 pub fn piece(size: u8, spot: Spot, chunk: &Chunk) -> Piece
-    requires { IsWithin size spot }
+    requires { IsWithinChunk size spot }
     ensures bytes { result.bytes.0 ≡ padded (bytes_in size (spot_of spot) chunk.now.0) }
     ensures len { result.len ≡ size }
 {
@@ -82,9 +82,9 @@ pub fn write(schema: &Schema, id: TypeId, spot: Spot, value: &Value, chunk: &mut
     requires known { id < length schema.now.trees }
     requires fits { Fits (type_of schema.now id) (value_of value.now) }
     requires basic { IsSome (basic_size (type_of schema.now id)) }
-    requires suits { Suits (type_of schema.now id) (spot_of spot) }
-    ensures { chunk.new.0 ≡ changed (spot_of spot)
-        (enc (type_of schema.now id) (value_of value.now)) chunk.old.0 }
+    requires suits { SpotSuits (type_of schema.now id) (spot_of spot) }
+    ensures { chunk.new.0 ≡ chunk_changed (spot_of spot)
+        (serialize (type_of schema.now id) (value_of value.now)) chunk.old.0 }
 {
     match schema.ty(id) {
         Ty::Uint(width) => match spot {
@@ -105,7 +105,8 @@ pub fn write(schema: &Schema, id: TypeId, spot: Spot, value: &Value, chunk: &mut
 fn write_number(width: Width, at: usize, value: &Value, chunk: &mut Chunk)
     requires within { at + byte_count width ≤ 32 }
     requires fits { FitsWidth width (value_of value.now) }
-    ensures { chunk.new.0 ≡ written chunk.old.0 at (enc (uint width) (value_of value.now)) }
+    ensures { chunk.new.0
+        ≡ spot_written chunk.old.0 at (serialize (uint width) (value_of value.now)) }
 {
     let to = at + width.byte_count() as usize;
     match value {
@@ -118,7 +119,7 @@ fn write_number(width: Width, at: usize, value: &Value, chunk: &mut Chunk)
 fn write_flag(at: usize, value: &Value, chunk: &mut Chunk)
     requires within { at + 1 ≤ 32 }
     requires fits { Fits boolean (value_of value.now) }
-    ensures { chunk.new.0 ≡ written chunk.old.0 at (enc boolean (value_of value.now)) }
+    ensures { chunk.new.0 ≡ spot_written chunk.old.0 at (serialize boolean (value_of value.now)) }
 {
     if let Value::Bool(flag) = value {
         chunk.0[at] = u8::from(*flag);
@@ -127,7 +128,8 @@ fn write_flag(at: usize, value: &Value, chunk: &mut Chunk)
 
 fn write_bit(at: u8, value: &Value, chunk: &mut Chunk)
     requires { Fits boolean (value_of value.now) }
-    ensures { chunk.new.0 ≡ changed (bit at) (enc boolean (value_of value.now)) chunk.old.0 }
+    ensures { chunk.new.0
+        ≡ chunk_changed (bit at) (serialize boolean (value_of value.now)) chunk.old.0 }
 {
     if let Value::Bool(flag) = value {
         let place = usize::from(at / 8);

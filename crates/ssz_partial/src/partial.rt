@@ -2,7 +2,7 @@ ghost use Rattle.std.specs.Prelude.{◌≡◌, ◌+◌, ◌<◌, ◌≤◌, leng
 ghost use Rattle.ssz_chunk.specs.Index.{levels};
 ghost use Rattle.ssz_schema.specs.Unfolding.{type_of};
 ghost use Rattle.ssz_value.specs.Standing.{value_of};
-ghost use Rattle.ssz_proof.specs.Calculation.{calculated, indices_of};
+ghost use Rattle.ssz_proof.specs.Calculation.{calculate_root, indices_of};
 ghost use Rattle.ssz_proof.specs.Multiproof.{known_of};
 ghost use Rattle.ssz_partial.specs.Partial.{got, settable, set_to, SetsTo, FitsAt};
 ghost use Rattle.ssz_partial.specs.Settable.{IsNeverSettable, IsSettable, IsSettableType};
@@ -140,7 +140,7 @@ impl Partial {
     /// The root that is calculated from what is known (merkle-proofs.md, Merkle multiproofs). It
     /// hashes at most as many pairs as the leaves of the proof have levels together.
     pub fn root<H: PairHash>(&self, hasher: &mut H) -> Chunk
-        ensures value { result.0 ≡ calculated H.pair_of (known_of self.now.proof) 1 }
+        ensures value { result.0 ≡ calculate_root H.pair_of (known_of self.now.proof) 1 }
         ensures rises { H.pairs hasher.old ≤ H.pairs hasher.new }
         ensures pairs { H.pairs hasher.new
             ≤ H.pairs hasher.old + sum_by levels (indices_of self.now.proof.leaves) }

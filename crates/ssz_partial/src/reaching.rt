@@ -1,16 +1,16 @@
 // The way from the root of a partial tree to a part.
 ghost use Rattle.std.specs.Prelude.{◌≡◌, ◌+◌, ◌*◌, ◌<◌, ◌≤◌, ◌^◌, length, Some, IsSome, IfOk};
 ghost use Rattle.ssz_schema.specs.Types.{SszType};
-ghost use Rattle.ssz_schema.specs.Sizes.{levels};
+ghost use Rattle.ssz_schema.specs.Sizes.{type_levels};
 ghost use Rattle.ssz_schema.specs.Unfolding.{type_of};
 ghost use Rattle.ssz_schema.specs.Paths.{path_type, step_type};
 ghost use Rattle.ssz_schema.specs.Indices.{whole};
 ghost use Rattle.ssz_proof.specs.Multiproof.{known_of};
-ghost use Rattle.ssz_partial.specs.Partial.{step_fault, length_fault, selector_fault, found_from};
+ghost use Rattle.ssz_partial.specs.Partial.{step_fault, known_length_fault, selector_fault, found_from};
 ghost use Rattle.ssz_proof.specs.Calculation.{chunk_at};
 ghost use Rattle.ssz_partial.specs.Reached.{reached_as};
 ghost use Rattle.ssz_walk.specs.Found.{spot_of};
-ghost use Rattle.ssz_partial.specs.Spots.{Suits};
+ghost use Rattle.ssz_partial.specs.Spots.{SpotSuits};
 
 use super::chunks::{is_above, is_number};
 use super::fault::PartialFault;
@@ -42,7 +42,7 @@ pub fn reach(
     ensures found { reached_as result
         ≡ found_from (known_of proof.now) 1 whole (type_of schema.now id) path.now }
     ensures suits { IfOk result (λ found. (u : SszType)
-        → path_type (type_of schema.now id) path.now ≡ Some u → Suits u (spot_of found.spot)) }
+        → path_type (type_of schema.now id) path.now ≡ Some u → SpotSuits u (spot_of found.spot)) }
 {
     // A legal type has at most 126 levels, so that each index fits.
     let _legal = schema.ty(id);
@@ -76,7 +76,7 @@ fn step_fault(
 ) -> Option<PartialFault>
     requires known { id < length schema.now.trees }
     requires fits { IsSome (step_type (type_of schema.now id) step.now) }
-    requires room { (index + 1) * 2 ^ levels (type_of schema.now id) ≤ 2 ^ 127 }
+    requires room { (index + 1) * 2 ^ type_levels (type_of schema.now id) ≤ 2 ^ 127 }
     ensures { result ≡ step_fault (known_of proof.now) index (type_of schema.now id) step.now }
 {
     match (schema.ty(id), step) {
@@ -88,7 +88,7 @@ fn step_fault(
 }
 
 fn length_fault(proof: &Proof, index: Gindex, i: u64) -> Option<PartialFault>
-    ensures { result ≡ length_fault (chunk_at (known_of proof.now) index) index i }
+    ensures { result ≡ known_length_fault (chunk_at (known_of proof.now) index) index i }
 {
     match proof.chunk(index) {
         None => Some(PartialFault::Blind(index)),

@@ -13,17 +13,17 @@ use Rattle.ssz_line.specs.Single.{literal}
 use Rattle.ssz_line.specs.Paths.{◌>>=◌, path}
 use Rattle.ssz_script.specs.declared.partial.PartialStatement.{PartialStatement}
 use Rattle.ssz_script.specs.declared.partial.PartialStatement.TheVariants.{Get, Set, Root}
-use Rattle.ssz_script.specs.Grammar.{Word, Form, alone, one, two, partial_statements, form_of, statement_of, is_comment, said_by, line_of}
-use Rattle.ssz_script.specs.Lines.{numbered_lines, before, said, partial_statements_in}
-use Rattle.ssz_partial_script.specs.Plays.{Line}
+use Rattle.ssz_script.specs.Grammar.{Word, Form, alone, one, two, partial_statements, grammar_form, statement_of, is_comment, said_by, line_of}
+use Rattle.ssz_script.specs.Lines.{numbered_lines, before, lines_said, partial_statements_in}
+use Rattle.ssz_partial_script.specs.Plays.{PartialScriptLine}
 
 -- a literal holds bytes
 abbrev pub HasBytes : Option PartialStatement → Type 0
 HasBytes (Some (Set place bytes)) = IsBytes bytes
 HasBytes other = Unit {0}
 
-abbrev pub HaveBytes : List Line → Type 0
-HaveBytes lines = AllByRecursion (λ (line : Line). HasBytes line.1) lines
+abbrev pub HaveBytes : List PartialScriptLine → Type 0
+HaveBytes lines = AllByRecursion (λ (line : PartialScriptLine). HasBytes line.1) lines
 
 -- what a word spells as a literal is bytes
 literal_bytes : (word bytes : List ℕ) → literal word ≡ Some bytes → IsBytes bytes
@@ -72,14 +72,14 @@ root_bytes (w ∷ words) = tt
 -- whichever row a first word has
 form_bytes : (rows : List (Word × Form PartialStatement))
     → AllByRecursion (λ (row : Word × Form PartialStatement). GivesBytes row.1) rows
-    → (word : Word) (words : List Word) → HasBytes (form_of rows word >>= (λ form. form words))
+    → (word : Word) (words : List Word) → HasBytes (grammar_form rows word >>= (λ form. form words))
 form_bytes [] all word words = tt
 form_bytes (row ∷ rows) all word words =
     by (bytes_eq word row.0) refl (form_bytes rows all.1 word words)
   where
     by : (same : Bool) → bytes_eq word row.0 ≡ same
-        → HasBytes (form_of rows word >>= (λ form. form words))
-        → HasBytes (form_of (row ∷ rows) word >>= (λ form. form words))
+        → HasBytes (grammar_form rows word >>= (λ form. form words))
+        → HasBytes (grammar_form (row ∷ rows) word >>= (λ form. form words))
     by true same rest = rw same (all.0 words)
     by false same rest = rw same rest
 
@@ -103,16 +103,16 @@ words_bytes (word ∷ words) =
     by false is (Some s) same bytes =
         rw (is, same) (subst (λ (o : Option PartialStatement). HasBytes o) same bytes)
 
-before_bytes : (n : ℕ) (said : Option (Option PartialStatement)) (rest : List Line)
+before_bytes : (n : ℕ) (said : Option (Option PartialStatement)) (rest : List PartialScriptLine)
     → SaysBytes said → HaveBytes rest → HaveBytes (before n said rest)
 before_bytes n None rest is all = (tt, all)
 before_bytes n (Some None) rest is all = all
 before_bytes n (Some (Some s)) rest is all = (is, all)
 
-lines_bytes : (numbered : List (ℕ × List ℕ)) → HaveBytes (said partial_statements numbered)
+lines_bytes : (numbered : List (ℕ × List ℕ)) → HaveBytes (lines_said partial_statements numbered)
 lines_bytes [] = tt
 lines_bytes (line ∷ more) =
-    before_bytes line.0 (line_of partial_statements line.1) (said partial_statements more)
+    before_bytes line.0 (line_of partial_statements line.1) (lines_said partial_statements more)
     (words_bytes (words_of line.1)) (lines_bytes more)
 
 pub literals_are_bytes : (script : List ℕ) → HaveBytes (partial_statements_in script)

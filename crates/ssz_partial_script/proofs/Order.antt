@@ -14,15 +14,15 @@ use Rattle.ssz_schema.specs.declared.path.PathStep.TheVariants.{Index, Option as
 use Rattle.ssz_schema.specs.Types.{SszType, uint, boolean, container, vector, list, bitvector, bitlist, union}
 use Rattle.ssz_schema.specs.Paths.{Path, path_type, step_type}
 use Rattle.ssz_schema.specs.Indices.{Spot, whole, step_index, step_spot}
-use Rattle.ssz_value.specs.Encoding.{enc}
-use Rattle.ssz_value.specs.Faults.{why}
+use Rattle.ssz_value.specs.Encoding.{serialize}
+use Rattle.ssz_value.specs.Faults.{first_fault}
 use Rattle.ssz_value.specs.Reading.{value_in}
 use Rattle.ssz_proof.specs.Calculation.{Known, PairOf, chunk_at}
 use Rattle.ssz_proof.specs.Changes.{proof_with, with_chunk}
 use Rattle.ssz_proof.specs.Multiproof.{IsProofOf, Multiproof, known_of}
 use Rattle.ssz_proof.proofs.Changed.{multiproof-with, ordered-with}
 use Rattle.ssz_proof.proofs.Judged.{calculated-given, chunk_at-given, levels-given}
-use Rattle.ssz_partial.specs.Partial.{Found, changed_in, ends_mixed_in, found_at, found_by, found_from, got, length_fault, piece_in, selector_fault, settable, size_at, step_fault, type_at, unless}
+use Rattle.ssz_partial.specs.Partial.{FoundPart, changed_in, ends_mixed_in, found_at, found_by, found_from, got, known_length_fault, piece_in, selector_fault, settable, size_at, step_fault, type_at, unless_partial}
 use Rattle.ssz_partial.specs.declared.fault.PartialFault.{PartialFault}
 use Rattle.ssz_partial.specs.declared.piece.Piece.{Piece}
 use Rattle.ssz_script.specs.declared.partial.PartialStatement.{PartialStatement}
@@ -30,8 +30,8 @@ use Rattle.ssz_script.specs.declared.partial.PartialStatement.TheVariants.{Get, 
 use Rattle.ssz_script.specs.declared.reply.Reply.TheVariants.{Bytes, Root as RootIs}
 use Rattle.ssz_script.specs.Lines.{partial_statements_in}
 use Rattle.ssz_script.specs.Texts.{reply_line}
-use Rattle.ssz_partial_script.specs.Statements.{Row, ◌>>=◌, ◌>>◌, becomes, covered, faultless, said, says}
-use Rattle.ssz_partial_script.specs.Plays.{Line, Turn, charge_in, charge_of, charges, is_refused, is_refused_row, job_of, known_in, play, reply_in, script_job, shown, step, turns_of_script}
+use Rattle.ssz_partial_script.specs.Statements.{PartialRow, ◌>>=◌, ◌>>◌, becomes, covered, partial_faultless, partial_row_said, partial_says}
+use Rattle.ssz_partial_script.specs.Plays.{PartialScriptLine, PartialTurn, partial_charge_in, partial_charge_of, partial_charges, is_partial_refused, is_partial_refused_row, partial_job_of, known_of_row, partial_play, partial_reply_in, partial_script_job, partial_shown, partial_step, partial_turns_of_script}
 
 -- what is found depends on the chunks that are known alone
 
@@ -39,9 +39,9 @@ module _ (xs ys : Known) (same : (g : ℕ) → chunk_at xs g ≡ chunk_at ys g) 
   same_fault : (k : ℕ) (t : SszType) (step : PathStep)
       → step_fault xs k t step ≡ step_fault ys k t step
   same_fault k (list elem limit) (Index i) =
-      ap (λ o. length_fault o (2 * k + 1) i) (same (2 * k + 1))
+      ap (λ o. known_length_fault o (2 * k + 1) i) (same (2 * k + 1))
   same_fault k (bitlist limit) (Index i) =
-      ap (λ o. length_fault o (2 * k + 1) i) (same (2 * k + 1))
+      ap (λ o. known_length_fault o (2 * k + 1) i) (same (2 * k + 1))
   same_fault k (union os) (Chosen selector) =
       ap (λ o. selector_fault o (2 * k + 1) selector) (same (2 * k + 1))
   same_fault k (list elem limit) _ = refl
@@ -57,7 +57,7 @@ module _ (xs ys : Known) (same : (g : ℕ) → chunk_at xs g ≡ chunk_at ys g) 
       → found_from xs k s t path ≡ found_from ys k s t path
   same_found k s t [] = ap (found_at k s) (same k)
   same_found k s t (step ∷ path) =
-      ap₂ unless (same_fault k t step)
+      ap₂ unless_partial (same_fault k t step)
       (same_found (step_index k t step) (step_spot t step) (unwrap_or (step_type t step) t) path)
 
   same_got : (t : SszType) (path : Path) → got xs t path ≡ got ys t path
@@ -90,7 +90,7 @@ given-with lists proof index chunk is = record {
 }
 
 -- two rows with one reply, of which the one knows the lists of the other's proof
-abbrev RowsAlike : Row → Row → Type 0
+abbrev RowsAlike : PartialRow → PartialRow → Type 0
 RowsAlike (Ok one) (Ok other) = (one.reply ≡ other.reply) × IsProofOf one.known other.known
 RowsAlike (Err one) (Err other) = one ≡ other
 RowsAlike _ _ = ⊥
@@ -99,29 +99,32 @@ module _ (pair_of : PairOf) (t : SszType) (lists proof : Multiproof) (is : IsPro
   where
     get_alike : (one other : Result Piece PartialFault) → one ≡ other
         → RowsAlike
-        (covered one >>= (λ piece. says lists (Bytes (take piece.len piece.bytes.0))))
-        (covered other >>= (λ piece. says proof (Bytes (take piece.len piece.bytes.0))))
+        (covered one >>= (λ piece. partial_says lists (Bytes (take piece.len piece.bytes.0))))
+        (covered other >>= (λ piece. partial_says proof (Bytes (take piece.len piece.bytes.0))))
     get_alike one (Ok piece) same = rw same (refl, is)
     get_alike one (Err fault) same = rw same refl
 
-    set_alike : (one other : Result Found PartialFault) (fault : Option Fault) (bytes : List ℕ)
+    set_alike : (one other : Result FoundPart PartialFault) (fault : Option Fault) (bytes : List ℕ)
         → one ≡ other
-        → RowsAlike (covered one >> (faultless fault >> becomes (changed_in lists bytes one)))
-        (covered other >> (faultless fault >> becomes (changed_in proof bytes other)))
+        → RowsAlike (covered one
+        >> (partial_faultless fault >> becomes (changed_in lists bytes one)))
+        (covered other >> (partial_faultless fault >> becomes (changed_in proof bytes other)))
     set_alike one (Err refused) fault bytes same = rw same refl
     set_alike one (Ok place) (Some fault) bytes same = rw same refl
     set_alike one (Ok place) None bytes same =
         rw same (refl, given-with lists proof place.index _ is)
 
     said_alike : (statement : Option PartialStatement)
-        → RowsAlike (said pair_of t lists statement) (said pair_of t proof statement)
+        → RowsAlike (partial_row_said pair_of t lists statement)
+        (partial_row_said pair_of t proof statement)
     said_alike None = refl
     said_alike (Some (Get path)) =
         get_alike (got (known_of lists) t path) (got (known_of proof) t path)
         (same_got (known_of lists) (known_of proof) (chunk_at-given lists proof is) t path)
     said_alike (Some (Set path literal)) =
         set_alike (settable (known_of lists) t path) (settable (known_of proof) t path)
-        (why (type_at t path) 0 literal) (enc (type_at t path) (value_in (type_at t path) literal))
+        (first_fault (type_at t path) 0 literal)
+        (serialize (type_at t path) (value_in (type_at t path) literal))
         (same_settable (known_of lists) (known_of proof) (chunk_at-given lists proof is) t path)
     said_alike (Some Root) = (
       ap (λ chunk. RootIs (record { 0 = chunk })) (calculated-given pair_of lists proof is 1),
@@ -129,90 +132,97 @@ module _ (pair_of : PairOf) (t : SszType) (lists proof : Multiproof) (is : IsPro
     )
 
     charge_alike : (statement : Option PartialStatement)
-        → charge_in lists statement ≡ charge_in proof statement
+        → partial_charge_in lists statement ≡ partial_charge_in proof statement
     charge_alike (Some Root) = sym (levels-given lists proof is)
     charge_alike (Some (Get path)) = refl
     charge_alike (Some (Set path literal)) = refl
     charge_alike None = refl
 
     -- what is known after two rows that are alike
-    known_alike : (one other : Row) → RowsAlike one other
-        → IsProofOf (known_in lists one) (known_in proof other)
+    known_alike : (one other : PartialRow) → RowsAlike one other
+        → IsProofOf (known_of_row lists one) (known_of_row proof other)
     known_alike (Ok one) (Ok other) alike = alike.1
     known_alike (Err one) (Err other) alike = is
     known_alike (Ok one) (Err other) alike = absurd alike
     known_alike (Err one) (Ok other) alike = absurd alike
 
-replies_alike : (line : ℕ) (one other : Row) → RowsAlike one other
-    → reply_in line one ≡ reply_in line other
+replies_alike : (line : ℕ) (one other : PartialRow) → RowsAlike one other
+    → partial_reply_in line one ≡ partial_reply_in line other
 replies_alike line (Ok one) (Ok other) alike = alike.0
-replies_alike line (Err one) (Err other) alike = ap (λ refusal. reply_in line (Err refusal)) alike
+replies_alike line (Err one) (Err other) alike =
+    ap (λ refusal. partial_reply_in line (Err refusal)) alike
 replies_alike line (Ok one) (Err other) alike = absurd alike
 replies_alike line (Err one) (Ok other) alike = absurd alike
 
-refused_alike : (one other : Row) → RowsAlike one other → is_refused_row one ≡ is_refused_row other
+refused_alike : (one other : PartialRow) → RowsAlike one other
+    → is_partial_refused_row one ≡ is_partial_refused_row other
 refused_alike (Ok one) (Ok other) alike = refl
 refused_alike (Err one) (Err other) alike = refl
 refused_alike (Ok one) (Err other) alike = absurd alike
 refused_alike (Err one) (Ok other) alike = absurd alike
 
 -- two runs that print the same at the same charge
-record PlaysAlike (one other : List Turn) : Type 0 where
-  lines : map shown one ≡ map shown other
-  refused : list_any is_refused one ≡ list_any is_refused other
-  charged : charges one ≡ charges other
+record PlaysAlike (one other : List PartialTurn) : Type 0 where
+  lines : map partial_shown one ≡ map partial_shown other
+  refused : list_any is_partial_refused one ≡ list_any is_partial_refused other
+  charged : partial_charges one ≡ partial_charges other
 
-plays_alike : (pair_of : PairOf) (t : SszType) (lists proof : Multiproof) (lines : List Line)
-    → IsProofOf lists proof → PlaysAlike (play pair_of t lists lines) (play pair_of t proof lines)
+plays_alike : (pair_of : PairOf) (t : SszType) (lists proof : Multiproof)
+    (lines : List PartialScriptLine)
+    → IsProofOf lists proof
+    → PlaysAlike (partial_play pair_of t lists lines) (partial_play pair_of t proof lines)
 plays_alike pair_of t lists proof [] is =
     record { lines = refl; refused = refl; charged = refl }
 plays_alike pair_of t lists proof (line ∷ lines) is =
-    let one = said pair_of t lists line.1 in
-    let other = said pair_of t proof line.1 in
+    let one = partial_row_said pair_of t lists line.1 in
+    let other = partial_row_said pair_of t proof line.1 in
     let alike = said_alike pair_of t lists proof is line.1 in
-    let rest = plays_alike pair_of t (known_in lists one) (known_in proof other) lines
+    let rest = plays_alike pair_of t (known_of_row lists one) (known_of_row proof other) lines
     (known_alike pair_of t lists proof is one other alike) in
     record {
       lines = ap₂ (λ first more. reply_line first ∷ more) (replies_alike line.0 one other alike)
           rest.lines;
       refused = ap₂ (λ first more. first || more) (refused_alike one other alike) rest.refused;
-      charged = sum_by-cons charge_of (step pair_of t lists line)
-          (play pair_of t (known_in lists one) lines)
+      charged = sum_by-cons partial_charge_of (partial_step pair_of t lists line)
+          (partial_play pair_of t (known_of_row lists one) lines)
           ∙ ap₂ (λ first more. first + more) (charge_alike pair_of t lists proof is line.1)
           rest.charged
-          ∙ sym (sum_by-cons charge_of (step pair_of t proof line)
-          (play pair_of t (known_in proof other) lines));
+          ∙ sym (sum_by-cons partial_charge_of (partial_step pair_of t proof line)
+          (partial_play pair_of t (known_of_row proof other) lines));
     }
 
 -- so they have one job
-jobs_alike : (held : Content) (one other : List Turn) → PlaysAlike one other
-    → job_of held one ≡ job_of held other
+jobs_alike : (held : Content) (one other : List PartialTurn) → PlaysAlike one other
+    → partial_job_of held one ≡ partial_job_of held other
 jobs_alike held one other alike i = record {
   at = λ k. record { files = held; lines = lines_at k i };
   reads = λ k. false;
   saves = λ k. None;
-  steps = (sym (length-map one shown) ∙ ap length alike.lines ∙ length-map other shown) i;
+  steps = (sym (length-map one partial_shown) ∙ ap length alike.lines
+      ∙ length-map other partial_shown) i;
   status = ap (λ refused. cond refused status.Refused status.Accepted) alike.refused i;
 }
   where
-    lines_at : (k : ℕ) → map shown (take k one) ≡ map shown (take k other)
+    lines_at : (k : ℕ) → map partial_shown (take k one) ≡ map partial_shown (take k other)
     lines_at k =
-        sym (take-map shown k one) ∙ ap (take k) alike.lines ∙ take-map shown k other
+        sym (take-map partial_shown k one) ∙ ap (take k) alike.lines
+        ∙ take-map partial_shown k other
 
 -- a script over the lists of a proof, and over the proof
 pub record ScriptsAlike (pair_of : PairOf) (t : SszType) (lists proof : Multiproof)
     (script : List ℕ) : Type 0 where
   pub jobs : (held : Content)
-      → script_job pair_of t lists held script ≡ script_job pair_of t proof held script
-  pub charged : charges (turns_of_script pair_of t lists script)
-      ≡ charges (turns_of_script pair_of t proof script)
+      → partial_script_job pair_of t lists held script
+      ≡ partial_script_job pair_of t proof held script
+  pub charged : partial_charges (partial_turns_of_script pair_of t lists script)
+      ≡ partial_charges (partial_turns_of_script pair_of t proof script)
 
 pub scripts_alike : (pair_of : PairOf) (t : SszType) (lists proof : Multiproof) (script : List ℕ)
     → IsProofOf lists proof → ScriptsAlike pair_of t lists proof script
 scripts_alike pair_of t lists proof script is =
     let alike = plays_alike pair_of t lists proof (partial_statements_in script) is in
     record {
-      jobs = λ held. jobs_alike held (turns_of_script pair_of t lists script)
-          (turns_of_script pair_of t proof script) alike;
+      jobs = λ held. jobs_alike held (partial_turns_of_script pair_of t lists script)
+          (partial_turns_of_script pair_of t proof script) alike;
       charged = alike.charged;
     }

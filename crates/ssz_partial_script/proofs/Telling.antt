@@ -8,14 +8,14 @@ use Rattle.ssz_schema.specs.declared.format.Format.{Format}
 use Rattle.ssz_schema.specs.Types.{SszType}
 use Rattle.ssz_schema.specs.Paths.{Path}
 use Rattle.ssz_value.specs.Values.{SszValue, Fits}
-use Rattle.ssz_value.specs.Encoding.{enc}
-use Rattle.ssz_value.specs.Faults.{why}
+use Rattle.ssz_value.specs.Encoding.{serialize}
+use Rattle.ssz_value.specs.Faults.{first_fault}
 use Rattle.ssz_value.specs.Reading.{value_in}
 use Rattle.ssz_value.specs.Laws.{Encodes}
 use Rattle.ssz_value.specs.Parts.{part}
 use Rattle.ssz_proof.specs.Calculation.{PairOf}
 use Rattle.ssz_proof.specs.Multiproof.{Multiproof, known_of}
-use Rattle.ssz_partial.specs.Partial.{Found, FitsAt, changed_in, got, settable, type_at}
+use Rattle.ssz_partial.specs.Partial.{FoundPart, FitsAt, changed_in, got, settable, type_at}
 use Rattle.ssz_partial.specs.Laws.{HasKnown, IsGot}
 use Rattle.ssz_partial.specs.declared.fault.PartialFault.{PartialFault}
 use Rattle.ssz_partial.specs.declared.fault.PartialFault.TheVariants.{BadPath, NotThat, Blind, Absent}
@@ -26,9 +26,9 @@ use Rattle.ssz_script.specs.declared.partial.PartialStatement.{PartialStatement}
 use Rattle.ssz_script.specs.declared.partial.PartialStatement.TheVariants.{Get, Set, Root}
 use Rattle.ssz_script.specs.declared.reply.Reply.TheVariants.{Bytes, Root as RootIs}
 use Rattle.ssz_script.specs.Lines.{partial_statements_in}
-use Rattle.ssz_partial_script.specs.Statements.{Row, ◌>>=◌, ◌>>◌, becomes, covered, faultless, refusal_of, said, says}
-use Rattle.ssz_partial_script.specs.Plays.{Line, known_in}
-use Rattle.ssz_partial_script.specs.Laws.{IsAbsentWhere, ScriptsTellValues, Tells, TellsAlong}
+use Rattle.ssz_partial_script.specs.Statements.{PartialRow, ◌>>=◌, ◌>>◌, becomes, covered, partial_faultless, refusal_of, partial_row_said, partial_says}
+use Rattle.ssz_partial_script.specs.Plays.{PartialScriptLine, known_of_row}
+use Rattle.ssz_partial_script.specs.Laws.{IsAbsentWhere, ScriptsTellValues, RowTells, TellsAlong}
 use Rattle.ssz_partial_script.proofs.Asked.{absent_to_get, basic_encodes, got_few, piece_bytes, set_basic}
 use Rattle.ssz_partial_script.proofs.Literals.{HasBytes, HaveBytes, literals_are_bytes}
 
@@ -42,17 +42,17 @@ refused_absent t v path Absent is e = is refl
 
 -- What a row tells, and that what is known after it is of the value after it.
 record Goes (pair_of : PairOf) (format : Format) (t : SszType) (v : SszValue) (proof : Multiproof)
-    (statement : Option PartialStatement) (row : Row) : Type 0 where
+    (statement : Option PartialStatement) (row : PartialRow) : Type 0 where
   after : SszValue
-  tells : Tells pair_of t v statement row after
-  has : HasKnown pair_of format t after (known_in proof row)
+  tells : RowTells pair_of t v statement row after
+  has : HasKnown pair_of format t after (known_of_row proof row)
 
 module _ (pair_of : PairOf) (format : Format) (t : SszType) (v : SszValue) (proof : Multiproof)
     (has : HasKnown pair_of format t v proof) where
   get_goes : (path : Path) (answer : Result Piece PartialFault)
       → got (known_of proof) t path ≡ answer → IsGot t v path answer
       → Goes pair_of format t v proof (Some (Get path))
-      (covered answer >>= (λ piece. says proof (Bytes (take piece.len piece.bytes.0))))
+      (covered answer >>= (λ piece. partial_says proof (Bytes (take piece.len piece.bytes.0))))
   get_goes path (Ok piece) same is = record {
     after = v;
     tells = (
@@ -61,7 +61,7 @@ module _ (pair_of : PairOf) (format : Format) (t : SszType) (v : SszValue) (proo
         value = is.1;
         leads = is.2;
         part_is = is.3;
-        shows = ap Bytes (piece_bytes (enc is.0 is.1) piece is.4
+        shows = ap Bytes (piece_bytes (serialize is.0 is.1) piece is.4
             (got_few (known_of proof) t path piece same));
       },
       refl,
@@ -79,10 +79,10 @@ module _ (pair_of : PairOf) (format : Format) (t : SszType) (v : SszValue) (proo
   }
 
   -- a value that is set
-  set_done : (path : Path) (literal : List ℕ) (place : Found) → IsBytes literal
-      → settable (known_of proof) t path ≡ Ok place → why (type_at t path) 0 literal ≡ None
+  set_done : (path : Path) (literal : List ℕ) (place : FoundPart) → IsBytes literal
+      → settable (known_of proof) t path ≡ Ok place → first_fault (type_at t path) 0 literal ≡ None
       → Goes pair_of format t v proof (Some (Set path literal))
-      (becomes (changed_in proof (enc (type_at t path) (value_in (type_at t path) literal))
+      (becomes (changed_in proof (serialize (type_at t path) (value_in (type_at t path) literal))
       (Ok place)))
   set_done path literal place bytes at faultless =
       let basic = set_basic (known_of proof) t path place at in
@@ -92,12 +92,12 @@ module _ (pair_of : PairOf) (format : Format) (t : SszType) (v : SszValue) (proo
       let encodes : Encodes u x literal =
       subst (λ (type : SszType). Encodes u (value_in type literal) literal) (sym same)
       (basic_encodes u literal basic.basic bytes
-      (ap (λ type. why type 0 literal) (sym same) ∙ faultless)) in
+      (ap (λ type. first_fault type 0 literal) (sym same) ∙ faultless)) in
       let fits : FitsAt t path x =
       λ other leads some. subst (λ (type : SszType). Fits type x)
       (same_Some u other (sym basic.leads ∙ leads)) encodes.fits in
       let edited = sets_are_edits pair_of format t v proof path x _ has fits
-      (ap (changed_in proof (enc (type_at t path) x)) at) in
+      (ap (changed_in proof (serialize (type_at t path) x)) at) in
       record {
         after = edited.0;
         tells = record {
@@ -110,12 +110,12 @@ module _ (pair_of : PairOf) (format : Format) (t : SszType) (v : SszValue) (proo
         has = edited.2;
       }
 
-  set_goes : (path : Path) (literal : List ℕ) (place : Result Found PartialFault)
+  set_goes : (path : Path) (literal : List ℕ) (place : Result FoundPart PartialFault)
       (fault : Option Fault) → IsBytes literal → settable (known_of proof) t path ≡ place
-      → why (type_at t path) 0 literal ≡ fault
+      → first_fault (type_at t path) 0 literal ≡ fault
       → Goes pair_of format t v proof (Some (Set path literal))
-      (covered place >> (faultless fault
-      >> becomes (changed_in proof (enc (type_at t path) (value_in (type_at t path) literal))
+      (covered place >> (partial_faultless fault
+      >> becomes (changed_in proof (serialize (type_at t path) (value_in (type_at t path) literal))
       place)))
   set_goes path literal (Err refused) fault bytes at is = record {
     after = v;
@@ -133,15 +133,15 @@ module _ (pair_of : PairOf) (format : Format) (t : SszType) (v : SszValue) (proo
       set_done path literal place bytes at is
 
   said_goes : (statement : Option PartialStatement) → HasBytes statement
-      → Goes pair_of format t v proof statement (said pair_of t proof statement)
+      → Goes pair_of format t v proof statement (partial_row_said pair_of t proof statement)
   said_goes None bytes = record { after = v; tells = refl; has = has }
   said_goes (Some (Get path)) bytes =
       get_goes path (got (known_of proof) t path) refl
       (gets_are_parts pair_of format t v proof path has)
   said_goes (Some (Set path literal)) bytes =
-      subst (λ (row : Row). Goes pair_of format t v proof (Some (Set path literal)) row) refl
+      subst (λ (row : PartialRow). Goes pair_of format t v proof (Some (Set path literal)) row) refl
       (set_goes path literal (settable (known_of proof) t path)
-      (why (type_at t path) 0 literal) bytes refl refl)
+      (first_fault (type_at t path) 0 literal) bytes refl refl)
   said_goes (Some Root) bytes = record {
     after = v;
     tells = (
@@ -153,14 +153,15 @@ module _ (pair_of : PairOf) (format : Format) (t : SszType) (v : SszValue) (proo
   }
 
 lines_tell : (pair_of : PairOf) (format : Format) (t : SszType) (v : SszValue) (proof : Multiproof)
-    (lines : List Line) → HasKnown pair_of format t v proof → HaveBytes lines
+    (lines : List PartialScriptLine) → HasKnown pair_of format t v proof → HaveBytes lines
     → TellsAlong pair_of format t v proof lines
 lines_tell pair_of format t v proof [] has bytes = has
 lines_tell pair_of format t v proof (line ∷ lines) has bytes =
     let goes = said_goes pair_of format t v proof has line.1 bytes.0 in (
       goes.after,
       goes.tells,
-      lines_tell pair_of format t goes.after (known_in proof (said pair_of t proof line.1)) lines
+      lines_tell pair_of format t goes.after
+          (known_of_row proof (partial_row_said pair_of t proof line.1)) lines
           goes.has bytes.1,
     )
 

@@ -13,47 +13,49 @@ use Rattle.ssz_partial.specs.Partial.{Knowledge}
 use Rattle.ssz_proof.specs.Multiproof.{Multiproof}
 use Rattle.ssz_script.specs.declared.reply.Reply.{Reply}
 use Rattle.ssz_script.specs.declared.reply.Reply.TheVariants.{Refused, Blind}
-use Rattle.ssz_partial_script.specs.Plays.{Line, Turn, step, play, shown, known_after, known_last, is_refused, charges, job_of}
+use Rattle.ssz_partial_script.specs.Plays.{PartialScriptLine, PartialTurn, partial_step, partial_play, partial_shown, known_after, known_last, is_partial_refused, partial_charges, partial_job_of}
 use Rattle.ssz_partial_script.specs.declared.line.PartialLine.{PartialLine}
 
 -- the next line was the first of the old ones, and the new ones come after it; there is none where
 -- there were none
-abbrev pub IsNext : Option PartialLine → List Line → List Line → Type 0
-IsNext None old new = (old ≡ []) × (new ≡ [])
-IsNext (Some next) old new = old ≡ (next.number, next.statement) ∷ new
+abbrev pub IsNextPartialLine : Option PartialLine → List PartialScriptLine → List PartialScriptLine
+    → Type 0
+IsNextPartialLine None old new = (old ≡ []) × (new ≡ [])
+IsNextPartialLine (Some next) old new = old ≡ (next.number, next.statement) ∷ new
 
-abbrev pub is_refusal : Reply → Bool
-is_refusal (Refused line code fault) = true
-is_refusal (Blind line index) = true
-is_refusal other = false
+abbrev pub is_partial_refusal : Reply → Bool
+is_partial_refusal (Refused line code fault) = true
+is_partial_refusal (Blind line index) = true
+is_partial_refusal other = false
 
 -- the step of a line over a tree of which this is known
-abbrev pub turn_at : PairOf → Types → Knowledge → Line → Turn
-turn_at pair_of types known line = step pair_of (type_of types known.id) known.proof line
+abbrev pub partial_turn_at : PairOf → Types → Knowledge → PartialScriptLine → PartialTurn
+partial_turn_at pair_of types known line =
+    partial_step pair_of (type_of types known.id) known.proof line
 
 -- What is there at a point of a run: what is known, the hasher's count, the pieces that the sink
 -- has, and whether a line was refused.
-pub record Scene : Type 0 where
+pub record PartialScene : Type 0 where
   pub known : Multiproof
   pub hashed : ℕ
   pub pieces : Told
   pub refused : Bool
 
 -- the step was made and its line printed
-pub record Makes (turn : Turn) (before after : Scene) : Type 0 where
+pub record MakesPartialTurn (turn : PartialTurn) (before after : PartialScene) : Type 0 where
   pub known : after.known ≡ known_after turn
-  pub printed : after.pieces ≡ told_append before.pieces (shown turn ∷ [])
-  pub answer : after.refused ≡ is_refused turn || before.refused
+  pub printed : after.pieces ≡ told_append before.pieces (partial_shown turn ∷ [])
+  pub answer : after.refused ≡ is_partial_refused turn || before.refused
 
 -- the step was made, or was not, and its line was printed in part, or not at all
-abbrev pub Breaks : Turn → Status → Told → Told → Type 0
+abbrev pub Breaks : PartialTurn → Status → Told → Told → Type 0
 Breaks turn status.WriteFault old new =
-    (count : ℕ) × (new ≡ told_append old (take count (shown turn) ∷ []))
+    (count : ℕ) × (new ≡ told_append old (take count (partial_shown turn) ∷ []))
 Breaks turn status.Memory old new = new ≡ old
 Breaks turn other old new = ⊥
 
-abbrev pub RunsTurn : Turn → Result (Unit {0}) Status → Scene → Scene → Type 0
-RunsTurn turn (Ok x) before after = Makes turn before after
+abbrev pub RunsTurn : PartialTurn → Result (Unit {0}) Status → PartialScene → PartialScene → Type 0
+RunsTurn turn (Ok x) before after = MakesPartialTurn turn before after
 RunsTurn turn (Err ended) before after = Breaks turn ended before.pieces after.pieces
 
 -- a fault of the sink, or want of memory
@@ -63,41 +65,46 @@ IsStop status.Memory = ⊤
 IsStop other = ⊥
 
 -- A piece was printed: whole, or in part where that failed, or not at all where memory was wanting.
-abbrev pub Prints : Result (Unit {0}) Status → List ℕ → Told → Told → Type 0
-Prints (Ok x) line old new = new ≡ told_append old (line ∷ [])
-Prints (Err status.WriteFault) line old new =
+abbrev pub PrintsPiece : Result (Unit {0}) Status → List ℕ → Told → Told → Type 0
+PrintsPiece (Ok x) line old new = new ≡ told_append old (line ∷ [])
+PrintsPiece (Err status.WriteFault) line old new =
     (count : ℕ) × (new ≡ told_append old (take count line ∷ []))
-Prints (Err status.Memory) line old new = new ≡ old
-Prints (Err other) line old new = ⊥
+PrintsPiece (Err status.Memory) line old new = new ≡ old
+PrintsPiece (Err other) line old new = ⊥
 
 -- the sink's count of faults, and no other
-abbrev pub Counts : Result (Unit {0}) Status → ℕ → ℕ → Type 0
-Counts (Ok x) old new = new ≡ old
-Counts (Err ended) old new = (gets puts : ℕ) → CountsRun ended gets gets puts puts old new
+abbrev pub CountsPartialFaults : Result (Unit {0}) Status → ℕ → ℕ → Type 0
+CountsPartialFaults (Ok x) old new = new ≡ old
+CountsPartialFaults (Err ended) old new =
+    (gets puts : ℕ) → CountsRun ended gets gets puts puts old new
 
 -- These steps were made and printed.
-pub record Does (turns : List Turn) (before after : Scene) : Type 0 where
+pub record DoesPartialTurns (turns : List PartialTurn) (before after : PartialScene) : Type 0 where
   pub known : after.known ≡ known_last before.known turns
-  pub printed : after.pieces ≡ told_append before.pieces (map shown turns)
-  pub answer : after.refused ≡ list_any is_refused turns || before.refused
+  pub printed : after.pieces ≡ told_append before.pieces (map partial_shown turns)
+  pub answer : after.refused ≡ list_any is_partial_refused turns || before.refused
 
 -- All of them were, or their job was broken off.
-abbrev pub RunsAll : List Turn → Result (Unit {0}) Status → Scene → Scene → Type 0
-RunsAll turns (Ok x) before after = Does turns before after
+abbrev pub RunsAll : List PartialTurn → Result (Unit {0}) Status → PartialScene → PartialScene
+    → Type 0
+RunsAll turns (Ok x) before after = DoesPartialTurns turns before after
 RunsAll turns (Err ended) before after =
-    (held : Content) (ample : Bool) → Ends ample ended (job_of held turns) before.pieces after.pieces
+    (held : Content) (ample : Bool)
+    → Ends ample ended (partial_job_of held turns) before.pieces after.pieces
     (Some held)
 
 -- Of the lines at first some were done, in these steps, and the others are left.
-pub record Comes (pair_of : PairOf) (t : SszType) (lines left : List Line) (before after : Scene)
+pub record PartialRunReaches (pair_of : PairOf) (t : SszType) (lines left : List PartialScriptLine)
+    (before after : PartialScene)
     : Type 0 where
-  pub done : List Turn
-  pub turns : play pair_of t before.known lines ≡ done ++ play pair_of t after.known left
+  pub done : List PartialTurn
+  pub turns : partial_play pair_of t before.known lines
+      ≡ done ++ partial_play pair_of t after.known left
   pub known : after.known ≡ known_last before.known done
-  pub printed : after.pieces ≡ told_append before.pieces (map shown done)
-  pub answer : after.refused ≡ list_any is_refused done || before.refused
-  pub paid : after.hashed ≤ before.hashed + charges done
+  pub printed : after.pieces ≡ told_append before.pieces (map partial_shown done)
+  pub answer : after.refused ≡ list_any is_partial_refused done || before.refused
+  pub paid : after.hashed ≤ before.hashed + partial_charges done
 
 -- the status of a run that no fault ended
-abbrev pub finished : Bool → Status
-finished refused = if refused then status.Refused else status.Accepted
+abbrev pub partial_finished : Bool → Status
+partial_finished refused = if refused then status.Refused else status.Accepted

@@ -4,9 +4,9 @@ pub use Rattle.ssz_bind.specs.Results.{◌>>=◌, ◌>>◌}
 use Rattle.ssz_bytes.specs.declared.fault.Fault.{Fault}
 use Rattle.ssz_schema.specs.Types.{SszType}
 use Rattle.ssz_schema.specs.Paths.{Path}
-use Rattle.ssz_value.specs.Faults.{why}
+use Rattle.ssz_value.specs.Faults.{first_fault}
 use Rattle.ssz_value.specs.Reading.{value_in}
-use Rattle.ssz_proof.specs.Calculation.{PairOf, calculated}
+use Rattle.ssz_proof.specs.Calculation.{PairOf, calculate_root}
 use Rattle.ssz_proof.specs.Multiproof.{Multiproof, known_of}
 use Rattle.ssz_partial.specs.Partial.{got, settable, set_to, type_at}
 use Rattle.ssz_partial.specs.declared.fault.PartialFault.{PartialFault}
@@ -19,83 +19,83 @@ use Rattle.ssz_script.specs.declared.reply.TheConstants.Reply.{SYNTAX, BAD_PATH,
 
 -- why a statement is refused: a code alone, the index of a node that is needed and not known, or
 -- the first fault of the literal
-pub data Refusal : Type 0 where
-  coded : ℕ → Refusal
-  blind : ℕ → Refusal
-  bad_bytes : Fault → Refusal
+pub data PartialRefusal : Type 0 where
+  coded : ℕ → PartialRefusal
+  blind : ℕ → PartialRefusal
+  bad_bytes : Fault → PartialRefusal
 
 -- the reply to the statement of this line that is refused
-abbrev pub refusal_reply : ℕ → Refusal → Reply
-refusal_reply line (coded code) = Refused line code None
-refusal_reply line (blind index) = BlindTo line index
-refusal_reply line (bad_bytes fault) = Refused line BAD_LITERAL (Some fault)
+abbrev pub partial_refusal_reply : ℕ → PartialRefusal → Reply
+partial_refusal_reply line (coded code) = Refused line code None
+partial_refusal_reply line (blind index) = BlindTo line index
+partial_refusal_reply line (bad_bytes fault) = Refused line BAD_LITERAL (Some fault)
 
 -- something, or the first refusal
-abbrev pub Outcome : Type 0 → Type 0
-Outcome A = Result A Refusal
+abbrev pub PartialOutcome : Type 0 → Type 0
+PartialOutcome A = Result A PartialRefusal
 
 -- how a fault of the tree is refused
-abbrev pub refusal_of : PartialFault → Refusal
+abbrev pub refusal_of : PartialFault → PartialRefusal
 refusal_of BadPath = coded BAD_PATH
 refusal_of NotThat = coded NOT_THAT
 refusal_of (Blind index) = blind index
 refusal_of Absent = coded ABSENT
 
 -- what the tree answers, or the refusal of its fault
-abbrev pub covered : {A : Type 0} → Result A PartialFault → Outcome A
+abbrev pub covered : {A : Type 0} → Result A PartialFault → PartialOutcome A
 covered (Ok x) = Ok x
 covered (Err fault) = Err (refusal_of fault)
 
 -- refused where the bytes have a fault
-abbrev pub faultless : Option Fault → Outcome (Unit {0})
-faultless None = Ok tt
-faultless (Some fault) = Err (bad_bytes fault)
+abbrev pub partial_faultless : Option Fault → PartialOutcome (Unit {0})
+partial_faultless None = Ok tt
+partial_faultless (Some fault) = Err (bad_bytes fault)
 
 -- What an accepted statement does: its reply, and what is known after it.
-pub record Effect : Type 0 where
+pub record PartialEffect : Type 0 where
   pub reply : Reply
   pub known : Multiproof
 
 -- What a statement does, or why it is refused.
-abbrev pub Row : Type 0
-Row = Outcome Effect
+abbrev pub PartialRow : Type 0
+PartialRow = PartialOutcome PartialEffect
 
 -- the reply, where this is known then
-abbrev pub says : Multiproof → Reply → Row
-says proof reply = Ok (record { reply = reply; known = proof })
+abbrev pub partial_says : Multiproof → Reply → PartialRow
+partial_says proof reply = Ok (record { reply = reply; known = proof })
 
 -- `get P`: the encoding of the basic part, or of the bit, at P
-abbrev pub get : SszType → Multiproof → Path → Row
+abbrev pub get : SszType → Multiproof → Path → PartialRow
 get t proof path = do
   piece ← covered (got (known_of proof) t path)
-  says proof (Bytes (take piece.len piece.bytes.0))
+  partial_says proof (Bytes (take piece.len piece.bytes.0))
 
 -- what is known then, and no more to say
-abbrev pub becomes : Result Multiproof PartialFault → Row
+abbrev pub becomes : Result Multiproof PartialFault → PartialRow
 becomes made = do
   new ← covered made
-  says new Done
+  partial_says new Done
 
 -- `set P LIT`: the value that the literal encodes takes the place of that part. Whether a value can
 -- be set there is tested first, then the literal.
-abbrev pub set : SszType → Multiproof → Path → List ℕ → Row
-set t proof path literal = do
+abbrev pub partial_set : SszType → Multiproof → Path → List ℕ → PartialRow
+partial_set t proof path literal = do
   covered (settable (known_of proof) t path)
-  faultless (why (type_at t path) 0 literal)
+  partial_faultless (first_fault (type_at t path) 0 literal)
   becomes (set_to proof t path (value_in (type_at t path) literal))
 
 -- `root`: the root that is calculated from what is known
-abbrev pub root_row : PairOf → Multiproof → Row
-root_row pair_of proof =
-    says proof (RootIs (record { 0 = calculated pair_of (known_of proof) 1 }))
+abbrev pub partial_root_row : PairOf → Multiproof → PartialRow
+partial_root_row pair_of proof =
+    partial_says proof (RootIs (record { 0 = calculate_root pair_of (known_of proof) 1 }))
 
 -- What a statement does to what is known of the tree of a value of the type.
-abbrev pub effect : PairOf → SszType → Multiproof → PartialStatement → Row
-effect pair_of t proof (Get path) = get t proof path
-effect pair_of t proof (Set path literal) = set t proof path literal
-effect pair_of t proof Root = root_row pair_of proof
+abbrev pub partial_effect : PairOf → SszType → Multiproof → PartialStatement → PartialRow
+partial_effect pair_of t proof (Get path) = get t proof path
+partial_effect pair_of t proof (Set path literal) = partial_set t proof path literal
+partial_effect pair_of t proof Root = partial_root_row pair_of proof
 
 -- a line that is not of the grammar is refused
-abbrev pub said : PairOf → SszType → Multiproof → Option PartialStatement → Row
-said pair_of t proof None = Err (coded SYNTAX)
-said pair_of t proof (Some statement) = effect pair_of t proof statement
+abbrev pub partial_row_said : PairOf → SszType → Multiproof → Option PartialStatement → PartialRow
+partial_row_said pair_of t proof None = Err (coded SYNTAX)
+partial_row_said pair_of t proof (Some statement) = partial_effect pair_of t proof statement

@@ -1,4 +1,4 @@
-ghost use Rattle.ssz_partial_script.specs.Laws.{PrintedLinesAreLines, ScriptsTellValues};
+ghost use Rattle.ssz_partial_script.specs.Laws.{PartialLinesAreLines, ScriptsTellValues};
 
 /// Of every value whose tree has the chunks that are known first: each `get` of a script prints the
 /// encoding of the value's part as it then is, each `set` that is accepted sets the part to the
@@ -10,5 +10,5 @@ pub fn scripts_tell_values()
 
 /// Each line that is printed ends with a line feed and has no other.
 pub fn printed_lines_are_lines()
-    ensures { PrintedLinesAreLines }
+    ensures { PartialLinesAreLines }
 {}

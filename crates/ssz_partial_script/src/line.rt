@@ -1,8 +1,8 @@
 // The lines of a script, one by one.
 ghost use Rattle.std.specs.Prelude.{IfOk, OnErr, ◌≡◌};
 ghost use Rattle.ssz_script.specs.Grammar.{partial_statements};
-ghost use Rattle.ssz_script.specs.Lines.{said};
-ghost use Rattle.ssz_partial_script.specs.Runs.{IsNext};
+ghost use Rattle.ssz_script.specs.Lines.{lines_said};
+ghost use Rattle.ssz_partial_script.specs.Runs.{IsNextPartialLine};
 
 use ssz_line::LineFault;
 use ssz_script::{Lines, PartialStatement, read_partial};
@@ -20,8 +20,8 @@ pub struct PartialLine {
 /// Takes the first line that is neither blank nor a comment, with those before it; None where there
 /// is none.
 pub fn next_line(alloc: Global, lines: &mut Lines<'_>) -> Result<Option<PartialLine>, AllocError>
-    ensures { IfOk result (λ next. IsNext next (said partial_statements lines.old)
-        (said partial_statements lines.new)) }
+    ensures { IfOk result (λ next. IsNextPartialLine next (lines_said partial_statements lines.old)
+        (lines_said partial_statements lines.new)) }
 {
     while let Some(line) = lines.next() {
         let statement = match read_partial(alloc, line.text) {

@@ -4,9 +4,9 @@ ghost use Rattle.ssz_schema.specs.Unfolding.{type_of};
 ghost use Rattle.ssz_script.specs.declared.reply.TheConstants.Reply.{BAD_LITERAL};
 ghost use Rattle.ssz_value.specs.Standing.{value_of};
 ghost use Rattle.ssz_partial.specs.Partial.{FitsAt, set_to};
-ghost use Rattle.ssz_partial_script.specs.Statements.{becomes, get, refusal_of, refusal_reply, set};
-ghost use Rattle.ssz_partial_script.specs.Plays.{charge_of, known_after, known_in, reply_in, reply_of};
-ghost use Rattle.ssz_partial_script.specs.Runs.{turn_at};
+ghost use Rattle.ssz_partial_script.specs.Statements.{becomes, get, refusal_of, partial_refusal_reply, partial_set};
+ghost use Rattle.ssz_partial_script.specs.Plays.{partial_charge_of, known_after, known_of_row, partial_reply_in, partial_reply_of};
+ghost use Rattle.ssz_partial_script.specs.Runs.{partial_turn_at};
 
 use super::line::PartialLine;
 use ssz_bytes::{ByteRun, Fault};
@@ -43,7 +43,7 @@ fn bad_literal(line: u64, fault: Fault) -> Reply
 
 // The reply to a statement that the tree refuses.
 fn refusal(line: u64, fault: PartialFault) -> Reply
-    ensures { result ≡ refusal_reply line (refusal_of fault) }
+    ensures { result ≡ partial_refusal_reply line (refusal_of fault) }
 {
     match fault {
         PartialFault::BadPath => refused(line, Reply::BAD_PATH),
@@ -65,7 +65,7 @@ fn get(
     path: &Steps,
 ) -> Result<Reply, AllocError>
     requires { partial.now.id < length schema.now.trees }
-    ensures { IfOk result (λ reply. reply ≡ reply_in line
+    ensures { IfOk result (λ reply. reply ≡ partial_reply_in line
         (get (type_of schema.now partial.now.id) partial.now.proof path.now)) }
 {
     let Some(steps) = path.fitting(alloc, schema, partial.id())? else {
@@ -84,11 +84,11 @@ fn get(
 fn put(schema: &Schema, partial: &mut Partial, line: u64, path: &[PathStep], value: &Value) -> Reply
     requires known { partial.old.id < length schema.now.trees }
     requires fits { FitsAt (type_of schema.now partial.old.id) path.now (value_of value.now) }
-    ensures reply { result ≡ reply_in line (becomes (set_to partial.old.proof
+    ensures reply { result ≡ partial_reply_in line (becomes (set_to partial.old.proof
         (type_of schema.now partial.old.id) path.now (value_of value.now))) }
     ensures known { partial.new ≡ record {
       id = partial.old.id;
-      proof = known_in partial.old.proof (becomes (set_to partial.old.proof
+      proof = known_of_row partial.old.proof (becomes (set_to partial.old.proof
           (type_of schema.now partial.old.id) path.now (value_of value.now)));
     } }
 {
@@ -109,12 +109,12 @@ fn set(
 ) -> Result<Reply, AllocError>
     requires known { partial.old.id < length schema.now.trees }
     requires short { length literal.now < 2 ^ 32 }
-    ensures reply { IfOk result (λ reply. reply ≡ reply_in line
-        (set (type_of schema.now partial.old.id) partial.old.proof path.now literal.now)) }
+    ensures reply { IfOk result (λ reply. reply ≡ partial_reply_in line
+        (partial_set (type_of schema.now partial.old.id) partial.old.proof path.now literal.now)) }
     ensures known { OnOk result (partial.new ≡ record {
       id = partial.old.id;
-      proof = known_in partial.old.proof
-          (set (type_of schema.now partial.old.id) partial.old.proof path.now literal.now);
+      proof = known_of_row partial.old.proof
+          (partial_set (type_of schema.now partial.old.id) partial.old.proof path.now literal.now);
     }) }
     ensures same { partial.new.id ≡ partial.old.id }
 {
@@ -143,17 +143,17 @@ fn reply_to_statement<H: PairHash>(
     hasher: &mut H,
 ) -> Result<Reply, AllocError>
     requires { partial.old.id < length schema.now.trees }
-    ensures reply { IfOk result (λ reply. reply ≡ reply_of
-        (turn_at H.pair_of schema.now partial.old (line, Some statement.now))) }
+    ensures reply { IfOk result (λ reply. reply ≡ partial_reply_of
+        (partial_turn_at H.pair_of schema.now partial.old (line, Some statement.now))) }
     ensures known { OnOk result (partial.new ≡ record {
       id = partial.old.id;
       proof = known_after
-          (turn_at H.pair_of schema.now partial.old (line, Some statement.now));
+          (partial_turn_at H.pair_of schema.now partial.old (line, Some statement.now));
     }) }
     ensures same { partial.new.id ≡ partial.old.id }
     ensures rises { H.pairs hasher.old ≤ H.pairs hasher.new }
-    ensures pairs { H.pairs hasher.new ≤ H.pairs hasher.old + charge_of
-        (turn_at H.pair_of schema.now partial.old (line, Some statement.now)) }
+    ensures pairs { H.pairs hasher.new ≤ H.pairs hasher.old + partial_charge_of
+        (partial_turn_at H.pair_of schema.now partial.old (line, Some statement.now)) }
 {
     match statement {
         PartialStatement::Get(path) => get(alloc, schema, partial, line, path),
@@ -176,17 +176,17 @@ pub fn reply_to<H: PairHash>(
     hasher: &mut H,
 ) -> Result<Reply, AllocError>
     requires { partial.old.id < length schema.now.trees }
-    ensures reply { IfOk result (λ reply. reply ≡ reply_of
-        (turn_at H.pair_of schema.now partial.old (line.now.number, line.now.statement))) }
+    ensures reply { IfOk result (λ reply. reply ≡ partial_reply_of
+        (partial_turn_at H.pair_of schema.now partial.old (line.now.number, line.now.statement))) }
     ensures known { OnOk result (partial.new ≡ record {
       id = partial.old.id;
       proof = known_after
-          (turn_at H.pair_of schema.now partial.old (line.now.number, line.now.statement));
+          (partial_turn_at H.pair_of schema.now partial.old (line.now.number, line.now.statement));
     }) }
     ensures same { partial.new.id ≡ partial.old.id }
     ensures rises { H.pairs hasher.old ≤ H.pairs hasher.new }
-    ensures pairs { H.pairs hasher.new ≤ H.pairs hasher.old + charge_of
-        (turn_at H.pair_of schema.now partial.old (line.now.number, line.now.statement)) }
+    ensures pairs { H.pairs hasher.new ≤ H.pairs hasher.old + partial_charge_of
+        (partial_turn_at H.pair_of schema.now partial.old (line.now.number, line.now.statement)) }
 {
     match &line.statement {
         Some(statement) => {

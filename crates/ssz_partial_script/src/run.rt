@@ -4,10 +4,10 @@ ghost use Rattle.ssz_outside.specs.Content.{Content};
 ghost use Rattle.ssz_outside.specs.Job.{CountsRun, Ends, IsFinished};
 ghost use Rattle.ssz_schema.specs.Unfolding.{type_of};
 ghost use Rattle.ssz_script.specs.Grammar.{partial_statements};
-ghost use Rattle.ssz_script.specs.Lines.{said};
+ghost use Rattle.ssz_script.specs.Lines.{lines_said};
 ghost use Rattle.ssz_script.specs.Texts.{reply_line};
-ghost use Rattle.ssz_partial_script.specs.Plays.{charge_of, charges, known_last, play, script_job, turns_of_script};
-ghost use Rattle.ssz_partial_script.specs.Runs.{Counts, IsStop, Prints, RunsAll, RunsTurn, finished, is_refusal, turn_at};
+ghost use Rattle.ssz_partial_script.specs.Plays.{partial_charge_of, partial_charges, known_last, partial_play, partial_script_job, partial_turns_of_script};
+ghost use Rattle.ssz_partial_script.specs.Runs.{CountsPartialFaults, IsStop, PrintsPiece, RunsAll, RunsTurn, partial_finished, is_partial_refusal, partial_turn_at};
 
 use super::line::{PartialLine, next_line};
 use super::reply::reply_to;
@@ -20,8 +20,8 @@ use std::alloc::Global;
 
 // Prints a line in one piece.
 fn print<S: Sink>(line: &[u8], out: &mut S) -> Result<(), Status>
-    ensures prints { Prints result line.now (S.pieces out.old) (S.pieces out.new) }
-    ensures counts { Counts result (S.faults out.old) (S.faults out.new) }
+    ensures prints { PrintsPiece result line.now (S.pieces out.old) (S.pieces out.new) }
+    ensures counts { CountsPartialFaults result (S.faults out.old) (S.faults out.new) }
     ensures stops { IfErr result IsStop }
 {
     match out.put(line) {
@@ -33,8 +33,9 @@ fn print<S: Sink>(line: &[u8], out: &mut S) -> Result<(), Status>
 
 // Prints a reply.
 fn print_reply<S: Sink>(alloc: Global, reply: &Reply, out: &mut S) -> Result<(), Status>
-    ensures prints { Prints result (reply_line reply.now) (S.pieces out.old) (S.pieces out.new) }
-    ensures counts { Counts result (S.faults out.old) (S.faults out.new) }
+    ensures prints { PrintsPiece result (reply_line reply.now) (S.pieces out.old)
+        (S.pieces out.new) }
+    ensures counts { CountsPartialFaults result (S.faults out.old) (S.faults out.new) }
     ensures stops { IfErr result IsStop }
 {
     let mut text = Vec::new(alloc);
@@ -46,7 +47,7 @@ fn print_reply<S: Sink>(alloc: Global, reply: &Reply, out: &mut S) -> Result<(),
 
 // Whether a reply refuses its line.
 fn is_refusal(reply: &Reply) -> bool
-    ensures { result ≡ is_refusal reply.now }
+    ensures { result ≡ is_partial_refusal reply.now }
 {
     match reply {
         Reply::Refused { .. } | Reply::Blind { .. } => true,
@@ -66,7 +67,8 @@ fn run_line<S: Sink, H: PairHash>(
 ) -> Result<(), Status>
     requires { partial.old.id < length schema.now.trees }
     ensures runs { RunsTurn
-        (turn_at H.pair_of schema.now partial.old (line.now.number, line.now.statement)) result
+        (partial_turn_at H.pair_of schema.now partial.old (line.now.number, line.now.statement))
+        result
         (record {
           known = partial.old.proof;
           hashed = H.pairs hasher.old;
@@ -80,11 +82,11 @@ fn run_line<S: Sink, H: PairHash>(
           refused = refused.new;
         }) }
     ensures same { partial.new.id ≡ partial.old.id }
-    ensures counts { Counts result (S.faults out.old) (S.faults out.new) }
+    ensures counts { CountsPartialFaults result (S.faults out.old) (S.faults out.new) }
     ensures stops { IfErr result IsStop }
     ensures rises { H.pairs hasher.old ≤ H.pairs hasher.new }
-    ensures pairs { H.pairs hasher.new ≤ H.pairs hasher.old + charge_of
-        (turn_at H.pair_of schema.now partial.old (line.now.number, line.now.statement)) }
+    ensures pairs { H.pairs hasher.new ≤ H.pairs hasher.old + partial_charge_of
+        (partial_turn_at H.pair_of schema.now partial.old (line.now.number, line.now.statement)) }
 {
     match reply_to(alloc, schema, partial, line, hasher) {
         Ok(reply) => {
@@ -106,8 +108,9 @@ fn run_lines<S: Sink, H: PairHash>(
     refused: &mut bool,
 ) -> Result<(), Status>
     requires { partial.old.id < length schema.now.trees }
-    ensures runs { RunsAll (play H.pair_of (type_of schema.now partial.old.id) partial.old.proof
-        (said partial_statements lines.old)) result
+    ensures runs { RunsAll
+        (partial_play H.pair_of (type_of schema.now partial.old.id) partial.old.proof
+        (lines_said partial_statements lines.old)) result
         (record {
           known = partial.old.proof;
           hashed = H.pairs hasher.old;
@@ -121,12 +124,12 @@ fn run_lines<S: Sink, H: PairHash>(
           refused = refused.new;
         }) }
     ensures same { partial.new.id ≡ partial.old.id }
-    ensures counts { Counts result (S.faults out.old) (S.faults out.new) }
+    ensures counts { CountsPartialFaults result (S.faults out.old) (S.faults out.new) }
     ensures stops { IfErr result IsStop }
     ensures rises { H.pairs hasher.old ≤ H.pairs hasher.new }
-    ensures pairs { H.pairs hasher.new ≤ H.pairs hasher.old + charges
-        (play H.pair_of (type_of schema.now partial.old.id) partial.old.proof
-        (said partial_statements lines.old)) }
+    ensures pairs { H.pairs hasher.new ≤ H.pairs hasher.old + partial_charges
+        (partial_play H.pair_of (type_of schema.now partial.old.id) partial.old.proof
+        (lines_said partial_statements lines.old)) }
 {
     loop {
         match next_line(alloc, lines) {
@@ -143,7 +146,7 @@ fn run_lines<S: Sink, H: PairHash>(
 
 // The status of a run that no fault ended.
 fn status_after(refused: bool) -> Status
-    ensures { result ≡ finished refused }
+    ensures { result ≡ partial_finished refused }
 {
     if refused {
         Status::Refused
@@ -172,19 +175,20 @@ pub fn run_partial<S: Sink, H: PairHash>(
     requires { partial.old.id < length schema.now.trees }
     // Whatever the files hold, which it leaves alone, the run ended as the script's job does.
     ensures ends { (held : Content) → Ends (S.ample out.old) result
-        (script_job H.pair_of (type_of schema.now partial.old.id) partial.old.proof held script.now)
+        (partial_script_job H.pair_of
+        (type_of schema.now partial.old.id) partial.old.proof held script.now)
         (S.pieces out.old) (S.pieces out.new) (Some held) }
     // The fault that the status names was counted, and no other: none is passed over.
     ensures counts { (gets puts : ℕ) → CountsRun result gets gets puts puts (S.faults out.old)
         (S.faults out.new) }
     ensures rises { H.pairs hasher.old ≤ H.pairs hasher.new }
     // Only a `root` hashes, at most as many pairs as the leaves of the proof have levels together.
-    ensures pairs { H.pairs hasher.new ≤ H.pairs hasher.old + charges
-        (turns_of_script H.pair_of (type_of schema.now partial.old.id) partial.old.proof
+    ensures pairs { H.pairs hasher.new ≤ H.pairs hasher.old + partial_charges
+        (partial_turns_of_script H.pair_of (type_of schema.now partial.old.id) partial.old.proof
         script.now) }
     ensures through { IsFinished result → partial.new ≡ record {
       id = partial.old.id;
-      proof = known_last partial.old.proof (turns_of_script H.pair_of
+      proof = known_last partial.old.proof (partial_turns_of_script H.pair_of
           (type_of schema.now partial.old.id) partial.old.proof script.now);
     } }
     ensures same { partial.new.id ≡ partial.old.id }

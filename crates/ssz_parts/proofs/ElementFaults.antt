@@ -5,7 +5,7 @@ use Rattle.ssz_bytes.specs.declared.fault.Fault.{Fault}
 use Rattle.ssz_value.specs.Encoding.{heads_length}
 use Rattle.ssz_value.proofs.Agree.{right_length}
 use Rattle.ssz_value.proofs.Cut.{passes, chosen_none_of}
-use Rattle.ssz_value.specs.Faults.{alike_fault, elements_fault, scopes, head_fault, first_fault, later_fault, next_offset, offset_at, length_fault, ◌otherwise◌}
+use Rattle.ssz_value.specs.Faults.{alike_fault, elements_fault, scopes, head_fault, first_offset_fault, later_fault, next_offset, offset_at, length_fault, ◌otherwise◌}
 use Rattle.ssz_parts.specs.Heads.{offset_fault}
 use Rattle.ssz_parts.proofs.OffsetLemmas.{first_found, found_in, none_in}
 
@@ -26,7 +26,8 @@ heads_length-alike (suc count) size =
     ap (λ n. size + n) (heads_length-alike count size) ∙ omega arith
 
 first_fault-alike : (count size place end s : ℕ) (b : List ℕ)
-    → first_fault (replicate count (Some size)) place end s b ≡ first_fault [] place end s b
+    → first_offset_fault (replicate count (Some size)) place end s b
+    ≡ first_offset_fault [] place end s b
 first_fault-alike zero size place end s b = refl
 first_fault-alike (suc count) size place end s b =
     first_fault-alike count size (place + size) end s b
@@ -250,17 +251,18 @@ head_fault-short count s b h =
     (omega (arith, heads_length-none count)))
 
 long_head : (count s : ℕ) (b : List ℕ) → 4 * count ≤ length b
-    → head_fault (replicate count None) s b ≡ first_fault (replicate count None) 0 (4 * count) s b
+    → head_fault (replicate count None) s b
+    ≡ first_offset_fault (replicate count None) 0 (4 * count) s b
 long_head count s b h =
     cond-false _ _ _ (le-ltb (length b) (heads_length (replicate count None))
     (omega (arith, heads_length-none count)))
-    ∙ ap (λ end. first_fault (replicate count None) 0 end s b) (heads_length-none count)
+    ∙ ap (λ end. first_offset_fault (replicate count None) 0 end s b) (heads_length-none count)
 
 pub head_fault-none : (s : ℕ) (b : List ℕ) → head_fault (replicate 0 None) s b ≡ length_fault 0 s b
 head_fault-none s b = refl
 
 one_first : (count end s : ℕ) (b : List ℕ) → 0 < count
-    → first_fault (replicate count None) 0 end s b
+    → first_offset_fault (replicate count None) 0 end s b
     ≡ cond (eqb (offset_at b 0) end) (later_fault (replicate (count - 1) None) 4 end s b)
     (Some (record { code = 4; position = s + 0 }))
 one_first zero end s b h = absurd (omega arith)

@@ -7,7 +7,7 @@ use Rattle.ssz_schema.specs.declared.format.Format.{Format}
 use Rattle.ssz_bytes.specs.declared.fault.Fault.{Fault}
 use Rattle.ssz_schema.specs.Legal.{IsLegal}
 use Rattle.ssz_value.specs.Encoding.{heads_length}
-use Rattle.ssz_value.specs.Faults.{Scope, scopes, bytes_of, head_fault, alike_fault, elements_fault, offset_at, next_offset, why}
+use Rattle.ssz_value.specs.Faults.{Scope, scopes, scope_bytes, head_fault, alike_fault, elements_fault, offset_at, next_offset, first_fault}
 use Rattle.ssz_value.specs.Reading.{elements_in}
 use Rattle.ssz_value.proofs.Agree.{IsInput, AreInputs, AreInputs-scopes, no_faults, length_from_fault, length-scopes, length-bytes_of}
 use Rattle.ssz_value.proofs.Cut.{passes}
@@ -17,7 +17,7 @@ use Rattle.ssz_parts.proofs.Faultless.{IsFaultless, anywhere}
 
 -- elements of one size
 pub part_fixed : (count z place : ℕ) (b : List ℕ) (i : ℕ) → i < count
-    → get_or (bytes_of (scopes (replicate count (Some z)) place b)) i []
+    → get_or (scope_bytes (scopes (replicate count (Some z)) place b)) i []
     ≡ slice_range b (place + i * z) (place + i * z + z)
 part_fixed zero z place b i h = absurd (omega arith)
 part_fixed (suc count) z place b zero h = let e : place ≡ place + 0 * z = omega arith in
@@ -27,14 +27,14 @@ part_fixed (suc count) z place b (suc i) h =
     part_fixed count z (place + z) b i (omega arith) ∙ ap (λ n. slice_range b n (n + z)) e
 
 pub part_fixed_first : (count z : ℕ) (b : List ℕ) (i : ℕ) → i < count
-    → get_or (bytes_of (scopes (replicate count (Some z)) 0 b)) i []
+    → get_or (scope_bytes (scopes (replicate count (Some z)) 0 b)) i []
     ≡ slice_range b (i * z) (i * z + z)
 part_fixed_first count z b i h = let e : 0 + i * z ≡ i * z = omega arith in
     part_fixed count z 0 b i h ∙ ap (λ n. slice_range b n (n + z)) e
 
 -- elements of variable size
 pub part_variable : (count place : ℕ) (b : List ℕ) (i : ℕ) → i < count
-    → get_or (bytes_of (scopes (replicate count None) place b)) i []
+    → get_or (scope_bytes (scopes (replicate count None) place b)) i []
     ≡ slice_range b (offset_at b (place + 4 * i))
     (next_offset (replicate (count - (i + 1)) None) (place + 4 * i + 4) b)
 part_variable zero place b i h = absurd (omega arith)
@@ -50,7 +50,7 @@ part_variable (suc count) place b (suc i) h =
     here left
 
 pub part_variable_first : (count : ℕ) (b : List ℕ) (i : ℕ) → i < count
-    → get_or (bytes_of (scopes (replicate count None) 0 b)) i []
+    → get_or (scope_bytes (scopes (replicate count None) 0 b)) i []
     ≡ slice_range b (offset_at b (4 * i)) (next_offset (replicate (count - (i + 1)) None)
     (4 * i + 4) b)
 part_variable_first count b i h =
@@ -117,28 +117,28 @@ variable_lies count b i h below =
 -- a part of bytes without a fault has none
 alike_at : (child : ℕ → List ℕ → Option Fault) (s : ℕ) (parts : List Scope) (i : ℕ)
     → alike_fault child s parts ≡ None → i < length parts → (p : ℕ)
-    × (child p (get_or (bytes_of parts) i []) ≡ None)
+    × (child p (get_or (scope_bytes parts) i []) ≡ None)
 alike_at child s [] i h below = absurd (omega arith)
 alike_at child s (part ∷ parts) zero h below = (s + part.0, (no_faults _ _ h).0)
 alike_at child s (part ∷ parts) (suc i) h below =
     alike_at child s parts i (no_faults _ _ h).1 (omega arith)
 
 input_at : (parts : List Scope) (i : ℕ) → AreInputs parts → i < length parts
-    → IsInput (get_or (bytes_of parts) i [])
+    → IsInput (get_or (scope_bytes parts) i [])
 input_at [] i all below = absurd (omega arith)
 input_at (part ∷ parts) zero all below = all.0
 input_at (part ∷ parts) (suc i) all below = input_at parts i all.1 (omega arith)
 
 pub element_faultless : (format : Format) (t : SszType) → IsLegal format t
     → (size : Option ℕ) (count : ℕ) (b : List ℕ) (i : ℕ) → IsInput b
-    → elements_fault (why t) size count 0 b ≡ None → i < count
+    → elements_fault (first_fault t) size count 0 b ≡ None → i < count
     → IsFaultless t (get_or (elements_in size count b) i [])
 element_faultless format t legal size count b i input h below =
     let both = no_faults (head_fault (replicate count size) 0 b)
-    (alike_fault (why t) 0 (scopes (replicate count size) 0 b)) h in
+    (alike_fault (first_fault t) 0 (scopes (replicate count size) 0 b)) h in
     let within : i < length (scopes (replicate count size) 0 b) =
     omega (arith, length-scopes (replicate count size) 0 b, length-replicate count size) in
-    let part = alike_at (why t) 0 (scopes (replicate count size) 0 b) i both.1 within in
+    let part = alike_at (first_fault t) 0 (scopes (replicate count size) 0 b) i both.1 within in
     let inside = input_at (scopes (replicate count size) 0 b) i
     (AreInputs-scopes (replicate count size) 0 b input) within in
     record {
@@ -148,9 +148,10 @@ element_faultless format t legal size count b i input h below =
     }
 
 pub elements_head : (t : SszType) (size : Option ℕ) (count : ℕ) (b : List ℕ)
-    → elements_fault (why t) size count 0 b ≡ None → head_fault (replicate count size) 0 b ≡ None
+    → elements_fault (first_fault t) size count 0 b ≡ None
+    → head_fault (replicate count size) 0 b ≡ None
 elements_head t size count b h = (no_faults (head_fault (replicate count size) 0 b)
-    (alike_fault (why t) 0 (scopes (replicate count size) 0 b)) h).0
+    (alike_fault (first_fault t) 0 (scopes (replicate count size) 0 b)) h).0
 
 pub length-elements_in : (size : Option ℕ) (count : ℕ) (b : List ℕ)
     → length (elements_in size count b) ≡ count

@@ -4,7 +4,7 @@ use Rattle.ssz_schema.specs.declared.format.Format.{Format}
 use Rattle.ssz_schema.specs.Types.{SszType, container}
 use Rattle.ssz_schema.specs.Legal.{IsLegal}
 use Rattle.ssz_schema.specs.Unfolding.{fields_over}
-use Rattle.ssz_value.specs.Faults.{why, head_fault, fields_fault, scopes}
+use Rattle.ssz_value.specs.Faults.{first_fault, head_fault, fields_fault, scopes}
 use Rattle.ssz_value.specs.Reading.{value_in}
 use Rattle.ssz_value.proofs.Agree.{IsInput, no_faults}
 use Rattle.ssz_value.proofs.ExactLaw.{agrees}
@@ -13,14 +13,14 @@ use Rattle.ssz_value.proofs.PartLemmas.{Part, sizes_of}
 -- bytes of the type without a fault
 pub record IsFaultless (t : SszType) (b : List ℕ) : Type 0 where
   pub input : IsInput b
-  pub none : why t 0 b ≡ None
+  pub none : first_fault t 0 b ≡ None
 
 -- bytes that have no fault at one place have none at another
 pub anywhere : (format : Format) (t : SszType) → IsLegal format t → (s u : ℕ) (b : List ℕ)
-    → IsInput b → why t s b ≡ None → why t u b ≡ None
+    → IsInput b → first_fault t s b ≡ None → first_fault t u b ≡ None
 anywhere format t legal s u b input h =
     let written = (agrees format t legal).only s b input h in
-    ap (why t u) (sym written.bytes)
+    ap (first_fault t u) (sym written.bytes)
     ∙ ((agrees format t legal).known u (value_in t b) written.fits
     (subst (λ (c : List ℕ). length c < 2 ^ 32) (sym written.bytes) input.short)).faultless
 
@@ -31,7 +31,8 @@ pub record IsFaultlessContainer (trees : List SszType) (parts : List Part)
   pub fields : fields_fault (fields_over trees parts) 0 (scopes (sizes_of trees parts) 0 b) ≡ None
 
 pub container_faultless : (trees : List SszType) (parts : List Part) (b : List ℕ)
-    → why (container (fields_over trees parts)) 0 b ≡ None → IsFaultlessContainer trees parts b
+    → first_fault (container (fields_over trees parts)) 0 b ≡ None
+    → IsFaultlessContainer trees parts b
 container_faultless trees parts b h =
     let both = no_faults (head_fault (sizes_of trees parts) 0 b)
     (fields_fault (fields_over trees parts) 0 (scopes (sizes_of trees parts) 0 b)) h in

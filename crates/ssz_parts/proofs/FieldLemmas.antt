@@ -3,10 +3,10 @@ use Rattle.std.proofs.Common.{ℕ, ◌+◌, ◌<◌, ◌≤◌, ◌≡◌, List,
 use Rattle.std.proofs.lemmas.List.{drop_all}
 use Rattle.ssz_schema.specs.Types.{SszType, container}
 use Rattle.ssz_schema.specs.Sizes.{head_size}
-use Rattle.ssz_schema.specs.Unfolding.{tree_at, fields_over}
+use Rattle.ssz_schema.specs.Unfolding.{type_tree_at, fields_over}
 use Rattle.ssz_bytes.specs.declared.fault.Fault.{Fault}
 use Rattle.ssz_value.specs.Encoding.{heads_length}
-use Rattle.ssz_value.specs.Faults.{next_offset, offset_at, head_fault, first_fault, later_fault, why, fields_fault, scopes, ◌otherwise◌}
+use Rattle.ssz_value.specs.Faults.{next_offset, offset_at, head_fault, first_offset_fault, later_fault, first_fault, fields_fault, scopes, ◌otherwise◌}
 use Rattle.ssz_schema.proofs.WalkFields.{drop_at}
 use Rattle.ssz_value.proofs.PartLemmas.{Part, sizes_of, size_at, sizes_from}
 use Rattle.ssz_parts.specs.Ranges.{part_range}
@@ -78,7 +78,7 @@ later_in_range (None ∷ sizes) place before s b low room h =
     )
 
 pub first_in_range : (sizes : List (Option ℕ)) (place end s : ℕ) (b : List ℕ) → end ≤ length b
-    → place + heads_length sizes ≤ length b → first_fault sizes place end s b ≡ None
+    → place + heads_length sizes ≤ length b → first_offset_fault sizes place end s b ≡ None
     → InRange sizes place b
 first_in_range [] place end s b low room h = tt
 first_in_range (Some z ∷ sizes) place end s b low room h =
@@ -139,7 +139,8 @@ next_scope : (trees : List SszType) (parts : List Part) (s : ℕ) (b : List ℕ)
     (part : Part) (size : Option ℕ) → size_at trees part ≡ size
     → fields_fault (fields_over trees (part ∷ parts)) s
     (scopes (size ∷ sizes_of trees parts) place b)
-    ≡ (why (tree_at trees part.1) (s + (part_range size (sizes_of trees parts) place b).0)
+    ≡ (first_fault (type_tree_at trees part.1)
+    (s + (part_range size (sizes_of trees parts) place b).0)
     (slice_range b (part_range size (sizes_of trees parts) place b).0
     (part_range size (sizes_of trees parts) place b).1)
     otherwise fields_fault (fields_over trees parts) s
@@ -151,7 +152,7 @@ pub next_field : (trees : List SszType) (parts : List Part) (s : ℕ) (b : List 
     (part : Part) → i < length parts → part ≡ get_or parts i part
     → fields_fault (fields_over trees (drop i parts)) s
     (scopes (sizes_of trees (drop i parts)) place b)
-    ≡ (why (tree_at trees part.1)
+    ≡ (first_fault (type_tree_at trees part.1)
     (s + (part_range (size_at trees part) (sizes_of trees (drop (i + 1) parts)) place b).0)
     (slice_range b (part_range (size_at trees part)
     (sizes_of trees (drop (i + 1) parts)) place b).0
@@ -167,12 +168,13 @@ pub FieldsFrom-more : (trees : List SszType) (parts : List Part) (s : ℕ) (b : 
     (i place from to : ℕ) (part : Part) → FieldsFrom trees parts s b i place → i < length parts
     → part ≡ get_or parts i part
     → (from, to) ≡ part_range (size_at trees part) (sizes_of trees (drop (i + 1) parts)) place b
-    → why (tree_at trees part.1) (s + from) (slice_range b from to) ≡ None
+    → first_fault (type_tree_at trees part.1) (s + from) (slice_range b from to) ≡ None
     → FieldsFrom trees parts s b (i + 1) (place + head_size (size_at trees part))
 FieldsFrom-more trees parts s b i place from to part h below e is none =
     let here = sizes_from trees parts i part below e in
     let range = subst (λ (sizes : List (Option ℕ)). InRange sizes place b) here h.range in
-    let same = ap (λ (r : ℕ × ℕ). why (tree_at trees part.1) (s + r.0) (slice_range b r.0 r.1)) is
+    let same = ap (λ (r : ℕ × ℕ).
+    first_fault (type_tree_at trees part.1) (s + r.0) (slice_range b r.0 r.1)) is
     in
     record {
       head = h.head;
@@ -187,7 +189,7 @@ FieldsFrom-more trees parts s b i place from to part h below e is none =
 -- a fault of the container
 pub container_head : (trees : List SszType) (parts : List Part) (s : ℕ) (b : List ℕ) (f : Fault)
     → head_fault (sizes_of trees parts) s b ≡ Some f
-    → why (container (fields_over trees parts)) s b ≡ Some f
+    → first_fault (container (fields_over trees parts)) s b ≡ Some f
 container_head trees parts s b f e =
     ap (λ g. g otherwise fields_fault (fields_over trees parts) s
     (scopes (sizes_of trees parts) 0 b)) e
@@ -196,10 +198,11 @@ pub FieldsFrom-found : (trees : List SszType) (parts : List Part) (s : ℕ) (b :
     (i place from to : ℕ) (part : Part) (f : Fault) → FieldsFrom trees parts s b i place
     → i < length parts → part ≡ get_or parts i part
     → (from, to) ≡ part_range (size_at trees part) (sizes_of trees (drop (i + 1) parts)) place b
-    → why (tree_at trees part.1) (s + from) (slice_range b from to) ≡ Some f
-    → why (container (fields_over trees parts)) s b ≡ Some f
+    → first_fault (type_tree_at trees part.1) (s + from) (slice_range b from to) ≡ Some f
+    → first_fault (container (fields_over trees parts)) s b ≡ Some f
 FieldsFrom-found trees parts s b i place from to part f h below e is found =
-    let same = ap (λ (r : ℕ × ℕ). why (tree_at trees part.1) (s + r.0) (slice_range b r.0 r.1)) is
+    let same = ap (λ (r : ℕ × ℕ).
+    first_fault (type_tree_at trees part.1) (s + r.0) (slice_range b r.0 r.1)) is
     in
     ap (λ g. g otherwise fields_fault (fields_over trees parts) s
     (scopes (sizes_of trees parts) 0 b)) h.head ∙ sym h.rest
@@ -210,7 +213,7 @@ FieldsFrom-found trees parts s b i place from to part f h below e is found =
 
 pub FieldsFrom-end : (trees : List SszType) (parts : List Part) (s : ℕ) (b : List ℕ) (i place : ℕ)
     → FieldsFrom trees parts s b i place → length parts ≤ i
-    → why (container (fields_over trees parts)) s b ≡ None
+    → first_fault (container (fields_over trees parts)) s b ≡ None
 FieldsFrom-end trees parts s b i place h all =
     ap (λ g. g otherwise fields_fault (fields_over trees parts) s
     (scopes (sizes_of trees parts) 0 b)) h.head ∙ sym h.rest

@@ -11,7 +11,7 @@ use Rattle.ssz_schema.proofs.SizeLemmas.{default_length-fixed}
 use Rattle.ssz_schema.proofs.WalkFields.{drop_at}
 use Rattle.ssz_bytes.specs.declared.fault.Fault.{Fault}
 use Rattle.ssz_value.specs.Encoding.{heads_length}
-use Rattle.ssz_value.specs.Faults.{offset_at, head_fault, first_fault, later_fault}
+use Rattle.ssz_value.specs.Faults.{offset_at, head_fault, first_offset_fault, later_fault}
 use Rattle.ssz_value.proofs.PartLemmas.{Part, sizes_of, size_at, sizes_from}
 use Rattle.ssz_parts.specs.Heads.{offset_fault}
 use Rattle.ssz_parts.proofs.OffsetLemmas.{first_found, found_in, none_in}
@@ -22,7 +22,7 @@ use Rattle.ssz_value.specs.Faults.{length_fault}
 
 first_fault-fixed : (sizes : List (Option ℕ)) (z : ℕ) → total_size sizes ≡ Some z
     → (place end s : ℕ) (b : List ℕ)
-    → first_fault sizes place end s b ≡ first_fault [] place end s b
+    → first_offset_fault sizes place end s b ≡ first_offset_fault [] place end s b
 first_fault-fixed [] z e place end s b = refl
 first_fault-fixed (None ∷ sizes) z e place end s b = absurd (no_some z e)
 first_fault-fixed (Some y ∷ sizes) z e place end s b = let rest =
@@ -40,7 +40,7 @@ head_fault-fixed sizes z s b e =
 
 -- The head of fields, with the offset before, if there was one.
 abbrev pub rest_fault : Option ℕ → List (Option ℕ) → ℕ → ℕ → ℕ → List ℕ → Option Fault
-rest_fault None sizes place end s b = first_fault sizes place end s b
+rest_fault None sizes place end s b = first_offset_fault sizes place end s b
 rest_fault (Some before) sizes place end s b = later_fault sizes place before s b
 
 -- fixed parts are no longer than the encoding of the default
@@ -109,7 +109,7 @@ pub HeadFrom-start : (trees : List SszType) (parts : List Part) (s : ℕ) (b : L
     → end ≡ heads_length (sizes_of trees parts) → end ≤ length b
     → HeadFrom trees parts s b end 0 0 None
 HeadFrom-start trees parts s b end whole room = record {
-  rest = ap (λ end. first_fault (sizes_of trees parts) 0 end s b) whole
+  rest = ap (λ end. first_offset_fault (sizes_of trees parts) 0 end s b) whole
       ∙ sym (cond-false _ _ _ (le-ltb (length b) (heads_length (sizes_of trees parts))
       (omega (arith, room, whole))));
   heads = omega (arith, whole);

@@ -4,8 +4,8 @@ use Rattle.std.proofs.lemmas.Bool.{cond-true, cond-false}
 use Rattle.ssz_schema.specs.Types.{SszType, union}
 use Rattle.ssz_schema.specs.Sizes.{option_count}
 use Rattle.ssz_schema.proofs.OptionLemmas.{option_count-over}
-use Rattle.ssz_schema.specs.Unfolding.{tree_at, options_over}
-use Rattle.ssz_value.specs.Faults.{why, option_fault}
+use Rattle.ssz_schema.specs.Unfolding.{type_tree_at, options_over}
+use Rattle.ssz_value.specs.Faults.{first_fault, option_fault}
 use Rattle.ssz_bytes.specs.Faults.{extra, bad_selector}
 
 none_past : (ids : List (Option ℕ)) (k : ℕ) → None ≡ slice_get ids k → length ids ≤ k
@@ -30,17 +30,17 @@ option_fault-none trees (Some id ∷ ids) (suc k) s b e = option_fault-none tree
 
 option_fault-some : (trees : List SszType) (ids : List (Option ℕ)) (k id s : ℕ) (b : List ℕ)
     → Some (Some id) ≡ slice_get ids k
-    → option_fault (options_over trees ids) k s b ≡ why (tree_at trees id) s b
+    → option_fault (options_over trees ids) k s b ≡ first_fault (type_tree_at trees id) s b
 option_fault-some trees [] k id s b e = cc
 option_fault-some trees (None ∷ ids) zero id s b e = cc
 option_fault-some trees (Some other ∷ ids) zero id s b e = let same : other ≡ id =
-    cc in ap (λ n. why (tree_at trees n) s b) same
+    cc in ap (λ n. first_fault (type_tree_at trees n) s b) same
 option_fault-some trees (None ∷ ids) (suc k) id s b e = option_fault-some trees ids k id s b e
 option_fault-some trees (Some other ∷ ids) (suc k) id s b e = option_fault-some trees ids k id s b e
 
 pub union_past : (trees : List SszType) (ids : List (Option ℕ)) (s : ℕ) (b : List ℕ) → 0 < length b
     → None ≡ slice_get ids (get_or b 0 0)
-    → why (union (options_over trees ids)) s b ≡ bad_selector s
+    → first_fault (union (options_over trees ids)) s b ≡ bad_selector s
 union_past trees ids s [] some e = absurd (omega arith)
 union_past trees ids s (k ∷ b) some e =
     cond-false _ _ _ (le-ltb k (option_count (options_over trees ids))
@@ -48,7 +48,7 @@ union_past trees ids s (k ∷ b) some e =
 
 union_within : (trees : List SszType) (ids : List (Option ℕ)) (s k : ℕ) (b : List ℕ) (o : Option ℕ)
     → Some o ≡ slice_get ids k
-    → why (union (options_over trees ids)) s (k ∷ b)
+    → first_fault (union (options_over trees ids)) s (k ∷ b)
     ≡ option_fault (options_over trees ids) k (s + 1) b
 union_within trees ids s k b o e =
     cond-true _ _ _ (lt-ltb k (option_count (options_over trees ids))
@@ -56,7 +56,7 @@ union_within trees ids s k b o e =
 
 pub union_none : (trees : List SszType) (ids : List (Option ℕ)) (s : ℕ) (b : List ℕ) → 0 < length b
     → Some None ≡ slice_get ids (get_or b 0 0)
-    → why (union (options_over trees ids)) s b
+    → first_fault (union (options_over trees ids)) s b
     ≡ cond (ltb 0 (length (drop 1 b))) (extra (s + 1)) None
 union_none trees ids s [] some e = absurd (omega arith)
 union_none trees ids s (k ∷ b) some e =
@@ -64,7 +64,8 @@ union_none trees ids s (k ∷ b) some e =
 
 pub union_some : (trees : List SszType) (ids : List (Option ℕ)) (s id : ℕ) (b : List ℕ)
     → 0 < length b → Some (Some id) ≡ slice_get ids (get_or b 0 0)
-    → why (union (options_over trees ids)) s b ≡ why (tree_at trees id) (s + 1) (drop 1 b)
+    → first_fault (union (options_over trees ids)) s b
+    ≡ first_fault (type_tree_at trees id) (s + 1) (drop 1 b)
 union_some trees ids s id [] some e = absurd (omega arith)
 union_some trees ids s id (k ∷ b) some e =
     union_within trees ids s k b (Some id) e ∙ option_fault-some trees ids k id (s + 1) b e

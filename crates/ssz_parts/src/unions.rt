@@ -1,8 +1,8 @@
 ghost use Rattle.std.specs.Prelude.{◌≡◌, ◌+◌, ◌<◌, ◌^◌, length, drop, Some, Option, IsOk, IfOk, IfErr, List, ℕ};
 ghost use Rattle.std.specs.List.{AllByRecursion};
 ghost use Rattle.ssz_schema.specs.Types.{SszType, union};
-ghost use Rattle.ssz_schema.specs.Unfolding.{options_over, tree_at, IsBelow};
-ghost use Rattle.ssz_value.specs.Faults.{why};
+ghost use Rattle.ssz_schema.specs.Unfolding.{options_over, type_tree_at, IsBelow};
+ghost use Rattle.ssz_value.specs.Faults.{first_fault};
 
 use super::heads::none_fault;
 use ssz_bytes::Fault;
@@ -19,12 +19,12 @@ pub fn union_head(
     requires short { start + length bytes.now < 2 ^ 32 }
     ensures some { IsOk result → 0 < length bytes.now }
     ensures ok { IfOk result (λ id. (trees : List SszType) →
-        why (union (options_over trees options.now)) start bytes.now
-        ≡ why (tree_at trees id) (start + 1) (drop 1 bytes.now)) }
+        first_fault (union (options_over trees options.now)) start bytes.now
+        ≡ first_fault (type_tree_at trees id) (start + 1) (drop 1 bytes.now)) }
     ensures below { IfOk result (λ id. (count : ℕ) → AllByRecursion (IsBelow count) options.now
         → id < count) }
     ensures err { IfErr result (λ fault. (trees : List SszType) →
-        why (union (options_over trees options.now)) start bytes.now ≡ fault) }
+        first_fault (union (options_over trees options.now)) start bytes.now ≡ fault) }
 {
     if bytes.is_empty() {
         return Err(Some(Fault {

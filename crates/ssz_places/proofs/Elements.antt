@@ -9,13 +9,13 @@ use Rattle.ssz_schema.specs.declared.width.Width.TheVariants.{W8, W16, W32, W64,
 use Rattle.ssz_schema.specs.Types.{SszType, uint, boolean, container, vector, list, bitvector, bitlist, union}
 use Rattle.ssz_schema.specs.Sizes.{basic_size, byte_count}
 use Rattle.ssz_value.specs.Values.{SszValue, truth, Fits}
-use Rattle.ssz_value.specs.Encoding.{enc}
+use Rattle.ssz_value.specs.Encoding.{serialize}
 use Rattle.ssz_chunk.specs.Tree.{Tree, leaf, place}
 use Rattle.ssz_chunk.specs.Chunk.{zero_chunk}
 use Rattle.ssz_value.specs.Trees.{tree, padded, element_leaves}
 use Rattle.ssz_value.proofs.Basic.{number_sized}
 use Rattle.ssz_schema.specs.Indices.{element_position, element_spot, byte}
-use Rattle.ssz_places.specs.Spots.{HasPart, with_part, without_part, written}
+use Rattle.ssz_places.specs.Spots.{HasPart, with_part, without_part, spot_written}
 use Rattle.ssz_chunk.proofs.FullTrees.{AgreeBut}
 use Rattle.ssz_places.proofs.Packing.{AreSized, SameBut, place-pack, other-chunk, chunk-written, chunk-part}
 
@@ -23,9 +23,9 @@ use Rattle.ssz_places.proofs.Packing.{AreSized, SameBut, place-pack, other-chunk
 pub record IsBasic (t : SszType) (z : ℕ) : Type 0 where
   pub pos : 0 < z
   pub inside : (i : ℕ) → i * z % 32 + z ≤ 32
-  pub sized : (v : SszValue) → Fits t v → length (enc t v) ≡ z
+  pub sized : (v : SszValue) → Fits t v → length (serialize t v) ≡ z
 
-truth_sized : (v : SszValue) → Fits boolean v → length (enc boolean v) ≡ 1
+truth_sized : (v : SszValue) → Fits boolean v → length (serialize boolean v) ≡ 1
 truth_sized (truth b) h = refl
 truth_sized _ h = absurd h
 
@@ -60,7 +60,7 @@ is_basic (bitlist n) z e = absurd (none-some z e)
 is_basic (union os) z e = absurd (none-some z e)
 
 pub AreSized-enc : (t : SszType) (z : ℕ) → IsBasic t z → (vs : List SszValue)
-    → AllByRecursion (Fits t) vs → AreSized z (map (enc t) vs)
+    → AllByRecursion (Fits t) vs → AreSized z (map (serialize t) vs)
 AreSized-enc t z basic [] fit = tt
 AreSized-enc t z basic (v ∷ vs) fit = (basic.sized v fit.0, AreSized-enc t z basic vs fit.1)
 
@@ -89,7 +89,7 @@ map-past f d i xs e = get_or-map f xs i d ∙ ap (λ o. option_map_or f o d) e
 
 -- the trees below that of elements
 abbrev pub leaves_of : Option ℕ → SszType → List SszValue → List Tree
-leaves_of size t vs = element_leaves size (map (enc t) vs) (map (tree t) vs)
+leaves_of size t vs = element_leaves size (map (serialize t) vs) (map (tree t) vs)
 
 -- the node of the element of this number has it
 pub HasPart-elements : (t : SszType) (size : Option ℕ) → basic_size t ≡ size
@@ -100,9 +100,10 @@ HasPart-elements t None e vs i v fit fits found = map-at (tree t) (leaf zero_chu
 HasPart-elements t (Some z) e vs i v fit fits found =
     let basic = is_basic t z e in
     subst (HasPart (byte (i * z % 32)) t v)
-    (sym (place-pack (i * z / 32) (concat (map (enc t) vs))))
-    (chunk-part z i (map (enc t) vs) (enc t v) (basic.inside i) (AreSized-enc t z basic vs fit)
-    (basic.sized v fits) (map-at (enc t) [] i vs v found))
+    (sym (place-pack (i * z / 32) (concat (map (serialize t) vs))))
+    (chunk-part z i (map (serialize t) vs) (serialize t v) (basic.inside i)
+    (AreSized-enc t z basic vs fit)
+    (basic.sized v fits) (map-at (serialize t) [] i vs v found))
 
 -- Elements of which that of number i changes.
 module _ (t : SszType) (i : ℕ) (vs ws : List SszValue) (fit : AllByRecursion (Fits t) vs)
@@ -114,11 +115,12 @@ module _ (t : SszType) (i : ℕ) (vs ws : List SszValue) (fit : AllByRecursion (
       SameBut-map (tree t) (leaf zero_chunk) i vs ws same k other
   AgreeBut-elements (Some z) e n k below other =
       let basic = is_basic t z e in
-      place-pack k (concat (map (enc t) ws))
-      ∙ ap leaf (other-chunk z i (map (enc t) vs) (map (enc t) ws) basic.pos (basic.inside i)
+      place-pack k (concat (map (serialize t) ws))
+      ∙ ap leaf (other-chunk z i (map (serialize t) vs) (map (serialize t) ws) basic.pos
+      (basic.inside i)
       (AreSized-enc t z basic vs fit) (AreSized-enc t z basic ws fit_too)
-      (SameBut-map (enc t) [] i vs ws same) k other)
-      ∙ sym (place-pack k (concat (map (enc t) vs)))
+      (SameBut-map (serialize t) [] i vs ws same) k other)
+      ∙ sym (place-pack k (concat (map (serialize t) vs)))
 
   -- the element's node, written over
   pub place-changed : (size : Option ℕ) → basic_size t ≡ size → (w : SszValue) → Fits t w
@@ -128,14 +130,15 @@ module _ (t : SszType) (i : ℕ) (vs ws : List SszValue) (fit : AllByRecursion (
   place-changed None e w fits found = map-at (tree t) (leaf zero_chunk) i ws w found
   place-changed (Some z) e w fits found =
       let basic = is_basic t z e in
-      place-pack (i * z / 32) (concat (map (enc t) ws))
-      ∙ ap leaf (chunk-written z i (map (enc t) vs) (map (enc t) ws) basic.pos (basic.inside i)
+      place-pack (i * z / 32) (concat (map (serialize t) ws))
+      ∙ ap leaf (chunk-written z i (map (serialize t) vs) (map (serialize t) ws) basic.pos
+      (basic.inside i)
       (AreSized-enc t z basic vs fit) (AreSized-enc t z basic ws fit_too)
-      (SameBut-map (enc t) [] i vs ws same)
-      (enc t w) (basic.sized w fits)
-      (λ k below. ap (λ x. get_or x k 0) (map-at (enc t) [] i ws w found)))
+      (SameBut-map (serialize t) [] i vs ws same)
+      (serialize t w) (basic.sized w fits)
+      (λ k below. ap (λ x. get_or x k 0) (map-at (serialize t) [] i ws w found)))
       ∙ ap (with_part (byte (i * z % 32)) t w)
-      (sym (place-pack (i * z / 32) (concat (map (enc t) vs))))
+      (sym (place-pack (i * z / 32) (concat (map (serialize t) vs))))
 
   -- the element's node, with nothing there
   pub place-emptied : (size : Option ℕ) → basic_size t ≡ size → slice_get ws i ≡ None
@@ -144,14 +147,16 @@ module _ (t : SszType) (i : ℕ) (vs ws : List SszValue) (fit : AllByRecursion (
   place-emptied None e gone = map-past (tree t) (leaf zero_chunk) i ws gone
   place-emptied (Some z) e gone =
       let basic = is_basic t z e in
-      place-pack (i * z / 32) (concat (map (enc t) ws))
-      ∙ ap leaf (chunk-written z i (map (enc t) vs) (map (enc t) ws) basic.pos (basic.inside i)
+      place-pack (i * z / 32) (concat (map (serialize t) ws))
+      ∙ ap leaf (chunk-written z i (map (serialize t) vs) (map (serialize t) ws) basic.pos
+      (basic.inside i)
       (AreSized-enc t z basic vs fit) (AreSized-enc t z basic ws fit_too)
-      (SameBut-map (enc t) [] i vs ws same)
+      (SameBut-map (serialize t) [] i vs ws same)
       (replicate z 0) (length-replicate z 0)
-      (λ k below. ap (λ x. get_or x k 0) (map-past (enc t) [] i ws gone)
+      (λ k below. ap (λ x. get_or x k 0) (map-past (serialize t) [] i ws gone)
       ∙ sym (get_or-replicate z k 0 0 below)))
-      ∙ ap (λ y. leaf (written (padded (drop (32 * (i * z / 32)) (concat (map (enc t) vs))))
+      ∙ ap (λ y. leaf (spot_written
+      (padded (drop (32 * (i * z / 32)) (concat (map (serialize t) vs))))
       (i * z % 32) (replicate y 0))) (sym (ap (λ o. option_map_or (λ x. x) o 0) e))
       ∙ ap (without_part (byte (i * z % 32)) t)
-      (sym (place-pack (i * z / 32) (concat (map (enc t) vs))))
+      (sym (place-pack (i * z / 32) (concat (map (serialize t) vs))))

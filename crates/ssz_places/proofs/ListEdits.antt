@@ -2,7 +2,7 @@
 use Rattle.std.proofs.Common.{ltb, ◌≡◌, ℕ, zero, suc, ◌+◌, ◌-◌, ◌*◌, ◌/◌, ◌%◌, ◌^◌, ◌<◌, ◌≤◌, Bool, true, false, cond, eqb, List, [], ◌∷◌, ◌++◌, length, get_or, take, drop, map, Option, refl, sym, ap, ◌∙◌, subst, Some, None, Ok, Err, arith, length-append, cond}
 use Rattle.ssz_gindex.proofs.Seams.{slice_get-push}
 use Rattle.std.specs.List.{AllByRecursion, concat}
-use Rattle.ssz_value.specs.Encoding.{enc}
+use Rattle.ssz_value.specs.Encoding.{serialize}
 use Rattle.std.proofs.lemmas.Bool.{ltb-true, lt-ltb, eqb-false}
 use Rattle.std.proofs.lemmas.List.{length-take, get_or_past}
 use Rattle.std.proofs.lemmas.Option.{slice_get_past, unwrap_or-slice_get}
@@ -11,7 +11,7 @@ use Rattle.ssz_value.specs.declared.edit_fault.EditFault.{EditFault}
 use Rattle.ssz_schema.specs.Types.{SszType, boolean, list, bitlist}
 use Rattle.ssz_schema.specs.Sizes.{depth, basic_size}
 use Rattle.ssz_value.specs.Values.{SszValue, truth, sequence, bits, items, values, Fits}
-use Rattle.ssz_chunk.specs.Tree.{Tree, leaf, full, place}
+use Rattle.ssz_chunk.specs.Tree.{Tree, leaf, merkle_tree, place}
 use Rattle.ssz_value.specs.Trees.{pack_bits, padded}
 use Rattle.ssz_chunk.specs.Index.{at, put}
 use Rattle.ssz_schema.specs.Indices.{element_position, element_spot, byte, bit}
@@ -81,10 +81,10 @@ module _ (t : SszType) (n i : ℕ) (vs ws : List SszValue) (fit : AllByRecursion
   list-holds None is = tt
   list-holds (Some z) is =
       subst (CanHold (byte (i * z % 32)))
-      (sym (place-pack (i * z / 32) (concat (map (enc t) vs)))) tt
+      (sym (place-pack (i * z / 32) (concat (map (serialize t) vs)))) tt
 
   list-content : (change : Tree → Tree) → place (leaves_of (basic_size t) t ws) spot ≡ change node
-      → (v : SszValue) → content (list t n) v ≡ full d (leaves_of (basic_size t) t vs)
+      → (v : SszValue) → content (list t n) v ≡ merkle_tree d (leaves_of (basic_size t) t vs)
       → HasContent (list t n) v i change (sequence (values ws))
   list-content change new v is =
       let same_items : items (values ws) ≡ ws = items-values ws in
@@ -94,10 +94,10 @@ module _ (t : SszType) (n i : ℕ) (vs ws : List SszValue) (fit : AllByRecursion
             ap (λ c. at c (2 ^ d + spot)) is ∙ at-full d spot (leaves_of (basic_size t) t vs) below;
         holds = list-holds (basic_size t) refl;
         put = ap (λ c. put c (2 ^ d + spot) (change node)) is
-            ∙ ap (put (full d (leaves_of (basic_size t) t vs)) (2 ^ d + spot)) (sym new)
+            ∙ ap (put (merkle_tree d (leaves_of (basic_size t) t vs)) (2 ^ d + spot)) (sym new)
             ∙ put-full d spot (leaves_of (basic_size t) t vs) (leaves_of (basic_size t) t ws) below
             (AgreeBut-elements t i vs ws fit fits_too same (basic_size t) refl (2 ^ d))
-            ∙ ap (λ ys. Some (full d (leaves_of (basic_size t) t ys))) (sym same_items);
+            ∙ ap (λ ys. Some (merkle_tree d (leaves_of (basic_size t) t ys))) (sym same_items);
         whole = refl;
         fits =
             subst (λ ys. (length ys ≤ n) × AllByRecursion (Fits t) ys) (sym same_items)
@@ -131,7 +131,7 @@ module _ (n i : ℕ) (bs cs : List Bool) (same : SameItems i bs cs) (within : i 
             at-full bit_d (i / 256) (map leaf (pack_bits bs)) bit_below
             ∙ ap Some (place-pack (i / 256) (bit_bytes bs));
         holds = tt;
-        put = ap (put (full bit_d (map leaf (pack_bits bs))) (2 ^ bit_d + i / 256))
+        put = ap (put (merkle_tree bit_d (map leaf (pack_bits bs))) (2 ^ bit_d + i / 256))
             (sym new ∙ ap leaf (sym (bits-written i bs cs differ))
             ∙ sym (place-pack (i / 256) (bit_bytes cs)))
             ∙ put-full bit_d (i / 256) (map leaf (pack_bits bs)) (map leaf (pack_bits cs)) bit_below

@@ -7,7 +7,7 @@ use Rattle.std.specs.Prelude.{slice_range}
 use Rattle.ssz_chunk.specs.Tree.{leaf, place}
 use Rattle.ssz_chunk.specs.Chunk.{zero_chunk}
 use Rattle.ssz_value.specs.Trees.{padded, chunks, pack}
-use Rattle.ssz_places.specs.Spots.{written}
+use Rattle.ssz_places.specs.Spots.{spot_written}
 
 pub length-padded : (bytes : List ℕ) → length (padded bytes) ≡ 32
 length-padded bytes =
@@ -82,7 +82,7 @@ place-pack j bytes = place-chunks ((length bytes + 31) / 32) j bytes (omega arit
 -- Below, a chunk from at on, and what is written into it.
 
 pub length-written : (bytes part : List ℕ) (at : ℕ) → at + length part ≤ length bytes
-    → length (written bytes at part) ≡ length bytes
+    → length (spot_written bytes at part) ≡ length bytes
 length-written bytes part at h =
     omega (
       arith,
@@ -98,7 +98,7 @@ length-front bytes part at h = omega (arith, length-take at bytes)
 
 -- a byte before the part, in it, and behind it
 pub written-before : (bytes part : List ℕ) (at k : ℕ) → at + length part ≤ length bytes → k < at
-    → get_or (written bytes at part) k 0 ≡ get_or bytes k 0
+    → get_or (spot_written bytes at part) k 0 ≡ get_or bytes k 0
 written-before bytes part at k h below =
     let front = length-front bytes part at h in
     get_or_append_left (take at bytes ++ part) (drop (at + length part) bytes) 0 k
@@ -107,7 +107,7 @@ written-before bytes part at k h below =
     ∙ get_or-take at bytes k 0 below
 
 pub written-inside : (bytes part : List ℕ) (at k : ℕ) → at + length part ≤ length bytes
-    → k < length part → get_or (written bytes at part) (at + k) 0 ≡ get_or part k 0
+    → k < length part → get_or (spot_written bytes at part) (at + k) 0 ≡ get_or part k 0
 written-inside bytes part at k h below =
     let front = length-front bytes part at h in
     get_or_append_left (take at bytes ++ part) (drop (at + length part) bytes) 0 (at + k)
@@ -116,7 +116,7 @@ written-inside bytes part at k h below =
     ∙ ap (λ n. get_or part n 0) (let e : at + k - at ≡ k = omega arith in e)
 
 pub written-behind : (bytes part : List ℕ) (at k : ℕ) → at + length part ≤ length bytes
-    → at + length part ≤ k → get_or (written bytes at part) k 0 ≡ get_or bytes k 0
+    → at + length part ≤ k → get_or (spot_written bytes at part) k 0 ≡ get_or bytes k 0
 written-behind bytes part at k h above =
     let front = length-front bytes part at h in
     let both : length (take at bytes ++ part) ≡ at + length part =
@@ -199,7 +199,7 @@ module _ (z i : ℕ) (xs ys : List (List ℕ)) (pos : 0 < z) (inside : i * z % 3
         ∙ sym (at_byte k below)
 
     byte_is : (k : ℕ) → k < 32 → get_or (concat ys) (32 * (i * z / 32) + k) 0 ≡ get_or
-        (written old_chunk (i * z % 32) part) k 0
+        (spot_written old_chunk (i * z % 32) part) k 0
     byte_is k below = elim (cases_lt k (i * z % 32)) [
       | inl lt ↦ elsewhere k below (λ e. let within = between_parts z i
           (32 * (i * z / 32) + k) pos e in omega (arith, within.0))
@@ -210,7 +210,7 @@ module _ (z i : ℕ) (xs ys : List (List ℕ)) (pos : 0 < z) (inside : i * z % 3
             (let e : 32 * (i * z / 32) + k ≡ i * z + (k - i * z % 32) = omega arith in e)
             ∙ get_or-concat z ys i (k - i * z % 32) sized_too low ∙ new (k - i * z % 32) low
             ∙ sym (written-inside old_chunk part (i * z % 32) (k - i * z % 32) room (omega arith))
-            ∙ ap (λ n. get_or (written old_chunk (i * z % 32) part) n 0)
+            ∙ ap (λ n. get_or (spot_written old_chunk (i * z % 32) part) n 0)
             (let e : i * z % 32 + (k - i * z % 32) ≡ k = omega arith in e))
         | inr above ↦ elsewhere k below
             (λ e. let within = between_parts z i (32 * (i * z / 32) + k) pos e in
@@ -220,10 +220,11 @@ module _ (z i : ℕ) (xs ys : List (List ℕ)) (pos : 0 < z) (inside : i * z % 3
     ]
 
     -- the chunk in which the part lies has it written over
-    pub chunk-written : padded (drop (32 * (i * z / 32)) (concat ys)) ≡ written old_chunk
+    pub chunk-written : padded (drop (32 * (i * z / 32)) (concat ys)) ≡ spot_written old_chunk
         (i * z % 32) part
     chunk-written =
-        same_padded (drop (32 * (i * z / 32)) (concat ys)) (written old_chunk (i * z % 32) part)
+        same_padded (drop (32 * (i * z / 32)) (concat ys))
+        (spot_written old_chunk (i * z % 32) part)
         (length-written old_chunk part (i * z % 32) room
         ∙ length-padded (drop (32 * (i * z / 32)) (concat xs)))
         (λ k below. get_or-drop (32 * (i * z / 32)) (concat ys) k 0 ∙ byte_is k below)

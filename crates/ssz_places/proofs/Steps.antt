@@ -16,7 +16,7 @@ use Rattle.ssz_schema.specs.Sizes.{depth, basic_size}
 use Rattle.ssz_schema.specs.Legal.{IsLegal, greatest_limit}
 use Rattle.ssz_bytes.specs.Bytes.{le_bytes, bit_value}
 use Rattle.ssz_value.specs.Values.{SszValue, number, truth, sequence, bits, chosen, chosen_none, items, values, Fits, FitFields}
-use Rattle.ssz_chunk.specs.Tree.{Tree, leaf, pair, full, place}
+use Rattle.ssz_chunk.specs.Tree.{Tree, leaf, pair, merkle_tree, place}
 use Rattle.ssz_chunk.specs.Chunk.{zero_chunk}
 use Rattle.ssz_value.specs.Trees.{tree, field_trees, option_tree, pack_bits, padded, number_chunk}
 use Rattle.ssz_chunk.specs.Index.{digits, at_way, put_way}
@@ -112,12 +112,12 @@ module _ (fs : Fields) (name : List ℕ) (u : SszType) (typed : field_type fs na
           value = sequence (values ws);
           is = refl;
           fits = subst (FitFields fs) (sym same) (here.set (items vs) x fit f);
-          put = ap (put_way (full (depth (container fs)) (field_trees fs (items vs)))
+          put = ap (put_way (merkle_tree (depth (container fs)) (field_trees fs (items vs)))
               (digits (depth (container fs)) at)) (sym new)
               ∙ put_way-full (depth (container fs)) at (field_trees fs (items vs))
               (field_trees fs ws) below (λ k small other. place-field_trees fs
               (items vs) at k x other)
-              ∙ ap (λ ys. Some (full (depth (container fs)) (field_trees fs ys))) (sym same);
+              ∙ ap (λ ys. Some (merkle_tree (depth (container fs)) (field_trees fs ys))) (sym same);
         };
   }
   StepHolds-field _ w fit found = absurd fit
@@ -128,7 +128,7 @@ module _ (t : SszType) (d i : ℕ) (vs : List SszValue) (w : SszValue)
     (fit : AllByRecursion (Fits t) vs) (found : slice_get vs i ≡ Some w)
     (below : element_position (basic_size t) i < 2 ^ d) where
   abbrev content : List SszValue → Tree
-  content ws = full d (leaves_of (basic_size t) t ws)
+  content ws = merkle_tree d (leaves_of (basic_size t) t ws)
 
   abbrev spot : ℕ
   spot = element_position (basic_size t) i
@@ -179,7 +179,7 @@ StepHolds-vector t u n i (sequence vs) w fit typed found =
                 subst (λ ys. (length ys ≡ n) × AllByRecursion (Fits t) ys) (sym same)
                 (length-set (items vs) i x ∙ fit.0, All-set (Fits t) (items vs) i x fit.1 f);
             put = element-put t d i (items vs) w fit.1 found below x f
-                ∙ ap (λ ys. Some (full d (leaves_of (basic_size t) t ys))) (sym same);
+                ∙ ap (λ ys. Some (merkle_tree d (leaves_of (basic_size t) t ys))) (sym same);
           };
     })
 StepHolds-vector t u n i _ w fit typed found = absurd fit
@@ -220,9 +220,9 @@ StepHolds-list t u n i (sequence vs) w fit typed found =
                 (with_part (element_spot (basic_size t) i) t x node)) way
                 ∙ ap (option_map (λ new. pair new (leaf (number_chunk (length (items vs))))))
                 (element-put t d i (items vs) w fit.1 found below x f)
-                ∙ ap (λ k. Some (pair (full d (leaves_of (basic_size t) t ws))
+                ∙ ap (λ k. Some (pair (merkle_tree d (leaves_of (basic_size t) t ws))
                 (leaf (number_chunk k)))) (sym long)
-                ∙ ap (λ ys. Some (pair (full d (leaves_of (basic_size t) t ys))
+                ∙ ap (λ ys. Some (pair (merkle_tree d (leaves_of (basic_size t) t ys))
                 (leaf (number_chunk (length ys))))) (sym same);
           };
     })
@@ -238,7 +238,7 @@ some_truth (Some b) w e = (b, refl, same_Some (truth b) w e)
 module _ (d i : ℕ) (bs : List Bool) (b : Bool) (found : slice_get bs i ≡ Some b)
     (below : i / 256 < 2 ^ d) where
   abbrev bit_content : List Bool → Tree
-  bit_content cs = full d (map leaf (pack_bits cs))
+  bit_content cs = merkle_tree d (map leaf (pack_bits cs))
 
   abbrev chunk_at : List Bool → ℕ → List ℕ
   chunk_at cs j = padded (drop (32 * j) (bit_bytes cs))
@@ -321,7 +321,7 @@ StepHolds-bitlist u n i (bits bs) w fit typed found =
             (leaf (bit_written (padded (drop (32 * (i / 256)) (bit_bytes bs))) (i % 256) c))) way
             ∙ ap (option_map (λ new. pair new (leaf (number_chunk (length bs)))))
             (bit-put d i bs is.0 is.1 below c)
-            ∙ ap (λ k. Some (pair (full d (map leaf (pack_bits (set bs i c))))
+            ∙ ap (λ k. Some (pair (merkle_tree d (map leaf (pack_bits (set bs i c))))
             (leaf (number_chunk k)))) (sym (length-set bs i c));
       });
     }))
@@ -388,7 +388,8 @@ StepHolds-list_len format t u n (sequence vs) w legal fit typed found =
     (subst (λ s. StepHolds (list t n) (sequence vs) Len s (number (length (items vs))))
     (same_Some (uint W64) u typed)
     (right_leaf (list t n) (sequence vs) Len (uint W64) 8 (length (items vs))
-    (full (depth (list t n)) (leaves_of (basic_size t) t (items vs))) refl refl refl refl refl
+    (merkle_tree (depth (list t n)) (leaves_of (basic_size t) t (items vs))) refl refl refl refl
+    refl
     (omega arith) small small))
 StepHolds-list_len format t u n _ w legal fit typed found = absurd fit
 
@@ -401,7 +402,7 @@ StepHolds-bitlist_len format u n (bits bs) w legal fit typed found =
     (subst (λ s. StepHolds (bitlist n) (bits bs) Len s (number (length bs)))
     (same_Some (uint W64) u typed)
     (right_leaf (bitlist n) (bits bs) Len (uint W64) 8 (length bs)
-    (full (depth (bitlist n)) (map leaf (pack_bits bs))) refl refl refl refl refl
+    (merkle_tree (depth (bitlist n)) (map leaf (pack_bits bs))) refl refl refl refl refl
     (omega arith) small small))
 StepHolds-bitlist_len format u n _ w legal fit typed found = absurd fit
 

@@ -22,7 +22,7 @@ use Rattle.ssz_value.specs.Parts.{part, numbered}
 use Rattle.ssz_schema.specs.Indices.{Spot, whole, path_levels}
 use Rattle.ssz_places.specs.Spots.{with_part}
 use Rattle.ssz_value.specs.Edits.{Edited, edited, changed, replaced_in, replaced_at}
-use Rattle.ssz_places.specs.PlaceLaws.{IsPart, IsLegalValue, LawOfPlaces, LawOfLevels}
+use Rattle.ssz_places.specs.PlaceLaws.{IsPart, IsLegalValue, LawOfPartPlaces, LawOfPathLevels}
 use Rattle.ssz_places.specs.EditLaws.{LawOfEdits, is_changeable, is_mixed_in, LawOfChoice, choice_tree}
 use Rattle.ssz_places.specs.FaultLaws.{LawOfFaults}
 use Rattle.ssz_schema.proofs.PathLemmas.{and_then_parts}
@@ -55,7 +55,7 @@ path_legal format t (step ∷ steps) u legal e =
     let next = and_then_parts (λ s. path_type s steps) (step_type t step) u e in
     path_legal format next.0 steps u (step_legal format t step next.0 legal next.1) next.2
 
-pub law_of_places : LawOfPlaces
+pub law_of_places : LawOfPartPlaces
 law_of_places format t v steps u w g s value is =
     let h = holds format t v steps u w g s value is in (
       h.end,
@@ -91,7 +91,7 @@ levels_one : levels 1 ≡ 0
 unfolding levels_within
 levels_one = refl
 
-pub law_of_levels : LawOfLevels
+pub law_of_levels : LawOfPathLevels
 law_of_levels t steps g e =
     (goes_on 1 t steps g (omega arith) e).levels ∙ one (path_levels t steps)
   where

@@ -7,12 +7,12 @@ use Rattle.ssz_schema.specs.Sizes.{basic_size}
 use Rattle.ssz_bytes.specs.Bytes.{bit_value}
 use Rattle.ssz_schema.specs.Indices.{Spot, whole, byte, bit}
 use Rattle.ssz_value.specs.Values.{SszValue, truth}
-use Rattle.ssz_value.specs.Encoding.{enc}
+use Rattle.ssz_value.specs.Encoding.{serialize}
 use Rattle.ssz_value.specs.Trees.{tree}
 
 -- the bytes with others written over them from a place on
-abbrev pub written : List ℕ → ℕ → List ℕ → List ℕ
-written bytes at part = take at bytes ++ part ++ drop (at + length part) bytes
+abbrev pub spot_written : List ℕ → ℕ → List ℕ → List ℕ
+spot_written bytes at part = take at bytes ++ part ++ drop (at + length part) bytes
 
 -- the byte with this bit at a place, the lowest first
 abbrev pub with_bit : ℕ → ℕ → Bool → ℕ
@@ -25,7 +25,8 @@ bit_written bytes at b = set bytes (at / 8) (with_bit (slice_index bytes (at / 8
 -- the node has the part at this spot: it is its tree, or a leaf with its bytes or its bit there
 abbrev pub HasPart : Spot → SszType → SszValue → Tree → Type 0
 HasPart whole t v node = node ≡ tree t v
-HasPart (byte at) t v (leaf chunk) = slice_range chunk at (at + length (enc t v)) ≡ enc t v
+HasPart (byte at) t v (leaf chunk) =
+    slice_range chunk at (at + length (serialize t v)) ≡ serialize t v
 HasPart (bit at) t (truth b) (leaf chunk) =
     slice_index chunk (at / 8) / 2 ^ (at % 8) % 2 ≡ bit_value b
 HasPart _ _ _ _ = ⊥
@@ -33,7 +34,7 @@ HasPart _ _ _ _ = ⊥
 -- the node with this part at a spot
 abbrev pub with_part : Spot → SszType → SszValue → Tree → Tree
 with_part whole t v node = tree t v
-with_part (byte at) t v (leaf chunk) = leaf (written chunk at (enc t v))
+with_part (byte at) t v (leaf chunk) = leaf (spot_written chunk at (serialize t v))
 with_part (bit at) t (truth b) (leaf chunk) = leaf (bit_written chunk at b)
 -- no other node has a part there
 with_part _ t v node = node
@@ -42,7 +43,7 @@ with_part _ t v node = node
 abbrev pub without_part : Spot → SszType → Tree → Tree
 without_part whole t node = leaf zero_chunk
 without_part (byte at) t (leaf chunk) =
-    leaf (written chunk at (replicate (unwrap_or (basic_size t) 0) 0))
+    leaf (spot_written chunk at (replicate (unwrap_or (basic_size t) 0) 0))
 without_part (bit at) t (leaf chunk) = leaf (bit_written chunk at false)
 without_part _ t node = node
 

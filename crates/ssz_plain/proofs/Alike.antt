@@ -13,7 +13,7 @@ use Rattle.ssz_value.specs.Values.{SszValue, truth, sequence, bits, items, value
 use Rattle.ssz_value.specs.Parts.{part_at}
 use Rattle.ssz_value.specs.Edits.{Edited, with_more, with_less, given, replaced_at, replaced_in}
 use Rattle.ssz_value.proofs.Sequences.{items-values}
-use Rattle.ssz_plain.specs.Making.{Tells, Leaves, one_more, one_less, put_in, put_at}
+use Rattle.ssz_plain.specs.Making.{ChangeTells, ChangeLeaves, one_more, one_less, put_in, put_at}
 
 -- a result with its value turned
 abbrev pub turned : {X Y : Type 0} → (X → Y) → Result X EditFault → Result Y EditFault
@@ -39,7 +39,7 @@ pub tells_alike : {X Y : Type 0} (may : Bool) (answer : Result Unit EditFault) (
     (changed : Result X EditFault) (other : Result Y EditFault)
     → (changed ≡ Ok now → other ≡ Ok after)
     → ((fault : EditFault) → changed ≡ Err fault → other ≡ Err fault)
-    → Tells may answer now changed → Tells may answer after other
+    → ChangeTells may answer now changed → ChangeTells may answer after other
 tells_alike true (Ok done) now after changed other ok err h = ok h
 tells_alike false (Ok done) now after changed other ok err h = ok h
 tells_alike false (Err fault) now after changed other ok err h = err fault h
@@ -58,8 +58,8 @@ on_err_turned f (Err fault) old now h = ap f h
 
 -- a change of what a value is made of is one of the value
 pub leaves_turned : {X Y : Type 0} (f : X → Y) (may : Bool) (changed : Result X EditFault)
-    (old now : X) (answer : Result Unit EditFault) → Leaves may changed old now answer
-    → Leaves may (turned f changed) (f old) (f now) answer
+    (old now : X) (answer : Result Unit EditFault) → ChangeLeaves may changed old now answer
+    → ChangeLeaves may (turned f changed) (f old) (f now) answer
 leaves_turned f may changed old now answer h = record {
   tells = tells_alike may answer now (f now) changed (turned f changed) (λ e. ap (turned f) e)
       (λ fault e. ap (turned f) e) h.tells;
@@ -68,14 +68,14 @@ leaves_turned f may changed old now answer h = record {
 
 -- what wants no memory may want some
 pub may_want : {X : Type 0} (may : Bool) (changed : Result X EditFault) (old now : X)
-    (answer : Result Unit EditFault) → Leaves false changed old now answer
-    → Leaves may changed old now answer
+    (answer : Result Unit EditFault) → ChangeLeaves false changed old now answer
+    → ChangeLeaves may changed old now answer
 may_want false changed old now answer h = h
 may_want true changed old now answer h =
     record { tells = go answer h.tells; kept = h.kept }
   where
-    go : (answer : Result Unit EditFault) → Tells false answer now changed
-        → Tells true answer now changed
+    go : (answer : Result Unit EditFault) → ChangeTells false answer now changed
+        → ChangeTells true answer now changed
     go (Ok done) t = t
     go (Err Memory) t = tt
     go (Err BadPath) t = t

@@ -28,7 +28,7 @@ use Rattle.ssz_plain.specs.declared.leading.Lead.{Lead}
 use Rattle.ssz_plain.specs.Leading.{IsLead, LeadsBy, step_to}
 use Rattle.ssz_plain.specs.declared.edit.Edit.{Edit}
 use Rattle.ssz_plain.specs.declared.edit.Edit.TheVariants.{Set, Append, Pop, Choose}
-use Rattle.ssz_plain.specs.Making.{edit_of, SuitsEdit, SuitsPath, Tells, Leaves, Makes, put_at, new_byte, new_bit, number_of, truth_of}
+use Rattle.ssz_plain.specs.Making.{edit_of, SuitsEdit, SuitsPath, ChangeTells, ChangeLeaves, EditsValue, put_at, new_byte, new_bit, value_number, truth_of}
 use Rattle.ssz_plain.proofs.Alike.{turned, alike, tells_alike, may_want, item_alike, replaced_alike, put_alike}
 use Rattle.ssz_plain.proofs.Forms.{each_bit, left_put}
 use Rattle.ssz_plain.proofs.Made.{made_of}
@@ -36,7 +36,7 @@ use Rattle.ssz_plain.proofs.Steps.{part_of_seq, IsPartOfBytes, part_of_bytes, Is
 
 -- a refusal told
 told_fault : {X : Type 0} (may : Bool) (fault : EditFault) (now : X) (changed : Result X EditFault)
-    → changed ≡ Err fault → Tells may (Err fault) now changed
+    → changed ≡ Err fault → ChangeTells may (Err fault) now changed
 told_fault false fault now changed e = e
 told_fault true Memory now changed e = tt
 told_fault true BadPath now changed e = e
@@ -84,7 +84,7 @@ byte_edit : (edit : Edit) → SuitsEdit (uint W8) edit → (n : ℕ)
     → turned number (new_byte edit) ≡ edit_of edit (uint W8) (number n)
 byte_edit (Set new) h n = ap (λ v. Ok v) (go (value_of new) h.fits)
   where
-    go : (v : SszValue) → Fits (uint W8) v → number (number_of v) ≡ v
+    go : (v : SszValue) → Fits (uint W8) v → number (value_number v) ≡ v
     go (number n) h = refl
     go _ h = absurd h
 byte_edit (Append new) h n = refl
@@ -94,7 +94,7 @@ byte_edit (Choose k inner) h n = refl
 byte_small : (edit : Edit) → SuitsEdit (uint W8) edit → (b : ℕ) → new_byte edit ≡ Ok b → b < 256
 byte_small (Set new) h b e = go (value_of new) h.fits cc
   where
-    go : (v : SszValue) → Fits (uint W8) v → number_of v ≡ b → b < 256
+    go : (v : SszValue) → Fits (uint W8) v → value_number v ≡ b → b < 256
     go (number n) h same = subst (λ m. m < 256) same h
     go _ h same = absurd h
 byte_small (Append new) h b e = absurd cc
@@ -146,7 +146,7 @@ module _ (t u : SszType) (edit : Edit) (v : Value) (step : PathStep) (rest path 
   }
 
   refused : (may : Bool) (fault : EditFault) → onward u rest (value_of v) ≡ Err fault
-      → Makes may t (changed (edit_of edit) t (value_of v) path) v v (Err fault)
+      → EditsValue may t (changed (edit_of edit) t (value_of v) path) v v (Err fault)
   refused may fault e = record {
     fits = value;
     leaves = record { tells = told_fault may fault (value_of v) _ (led ∙ e); kept = refl };
@@ -154,14 +154,14 @@ module _ (t u : SszType) (edit : Edit) (v : Value) (step : PathStep) (rest path 
 
   -- no part is there
   pub absent : (may : Bool) → part_at at (value_of v) ≡ None
-      → Makes may t (changed (edit_of edit) t (value_of v) path) v v (Err Absent)
+      → EditsValue may t (changed (edit_of edit) t (value_of v) path) v v (Err Absent)
   absent may none = refused may Absent (ap (λ o. given o Absent
       (λ y. replaced_in at (value_of v) (changed (edit_of edit) u y rest))) none)
 
   -- a length or a selector
   pub counted : (may : Bool) → IsCount at u (value_of v)
       → ((x : SszValue) → replaced_at at (value_of v) x ≡ Err NotThat)
-      → Makes may t (changed (edit_of edit) t (value_of v) path) v v (Err NotThat)
+      → EditsValue may t (changed (edit_of edit) t (value_of v) path) v v (Err NotThat)
   unfolding onward_suits
   counted may is never =
       let end = end_of_number is.width rest suits.type
@@ -178,12 +178,12 @@ module _ (t u : SszType) (edit : Edit) (v : Value) (step : PathStep) (rest path 
       → replaced_at at (value_of v) (value_of left) ≡ Ok (value_of w)
       → (value_of left ≡ value_of part → value_of w ≡ value_of v)
       → (IsValue u left → IsValue t w)
-      → Makes may u (changed (edit_of edit) u (value_of part) rest) part left answer
-      → Makes may t (changed (edit_of edit) t (value_of v) path) v w answer
+      → EditsValue may u (changed (edit_of edit) u (value_of part) rest) part left answer
+      → EditsValue may t (changed (edit_of edit) t (value_of v) path) v w answer
   inner may w part left answer there placed same fits made = record {
     fits = fits made.fits;
     leaves = record {
-      tells = subst (Tells may answer (value_of w)) (sym (led ∙ ap (λ o. given o Absent
+      tells = subst (ChangeTells may answer (value_of w)) (sym (led ∙ ap (λ o. given o Absent
           (λ y. replaced_in at (value_of v) (changed (edit_of edit) u y rest))) there))
           (tells_alike may answer (value_of left) (value_of w)
           (changed (edit_of edit) u (value_of part) rest) _
@@ -206,10 +206,10 @@ module _ (t u : SszType) (edit : Edit) (v : Value) (step : PathStep) (rest path 
       → ((x : X) → replaced_at (Index i) (f run) (to x) ≡ Ok (f (set run i x)))
       → ((x : X) → turned to new ≡ edit_of edit s (to x))
       → value_of v ≡ f run → value_of w ≡ f left → IsValue t w
-      → Leaves false (put_at i new run) run left answer
-      → Makes may t (changed (edit_of edit) t (value_of v) path) v w answer
+      → ChangeLeaves false (put_at i new run) run left answer
+      → EditsValue may t (changed (edit_of edit) t (value_of v) path) v w answer
   in_run f to may w i run left new answer s index type end item replaced same is now fits leaves =
-      subst (λ (e : Edited). Makes may t e v w answer)
+      subst (λ (e : Edited). EditsValue may t e v w answer)
       (sym (led ∙ ap₂ (λ x more. onward x more (value_of v)) type end))
       (made_of f may t v w run left (put_at i new run) (onward s []) answer is now
       (subst (λ (a : PathStep). turned f (put_at i new run) ≡ given (part_at a (f run)) Absent
@@ -224,8 +224,8 @@ module _ (t u : SszType) (edit : Edit) (v : Value) (step : PathStep) (rest path 
   pub item_changed : (may : Bool) (w : Value) (parts new : Vec Value Global) (part left : Value)
       (answer : Result Unit EditFault) → v ≡ Seq parts → w ≡ Seq new → i < length parts.items
       → part ≡ get_or parts.items i part → new.items ≡ set parts.items i left
-      → Makes may u (changed (edit_of edit) u (value_of part) rest) part left answer
-      → Makes may t (changed (edit_of edit) t (value_of v) path) v w answer
+      → EditsValue may u (changed (edit_of edit) u (value_of part) rest) part left answer
+      → EditsValue may t (changed (edit_of edit) t (value_of v) path) v w answer
   item_changed may w parts new part left answer is now inside there placed made =
       let was : value_of v ≡ alike value_of parts.items = ap value_of is ∙ seq_is parts in
       let after : value_of w ≡ alike value_of (set parts.items i left) =
@@ -246,9 +246,9 @@ module _ (t u : SszType) (edit : Edit) (v : Value) (step : PathStep) (rest path 
   -- no element is there
   pub item_absent : (may : Bool) (w : Value) (parts : Vec Value Global) → v ≡ Seq parts
       → w ≡ Seq parts → length parts.items ≤ i
-      → Makes may t (changed (edit_of edit) t (value_of v) path) v w (Err Absent)
+      → EditsValue may t (changed (edit_of edit) t (value_of v) path) v w (Err Absent)
   item_absent may w parts is now past =
-      subst (λ x. Makes may t (changed (edit_of edit) t (value_of v) path) v x (Err Absent))
+      subst (λ x. EditsValue may t (changed (edit_of edit) t (value_of v) path) v x (Err Absent))
       (is ∙ sym now) (absent t u edit v step rest path (Index i) path_is typed at_is value suits may
       (ap (part_at (Index i)) (ap value_of is ∙ seq_is parts)
       ∙ item_alike value_of parts.items i
@@ -274,8 +274,8 @@ module _ (t u : SszType) (edit : Edit) (v : Value) (step : PathStep) (rest path 
     byte_suits = subst (λ s. SuitsEdit s edit) (sym bytes_end.1) suits.suits
 
     pub byte_changed : (may : Bool) (w : Value) (left : List ℕ) (answer : Result Unit EditFault)
-        → w ≡ Bytes left → Leaves false (put_at i (new_byte edit) run) run left answer
-        → Makes may t (changed (edit_of edit) t (value_of v) path) v w answer
+        → w ≡ Bytes left → ChangeLeaves false (put_at i (new_byte edit) run) run left answer
+        → EditsValue may t (changed (edit_of edit) t (value_of v) path) v w answer
     byte_changed may w left answer now leaves =
         let kept = left_put (λ b. b < 256) i (new_byte edit) run left answer bytes_held.bytes
         (byte_small edit byte_suits) leaves in
@@ -298,8 +298,8 @@ module _ (t u : SszType) (edit : Edit) (v : Value) (step : PathStep) (rest path 
     bit_suits = subst (λ s. SuitsEdit s edit) (sym bits_end.1) suits.suits
 
     pub bit_changed : (may : Bool) (w : Value) (left : List Bool) (answer : Result Unit EditFault)
-        → w ≡ Bits left → Leaves false (put_at i (new_bit edit) run) run left answer
-        → Makes may t (changed (edit_of edit) t (value_of v) path) v w answer
+        → w ≡ Bits left → ChangeLeaves false (put_at i (new_bit edit) run) run left answer
+        → EditsValue may t (changed (edit_of edit) t (value_of v) path) v w answer
     bit_changed may w left answer now leaves =
         let kept = left_put (λ _. Unit {0}) i (new_bit edit) run left answer (each_bit run)
         (λ b e. tt) leaves in
@@ -318,9 +318,9 @@ module _ (t u : SszType) (edit : Edit) (v : Value) (step : PathStep) (rest path 
 
   pub inner_changed : (may : Bool) (w : Value) (part new : Box Value Global)
       (answer : Result Unit EditFault) → v ≡ Union k (Some part) → w ≡ Union k (Some new)
-      → Makes may u (changed (edit_of edit) u (value_of part.value) rest) part.value new.value
+      → EditsValue may u (changed (edit_of edit) u (value_of part.value) rest) part.value new.value
       answer
-      → Makes may t (changed (edit_of edit) t (value_of v) path) v w answer
+      → EditsValue may t (changed (edit_of edit) t (value_of v) path) v w answer
   inner_changed may w part new answer is now made =
       let was : value_of v ≡ chosen k (value_of part.value) = ap value_of is ∙ chosen_is k part in
       let after : value_of w ≡ chosen k (value_of new.value) = ap value_of now ∙ chosen_is k new in

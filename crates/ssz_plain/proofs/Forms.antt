@@ -16,7 +16,7 @@ use Rattle.ssz_value.proofs.ValueLemmas.{seq_is, bytes_are, bits_are}
 use Rattle.ssz_value.proofs.Sequences.{items-values}
 use Rattle.ssz_value.proofs.FormLemmas.{list_sequence, seq_elements, bytes_elements}
 use Rattle.ssz_value.proofs.FitLemmas.{list_value, list_parts, seq_sequence, seq_no_byte, bytes_sequence}
-use Rattle.ssz_plain.specs.Making.{Leaves, one_more, one_less, put_in, put_at}
+use Rattle.ssz_plain.specs.Making.{ChangeLeaves, one_more, one_less, put_in, put_at}
 use Rattle.ssz_plain.proofs.Alike.{set_all}
 
 -- the parts of elements and of bytes are counted
@@ -145,7 +145,7 @@ less_all P (suc n) (x ∷ xs) all = (all.0, less_all P n xs all.1)
 
 pub left_more : {X : Type 0} (P : X → Type 0) (limit : ℕ) (x : X) (xs new : List X)
     (answer : Result Unit EditFault) → AllByRecursion P xs × (length xs ≤ limit) → P x
-    → Leaves true (one_more limit x xs) xs new answer
+    → ChangeLeaves true (one_more limit x xs) xs new answer
     → AllByRecursion P new × (length new ≤ limit)
 left_more P limit x xs new (Ok done) held h leaves =
     let both = ok_of_cond _ (xs ++ x ∷ []) new Full leaves.tells in
@@ -157,7 +157,7 @@ left_more P limit x xs new (Err fault) held h leaves =
 
 pub left_less : {X : Type 0} (P : X → Type 0) (limit : ℕ) (xs new : List X)
     (answer : Result Unit EditFault) → AllByRecursion P xs × (length xs ≤ limit)
-    → Leaves false (one_less xs) xs new answer
+    → ChangeLeaves false (one_less xs) xs new answer
     → AllByRecursion P new × (length new ≤ limit)
 left_less P limit xs new (Ok done) held leaves =
     let is = ok_of_cond_not _ (take (length xs - 1) xs) new Empty leaves.tells in
@@ -176,7 +176,7 @@ ok_of_put false i xs x new e = absurd cc
 -- what another element i leaves: each is P, and they are as many
 pub left_put : {X : Type 0} (P : X → Type 0) (i : ℕ) (x : Result X EditFault) (xs new : List X)
     (answer : Result Unit EditFault) → AllByRecursion P xs → ((y : X) → x ≡ Ok y → P y)
-    → Leaves false (put_at i x xs) xs new answer
+    → ChangeLeaves false (put_at i x xs) xs new answer
     → AllByRecursion P new × (length new ≡ length xs)
 left_put P i x xs new (Ok done) all fits leaves =
     let of = ok_of_put (ltb i (length xs)) i xs x new leaves.tells in

@@ -14,7 +14,7 @@ use Rattle.ssz_value.specs.Suiting.{IsInner}
 use Rattle.ssz_value.specs.Edits.{Edited, with_more, with_less, with_choice, choice_of}
 use Rattle.ssz_value.proofs.ValueLemmas.{seq_is, bytes_are, bits_are, chosen_is, chosen_none_is}
 use Rattle.ssz_value.proofs.FormLemmas.{chosen_out, none_formed}
-use Rattle.ssz_plain.specs.Making.{Leaves, Makes, one_more, one_less, unboxed}
+use Rattle.ssz_plain.specs.Making.{ChangeLeaves, EditsValue, one_more, one_less, unboxed}
 use Rattle.ssz_plain.proofs.Alike.{turned, alike, leaves_turned, more_alike, more_bits, less_alike}
 use Rattle.ssz_plain.proofs.Forms.{list_seq, list_bytes, list_bits, list_seq_parts, list_bytes_parts, bitlist_few, each_bit, left_more, left_less}
 
@@ -22,14 +22,15 @@ use Rattle.ssz_plain.proofs.Forms.{list_seq, list_bytes, list_bits, list_seq_par
 pub made_of : {X : Type 0} (f : List X → SszValue) (may : Bool) (t : SszType) (old new : Value)
     (run left : List X) (changed : Result (List X) EditFault) (edited : SszValue → Edited)
     (answer : Result Unit EditFault) → value_of old ≡ f run → value_of new ≡ f left
-    → turned f changed ≡ edited (f run) → IsValue t new → Leaves may changed run left answer
-    → Makes may t (edited (value_of old)) old new answer
+    → turned f changed ≡ edited (f run) → IsValue t new → ChangeLeaves may changed run left answer
+    → EditsValue may t (edited (value_of old)) old new answer
 made_of f may t old new run left changed edited answer is now same fits leaves = record {
   fits = fits;
-  leaves = subst (λ (e : Edited). Leaves may e (value_of old) (value_of new) answer)
+  leaves = subst (λ (e : Edited). ChangeLeaves may e (value_of old) (value_of new) answer)
       (same ∙ ap edited (sym is))
-      (subst (λ (v : SszValue). Leaves may (turned f changed) v (value_of new) answer) (sym is)
-      (subst (λ (v : SszValue). Leaves may (turned f changed) (f run) v answer) (sym now)
+      (subst (λ (v : SszValue). ChangeLeaves may (turned f changed) v (value_of new) answer)
+      (sym is)
+      (subst (λ (v : SszValue). ChangeLeaves may (turned f changed) (f run) v answer) (sym now)
       (leaves_turned f may changed run left answer leaves)));
 }
 
@@ -40,8 +41,8 @@ module _ (t elem : SszType) (limit : ℕ) (form : list elem limit ≡ t) (v w : 
     held = subst (IsValue (list elem limit)) is (subst (λ s. IsValue s v) (sym form) value)
 
     -- a part less
-    pub less_parts : Leaves false (one_less old.items) old.items new.items answer
-        → Makes false t (with_less t (value_of v)) v w answer
+    pub less_parts : ChangeLeaves false (one_less old.items) old.items new.items answer
+        → EditsValue false t (with_less t (value_of v)) v w answer
     less_parts leaves =
         let left = left_less (IsValue elem) limit old.items new.items answer
         (list_seq_parts elem limit old held) leaves in
@@ -54,8 +55,8 @@ module _ (t elem : SszType) (limit : ℕ) (form : list elem limit ≡ t) (v w : 
 
     -- a part more
     pub more_parts : (x : Value) → IsValue elem x
-        → Leaves true (one_more limit x old.items) old.items new.items answer
-        → Makes true t (with_more (value_of x) t (value_of v)) v w answer
+        → ChangeLeaves true (one_more limit x old.items) old.items new.items answer
+        → EditsValue true t (with_more (value_of x) t (value_of v)) v w answer
     more_parts x fits leaves =
         let left = left_more (IsValue elem) limit x old.items new.items answer
         (list_seq_parts elem limit old held) fits leaves in
@@ -72,8 +73,8 @@ module _ (t elem : SszType) (limit : ℕ) (form : list elem limit ≡ t) (v w : 
     run_held = subst (IsValue (list elem limit)) is (subst (λ s. IsValue s v) (sym form) value)
 
     -- a byte less
-    pub less_bytes : Leaves false (one_less old) old new answer
-        → Makes false t (with_less t (value_of v)) v w answer
+    pub less_bytes : ChangeLeaves false (one_less old) old new answer
+        → EditsValue false t (with_less t (value_of v)) v w answer
     less_bytes leaves =
         let left = left_less (λ b. b < 256) limit old new answer
         (list_bytes_parts elem limit old run_held) leaves in
@@ -85,8 +86,8 @@ module _ (t elem : SszType) (limit : ℕ) (form : list elem limit ≡ t) (v w : 
 
     -- a byte more
     pub more_bytes : (x : Value) (b : ℕ) → value_of x ≡ number b → b < 256
-        → Leaves true (one_more limit b old) old new answer
-        → Makes true t (with_more (value_of x) t (value_of v)) v w answer
+        → ChangeLeaves true (one_more limit b old) old new answer
+        → EditsValue true t (with_more (value_of x) t (value_of v)) v w answer
     more_bytes x b byte small leaves =
         let left = left_more (λ b. b < 256) limit b old new answer
         (list_bytes_parts elem limit old run_held) small leaves in
@@ -103,8 +104,8 @@ module _ (t elem : SszType) (limit : ℕ) (form : list elem limit ≡ t) (v w : 
 pub more_bit : (t : SszType) (limit : ℕ) → bitlist limit ≡ t → (v w : Value)
     (answer : Result Unit EditFault) → IsValue t v → (old new : List Bool) → v ≡ Bits old
     → w ≡ Bits new → (x : Value) (b : Bool) → value_of x ≡ truth b
-    → Leaves true (one_more limit b old) old new answer
-    → Makes true t (with_more (value_of x) t (value_of v)) v w answer
+    → ChangeLeaves true (one_more limit b old) old new answer
+    → EditsValue true t (with_more (value_of x) t (value_of v)) v w answer
 more_bit t limit form v w answer value old new is now x b bit leaves =
     let held : IsValue (bitlist limit) (Bits old) =
     subst (IsValue (bitlist limit)) is (subst (λ s. IsValue s v) (sym form) value) in
@@ -121,16 +122,17 @@ more_bit t limit form v w answer value old new is now x b bit leaves =
 pub chosen_made : (t : SszType) (os : Options) → union os ≡ t → (k : ℕ)
     (inner : Option (Box Value Global)) (v : Value) → k < option_count os
     → IsInner t k (unboxed inner)
-    → Makes false t (with_choice k (option_map value_of (unboxed inner)) t (value_of v)) v
+    → EditsValue false t (with_choice k (option_map value_of (unboxed inner)) t (value_of v)) v
     (Union k inner) (Ok tt)
 chosen_made t os form k inner v room suits =
-    subst (λ s. Makes false s
+    subst (λ s. EditsValue false s
     (with_choice k (option_map value_of (unboxed inner)) s (value_of v)) v (Union k inner) (Ok tt))
     form (go inner (subst (λ s. IsInner s k (unboxed inner)) (sym form) suits))
   where
     made : (inner : Option (Box Value Global))
         → choice_of k (option_map value_of (unboxed inner)) ≡ value_of (Union k inner)
-        → Leaves false (with_choice k (option_map value_of (unboxed inner)) (union os) (value_of v))
+        → ChangeLeaves false (with_choice k (option_map value_of (unboxed inner)) (union os)
+        (value_of v))
         (value_of v) (value_of (Union k inner)) (Ok tt)
     made inner e = record {
       tells = ap (λ b. cond b (Ok (choice_of k (option_map value_of (unboxed inner))))
@@ -139,7 +141,7 @@ chosen_made t os form k inner v room suits =
     }
 
     go : (inner : Option (Box Value Global)) → IsInner (union os) k (unboxed inner)
-        → Makes false (union os)
+        → EditsValue false (union os)
         (with_choice k (option_map value_of (unboxed inner)) (union os) (value_of v)) v
         (Union k inner) (Ok tt)
     go (Some part) h = record {
@@ -159,7 +161,7 @@ chosen_made t os form k inner v room suits =
 
 pub not_chosen : (t : SszType) (os : Options) → union os ≡ t → (k : ℕ)
     (inner : Option SszValue) (v : Value) → option_count os ≤ k → IsValue t v
-    → Makes false t (with_choice k inner t (value_of v)) v v (Err BadSelector)
+    → EditsValue false t (with_choice k inner t (value_of v)) v v (Err BadSelector)
 not_chosen t os form k inner v past value = record {
   fits = value;
   leaves = record {

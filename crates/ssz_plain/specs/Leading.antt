@@ -37,7 +37,7 @@ pub record LeadsBy (types : Types) (id : ℕ) (path : Path) (part : ℕ) (place 
   pub numbered : numbered (type_of types id) step ≡ step_to place
 
 -- what is found at the place is one of the type that a step to it leads to
-abbrev pub Suits : Value → PathStep → Option PartRef → Type 0
-Suits v place found =
+abbrev pub PlaceSuits : Value → PathStep → Option PartRef → Type 0
+PlaceSuits v place found =
     (t u : SszType) (step : PathStep) → step_type t step ≡ Some u → numbered t step ≡ place
     → IsValue t v → IfSome found (IsPartOf u)

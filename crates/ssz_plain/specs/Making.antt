@@ -44,27 +44,28 @@ takes_memory (Append new) = true
 takes_memory edit = false
 
 -- what came of a change is this, or, where it may be, want of memory
-abbrev pub Tells : {X : Type 0} → Bool → Result Unit EditFault → X → Result X EditFault → Type 0
-Tells true (Err Memory) now changed = Unit {0}
-Tells may (Ok done) now changed = changed ≡ Ok now
-Tells may (Err fault) now changed = changed ≡ Err fault
+abbrev pub ChangeTells : {X : Type 0} → Bool → Result Unit EditFault → X → Result X EditFault
+    → Type 0
+ChangeTells true (Err Memory) now changed = Unit {0}
+ChangeTells may (Ok done) now changed = changed ≡ Ok now
+ChangeTells may (Err fault) now changed = changed ≡ Err fault
 
 -- so the change comes out, and where it is refused nothing is changed
-pub record Leaves {X : Type 0} (may : Bool) (changed : Result X EditFault) (old new : X)
+pub record ChangeLeaves {X : Type 0} (may : Bool) (changed : Result X EditFault) (old new : X)
     (answer : Result Unit EditFault) : Type 0 where
-  pub tells : Tells may answer new changed
+  pub tells : ChangeTells may answer new changed
   pub kept : OnErr answer (new ≡ old)
 
 -- so the edit of a value of the type comes out, and one of the type is left
-pub record Makes (may : Bool) (t : SszType) (edited : Edited) (old new : Value)
+pub record EditsValue (may : Bool) (t : SszType) (edited : Edited) (old new : Value)
     (answer : Result Unit EditFault) : Type 0 where
   pub fits : IsValue t new
-  pub leaves : Leaves may edited (value_of old) (value_of new) answer
+  pub leaves : ChangeLeaves may edited (value_of old) (value_of new) answer
 
 -- the number and the truth that a value is
-abbrev pub number_of : SszValue → ℕ
-number_of (number n) = n
-number_of v = 0
+abbrev pub value_number : SszValue → ℕ
+value_number (number n) = n
+value_number v = 0
 
 abbrev pub truth_of : SszValue → Bool
 truth_of (truth b) = b
@@ -90,7 +91,7 @@ put_at i x run = if nat_lt i (length run) then put_in i run x else Err Absent
 
 -- what an edit makes of a byte and of a bit
 abbrev pub new_byte : Edit → Result ℕ EditFault
-new_byte (Set new) = Ok (number_of (value_of new))
+new_byte (Set new) = Ok (value_number (value_of new))
 new_byte edit = Err NotThat
 
 abbrev pub new_bit : Edit → Result Bool EditFault

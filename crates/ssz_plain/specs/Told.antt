@@ -6,9 +6,9 @@ use Rattle.ssz_value.specs.Values.{SszValue}
 use Rattle.ssz_value.specs.Edits.{Edited}
 
 -- what came of an edit: the value that there is now, or why it is not edited
-abbrev pub told : Result Unit EditFault → SszValue → Edited
-told (Ok done) now = Ok now
-told (Err fault) now = Err fault
+abbrev pub edit_outcome : Result Unit EditFault → SszValue → Edited
+edit_outcome (Ok done) now = Ok now
+edit_outcome (Err fault) now = Err fault
 
 -- want of memory, or this
 abbrev pub OrMemory : Result Unit EditFault → Type 0 → Type 0

@@ -7,7 +7,7 @@ ghost use Rattle.ssz_value.specs.Standing.{IsValue, value_of};
 ghost use Rattle.ssz_value.specs.Edits.{changed};
 ghost use Rattle.ssz_plain.specs.declared.leading.Place.TheVariants.{Item, Inner};
 ghost use Rattle.ssz_plain.specs.Leading.{LeadsBy};
-ghost use Rattle.ssz_plain.specs.Making.{Makes, Leaves, edit_of, takes_memory, SuitsPath, SuitsEdit, put_at, new_byte, new_bit};
+ghost use Rattle.ssz_plain.specs.Making.{EditsValue, ChangeLeaves, edit_of, takes_memory, SuitsPath, SuitsEdit, put_at, new_byte, new_bit};
 
 use super::edit::Edit;
 use super::leading::{Place, step_lead};
@@ -29,7 +29,7 @@ pub(crate) fn change(
     requires value { IsValue (type_of schema.now id) value.old }
     requires suits { SuitsPath (type_of schema.now id) path.now edit }
     ensures { let t = type_of schema.now id in
-        Makes (takes_memory edit) t (changed (edit_of edit) t (value_of value.old) path.now)
+        EditsValue (takes_memory edit) t (changed (edit_of edit) t (value_of value.old) path.now)
         value.old value.new result }
 {
     let Some((step, _rest)) = path.split_first() else {
@@ -70,7 +70,7 @@ fn change_item(
     requires suits { SuitsPath (type_of schema.now id) path.now edit }
     requires led { LeadsBy schema.now id path.now at.0 (Item at.1) }
     ensures { let t = type_of schema.now id in
-        Makes (takes_memory edit) t (changed (edit_of edit) t (value_of value.old) path.now)
+        EditsValue (takes_memory edit) t (changed (edit_of edit) t (value_of value.old) path.now)
         value.old value.new result }
 {
     let i = at.1;
@@ -106,7 +106,7 @@ fn change_inner(
     requires suits { SuitsPath (type_of schema.now id) path.now edit }
     requires led { LeadsBy schema.now id path.now at.0 (Inner at.1) }
     ensures { let t = type_of schema.now id in
-        Makes (takes_memory edit) t (changed (edit_of edit) t (value_of value.old) path.now)
+        EditsValue (takes_memory edit) t (changed (edit_of edit) t (value_of value.old) path.now)
         value.old value.new result }
 {
     let number = at.1;
@@ -134,7 +134,7 @@ fn change_inner(
 // Makes the edit of byte i.
 fn change_byte(run: &mut ByteRun, i: u64, edit: Edit) -> Result<(), EditFault>
     requires { SuitsEdit (uint W8) edit }
-    ensures { Leaves false (put_at i (new_byte edit) run.old) run.old run.new result }
+    ensures { ChangeLeaves false (put_at i (new_byte edit) run.old) run.old run.new result }
 {
     if i >= run.len() as u64 {
         drop(edit);
@@ -155,7 +155,7 @@ fn change_byte(run: &mut ByteRun, i: u64, edit: Edit) -> Result<(), EditFault>
 // Makes the edit of bit i.
 fn change_bit(run: &mut BitRun, i: u64, edit: Edit) -> Result<(), EditFault>
     requires { SuitsEdit boolean edit }
-    ensures { Leaves false (put_at i (new_bit edit) run.old) run.old run.new result }
+    ensures { ChangeLeaves false (put_at i (new_bit edit) run.old) run.old run.new result }
 {
     if i >= run.len() as u64 {
         drop(edit);

@@ -7,7 +7,7 @@ ghost use Rattle.ssz_value.specs.Values.{number as number_value, truth};
 ghost use Rattle.ssz_value.specs.Standing.{IsValue, value_of};
 ghost use Rattle.ssz_value.specs.Suiting.{IsElement, IsInner};
 ghost use Rattle.ssz_value.specs.Edits.{with_more, with_less, with_choice};
-ghost use Rattle.ssz_plain.specs.Making.{Makes, edit_of, takes_memory, SuitsEdit, unboxed};
+ghost use Rattle.ssz_plain.specs.Making.{EditsValue, edit_of, takes_memory, SuitsEdit, unboxed};
 
 use super::edit::Edit;
 use super::runs::{pop_bit, pop_byte, pop_part, push_bit, push_byte, push_part};
@@ -25,7 +25,7 @@ pub(crate) fn make(
     requires value { IsValue (type_of schema.now id) value.old }
     requires edit { SuitsEdit (type_of schema.now id) edit }
     ensures { let t = type_of schema.now id in
-        Makes (takes_memory edit) t (edit_of edit t (value_of value.old)) value.old value.new
+        EditsValue (takes_memory edit) t (edit_of edit t (value_of value.old)) value.old value.new
         result }
 {
     match edit {
@@ -45,7 +45,7 @@ fn append(schema: &Schema, id: TypeId, value: &mut Value, new: Value) -> Result<
     requires value { IsValue (type_of schema.now id) value.old }
     requires new { IsElement (type_of schema.now id) new }
     ensures { let t = type_of schema.now id in
-        Makes true t (with_more (value_of new) t (value_of value.old)) value.old value.new
+        EditsValue true t (with_more (value_of new) t (value_of value.old)) value.old value.new
         result }
 {
     match schema.ty(id) {
@@ -76,7 +76,7 @@ fn pop(schema: &Schema, id: TypeId, value: &mut Value) -> Result<(), EditFault>
     requires known { id < length schema.now.trees }
     requires value { IsValue (type_of schema.now id) value.old }
     ensures { let t = type_of schema.now id in
-        Makes false t (with_less t (value_of value.old)) value.old value.new result }
+        EditsValue false t (with_less t (value_of value.old)) value.old value.new result }
 {
     match schema.ty(id) {
         Ty::List(_, _) => match value {
@@ -104,7 +104,7 @@ fn choose(
     requires value { IsValue (type_of schema.now id) value.old }
     requires inner { IsInner (type_of schema.now id) selector (unboxed inner) }
     ensures { let t = type_of schema.now id in
-        Makes false t
+        EditsValue false t
         (with_choice selector (option_map value_of (unboxed inner)) t (value_of value.old))
         value.old value.new result }
 {

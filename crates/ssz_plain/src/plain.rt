@@ -4,7 +4,7 @@ ghost use Rattle.ssz_schema.specs.Paths.{path_type};
 ghost use Rattle.ssz_value.specs.Standing.{value_of, IsValue};
 ghost use Rattle.ssz_value.specs.Suiting.{IsElement, IsInner};
 ghost use Rattle.ssz_value.specs.Edits.{set_at, append_at, pop_at, choose_at};
-ghost use Rattle.ssz_plain.specs.Told.{told, OrMemory};
+ghost use Rattle.ssz_plain.specs.Told.{edit_outcome, OrMemory};
 
 use super::changing::change;
 use super::edit::Edit;
@@ -26,7 +26,7 @@ pub fn plain_set(
     requires known { id < length schema.now.trees }
     requires value { IsValue (type_of schema.now id) value.old }
     requires new { IfSome (path_type (type_of schema.now id) path.now) (λ u. IsValue u new) }
-    ensures edited { told result (value_of value.new)
+    ensures edited { edit_outcome result (value_of value.new)
         ≡ set_at (type_of schema.now id) (value_of value.old) path.now (value_of new) }
     ensures fits { IsValue (type_of schema.now id) value.new }
     ensures kept { OnErr result (value_of value.new ≡ value_of value.old) }
@@ -51,7 +51,7 @@ pub fn plain_append(
     requires known { id < length schema.now.trees }
     requires value { IsValue (type_of schema.now id) value.old }
     requires new { IfSome (path_type (type_of schema.now id) path.now) (λ u. IsElement u new) }
-    ensures edited { OrMemory result (told result (value_of value.new)
+    ensures edited { OrMemory result (edit_outcome result (value_of value.new)
         ≡ append_at (type_of schema.now id) (value_of value.old) path.now (value_of new)) }
     ensures fits { IsValue (type_of schema.now id) value.new }
     ensures kept { OnErr result (value_of value.new ≡ value_of value.old) }
@@ -73,7 +73,7 @@ pub fn plain_pop(
 ) -> Result<(), EditFault>
     requires known { id < length schema.now.trees }
     requires value { IsValue (type_of schema.now id) value.old }
-    ensures edited { told result (value_of value.new)
+    ensures edited { edit_outcome result (value_of value.new)
         ≡ pop_at (type_of schema.now id) (value_of value.old) path.now }
     ensures fits { IsValue (type_of schema.now id) value.new }
     ensures kept { OnErr result (value_of value.new ≡ value_of value.old) }
@@ -101,7 +101,7 @@ pub fn plain_choose(
     requires value { IsValue (type_of schema.now id) value.old }
     requires inner { IfSome (path_type (type_of schema.now id) path.now)
         (λ u. IsInner u selector inner) }
-    ensures edited { OrMemory result (told result (value_of value.new)
+    ensures edited { OrMemory result (edit_outcome result (value_of value.new)
         ≡ choose_at (type_of schema.now id) (value_of value.old) path.now selector
         (option_map value_of inner)) }
     ensures fits { IsValue (type_of schema.now id) value.new }

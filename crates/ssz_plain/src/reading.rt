@@ -6,7 +6,7 @@ ghost use Rattle.ssz_schema.specs.Paths.{path_type};
 ghost use Rattle.ssz_value.specs.Parts.{part, part_at, part_or_fault};
 ghost use Rattle.ssz_value.specs.Standing.{value_of, IsValue};
 ghost use Rattle.ssz_plain.specs.Lent.{part_value, lent, IsPartOf, IsTold};
-ghost use Rattle.ssz_plain.specs.Leading.{step_to, Suits};
+ghost use Rattle.ssz_plain.specs.Leading.{step_to, PlaceSuits};
 
 use super::leading::{Place, step_lead};
 use super::lending::PartRef;
@@ -78,7 +78,7 @@ fn at_end<'a>(found: PartRef<'a>, rest: &[PathStep]) -> Option<PartRef<'a>>
 fn part_at(value: &Value, place: Place) -> Option<PartRef<'_>>
     ensures exact { option_map part_value result
         ≡ part_at (step_to place) (value_of value.now) }
-    ensures fits { Suits value.now (step_to place) result }
+    ensures fits { PlaceSuits value.now (step_to place) result }
 {
     match place {
         Place::Item(i) => item(value, i),
@@ -90,7 +90,7 @@ fn part_at(value: &Value, place: Place) -> Option<PartRef<'_>>
 
 fn item(value: &Value, i: u64) -> Option<PartRef<'_>>
     ensures exact { option_map part_value result ≡ part_at (Index i) (value_of value.now) }
-    ensures fits { Suits value.now (Index i) result }
+    ensures fits { PlaceSuits value.now (Index i) result }
 {
     match value {
         Value::Seq(parts) => match parts.get(i as usize) {
@@ -111,7 +111,7 @@ fn item(value: &Value, i: u64) -> Option<PartRef<'_>>
 
 fn count(value: &Value) -> Option<PartRef<'_>>
     ensures exact { option_map part_value result ≡ part_at Len (value_of value.now) }
-    ensures fits { Suits value.now Len result }
+    ensures fits { PlaceSuits value.now Len result }
 {
     match value {
         Value::Seq(parts) => Some(PartRef::Number(parts.len() as u64)),
@@ -123,7 +123,7 @@ fn count(value: &Value) -> Option<PartRef<'_>>
 
 fn selector(value: &Value) -> Option<PartRef<'_>>
     ensures exact { option_map part_value result ≡ part_at Selector (value_of value.now) }
-    ensures fits { Suits value.now Selector result }
+    ensures fits { PlaceSuits value.now Selector result }
 {
     match value {
         Value::Union { selector, inner } => {
@@ -136,7 +136,7 @@ fn selector(value: &Value) -> Option<PartRef<'_>>
 
 fn inner(value: &Value, number: u8) -> Option<PartRef<'_>>
     ensures exact { option_map part_value result ≡ part_at (Chosen number) (value_of value.now) }
-    ensures fits { Suits value.now (Chosen number) result }
+    ensures fits { PlaceSuits value.now (Chosen number) result }
 {
     match value {
         Value::Union { selector, inner } => match inner {

@@ -1,12 +1,12 @@
 // One element, byte or bit more or less.
 ghost use Rattle.std.specs.Prelude.{true, false};
-ghost use Rattle.ssz_plain.specs.Making.{Leaves, one_more, one_less};
+ghost use Rattle.ssz_plain.specs.Making.{ChangeLeaves, one_more, one_less};
 
 use ssz_bytes::{BitRun, ByteRun};
 use ssz_value::{EditFault, Value};
 
 pub(crate) fn push_part(parts: &mut Vec<Value>, limit: u64, new: Value) -> Result<(), EditFault>
-    ensures { Leaves true (one_more limit new parts.old.items) parts.old.items parts.new.items
+    ensures { ChangeLeaves true (one_more limit new parts.old.items) parts.old.items parts.new.items
         result }
 {
     if parts.len() as u64 >= limit {
@@ -19,7 +19,7 @@ pub(crate) fn push_part(parts: &mut Vec<Value>, limit: u64, new: Value) -> Resul
 }
 
 pub(crate) fn push_byte(run: &mut ByteRun, limit: u64, byte: u8) -> Result<(), EditFault>
-    ensures { Leaves true (one_more limit byte run.old) run.old run.new result }
+    ensures { ChangeLeaves true (one_more limit byte run.old) run.old run.new result }
 {
     if run.len() as u64 >= limit {
         return Err(EditFault::Full);
@@ -31,7 +31,7 @@ pub(crate) fn push_byte(run: &mut ByteRun, limit: u64, byte: u8) -> Result<(), E
 }
 
 pub(crate) fn push_bit(run: &mut BitRun, limit: u64, bit: bool) -> Result<(), EditFault>
-    ensures { Leaves true (one_more limit bit run.old) run.old run.new result }
+    ensures { ChangeLeaves true (one_more limit bit run.old) run.old run.new result }
 {
     if run.len() as u64 >= limit {
         return Err(EditFault::Full);
@@ -43,7 +43,7 @@ pub(crate) fn push_bit(run: &mut BitRun, limit: u64, bit: bool) -> Result<(), Ed
 }
 
 pub(crate) fn pop_part(parts: &mut Vec<Value>) -> Result<(), EditFault>
-    ensures { Leaves false (one_less parts.old.items) parts.old.items parts.new.items result }
+    ensures { ChangeLeaves false (one_less parts.old.items) parts.old.items parts.new.items result }
 {
     match parts.pop() {
         Some(_) => Ok(()),
@@ -52,7 +52,7 @@ pub(crate) fn pop_part(parts: &mut Vec<Value>) -> Result<(), EditFault>
 }
 
 pub(crate) fn pop_byte(run: &mut ByteRun) -> Result<(), EditFault>
-    ensures { Leaves false (one_less run.old) run.old run.new result }
+    ensures { ChangeLeaves false (one_less run.old) run.old run.new result }
 {
     if run.len() == 0 {
         return Err(EditFault::Empty);
@@ -62,7 +62,7 @@ pub(crate) fn pop_byte(run: &mut ByteRun) -> Result<(), EditFault>
 }
 
 pub(crate) fn pop_bit(run: &mut BitRun) -> Result<(), EditFault>
-    ensures { Leaves false (one_less run.old) run.old run.new result }
+    ensures { ChangeLeaves false (one_less run.old) run.old run.new result }
 {
     if run.len() == 0 {
         return Err(EditFault::Empty);

@@ -10,7 +10,7 @@ use Rattle.ssz_chunk.proofs.Digits.{way-one}
 use Rattle.ssz_chunk.proofs.Ways.{at_way-append_some}
 use Rattle.ssz_gindex.specs.Helpers.{is_within, is_on_paths, helpers}
 use Rattle.ssz_proof.specs.declared.entry.Entry.{Entry}
-use Rattle.ssz_proof.specs.Calculation.{Known, PairOf, indices_of, chunk_at, deepest, calculated_within, calculated}
+use Rattle.ssz_proof.specs.Calculation.{Known, PairOf, indices_of, chunk_at, deepest, calculate_root_within, calculate_root}
 use Rattle.ssz_proof.specs.Laws.{HasChunk, LawOfProofs}
 use Rattle.ssz_gindex.proofs.Within.{below_from, way_below}
 use Rattle.ssz_gindex.proofs.HelperNodes.{some_from, is_pair, first_digit}
@@ -20,24 +20,24 @@ use Rattle.ssz_proof.proofs.HelperIndices.{reached, reached-on, both_children, o
 
 -- the calculation goes on from an index that is not known to both children
 pub within-down : (pair_of : PairOf) (down : ℕ) (known : Known) (g : ℕ)
-    → chunk_at known g ≡ None → calculated_within pair_of (suc down) known g
-    ≡ pair_of (calculated_within pair_of down known (g * 2 + 0))
-    (calculated_within pair_of down known (g * 2 + 1))
+    → chunk_at known g ≡ None → calculate_root_within pair_of (suc down) known g
+    ≡ pair_of (calculate_root_within pair_of down known (g * 2 + 0))
+    (calculate_root_within pair_of down known (g * 2 + 1))
 within-down pair_of down known g e =
     let left : 2 * g ≡ g * 2 + 0 = omega arith in
     let right : 2 * g + 1 ≡ g * 2 + 1 = omega arith in
-    ap (λ o. unwrap_or o (pair_of (calculated_within pair_of down known (2 * g))
-    (calculated_within pair_of down known (2 * g + 1)))) e
-    ∙ ap₂ (λ l r. pair_of (calculated_within pair_of down known l)
-    (calculated_within pair_of down known r)) left right
+    ap (λ o. unwrap_or o (pair_of (calculate_root_within pair_of down known (2 * g))
+    (calculate_root_within pair_of down known (2 * g + 1)))) e
+    ∙ ap₂ (λ l r. pair_of (calculate_root_within pair_of down known l)
+    (calculate_root_within pair_of down known r)) left right
 
 pub within-known : (pair_of : PairOf) (down : ℕ) (known : Known) (g : ℕ)
     (chunk : List ℕ) → chunk_at known g ≡ Some chunk
-    → calculated_within pair_of down known g ≡ chunk
+    → calculate_root_within pair_of down known g ≡ chunk
 within-known pair_of zero known g chunk e = ap (λ o. unwrap_or o zero_chunk) e
 within-known pair_of (suc down) known g chunk e =
-    ap (λ o. unwrap_or o (pair_of (calculated_within pair_of down known (2 * g))
-    (calculated_within pair_of down known (2 * g + 1)))) e
+    ap (λ o. unwrap_or o (pair_of (calculate_root_within pair_of down known (2 * g))
+    (calculate_root_within pair_of down known (2 * g + 1)))) e
 
 -- a leaf so many levels below an index that is not known, and both children of that
 pub record LeafBelow (leaves nodes : Known) (g : ℕ) : Type 0 where
@@ -91,7 +91,7 @@ module _ (leaves nodes : Known) (complete : indices_of nodes ≡ helpers (indice
 
   module _ (pair_of : PairOf) where
     abbrev within : ℕ → ℕ → List ℕ
-    within down g = calculated_within pair_of down known g
+    within down g = calculate_root_within pair_of down known g
 
     -- any number of levels that is enough gives the same
     enough_alike : (f k g : ℕ) → 0 < g → reached leaves nodes complete g ≡ true
@@ -131,8 +131,9 @@ module _ (leaves nodes : Known) (complete : indices_of nodes ≡ helpers (indice
     -- an index that is not known has the chunk of the pair of its children's
     pub calculated-down : (g : ℕ) → 0 < g → reached leaves nodes complete g ≡ true
         → chunk_at known g ≡ None
-        → calculated pair_of known g
-        ≡ pair_of (calculated pair_of known (g * 2 + 0)) (calculated pair_of known (g * 2 + 1))
+        → calculate_root pair_of known g
+        ≡ pair_of (calculate_root pair_of known (g * 2 + 0))
+        (calculate_root pair_of known (g * 2 + 1))
     calculated-down g positive is unknown =
         let above = deeper_known g (leaf_below g is unknown) in
         let deep : ℕ = deepest (indices_of known) in
@@ -229,7 +230,7 @@ module _ (leaves nodes : Known) (complete : indices_of nodes ≡ helpers (indice
   calculated_is : (down g : ℕ) (node : Tree) → 0 < g → at_way tree (way g) ≡ Some node
       → reached leaves nodes complete g ≡ true
       → deepest (indices_of leaves) ≤ levels g + down
-      → calculated_within pair_of down (leaves ++ nodes) g ≡ root pair_of node
+      → calculate_root_within pair_of down (leaves ++ nodes) g ≡ root pair_of node
   calculated_is zero g node positive found is enough =
       elim (some_or_none (chunk_at (leaves ++ nodes) g)) [
         | inl chunk ↦

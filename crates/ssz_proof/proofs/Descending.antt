@@ -5,7 +5,7 @@ use Rattle.std.proofs.Math.Nat.{pow-le-pow_right}
 use Rattle.std.proofs.lemmas.Bool.{cases_lt}
 use Rattle.ssz_chunk.specs.Index.{levels}
 use Rattle.ssz_chunk.proofs.Digits.{has_levels}
-use Rattle.ssz_proof.specs.Calculation.{Known, PairOf, indices_of, chunk_at, deepest, calculated}
+use Rattle.ssz_proof.specs.Calculation.{Known, PairOf, indices_of, chunk_at, deepest, calculate_root}
 use Rattle.ssz_proof.specs.Multiproof.{IsOrdered}
 use Rattle.ssz_proof.specs.Descent.{IsReached, IsAscending, IsDescending, levels_below}
 use Rattle.ssz_proof.proofs.Within.{child_levels}
@@ -23,9 +23,9 @@ pub record GoesDown (pair_of : PairOf) (leaves nodes : Known) (g : ℕ) : Type 0
   pub left_levels : levels (2 * g) ≡ levels g + 1
   pub right_levels : levels (2 * g + 1) ≡ levels g + 1
   pub fits : 2 * g + 1 < 2 ^ 128
-  pub chunk : calculated pair_of (leaves ++ nodes) g
-      ≡ pair_of (calculated pair_of (leaves ++ nodes) (2 * g))
-      (calculated pair_of (leaves ++ nodes) (2 * g + 1))
+  pub chunk : calculate_root pair_of (leaves ++ nodes) g
+      ≡ pair_of (calculate_root pair_of (leaves ++ nodes) (2 * g))
+      (calculate_root pair_of (leaves ++ nodes) (2 * g + 1))
   pub pairs : levels_below (2 * g) (indices_of leaves)
       + levels_below (2 * g + 1) (indices_of leaves) + 1 ≤ levels_below g (indices_of leaves)
 
@@ -67,7 +67,7 @@ module _ (leaves nodes : Known)
 
   pub known_is : (pair_of : PairOf) (g : ℕ) (chunk : List ℕ)
       → Some chunk ≡ chunk_at (leaves ++ nodes) g
-      → chunk ≡ calculated pair_of (leaves ++ nodes) g
+      → chunk ≡ calculate_root pair_of (leaves ++ nodes) g
   known_is pair_of g chunk e =
       sym (within-known pair_of (deepest (indices_of (leaves ++ nodes))) (leaves ++ nodes) g chunk
       (sym e))
@@ -93,8 +93,8 @@ module _ (leaves nodes : Known)
         right_levels = ap (λ k. levels k) (sym right) ∙ child_levels g 1 positive (omega arith);
         fits = child-fits g positive (omega arith);
         chunk = calculated-down leaves nodes complete pair_of g positive reached unknown
-            ∙ ap₂ (λ l r. pair_of (calculated pair_of (leaves ++ nodes) l)
-            (calculated pair_of (leaves ++ nodes) r)) left right;
+            ∙ ap₂ (λ l r. pair_of (calculate_root pair_of (leaves ++ nodes) l)
+            (calculate_root pair_of (leaves ++ nodes) r)) left right;
         pairs = levels_below-pair g (indices_of leaves) positive
             (apart_unknown leaves g (unknown-left leaves nodes g unknown))
             (on_if_unknown leaves nodes complete g reached unknown);

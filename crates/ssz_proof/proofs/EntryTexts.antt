@@ -15,8 +15,8 @@ use Rattle.ssz_decimal.specs.Decimal.{is_digit, number_after, digits_below, numb
 use Rattle.ssz_decimal.proofs.NumbersLemmas.{digits_below-some}
 use Rattle.ssz_chunk.specs.Chunk.{IsChunk}
 use Rattle.ssz_proof.specs.declared.entry.Entry.{Entry}
-use Rattle.ssz_proof.specs.Laws.{IsEntry}
-use Rattle.ssz_proof.specs.Text.{◌>>=◌, not_zero, index_of, chunk_of, is_equals, entry_of}
+use Rattle.ssz_proof.specs.Laws.{IsProofEntry}
+use Rattle.ssz_proof.specs.Text.{◌>>=◌, not_zero, index_of, chunk_of_hex, is_equals, entry_of}
 
 -- lists of bytes
 
@@ -152,7 +152,7 @@ decode_sized-lower bytes chunk =
     ∙ sym (decode_of-even text (omega arith)) ∙ decode_of-encode_lower bytes chunk.bytes
 
 pub chunk_of-lower : (bytes : List ℕ) → IsChunk bytes
-    → chunk_of (48 ∷ 120 ∷ encode_lower bytes) ≡ Some bytes
+    → chunk_of_hex (48 ∷ 120 ∷ encode_lower bytes) ≡ Some bytes
 chunk_of-lower bytes chunk = ap result_ok (decode_sized-lower bytes chunk)
 
 -- what stands around the first `=`
@@ -190,7 +190,7 @@ after_equals ds rest all =
 abbrev pub word_of : Entry → List ℕ
 word_of entry = decimal entry.index ++ (61 ∷ 48 ∷ 120 ∷ encode_lower entry.chunk.0)
 
-pub entry_of-word : (entry : Entry) → IsEntry entry → entry_of (word_of entry) ≡ Some entry
+pub entry_of-word : (entry : Entry) → IsProofEntry entry → entry_of (word_of entry) ≡ Some entry
 entry_of-word entry is =
     let digits = decimal_bytes entry.index is.fits in
     let rest : List ℕ = 48 ∷ 120 ∷ encode_lower entry.chunk.0 in
@@ -199,11 +199,11 @@ entry_of-word entry is =
     ap₂ made
     (ap index_of (before_equals (decimal entry.index) rest digits)
     ∙ index_of-decimal entry.index is.positive is.fits)
-    (ap chunk_of (after_equals (decimal entry.index) rest digits)
+    (ap chunk_of_hex (after_equals (decimal entry.index) rest digits)
     ∙ chunk_of-lower entry.chunk.0 is.chunk)
 
 -- no byte of it is a space
-pub word_bytes : (entry : Entry) → IsEntry entry → AllByRecursion (λ b. 47 < b) (word_of entry)
+pub word_bytes : (entry : Entry) → IsProofEntry entry → AllByRecursion (λ b. 47 < b) (word_of entry)
 word_bytes entry is =
     all-append (λ b. 47 < b) (decimal entry.index) (61 ∷ 48 ∷ 120 ∷ encode_lower entry.chunk.0)
     (all-weaker IsDigitByte (λ b. 47 < b) (λ b h. h.0) (decimal entry.index)
@@ -218,5 +218,6 @@ not_slash (b ∷ word) all =
     ap (λ t. t && bytes_eq word []) (ne_eqb b 47 (λ e. omega arith))
 
 -- it is not the word `/`
-pub word_not_slash : (entry : Entry) → IsEntry entry → bytes_eq (word_of entry) (codes "/") ≡ false
+pub word_not_slash : (entry : Entry) → IsProofEntry entry
+    → bytes_eq (word_of entry) (codes "/") ≡ false
 word_not_slash entry is = not_slash (word_of entry) (word_bytes entry is)

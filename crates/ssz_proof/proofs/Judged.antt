@@ -11,7 +11,7 @@ use Rattle.std.proofs.lemmas.List.Elements.{All-cons, All-weaker}
 use Rattle.std.proofs.lemmas.List.Sorted.{All-permutation, Contains-permutation, sum_by-IsPermutation, IsPermutation-map, IsPermutation-sym, IsPermutation-append_left}
 use Rattle.ssz_chunk.specs.Index.{levels}
 use Rattle.ssz_proof.specs.declared.entry.Entry.{Entry}
-use Rattle.ssz_proof.specs.Calculation.{Known, indices_of, chunk_at, calculated_within, deepest, calculated}
+use Rattle.ssz_proof.specs.Calculation.{Known, indices_of, chunk_at, calculate_root_within, deepest, calculate_root}
 use Rattle.ssz_proof.specs.Multiproof.{Multiproof, IsMultiproof, IsProofOf, known_of}
 use Rattle.ssz_proof.specs.Text.{read_text, IsReadAs, IsRefused}
 use Rattle.ssz_proof.specs.Judgement.{is_multiproof, judged, multiproof_of}
@@ -179,7 +179,7 @@ deepest-permutation xs ys same =
 
 calculated_within-same : (pair_of : List ℕ → List ℕ → List ℕ) (down : ℕ) (xs ys : Known)
     → ((index : ℕ) → chunk_at xs index ≡ chunk_at ys index) → (index : ℕ)
-    → calculated_within pair_of down xs index ≡ calculated_within pair_of down ys index
+    → calculate_root_within pair_of down xs index ≡ calculate_root_within pair_of down ys index
 calculated_within-same pair_of zero xs ys same index = rw (same index) refl
 calculated_within-same pair_of (suc down) xs ys same index =
     rw (
@@ -199,13 +199,13 @@ chunk_at-given lists proof is index =
 -- what is calculated from a proof is calculated from the lists that it was made of
 pub calculated-given : (pair_of : List ℕ → List ℕ → List ℕ) (lists proof : Multiproof)
     → IsProofOf lists proof → (index : ℕ)
-    → calculated pair_of (known_of lists) index ≡ calculated pair_of (known_of proof) index
+    → calculate_root pair_of (known_of lists) index ≡ calculate_root pair_of (known_of proof) index
 calculated-given pair_of lists proof is index =
     let deep : deepest (indices_of (known_of lists)) ≡ deepest (indices_of (known_of proof)) =
     rw (is.nodes)
     (deepest-permutation (lists.leaves ++ lists.nodes) (proof.leaves ++ lists.nodes)
     (IsPermutation-append_left lists.nodes lists.leaves proof.leaves is.leaves)) in
-    ap (λ down. calculated_within pair_of down (known_of lists) index) deep
+    ap (λ down. calculate_root_within pair_of down (known_of lists) index) deep
     ∙ calculated_within-same pair_of _ (known_of lists) (known_of proof)
     (chunk_at-given lists proof is) index
 

@@ -2,7 +2,7 @@
 use Rattle.std.proofs.Common.{◌≡◌, ℕ, List, ◌++◌, option_map}
 use Rattle.ssz_proof.specs.Calculation.{Known}
 use Rattle.ssz_proof.specs.Multiproof.{Multiproof}
-use Rattle.ssz_proof.specs.Text.{entries_of, lists_of}
+use Rattle.ssz_proof.specs.Text.{entries_of_words, lists_of}
 
 -- leaves before those of other lists
 abbrev pub with_leaves : Known → Multiproof → Multiproof
@@ -13,4 +13,4 @@ pub record LeavesSoFar (all left : List (List ℕ)) (leaves : Known) : Type 0 wh
   pub is : lists_of all ≡ option_map (with_leaves leaves) (lists_of left)
 
 pub record NodesSoFar (all left : List (List ℕ)) (nodes : Known) : Type 0 where
-  pub is : entries_of all ≡ option_map (λ more. nodes ++ more) (entries_of left)
+  pub is : entries_of_words all ≡ option_map (λ more. nodes ++ more) (entries_of_words left)

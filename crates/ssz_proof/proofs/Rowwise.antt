@@ -8,9 +8,9 @@ use Rattle.std.proofs.lemmas.List.{append-nil, get_or-take, get_or-drop, get_or_
 use Rattle.std.proofs.lemmas.List.Elements.{All-filter, All-take, All-drop, filter_more, filter_passes, All-from_get_or}
 use Rattle.std.proofs.lemmas.List.Filters.{sum_by-filter_both}
 use Rattle.std.proofs.lemmas.List.Sums.{sum_by-cons}
-use Rattle.ssz_chunk.specs.Rows.{chunk_at as row_at, pair_at}
+use Rattle.ssz_chunk.specs.Rows.{chunk_in_row as row_at, pair_in_row}
 use Rattle.ssz_chunk.specs.declared.Chunk.{Chunk}
-use Rattle.ssz_proof.specs.Calculation.{Known, PairOf, indices_of, chunk_at, deepest, calculated}
+use Rattle.ssz_proof.specs.Calculation.{Known, PairOf, indices_of, chunk_at, deepest, calculate_root}
 use Rattle.ssz_proof.proofs.Calculating.{within-known}
 use Rattle.ssz_proof.specs.Multiproof.{IsOrdered}
 use Rattle.ssz_proof.specs.Descent.{IsReached, levels_below}
@@ -192,16 +192,16 @@ module _ (pair_of : PairOf) (leaves nodes : Known)
     -- the pairs of the children's chunks are the chunks
     pub pairs_calculated : (row made : List Chunk)
         → AreCalculated pair_of (leaves ++ nodes) (children indices) row
-        → ((j : ℕ) → j < length indices → row_at made j ≡ pair_at pair_of row j)
+        → ((j : ℕ) → j < length indices → row_at made j ≡ pair_in_row pair_of row j)
         → AreCalculated pair_of (leaves ++ nodes) indices made
     pairs_calculated row made below is j within =
         let count : length (children indices) ≡ 2 * length indices = length-children indices in
         is j within
         ∙ ap₂ pair_of
         (below (2 * j) (omega arith)
-        ∙ ap (calculated pair_of (leaves ++ nodes)) (child-left indices j within))
+        ∙ ap (calculate_root pair_of (leaves ++ nodes)) (child-left indices j within))
         (below (2 * j + 1) (omega arith)
-        ∙ ap (calculated pair_of (leaves ++ nodes)) (child-right indices j within))
+        ∙ ap (calculate_root pair_of (leaves ++ nodes)) (child-right indices j within))
         ∙ sym (at j within).chunk
 
 -- ---- as the calls have them
@@ -293,16 +293,16 @@ joined_row pair_of known indices front back n first second is_front is_back few 
       | inl below ↦
           ap (λ (c : Chunk). c.0) (get_or_append_left first second d j (omega (arith, long)))
           ∙ has_first j (omega (arith, few))
-          ∙ ap (λ (l : List ℕ). calculated pair_of known (get_or l j 0)) is_front
-          ∙ ap (calculated pair_of known) (get_or-take n indices j 0 below)
+          ∙ ap (λ (l : List ℕ). calculate_root pair_of known (get_or l j 0)) is_front
+          ∙ ap (calculate_root pair_of known) (get_or-take n indices j 0 below)
       | inr above ↦
           (let back_place : n + (j - n) ≡ j = omega arith in
           let rest : length back ≡ length indices - n =
           ap (λ (l : List ℕ). length l) is_back ∙ length-drop n indices in
           ap (λ (c : Chunk). c.0) (get_or-append_right first second n j d long above)
           ∙ has_second (j - n) (omega (arith, rest))
-          ∙ ap (λ (l : List ℕ). calculated pair_of known (get_or l (j - n) 0)) is_back
-          ∙ ap (calculated pair_of known) (get_or-drop n indices (j - n) 0
+          ∙ ap (λ (l : List ℕ). calculate_root pair_of known (get_or l (j - n) 0)) is_back
+          ∙ ap (calculate_root pair_of known) (get_or-drop n indices (j - n) 0
           ∙ ap (λ k. get_or indices k 0) back_place))
     ]
 
@@ -311,7 +311,7 @@ pub placed_row : (pair_of : PairOf) (known : Known) (indices unknown places : Li
     (row made new : List Chunk) → count ≤ length unknown → length places ≡ length unknown
     → ArePlaced indices unknown places count
     → ((i : ℕ) → i < length indices
-    → (row_at row i ≡ calculated pair_of known (get_or indices i 0)) ⊎ IsPlaced places count i)
+    → (row_at row i ≡ calculate_root pair_of known (get_or indices i 0)) ⊎ IsPlaced places count i)
     → AreCalculated pair_of known (take count unknown) made
     → ((f : ℕ → List ℕ)
     → ((j : ℕ) → j < length (take count places) → row_at made j
@@ -321,7 +321,7 @@ pub placed_row : (pair_of : PairOf) (known : Known) (indices unknown places : Li
     → AreCalculated pair_of known indices new
 placed_row pair_of known indices unknown places count row made new few long placed in_row in_made puts
     i within =
-    let f : ℕ → List ℕ = λ k. calculated pair_of known (get_or indices k 0) in
+    let f : ℕ → List ℕ = λ k. calculate_root pair_of known (get_or indices k 0) in
     let counted : length (take count places) ≡ count = omega (arith, length-take count places) in
     let counted_unknown : length (take count unknown) ≡ count =
     omega (arith, length-take count unknown) in
@@ -329,7 +329,8 @@ placed_row pair_of known indices unknown places count row made new few long plac
     (λ j under.
     let below : j < count = omega (arith, counted) in
     in_made j (omega (arith, counted_unknown))
-    ∙ ap (calculated pair_of known) (get_or-take count unknown j 0 below ∙ sym (placed j below).1
+    ∙ ap (calculate_root pair_of known)
+    (get_or-take count unknown j 0 below ∙ sym (placed j below).1
     ∙ ap (λ k. get_or indices k 0) (sym (get_or-take count places j 0 below))))
     i (elim (in_row i within) [
       | inl is ↦ inl is
@@ -415,17 +416,18 @@ module _ (known : Known) (indices : List ℕ) (i : ℕ) (inside : i < length ind
 
   module _ (pair_of : PairOf) (row : List Chunk) (places : List ℕ) (count : ℕ)
       (before : (k : ℕ) → k < i
-      → (row_at row k ≡ calculated pair_of known (get_or indices k 0)) ⊎ IsPlaced places count k)
+      → (row_at row k ≡ calculate_root pair_of known (get_or indices k 0))
+      ⊎ IsPlaced places count k)
     where
       pub row_known : (chunk : Chunk) → i < length row → chunk_at known index ≡ Some chunk.0
           → (k : ℕ) → k < i + 1
-          → (row_at (set row i chunk) k ≡ calculated pair_of known (get_or indices k 0))
+          → (row_at (set row i chunk) k ≡ calculate_root pair_of known (get_or indices k 0))
           ⊎ IsPlaced places count k
       row_known chunk room is k under = elim (cases_eq k i) [
         | inl here ↦ inl (ap (λ (c : Chunk). c.0)
             (get_or-set_at row i k chunk (record { 0 = [] }) here room)
             ∙ sym (within-known pair_of (deepest (indices_of known)) known index chunk.0 is)
-            ∙ ap (λ n. calculated pair_of known (get_or indices n 0)) (sym here))
+            ∙ ap (λ n. calculate_root pair_of known (get_or indices n 0)) (sym here))
         | inr other ↦
             (let same : row_at (set row i chunk) k ≡ row_at row k =
             ap (λ (c : Chunk). c.0) (get_or-set_other row i k chunk (record { 0 = [] }) other) in
@@ -436,7 +438,7 @@ module _ (known : Known) (indices : List ℕ) (i : ℕ) (inside : i < length ind
       ]
 
       pub row_unknown : count < length places → (k : ℕ) → k < i + 1
-          → (row_at row k ≡ calculated pair_of known (get_or indices k 0))
+          → (row_at row k ≡ calculate_root pair_of known (get_or indices k 0))
           ⊎ IsPlaced (set places count i) (count + 1) k
       row_unknown space k under = elim (cases_eq k i) [
         | inl here ↦ inr (

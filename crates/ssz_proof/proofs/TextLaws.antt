@@ -13,8 +13,8 @@ use Rattle.hex.specs.Hex.{encode_lower}
 use Rattle.ssz_proof.specs.declared.entry.Entry.{Entry}
 use Rattle.ssz_proof.specs.Calculation.{Known, indices_of}
 use Rattle.ssz_proof.specs.Multiproof.{Multiproof, known_of, IsOrdered, IsProofOf, AscendFrom}
-use Rattle.ssz_proof.specs.Laws.{IsEntry, LawOfTexts}
-use Rattle.ssz_proof.specs.Text.{◌>>=◌, entry_of, entries_of, lists_of, with_leaf, line_of, words_of, proof_of, read_text, entry_text, entries_text, text_of}
+use Rattle.ssz_proof.specs.Laws.{IsProofEntry, LawOfTexts}
+use Rattle.ssz_proof.specs.Text.{◌>>=◌, entry_of, entries_of_words, lists_of, with_leaf, line_without_feed, words_of_line, proof_of_lists, read_text, entry_text, entries_text, multiproof_text}
 use Rattle.ssz_proof.proofs.EntryTexts.{word_of, entry_of-word, word_bytes, word_not_slash, all-weaker}
 use Rattle.ssz_proof.proofs.TextSteps.{line_of-end}
 
@@ -22,17 +22,18 @@ use Rattle.ssz_proof.proofs.TextSteps.{line_of-end}
 abbrev Free : List ℕ → Type 0
 Free word = AllByRecursion (λ byte. (byte == 32) ≡ false) word
 
-split_word : (word rest : List ℕ) → Free word → words_of (word ++ 32 ∷ rest) ≡ word ∷ words_of rest
+split_word : (word rest : List ℕ) → Free word
+    → words_of_line (word ++ 32 ∷ rest) ≡ word ∷ words_of_line rest
 split_word word rest free =
     slice_split_at (λ byte. byte == 32) word 32 rest
     (All-from_recursion (λ byte. (byte == 32) ≡ false) word free) refl
 
-last_word : (word : List ℕ) → Free word → words_of word ≡ word ∷ []
+last_word : (word : List ℕ) → Free word → words_of_line word ≡ word ∷ []
 last_word word free =
     slice_split_none (λ byte. byte == 32) word
     (All-from_recursion (λ byte. (byte == 32) ≡ false) word free)
 
-entry_free : (entry : Entry) → IsEntry entry → Free (word_of entry)
+entry_free : (entry : Entry) → IsProofEntry entry → Free (word_of entry)
 entry_free entry is =
     all-weaker (λ b. 47 < b) (λ byte. (byte == 32) ≡ false)
     (λ b high. ne_eqb b 32 (λ e. omega arith)) (word_of entry) (word_bytes entry is)
@@ -52,37 +53,38 @@ entries_text-first entry known more =
 
 -- a word, entries, and what stands behind a space
 words-before : (word : List ℕ) (known : Known) (rest : List ℕ) → Free word
-    → AllByRecursion IsEntry known
-    → words_of (word ++ (entries_text known ++ 32 ∷ rest))
-    ≡ word ∷ (map word_of known ++ words_of rest)
+    → AllByRecursion IsProofEntry known
+    → words_of_line (word ++ (entries_text known ++ 32 ∷ rest))
+    ≡ word ∷ (map word_of known ++ words_of_line rest)
 words-before word [] rest free all = split_word word rest free
 words-before word (entry ∷ known) rest free all =
-    ap (λ text. words_of (word ++ text)) (entries_text-first entry known (32 ∷ rest))
+    ap (λ text. words_of_line (word ++ text)) (entries_text-first entry known (32 ∷ rest))
     ∙ split_word word (word_of entry ++ (entries_text known ++ 32 ∷ rest)) free
     ∙ ap (λ words. word ∷ words)
     (words-before (word_of entry) known rest (entry_free entry all.0) all.1)
 
 -- a word and entries
-words-end : (word : List ℕ) (known : Known) → Free word → AllByRecursion IsEntry known
-    → words_of (word ++ entries_text known) ≡ word ∷ map word_of known
-words-end word [] free all = ap words_of (append-nil word) ∙ last_word word free
+words-end : (word : List ℕ) (known : Known) → Free word → AllByRecursion IsProofEntry known
+    → words_of_line (word ++ entries_text known) ≡ word ∷ map word_of known
+words-end word [] free all = ap words_of_line (append-nil word) ∙ last_word word free
 words-end word (entry ∷ known) free all =
-    ap (λ text. words_of (word ++ text))
+    ap (λ text. words_of_line (word ++ text))
     (sym (append-nil (entries_text (entry ∷ known))) ∙ entries_text-first entry known []
     ∙ ap (λ text. 32 ∷ (word_of entry ++ text)) (append-nil (entries_text known)))
     ∙ split_word word (word_of entry ++ entries_text known) free
     ∙ ap (λ words. word ∷ words) (words-end (word_of entry) known (entry_free entry all.0) all.1)
 
 -- the words of the whole text
-words_of-text : (leaves nodes : Known) → AllByRecursion IsEntry leaves
-    → AllByRecursion IsEntry nodes
-    → words_of (line_of (text_of (record { leaves = leaves; nodes = nodes })))
+words_of-text : (leaves nodes : Known) → AllByRecursion IsProofEntry leaves
+    → AllByRecursion IsProofEntry nodes
+    → words_of_line (line_without_feed
+    (multiproof_text (record { leaves = leaves; nodes = nodes })))
     ≡ codes "proof" ∷ (map word_of leaves ++ (codes "/" ∷ map word_of nodes))
 words_of-text leaves nodes all_leaves all_nodes =
     let first : List ℕ = entries_text leaves in
     let second : List ℕ = entries_text nodes in
     let line : List ℕ = ((codes "proof" ++ first) ++ codes " /") ++ second in
-    ap words_of (line_of-end line
+    ap words_of_line (line_of-end line
     ∙ append_assoc (codes "proof" ++ first) (codes " /") second
     ∙ append_assoc (codes "proof") first (codes " /" ++ second))
     ∙ words-before (codes "proof") leaves (codes "/" ++ second)
@@ -90,14 +92,15 @@ words_of-text leaves nodes all_leaves all_nodes =
     ∙ ap (λ words. codes "proof" ∷ (map word_of leaves ++ words))
     (words-end (codes "/") nodes (refl, tt) all_nodes)
 
-entries-read : (known : Known) → AllByRecursion IsEntry known
-    → entries_of (map word_of known) ≡ Some known
+entries-read : (known : Known) → AllByRecursion IsProofEntry known
+    → entries_of_words (map word_of known) ≡ Some known
 entries-read [] all = refl
 entries-read (entry ∷ known) all =
     ap₂ (λ one more. one >>= (λ found. more >>= (λ rest. Some (found ∷ rest))))
     (entry_of-word entry all.0) (entries-read known all.1)
 
-lists-read : (leaves nodes : Known) → AllByRecursion IsEntry leaves → AllByRecursion IsEntry nodes
+lists-read : (leaves nodes : Known) → AllByRecursion IsProofEntry leaves
+    → AllByRecursion IsProofEntry nodes
     → lists_of (map word_of leaves ++ (codes "/" ∷ map word_of nodes))
     ≡ Some (record { leaves = leaves; nodes = nodes })
 lists-read [] nodes all_leaves all_nodes =
@@ -107,24 +110,25 @@ lists-read (entry ∷ leaves) nodes all_leaves all_nodes =
     let made : Option Entry → Option Multiproof → Option Multiproof = λ one more.
     one >>= (λ found. more >>= (λ lists. Some (with_leaf found lists))) in
     cond-false (bytes_eq (word_of entry) (codes "/"))
-    (option_map (λ known. record { leaves = []; nodes = known }) (entries_of rest))
+    (option_map (λ known. record { leaves = []; nodes = known }) (entries_of_words rest))
     (made (entry_of (word_of entry)) (lists_of rest)) (word_not_slash entry all_leaves.0)
     ∙ ap₂ made (entry_of-word entry all_leaves.0) (lists-read leaves nodes all_leaves.1 all_nodes)
 
-all-front : (xs ys : Known) → AllByRecursion IsEntry (xs ++ ys) → AllByRecursion IsEntry xs
+all-front : (xs ys : Known) → AllByRecursion IsProofEntry (xs ++ ys)
+    → AllByRecursion IsProofEntry xs
 all-front [] ys all = tt
 all-front (x ∷ xs) ys all = (all.0, all-front xs ys all.1)
 
-all-back : (xs ys : Known) → AllByRecursion IsEntry (xs ++ ys) → AllByRecursion IsEntry ys
+all-back : (xs ys : Known) → AllByRecursion IsProofEntry (xs ++ ys) → AllByRecursion IsProofEntry ys
 all-back [] ys all = all
 all-back (x ∷ xs) ys all = all-back xs ys all.1
 
-says : (proof : Multiproof) → AllByRecursion IsEntry (known_of proof)
-    → read_text (text_of proof) ≡ Some proof
+says : (proof : Multiproof) → AllByRecursion IsProofEntry (known_of proof)
+    → read_text (multiproof_text proof) ≡ Some proof
 says proof all =
     let all_leaves = all-front proof.leaves proof.nodes all in
     let all_nodes = all-back proof.leaves proof.nodes all in
-    ap proof_of (words_of-text proof.leaves proof.nodes all_leaves all_nodes)
+    ap proof_of_lists (words_of-text proof.leaves proof.nodes all_leaves all_nodes)
     ∙ lists-read proof.leaves proof.nodes all_leaves all_nodes
 
 -- one list in ascending order

@@ -5,17 +5,17 @@ use Rattle.std.proofs.lemmas.Option.{none-some, same_Some}
 use Rattle.std.proofs.lemmas.List.Splits.{slice_split-cons_no, slice_split_first}
 use Rattle.std.specs.Prelude.{position}
 use Rattle.std.specs.List.{slice_split, onto_first, position_or_len, before_first, after_first}
-use Rattle.ssz_proof.specs.Text.{line_of}
+use Rattle.ssz_proof.specs.Text.{line_without_feed}
 
 -- a line feed at the end is taken off
-pub line_of-end : (line : List ℕ) → line_of (line ++ 10 ∷ []) ≡ line
+pub line_of-end : (line : List ℕ) → line_without_feed (line ++ 10 ∷ []) ≡ line
 line_of-end [] = refl
 line_of-end (b ∷ []) = refl
 line_of-end (b ∷ next ∷ line) = ap (λ rest. b ∷ rest) (line_of-end (next ∷ line))
 
 -- any other byte is not
 pub line_of-other : (line : List ℕ) (last : ℕ) → (last ≡ 10 → ⊥)
-    → line_of (line ++ last ∷ []) ≡ line ++ last ∷ []
+    → line_without_feed (line ++ last ∷ []) ≡ line ++ last ∷ []
 line_of-other [] last other = cond-false (eqb last 10) [] (last ∷ []) (ne_eqb last 10 other)
 line_of-other (b ∷ []) last other =
     ap (λ rest. b ∷ rest) (cond-false (eqb last 10) [] (last ∷ []) (ne_eqb last 10 other))

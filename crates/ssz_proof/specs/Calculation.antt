@@ -24,12 +24,12 @@ PairOf = List ℕ → List ℕ → List ℕ
 
 -- a chunk that is known, and else what pair_of gives for the chunks of both children; no chunk that
 -- is known lies more than so many levels down
-abbrev pub calculated_within : PairOf → ℕ → Known → ℕ → List ℕ
-calculated_within pair_of zero known index = unwrap_or (chunk_at known index) zero_chunk
-calculated_within pair_of (suc down) known index =
+abbrev pub calculate_root_within : PairOf → ℕ → Known → ℕ → List ℕ
+calculate_root_within pair_of zero known index = unwrap_or (chunk_at known index) zero_chunk
+calculate_root_within pair_of (suc down) known index =
     unwrap_or (chunk_at known index)
-    (pair_of (calculated_within pair_of down known (2 * index))
-    (calculated_within pair_of down known (2 * index + 1)))
+    (pair_of (calculate_root_within pair_of down known (2 * index))
+    (calculate_root_within pair_of down known (2 * index + 1)))
 
 -- the levels of the deepest index
 abbrev pub deepest : List ℕ → ℕ
@@ -37,5 +37,6 @@ deepest [] = 0
 deepest (index ∷ indices) = max (levels index) (deepest indices)
 
 -- the chunk at an index, calculated from those that are known
-abbrev pub calculated : PairOf → Known → ℕ → List ℕ
-calculated pair_of known index = calculated_within pair_of (deepest (indices_of known)) known index
+abbrev pub calculate_root : PairOf → Known → ℕ → List ℕ
+calculate_root pair_of known index =
+    calculate_root_within pair_of (deepest (indices_of known)) known index

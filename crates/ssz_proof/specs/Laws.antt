@@ -6,9 +6,9 @@ use Rattle.ssz_chunk.specs.Tree.{Tree, root}
 use Rattle.ssz_chunk.specs.Index.{at}
 use Rattle.ssz_gindex.specs.Helpers.{helpers}
 use Rattle.ssz_proof.specs.declared.entry.Entry.{Entry}
-use Rattle.ssz_proof.specs.Calculation.{Known, PairOf, indices_of, calculated}
+use Rattle.ssz_proof.specs.Calculation.{Known, PairOf, indices_of, calculate_root}
 use Rattle.ssz_proof.specs.Multiproof.{Multiproof, known_of, IsOrdered}
-use Rattle.ssz_proof.specs.Text.{read_text, text_of, IsReadAs}
+use Rattle.ssz_proof.specs.Text.{read_text, multiproof_text, IsReadAs}
 
 -- the chunk is the root of what a tree has at the index
 pub record HasChunk (pair_of : PairOf) (tree : Tree) (entry : Entry) : Type 0 where
@@ -22,20 +22,20 @@ LawOfProofs =
     (pair_of : PairOf) (tree : Tree) (leaves nodes : Known) → leaves ≢ []
     → indices_of nodes ≡ helpers (indices_of leaves)
     → AllByRecursion (HasChunk pair_of tree) (leaves ++ nodes)
-    → calculated pair_of (leaves ++ nodes) 1 ≡ root pair_of tree
+    → calculate_root pair_of (leaves ++ nodes) 1 ≡ root pair_of tree
 
 -- an index of the type, and a chunk of 32 bytes
-pub record IsEntry (entry : Entry) : Type 0 where
+pub record IsProofEntry (entry : Entry) : Type 0 where
   pub positive : 0 < entry.index
   pub fits : entry.index < 2 ^ 128
   pub chunk : IsChunk entry.chunk.0
 
 -- the text of a proof is read as that proof and as no other
 pub record IsReadBack (proof : Multiproof) : Type 0 where
-  pub says : read_text (text_of proof) ≡ Some proof
-  pub is : IsReadAs (text_of proof) proof
-  pub only : (other : Multiproof) → IsReadAs (text_of proof) other → other ≡ proof
+  pub says : read_text (multiproof_text proof) ≡ Some proof
+  pub is : IsReadAs (multiproof_text proof) proof
+  pub only : (other : Multiproof) → IsReadAs (multiproof_text proof) other → other ≡ proof
 
 abbrev pub LawOfTexts : Type 0
-LawOfTexts = (proof : Multiproof) → IsOrdered proof → AllByRecursion IsEntry (known_of proof)
+LawOfTexts = (proof : Multiproof) → IsOrdered proof → AllByRecursion IsProofEntry (known_of proof)
     → IsReadBack proof

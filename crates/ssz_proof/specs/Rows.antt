@@ -3,9 +3,9 @@
 use Rattle.std.specs.Prelude.{ℕ, ◌≡◌, ◌+◌, ◌-◌, ◌*◌, ◌<◌, max, Bool, not, is_some, None, List, [], ◌∷◌, length, slice_index}
 use Rattle.std.specs.List.{All, sum_by}
 use Rattle.ssz_chunk.specs.Index.{levels}
-use Rattle.ssz_chunk.specs.Rows.{chunk_at as row_at}
+use Rattle.ssz_chunk.specs.Rows.{chunk_in_row as row_at}
 use Rattle.ssz_chunk.specs.declared.Chunk.{Chunk}
-use Rattle.ssz_proof.specs.Calculation.{Known, PairOf, indices_of, chunk_at, deepest, calculated}
+use Rattle.ssz_proof.specs.Calculation.{Known, PairOf, indices_of, chunk_at, deepest, calculate_root}
 use Rattle.ssz_proof.specs.Descent.{IsReached, levels_below}
 
 -- the chunk at an index is not known
@@ -24,7 +24,7 @@ AreUnknown known indices = All (λ index. None ≡ chunk_at known index) indices
 -- a row begins with the chunks at the indices
 abbrev pub AreCalculated : PairOf → Known → List ℕ → List Chunk → Type 0
 AreCalculated pair_of known indices row = (j : ℕ) → j < length indices
-    → row_at row j ≡ calculated pair_of known (slice_index indices j)
+    → row_at row j ≡ calculate_root pair_of known (slice_index indices j)
 
 -- each of the first so many indices that are not known stands at its place among all
 abbrev pub ArePlaced : List ℕ → List ℕ → List ℕ → ℕ → Type 0

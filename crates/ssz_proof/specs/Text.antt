@@ -20,8 +20,8 @@ abbrev pub index_of : List ℕ → Option ℕ
 index_of word = number_below (2 ^ 128) word >>= not_zero
 
 -- a chunk: `0x`, and 64 hexadecimal digits in either case
-abbrev pub chunk_of : List ℕ → Option (List ℕ)
-chunk_of word =
+abbrev pub chunk_of_hex : List ℕ → Option (List ℕ)
+chunk_of_hex word =
     if starts_with nat_eq word (codes "0x") then result_ok (decode_sized (drop 2 word) 32) else None
 
 abbrev pub is_equals : ℕ → Bool
@@ -31,15 +31,15 @@ is_equals byte = byte == 61
 abbrev pub entry_of : List ℕ → Option Entry
 entry_of word = do
   index ← index_of (before_first is_equals word)
-  bytes ← chunk_of (after_first is_equals word)
+  bytes ← chunk_of_hex (after_first is_equals word)
   Some (record { index = index; chunk = record { 0 = bytes } })
 
 -- each of the words is an entry
-abbrev pub entries_of : List (List ℕ) → Option Known
-entries_of [] = Some []
-entries_of (word ∷ words) = do
+abbrev pub entries_of_words : List (List ℕ) → Option Known
+entries_of_words [] = Some []
+entries_of_words (word ∷ words) = do
   entry ← entry_of word
-  known ← entries_of words
+  known ← entries_of_words words
   Some (entry ∷ known)
 
 abbrev pub with_leaf : Entry → Multiproof → Multiproof
@@ -50,30 +50,30 @@ abbrev pub lists_of : List (List ℕ) → Option Multiproof
 lists_of [] = None
 lists_of (word ∷ words) =
     if bytes_eq word (codes "/")
-    then option_map (λ nodes. record { leaves = []; nodes = nodes }) (entries_of words)
+    then option_map (λ nodes. record { leaves = []; nodes = nodes }) (entries_of_words words)
     else (do
       entry ← entry_of word
       lists ← lists_of words
       Some (with_leaf entry lists))
 
 -- the text without one line feed at its end
-abbrev pub line_of : List ℕ → List ℕ
-line_of [] = []
-line_of (byte ∷ []) = if byte == 10 then [] else byte ∷ []
-line_of (byte ∷ next ∷ bytes) = byte ∷ line_of (next ∷ bytes)
+abbrev pub line_without_feed : List ℕ → List ℕ
+line_without_feed [] = []
+line_without_feed (byte ∷ []) = if byte == 10 then [] else byte ∷ []
+line_without_feed (byte ∷ next ∷ bytes) = byte ∷ line_without_feed (next ∷ bytes)
 
 -- what stands between single spaces
-abbrev pub words_of : List ℕ → List (List ℕ)
-words_of line = slice_split (λ byte. byte == 32) line
+abbrev pub words_of_line : List ℕ → List (List ℕ)
+words_of_line line = slice_split (λ byte. byte == 32) line
 
 -- after the word `proof`
-abbrev pub proof_of : List (List ℕ) → Option Multiproof
-proof_of [] = None
-proof_of (word ∷ words) = if bytes_eq word (codes "proof") then lists_of words else None
+abbrev pub proof_of_lists : List (List ℕ) → Option Multiproof
+proof_of_lists [] = None
+proof_of_lists (word ∷ words) = if bytes_eq word (codes "proof") then lists_of words else None
 
 -- the leaves and nodes that a text says, with a line feed at its end or without
 abbrev pub read_text : List ℕ → Option Multiproof
-read_text text = proof_of (words_of (line_of text))
+read_text text = proof_of_lists (words_of_line (line_without_feed text))
 
 -- the text that is printed of an entry, behind a space
 abbrev pub entry_text : Entry → List ℕ
@@ -84,8 +84,8 @@ abbrev pub entries_text : Known → List ℕ
 entries_text known = flat_map entry_text known
 
 -- the text that is printed: the lists in their order, lower case, and a line feed
-abbrev pub text_of : Multiproof → List ℕ
-text_of proof =
+abbrev pub multiproof_text : Multiproof → List ℕ
+multiproof_text proof =
     codes "proof" ++ entries_text proof.leaves ++ codes " /" ++ entries_text proof.nodes
     ++ codes "\n"
 

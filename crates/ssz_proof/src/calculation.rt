@@ -1,6 +1,6 @@
 ghost use Rattle.std.specs.Prelude.{◌≡◌, ℕ, ◌+◌, ◌++◌, ◌<◌, ◌≤◌, ◌↔◌, IsTrue, option_map, sum_by};
 ghost use Rattle.ssz_chunk.specs.Index.{levels};
-ghost use Rattle.ssz_proof.specs.Calculation.{calculated, chunk_at, indices_of};
+ghost use Rattle.ssz_proof.specs.Calculation.{calculate_root, chunk_at, indices_of};
 ghost use Rattle.ssz_proof.specs.Multiproof.{IsOrdered, known_of};
 ghost use Rattle.ssz_proof.specs.Descent.{IsAscending, IsDescending, IsReached, levels_below};
 
@@ -14,7 +14,7 @@ use ssz_chunk::{Chunk, PairHash};
 /// down to the chunks that are known. It hashes at most as many pairs as its leaves have levels
 /// together.
 pub fn calc<H: PairHash>(proof: &Proof, hasher: &mut H) -> Chunk
-    ensures value { result.0 ≡ calculated H.pair_of (known_of proof.now) 1 }
+    ensures value { result.0 ≡ calculate_root H.pair_of (known_of proof.now) 1 }
     ensures rises { H.pairs hasher.old ≤ H.pairs hasher.new }
     ensures pairs { H.pairs hasher.new
         ≤ H.pairs hasher.old + sum_by levels (indices_of proof.now.leaves) }
@@ -28,7 +28,7 @@ pub fn calc<H: PairHash>(proof: &Proof, hasher: &mut H) -> Chunk
 /// Whether a proof leads to this root (verify_merkle_multiproof). It hashes at most as many pairs
 /// as its leaves have levels together.
 pub fn verify<H: PairHash>(proof: &Proof, root: &Chunk, hasher: &mut H) -> bool
-    ensures value { IsTrue result ↔ (calculated H.pair_of (known_of proof.now) 1 ≡ root.now.0) }
+    ensures value { IsTrue result ↔ (calculate_root H.pair_of (known_of proof.now) 1 ≡ root.now.0) }
     ensures rises { H.pairs hasher.old ≤ H.pairs hasher.new }
     ensures pairs { H.pairs hasher.new
         ≤ H.pairs hasher.old + sum_by levels (indices_of proof.now.leaves) }

@@ -1,7 +1,7 @@
 ghost use Rattle.std.specs.Prelude.{◌≡◌, IfOk, option_map};
 ghost use Rattle.ssz_proof.specs.declared.fault.ProofFault.TheVariants.{BadProof};
 ghost use Rattle.ssz_proof.specs.Multiproof.{IsMultiproof, IsProofOf};
-ghost use Rattle.ssz_proof.specs.Text.{chunk_of, entries_of, entry_of, index_of, line_of, lists_of, IsReadAs, IsRefused};
+ghost use Rattle.ssz_proof.specs.Text.{chunk_of_hex, entries_of_words, entry_of, index_of, line_without_feed, lists_of, IsReadAs, IsRefused};
 
 use crate::entry::Entry;
 use crate::fault::ProofFault;
@@ -32,7 +32,7 @@ pub fn read_proof(alloc: Global, text: &[u8]) -> Result<Proof, ProofFault>
 
 // The text without one line feed at its end.
 fn line(text: &[u8]) -> &[u8]
-    ensures { result.now ≡ line_of text.now }
+    ensures { result.now ≡ line_without_feed text.now }
 {
     match text.split_last() {
         Some((last, line)) if *last == b'\n' => line,
@@ -44,7 +44,7 @@ fn line(text: &[u8]) -> &[u8]
 fn read_leaves(alloc: Global, words: &mut Words<'_>) -> Result<Vec<Entry>, ProofFault>
     ensures ok { IfOk result (λ leaves. lists_of words.old
         ≡ option_map (λ nodes. record { leaves = leaves.items; nodes = nodes })
-        (entries_of words.new)) }
+        (entries_of_words words.new)) }
     ensures bad { result ≡ Err BadProof → lists_of words.old ≡ None }
 {
     let mut leaves = Vec::new(alloc);
@@ -59,8 +59,8 @@ fn read_leaves(alloc: Global, words: &mut Words<'_>) -> Result<Vec<Entry>, Proof
 
 // Reads the words that are left.
 fn read_nodes(alloc: Global, words: &mut Words<'_>) -> Result<Vec<Entry>, ProofFault>
-    ensures ok { IfOk result (λ nodes. entries_of words.old ≡ Some nodes.items) }
-    ensures bad { result ≡ Err BadProof → entries_of words.old ≡ None }
+    ensures ok { IfOk result (λ nodes. entries_of_words words.old ≡ Some nodes.items) }
+    ensures bad { result ≡ Err BadProof → entries_of_words words.old ≡ None }
 {
     let mut nodes = Vec::new(alloc);
     while let Some(word) = words.next() {
@@ -85,7 +85,7 @@ fn read_index(word: &[u8]) -> Option<Gindex>
 }
 
 fn read_chunk(word: &[u8]) -> Option<Chunk>
-    ensures { option_map (λ chunk. chunk.0) result ≡ chunk_of word.now }
+    ensures { option_map (λ chunk. chunk.0) result ≡ chunk_of_hex word.now }
 {
     let digits = word.strip_prefix(b"0x")?;
     let mut bytes = [0; 32];

@@ -1,8 +1,8 @@
 // The calculation of a root, several indices side by side.
 ghost use Rattle.std.specs.Prelude.{◌≡◌, ℕ, ◌+◌, ◌*◌, ◌<◌, ◌≤◌, ◌^◌, ◌++◌, ◌⊎◌, List, None, length, option_map, slice_index, take};
 ghost use Rattle.std.specs.List.{filter};
-ghost use Rattle.ssz_chunk.specs.Rows.{chunk_at as row_at};
-ghost use Rattle.ssz_proof.specs.Calculation.{calculated, chunk_at, indices_of};
+ghost use Rattle.ssz_chunk.specs.Rows.{chunk_in_row as row_at};
+ghost use Rattle.ssz_proof.specs.Calculation.{calculate_root, chunk_at, indices_of};
 ghost use Rattle.ssz_proof.specs.Descent.{IsReached, levels_below};
 ghost use Rattle.ssz_proof.specs.Multiproof.{IsOrdered};
 ghost use Rattle.ssz_proof.specs.Rows.{AreCalculated, ArePlaced, AreReached, AreUnknown, IsPlaced, children, is_unknown, levels_below_all};
@@ -35,7 +35,7 @@ fn look(leaves: &[Entry], nodes: &[Entry], indices: &[u128]) -> Looked
     ensures places { ArePlaced indices.now result.unknown result.places result.count }
     ensures row { (pair_of : List ℕ → List ℕ → List ℕ) (i : ℕ) → i < length indices.now
         → (row_at result.row i
-        ≡ calculated pair_of (leaves.now ++ nodes.now) (slice_index indices.now i))
+        ≡ calculate_root pair_of (leaves.now ++ nodes.now) (slice_index indices.now i))
         ⊎ IsPlaced result.places result.count i }
 {
     let mut row = [Chunk::ZERO; 2 * WIDTH];
@@ -100,7 +100,7 @@ pub(crate) fn calculate<H: PairHash>(
     requires positive { 0 < index }
     requires reached { IsReached leaves.now nodes.now index }
     requires unknown { None ≡ chunk_at (leaves.now ++ nodes.now) index }
-    ensures value { result.0 ≡ calculated H.pair_of (leaves.now ++ nodes.now) index }
+    ensures value { result.0 ≡ calculate_root H.pair_of (leaves.now ++ nodes.now) index }
     ensures rises { H.pairs hasher.old ≤ H.pairs hasher.new }
     ensures pairs { H.pairs hasher.new
         ≤ H.pairs hasher.old + levels_below index (indices_of leaves.now) }
@@ -135,7 +135,7 @@ fn found_or_calculated<H: PairHash>(
     requires reached { IsReached leaves.now nodes.now index }
     requires found { option_map (λ chunk. chunk.0) found
         ≡ chunk_at (leaves.now ++ nodes.now) index }
-    ensures value { result.0 ≡ calculated H.pair_of (leaves.now ++ nodes.now) index }
+    ensures value { result.0 ≡ calculate_root H.pair_of (leaves.now ++ nodes.now) index }
     ensures rises { H.pairs hasher.old ≤ H.pairs hasher.new }
     ensures pairs { H.pairs hasher.new
         ≤ H.pairs hasher.old + levels_below index (indices_of leaves.now) }

@@ -1,5 +1,5 @@
 ghost use Rattle.std.specs.Prelude.{◌≡◌, ◌++◌, IfOk, OnOk};
-ghost use Rattle.ssz_proof.specs.Text.{entries_text, entry_text, text_of};
+ghost use Rattle.ssz_proof.specs.Text.{entries_text, entry_text, multiproof_text};
 
 use crate::entry::Entry;
 use crate::proof::Proof;
@@ -8,7 +8,7 @@ use std::alloc::{AllocError, Global};
 /// The text of a proof, which `read_proof` reads: leaves in ascending order of index, nodes in
 /// descending order, digits in lower case, and a line feed.
 pub fn proof_text(alloc: Global, proof: &Proof) -> Result<Vec<u8>, AllocError>
-    ensures { IfOk result (λ text. text.items ≡ text_of proof.now) }
+    ensures { IfOk result (λ text. text.items ≡ multiproof_text proof.now) }
 {
     let mut text = Vec::new(alloc);
     text.extend_from_slice(b"proof")?;

@@ -34,19 +34,19 @@ impl<'a> Model for Words<'a> {
     ghost use Rattle.std.specs.Prelude.{List, ℕ};
     ghost use Rattle.std.specs.Option.{option_map};
     ghost use Rattle.std.specs.Prelude.{unwrap_or, []};
-    ghost use Rattle.ssz_proof.specs.Text.{words_of};
+    ghost use Rattle.ssz_proof.specs.Text.{words_of_line};
 
     ghost Value = { List (List ℕ) };
 
-    ghost view = { λ a. unwrap_or (option_map (λ line. words_of line.now) a.rest) [] };
+    ghost view = { λ a. unwrap_or (option_map (λ line. words_of_line line.now) a.rest) [] };
 }
 
 impl<'a> Words<'a> {
-    ghost use Rattle.ssz_proof.specs.Text.{words_of};
+    ghost use Rattle.ssz_proof.specs.Text.{words_of_line};
 
     /// All words of a line.
     pub(crate) fn new(line: &'a [u8]) -> Self
-        ensures { result ≡ words_of line.now }
+        ensures { result ≡ words_of_line line.now }
     {
         Words { rest: Some(line) }
     }

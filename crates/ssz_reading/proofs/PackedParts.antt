@@ -4,7 +4,7 @@ use Rattle.std.specs.List.{AllByRecursion, concat}
 use Rattle.std.proofs.Math.Nat.{mul-le-mul_right}
 use Rattle.std.proofs.lemmas.List.{append-nil, length-map, take_min, take_all, map-append}
 use Rattle.std.proofs.lemmas.Nat.{div-mul-add, mod-mul-add}
-use Rattle.ssz_chunk.specs.Tree.{Tree, leaf, full}
+use Rattle.ssz_chunk.specs.Tree.{Tree, leaf, merkle_tree}
 use Rattle.ssz_schema.specs.declared.width.Width.TheVariants.{W8}
 use Rattle.ssz_schema.specs.Types.{SszType, uint}
 use Rattle.ssz_schema.specs.Sizes.{basic_size, element_chunks}
@@ -12,7 +12,7 @@ use Rattle.ssz_bytes.specs.Bytes.{bit_value}
 use Rattle.ssz_bytes.proofs.Numbers.{length-le_bytes}
 use Rattle.ssz_value.specs.declared.value.Value.{Value}
 use Rattle.ssz_value.specs.Values.{SszValue, number, Fits}
-use Rattle.ssz_value.specs.Encoding.{enc}
+use Rattle.ssz_value.specs.Encoding.{serialize}
 use Rattle.ssz_value.specs.Trees.{padded, pack, element_leaves, tree}
 use Rattle.ssz_value.specs.Standing.{value_of}
 use Rattle.ssz_value.proofs.ChunkLaw.{length-chunks}
@@ -20,37 +20,38 @@ use Rattle.ssz_places.proofs.Packing.{chunk-part}
 use Rattle.ssz_places.proofs.BitPacking.{bit_bytes, bits-part}
 use Rattle.ssz_places.proofs.Elements.{is_basic, AreSized-enc}
 use Rattle.ssz_arena.specs.declared.node.NodeId.{NodeId}
-use Rattle.ssz_arena.specs.Content.{Content, tree_of}
-use Rattle.ssz_nodes.specs.Ahead.{Ahead, Holds}
+use Rattle.ssz_arena.specs.Content.{ArenaContent, tree_of}
+use Rattle.ssz_nodes.specs.Ahead.{Ahead, AheadHolds}
 use Rattle.ssz_nodes.specs.Shown.{AreElements, ArePacked, bit_in, chunk_from}
 use Rattle.ssz_nodes.proofs.Walked.{Takes, length-encodings}
 use Rattle.ssz_nodes.proofs.Chunked.{pack-more}
 
 -- the chunks of some bytes from number j on are still to come
-pub record ChunksLeft (arena : Content) (bytes : List ℕ) (j : ℕ) (places : Ahead) : Type 0 where
-  pub holds : Holds arena (map leaf (pack (drop (32 * j) bytes))) places
+pub record ChunksLeft (arena : ArenaContent) (bytes : List ℕ) (j : ℕ) (places : Ahead)
+    : Type 0 where
+  pub holds : AheadHolds arena (map leaf (pack (drop (32 * j) bytes))) places
 
-pub record FirstChunk (arena : Content) (bytes chunk : List ℕ) (j : ℕ) (places : Ahead)
+pub record FirstChunk (arena : ArenaContent) (bytes chunk : List ℕ) (j : ℕ) (places : Ahead)
     : Type 0 where
   pub is : chunk ≡ chunk_from bytes j
   pub left : ChunksLeft arena bytes (j + 1) places
 
-pub ChunksLeft-first : (arena : Content) (bytes chunk : List ℕ) (j : ℕ) (old new : Ahead)
+pub ChunksLeft-first : (arena : ArenaContent) (bytes chunk : List ℕ) (j : ℕ) (old new : Ahead)
     (node : NodeId) → ChunksLeft arena bytes j old → 32 * j < length bytes
     → Takes arena old new node → ((c : List ℕ) → tree_of arena node ≡ leaf c → chunk ≡ c)
     → FirstChunk arena bytes chunk j new
 ChunksLeft-first arena bytes chunk j old new node h some takes shows =
     let pieces = pack-more (drop (32 * j) bytes) (omega (arith, length-drop (32 * j) bytes)) in
-    let holds : Holds arena (leaf (padded (drop (32 * j) bytes))
+    let holds : AheadHolds arena (leaf (padded (drop (32 * j) bytes))
     ∷ map leaf (pack (drop 32 (drop (32 * j) bytes)))) old =
-    subst (λ (ps : List (List ℕ)). Holds arena (map leaf ps) old) pieces h.holds in
+    subst (λ (ps : List (List ℕ)). AheadHolds arena (map leaf ps) old) pieces h.holds in
     let next : drop 32 (drop (32 * j) bytes) ≡ drop (32 * (j + 1)) bytes =
     drop-drop 32 (32 * j) bytes
     ∙ ap (λ n. drop n bytes) (let e : 32 * j + 32 ≡ 32 * (j + 1) = omega arith in e) in
     record {
       is = shows (padded (drop (32 * j) bytes)) (takes.tree _ _ holds);
       left = record {
-        holds = subst (λ bs. Holds arena (map leaf (pack bs)) new) next (takes.rest _ _ holds);
+        holds = subst (λ bs. AheadHolds arena (map leaf (pack bs)) new) next (takes.rest _ _ holds);
       };
     }
 
@@ -85,17 +86,17 @@ fit_at t (w ∷ vs) zero v all e = let same : w ≡ v = cc in subst (Fits t) sam
 fit_at t (w ∷ vs) (suc i) v all e = fit_at t vs i v all.1 e
 
 encoding_at : (t : SszType) (vs : List SszValue) (i : ℕ) (v : SszValue) → slice_get vs i ≡ Some v
-    → get_or (map (enc t) vs) i [] ≡ enc t v
+    → get_or (map (serialize t) vs) i [] ≡ serialize t v
 encoding_at t [] i v e = cc
-encoding_at t (w ∷ vs) zero v e = let same : w ≡ v = cc in ap (enc t) same
+encoding_at t (w ∷ vs) zero v e = let same : w ≡ v = cc in ap (serialize t) same
 encoding_at t (w ∷ vs) (suc i) v e = encoding_at t vs i v e
 
 -- the encoding of a value in its chunk
 pub value_there : (t : SszType) (z : ℕ) (vs : List SszValue) (j from k : ℕ) (chunk : List ℕ)
     (v : SszValue) → basic_size t ≡ Some z → AllByRecursion (Fits t) vs
-    → chunk ≡ chunk_from (concat (map (enc t) vs)) j → from * z ≡ 32 * j → k * z + z ≤ 32
+    → chunk ≡ chunk_from (concat (map (serialize t) vs)) j → from * z ≡ 32 * j → k * z + z ≤ 32
     → slice_get vs (from + k) ≡ Some v
-    → slice_range chunk (k * z) (k * z + length (enc t v)) ≡ enc t v
+    → slice_range chunk (k * z) (k * z + length (serialize t v)) ≡ serialize t v
 value_there t z vs j from k chunk v size fit is start room here =
     let basic = is_basic t z size in
     let place : (from + k) * z ≡ j * 32 + k * z = omega (arith, start) in
@@ -104,22 +105,25 @@ value_there t z vs j from k chunk v size fit is start room here =
     ap (λ n. n / 32) place ∙ div-mul-add j 32 (k * z) low in
     let byte_is : (from + k) * z % 32 ≡ k * z =
     ap (λ n. n % 32) place ∙ mod-mul-add j 32 (k * z) low in
-    let part = chunk-part z (from + k) (map (enc t) vs) (enc t v) (basic.inside (from + k))
+    let part = chunk-part z (from + k) (map (serialize t) vs) (serialize t v)
+    (basic.inside (from + k))
     (AreSized-enc t z basic vs fit) (basic.sized v (fit_at t vs (from + k) v fit here))
     (encoding_at t vs (from + k) v here) in
-    ap (λ c. slice_range c (k * z) (k * z + length (enc t v))) is
-    ∙ ap₂ (λ q r. slice_range (chunk_from (concat (map (enc t) vs)) q) r (r + length (enc t v)))
+    ap (λ c. slice_range c (k * z) (k * z + length (serialize t v))) is
+    ∙ ap₂ (λ q r. slice_range (chunk_from (concat (map (serialize t) vs)) q) r
+    (r + length (serialize t v)))
     (sym chunk_is) (sym byte_is) ∙ part
 
 -- one more value is appended
 pub values_more : (t : SszType) (z : ℕ) (vs : List SszValue) (j from count k : ℕ)
     (chunk : List ℕ) (old parts next : List Value) (value : Value)
     → basic_size t ≡ Some z → AllByRecursion (Fits t) vs
-    → chunk ≡ chunk_from (concat (map (enc t) vs)) j → from * z ≡ 32 * j → count * z ≤ 32
+    → chunk ≡ chunk_from (concat (map (serialize t) vs)) j → from * z ≡ 32 * j → count * z ≤ 32
     → k < count → from + count ≤ length vs
     → map value_of parts ≡ map value_of old ++ take k (drop from vs)
     → ((v : SszValue) → Fits t v
-    → slice_range chunk (k * z) (k * z + length (enc t v)) ≡ enc t v → value_of value ≡ v)
+    → slice_range chunk (k * z) (k * z + length (serialize t v)) ≡ serialize t v
+    → value_of value ≡ v)
     → next ≡ parts ++ value ∷ []
     → map value_of next ≡ map value_of old ++ take (k + 1) (drop from vs)
 values_more t z vs j from count k chunk old parts next value size fit is start few below within
@@ -140,7 +144,7 @@ values_more t z vs j from count k chunk old parts next value size fit is start f
 pub record ValuesSoFar (t : SszType) (chunk : List ℕ) (count k : ℕ) (old parts : List Value)
     : Type 0 where
   pub each : (vs : List SszValue) (j from : ℕ) → AllByRecursion (Fits t) vs
-      → chunk ≡ chunk_from (concat (map (enc t) vs)) j
+      → chunk ≡ chunk_from (concat (map (serialize t) vs)) j
       → ((size : ℕ) → basic_size t ≡ Some size → from * size ≡ 32 * j)
       → from + count ≤ length vs
       → map value_of parts ≡ map value_of old ++ take k (drop from vs)
@@ -151,22 +155,22 @@ ValuesSoFar-start t chunk count old =
     record { each = λ vs j from fit is start within. sym (append-nil (map value_of old)) }
 
 -- Values that are still to come, behind those that were read.
-pub record ValuesLeft (arena : Content) (t : SszType) (per : ℕ) (vs : List SszValue) (left : ℕ)
+pub record ValuesLeft (arena : ArenaContent) (t : SszType) (per : ℕ) (vs : List SszValue) (left : ℕ)
     (done : List SszValue) (places : Ahead) : Type 0 where
   pub j : ℕ
   pub many : left ≡ length vs - per * j
-  pub chunks : ChunksLeft arena (concat (map (enc t) vs)) j places
+  pub chunks : ChunksLeft arena (concat (map (serialize t) vs)) j places
   pub all : done ≡ take (per * j) vs
 
-pub ValuesLeft-start : (arena : Content) (t : SszType) (z per depth count : ℕ)
+pub ValuesLeft-start : (arena : ArenaContent) (t : SszType) (z per depth count : ℕ)
     (vs : List SszValue) (node : NodeId) (places : Ahead) → basic_size t ≡ Some z
     → AreElements t depth count vs (tree_of arena node)
-    → ((trees : List Tree) → length trees ≤ 2 ^ depth → tree_of arena node ≡ full depth trees
-    → Holds arena trees places)
+    → ((trees : List Tree) → length trees ≤ 2 ^ depth → tree_of arena node ≡ merkle_tree depth trees
+    → AheadHolds arena trees places)
     → ValuesLeft arena t per vs count [] places
 ValuesLeft-start arena t z per depth count vs node places size are holds =
     let basic = is_basic t z size in
-    let bytes : List ℕ = concat (map (enc t) vs) in
+    let bytes : List ℕ = concat (map (serialize t) vs) in
     let long : length bytes ≡ count * z =
     length-encodings t z basic vs are.fit ∙ ap (λ n. n * z) are.many in
     let none : per * 0 ≡ 0 = omega arith in
@@ -174,8 +178,8 @@ ValuesLeft-start arena t z per depth count vs node places size are holds =
   where
     go : (o : Option ℕ) → o ≡ Some z → element_chunks o count ≤ 2 ^ depth
         → tree_of arena node
-        ≡ full depth (element_leaves o (map (enc t) vs) (map (tree t) vs))
-        → length (concat (map (enc t) vs)) ≡ count * z → per * 0 ≡ 0
+        ≡ merkle_tree depth (element_leaves o (map (serialize t) vs) (map (tree t) vs))
+        → length (concat (map (serialize t) vs)) ≡ count * z → per * 0 ≡ 0
         → ValuesLeft arena t per vs count [] places
     go None e few is long none = cc
     go (Some y) e few is long none =
@@ -184,31 +188,32 @@ ValuesLeft-start arena t z per depth count vs node places size are holds =
           j = 0;
           many = omega (arith, none, are.many);
           chunks = record {
-            holds = holds (map leaf (pack (concat (map (enc t) vs))))
+            holds = holds (map leaf (pack (concat (map (serialize t) vs))))
                 (omega (
                   arith,
                   few,
                   long,
                   ap (λ n. count * n) same,
-                  length-map (pack (concat (map (enc t) vs))) leaf,
-                  length-chunks ((length (concat (map (enc t) vs)) + 31) / 32)
-                      (concat (map (enc t) vs)),
+                  length-map (pack (concat (map (serialize t) vs))) leaf,
+                  length-chunks ((length (concat (map (serialize t) vs)) + 31) / 32)
+                      (concat (map (serialize t) vs)),
                 )) is;
           };
           all = ap (λ n. take n vs) (sym none);
         }
 
-pub record MoreValues (arena : Content) (t : SszType) (per : ℕ) (vs : List SszValue) (left here : ℕ)
+pub record MoreValues (arena : ArenaContent) (t : SszType) (per : ℕ) (vs : List SszValue)
+    (left here : ℕ)
     (done : List SszValue) (chunk : List ℕ) (places : Ahead) : Type 0 where
   pub j : ℕ
-  pub is : chunk ≡ chunk_from (concat (map (enc t) vs)) j
+  pub is : chunk ≡ chunk_from (concat (map (serialize t) vs)) j
   pub start : (size : ℕ) → basic_size t ≡ Some size → per * j * size ≡ 32 * j
   pub within : per * j + here ≤ length vs
   pub next : (more : List SszValue) → more ≡ done ++ take here (drop (per * j) vs)
       → ValuesLeft arena t per vs (left - here) more places
 
 -- the next chunk of them
-pub ValuesLeft-more : (arena : Content) (t : SszType) (z per : ℕ) (vs : List SszValue)
+pub ValuesLeft-more : (arena : ArenaContent) (t : SszType) (z per : ℕ) (vs : List SszValue)
     (left here : ℕ) (done : List SszValue) (chunk : List ℕ) (old new : Ahead) (node : NodeId)
     → basic_size t ≡ Some z → z * per ≡ 32 → AllByRecursion (Fits t) vs
     → ValuesLeft arena t per vs left done old → 0 < left → here ≡ min left per
@@ -220,9 +225,10 @@ ValuesLeft-more arena t z per vs left here done chunk old new node size whole fi
     let below : per * h.j + 1 ≤ length vs = omega (arith, h.many) in
     let scaled : (per * h.j + 1) * z ≤ length vs * z = mul-le-mul_right z below in
     let start : per * h.j * z ≡ 32 * h.j = product per h.j z whole in
-    let room : 32 * h.j < length (concat (map (enc t) vs)) =
+    let room : 32 * h.j < length (concat (map (serialize t) vs)) =
     omega (arith, length-encodings t z basic vs fit, scaled, start, basic.pos) in
-    let first = ChunksLeft-first arena (concat (map (enc t) vs)) chunk h.j old new node h.chunks
+    let first = ChunksLeft-first arena
+    (concat (map (serialize t) vs)) chunk h.j old new node h.chunks
     room takes shows in
     let more : per * (h.j + 1) ≡ per * h.j + per = omega arith in
     record {
@@ -249,7 +255,7 @@ ValuesLeft-more arena t z per vs left here done chunk old new node size whole fi
         swap : (per j z : ℕ) → per * j * z ≡ z * per * j
         swap per j z = omega arith
 
-pub ValuesLeft-end : (arena : Content) (t : SszType) (per : ℕ) (vs : List SszValue) (left : ℕ)
+pub ValuesLeft-end : (arena : ArenaContent) (t : SszType) (per : ℕ) (vs : List SszValue) (left : ℕ)
     (done : List SszValue) (places : Ahead) → ValuesLeft arena t per vs left done places
     → left ≤ 0 → done ≡ vs
 ValuesLeft-end arena t per vs left done places h none =
@@ -301,14 +307,14 @@ pub BitsSoFar-start : (chunk : List ℕ) (count : ℕ) (old : List Bool)
     → BitsSoFar chunk count 0 old old
 BitsSoFar-start chunk count old = record { each = λ bs from told within. sym (append-nil old) }
 
-pub record BitsLeft (arena : Content) (bs : List Bool) (left : ℕ) (done : List Bool)
+pub record BitsLeft (arena : ArenaContent) (bs : List Bool) (left : ℕ) (done : List Bool)
     (places : Ahead) : Type 0 where
   pub j : ℕ
   pub many : left ≡ length bs - 256 * j
   pub chunks : ChunksLeft arena (bit_bytes bs) j places
   pub all : done ≡ take (256 * j) bs
 
-pub record MoreBits (arena : Content) (bs : List Bool) (left here : ℕ) (done : List Bool)
+pub record MoreBits (arena : ArenaContent) (bs : List Bool) (left here : ℕ) (done : List Bool)
     (chunk : List ℕ) (places : Ahead) : Type 0 where
   pub j : ℕ
   pub bits : (k : ℕ) → k < here → bit_in chunk k ≡ get_or bs (256 * j + k) false
@@ -316,7 +322,7 @@ pub record MoreBits (arena : Content) (bs : List Bool) (left here : ℕ) (done :
   pub next : (more : List Bool) → more ≡ done ++ take here (drop (256 * j) bs)
       → BitsLeft arena bs (left - here) more places
 
-pub BitsLeft-more : (arena : Content) (bs : List Bool) (left here : ℕ) (done : List Bool)
+pub BitsLeft-more : (arena : ArenaContent) (bs : List Bool) (left here : ℕ) (done : List Bool)
     (chunk : List ℕ) (old new : Ahead) (node : NodeId) → BitsLeft arena bs left done old
     → 0 < left → here ≡ min left 256 → Takes arena old new node
     → ((c : List ℕ) → tree_of arena node ≡ leaf c → chunk ≡ c)
@@ -346,7 +352,7 @@ BitsLeft-more arena bs left here done chunk old new node h some is takes shows =
 
 -- a list of bytes is their encodings, one after another
 byte_values : (vs : List SszValue) → AllByRecursion (Fits (uint W8)) vs
-    → map number (concat (map (enc (uint W8)) vs)) ≡ vs
+    → map number (concat (map (serialize (uint W8)) vs)) ≡ vs
 byte_values [] fit = refl
 byte_values (number n ∷ vs) fit =
     let small : n % 256 ≡ n = omega (arith, fit.0) in
@@ -355,9 +361,9 @@ byte_values (_ ∷ vs) fit = absurd fit.0
 
 pub packed_bytes : (depth count : ℕ) (vs : List SszValue) (node : Tree)
     → AreElements (uint W8) depth count vs node
-    → ArePacked depth count (concat (map (enc (uint W8)) vs)) node
+    → ArePacked depth count (concat (map (serialize (uint W8)) vs)) node
 packed_bytes depth count vs node are =
-    let bytes : List ℕ = concat (map (enc (uint W8)) vs) in
+    let bytes : List ℕ = concat (map (serialize (uint W8)) vs) in
     let long : length bytes ≡ count * 1 =
     length-encodings (uint W8) 1 (is_basic (uint W8) 1 refl) vs are.fit
     ∙ ap (λ n. n * 1) are.many in
@@ -368,6 +374,6 @@ packed_bytes depth count vs node are =
     }
 
 pub bytes_read : (depth count : ℕ) (vs : List SszValue) (node : Tree) (run : List ℕ)
-    → AreElements (uint W8) depth count vs node → run ≡ concat (map (enc (uint W8)) vs)
+    → AreElements (uint W8) depth count vs node → run ≡ concat (map (serialize (uint W8)) vs)
     → map number run ≡ vs
 bytes_read depth count vs node run are is = ap (map number) is ∙ byte_values vs are.fit

@@ -5,16 +5,16 @@ use Rattle.std.specs.Prelude.{IfOk}
 use Rattle.std.specs.declared.boxed.Box.{Box}
 use Rattle.std.specs.declared.alloc.AllocError.{AllocError}
 use Rattle.ssz_schema.specs.Indices.{whole}
-use Rattle.ssz_value.specs.Encoding.{enc}
+use Rattle.ssz_value.specs.Encoding.{serialize}
 use Rattle.ssz_places.specs.PlaceLaws.{HasBasicPart}
 use Rattle.ssz_places.proofs.BasicParts.{basic_part}
 use Rattle.ssz_places.proofs.Elements.{is_basic}
 use Rattle.std.proofs.lemmas.List.{append-nil, map-append, length-append, drop_all}
-use Rattle.ssz_chunk.specs.Tree.{Tree, leaf, full}
+use Rattle.ssz_chunk.specs.Tree.{Tree, leaf, merkle_tree}
 use Rattle.ssz_schema.specs.Types.{SszType, Fields, container, vector, list, bitvector, bitlist, union}
 use Rattle.ssz_schema.specs.Sizes.{basic_size, depth}
 use Rattle.ssz_schema.specs.Legal.{IsLegal}
-use Rattle.ssz_schema.specs.Unfolding.{tree_at, fields_over, options_over}
+use Rattle.ssz_schema.specs.Unfolding.{type_tree_at, fields_over, options_over}
 use Rattle.ssz_schema.specs.declared.format.Format.{Format}
 use Rattle.ssz_value.specs.declared.value.Value.{Value}
 use Rattle.ssz_value.specs.declared.value.Value.TheVariants.{Seq, Bits, Union}
@@ -27,17 +27,17 @@ use Rattle.ssz_value.proofs.FormLemmas.{formed_push, fields_push, seq_formed_ali
 use Rattle.ssz_value.proofs.ValueLemmas.{seq_is, bits_are, chosen_is, chosen_none_is}
 use Rattle.ssz_value.proofs.Sequences.{values-items}
 use Rattle.ssz_arena.specs.declared.node.NodeId.{NodeId}
-use Rattle.ssz_arena.specs.Content.{Content, tree_of}
-use Rattle.ssz_nodes.specs.Ahead.{Ahead, Holds}
+use Rattle.ssz_arena.specs.Content.{ArenaContent, tree_of}
+use Rattle.ssz_nodes.specs.Ahead.{Ahead, AheadHolds}
 use Rattle.ssz_places.specs.PlaceLaws.{IsTreeOf}
-use Rattle.ssz_nodes.specs.Shown.{ForValue, ForPlace, AreElements, AreFields, AreBits, ForElements, ForFields, basic_type}
+use Rattle.ssz_nodes.specs.Shown.{ForValue, ForPlace, AreElements, AreFieldsIn, AreBits, ForElements, ForFields, basic_type}
 use Rattle.ssz_nodes.specs.declared.basics.Basic.{Basic}
 use Rattle.ssz_nodes.specs.declared.basics.Basic.TheVariants.{Number, Flag}
 use Rattle.ssz_nodes.proofs.Walked.{Takes, Left, Left-first, AreElements-trees, FieldsLeft, FieldsLeft-start, FieldsLeft-first}
 use Rattle.ssz_nodes.proofs.Formed.{IsVector, vector_elements, IsList, list_elements, IsContainer, container_fields, IsBitvector, bitvector_bits, IsBitlist, bitlist_bits, IsUnion, union_option, Unmixes}
 
 -- elements of one type, so far
-pub record ElementsRead (arena : Content) (t : SszType) (vs : List SszValue) (i : ℕ)
+pub record ElementsRead (arena : ArenaContent) (t : SszType) (vs : List SszValue) (i : ℕ)
     (parts : List Value) (places : Ahead) : Type 0 where
   pub rest : List SszValue
   pub left : Left arena t rest places
@@ -45,11 +45,11 @@ pub record ElementsRead (arena : Content) (t : SszType) (vs : List SszValue) (i 
   pub all : map value_of parts ++ rest ≡ vs
   pub formed : AllByRecursion (IsFormed t) parts
 
-pub ElementsRead-start : (arena : Content) (t : SszType) (depth count : ℕ) (vs : List SszValue)
+pub ElementsRead-start : (arena : ArenaContent) (t : SszType) (depth count : ℕ) (vs : List SszValue)
     (node : NodeId) (places : Ahead) → basic_size t ≡ None
     → AreElements t depth count vs (tree_of arena node)
-    → ((trees : List Tree) → length trees ≤ 2 ^ depth → tree_of arena node ≡ full depth trees
-    → Holds arena trees places)
+    → ((trees : List Tree) → length trees ≤ 2 ^ depth → tree_of arena node ≡ merkle_tree depth trees
+    → AheadHolds arena trees places)
     → ElementsRead arena t vs 0 [] places
 ElementsRead-start arena t depth count vs node places none are holds =
     let trees = AreElements-trees t depth count vs (tree_of arena node) none are in
@@ -61,7 +61,7 @@ ElementsRead-start arena t depth count vs node places none are holds =
       formed = tt;
     }
 
-pub ElementsRead-more : (arena : Content) (t : SszType) (vs : List SszValue) (i : ℕ)
+pub ElementsRead-more : (arena : ArenaContent) (t : SszType) (vs : List SszValue) (i : ℕ)
     (parts next : List Value) (v : Value) (old new : Ahead) (node : NodeId)
     → ElementsRead arena t vs i parts old → i < length vs → Takes arena old new node
     → ForValue t (tree_of arena node) (λ w. Stands t w v) → next ≡ parts ++ v ∷ []
@@ -82,7 +82,7 @@ ElementsRead-more arena t vs i parts next v old new node h below takes read is =
           (formed_push t parts v h.formed stands.formed);
     }
 
-pub ElementsRead-end : (arena : Content) (t : SszType) (vs : List SszValue) (i : ℕ)
+pub ElementsRead-end : (arena : ArenaContent) (t : SszType) (vs : List SszValue) (i : ℕ)
     (parts : List Value) (places : Ahead) → ElementsRead arena t vs i parts places
     → length vs ≤ i → StandAlike t vs parts
 ElementsRead-end arena t vs i parts places h all =
@@ -103,7 +103,7 @@ pub record FieldsRead (trees : List SszType) (fields : List Part) (vs : List Ssz
   pub formed : FieldsFormed (fields_over trees fields) parts
 
 pub FieldsRead-start : (trees : List SszType) (fields : List Part) (depth : ℕ)
-    (vs : List SszValue) (node : Tree) → AreFields (fields_over trees fields) depth vs node
+    (vs : List SszValue) (node : Tree) → AreFieldsIn (fields_over trees fields) depth vs node
     → FieldsRead trees fields vs 0 depth [] node
 FieldsRead-start trees fields depth vs node are = record {
   rest = vs;
@@ -117,11 +117,12 @@ pub FieldsRead-more : (trees : List SszType) (fields : List Part) (vs : List Ssz
     (i depth : ℕ) (part : Part) (parts next : List Value) (v : Value) (node : Tree)
     → FieldsRead trees fields vs i depth parts node → i < length fields
     → part ≡ get_or fields i part
-    → ForPlace (tree_at trees part.1) depth i node (λ w. Stands (tree_at trees part.1) w v)
+    → ForPlace (type_tree_at trees part.1) depth i node
+    (λ w. Stands (type_tree_at trees part.1) w v)
     → next ≡ parts ++ v ∷ [] → FieldsRead trees fields vs (i + 1) depth next node
 FieldsRead-more trees fields vs i depth part parts next v node h below e read is =
     let first = FieldsLeft-first trees fields i depth part h.rest node h.left below e in
-    let stands : Stands (tree_at trees part.1) first.value v = read first.value first.is in
+    let stands : Stands (type_tree_at trees part.1) first.value v = read first.value first.is in
     record {
       rest = first.others;
       left = first.left;
@@ -206,7 +207,7 @@ container_read fs d node result deep read = λ v h.
     let same : sequence (values (items of.parts)) ≡ v =
     ap sequence (values-items of.parts) ∙ sym of.is in
     subst (λ (w : SszValue). Reads (container fs) w result) same
-    (read (items of.parts) (subst (λ k. AreFields fs k (items of.parts) node) (sym deep) of.are))
+    (read (items of.parts) (subst (λ k. AreFieldsIn fs k (items of.parts) node) (sym deep) of.are))
 
 -- the bits
 pub bitvector_read : (n d : ℕ) (node : Tree) (run : List Bool) → d ≡ depth (bitvector n)
@@ -242,14 +243,14 @@ pub basic_read : (t : SszType) (z : ℕ) (node : Tree) (chunk : List ℕ) (value
     → basic_size t ≡ Some z → ((v : Value) → IsFormed t v)
     → ((c : List ℕ) → node ≡ leaf c → chunk ≡ c)
     → ((v : SszValue) → Fits t v
-    → slice_range chunk 0 (0 + length (enc t v)) ≡ enc t v → value_of value ≡ v)
+    → slice_range chunk 0 (0 + length (serialize t v)) ≡ serialize t v → value_of value ≡ v)
     → ForValue t node (λ v. Stands t v value)
 basic_read t z node chunk value size formed shows read = λ v h.
     let at : HasBasicPart whole t v node z = basic_part whole t v node z size refl h.fits h.is in
-    let long : length (enc t v) ≡ z = (is_basic t z size).sized v h.fits in
+    let long : length (serialize t v) ≡ z = (is_basic t z size).sized v h.fits in
     record {
       value = read v h.fits
-          (ap (λ c. slice_range c 0 (0 + length (enc t v))) (shows at.chunk at.is)
+          (ap (λ c. slice_range c 0 (0 + length (serialize t v))) (shows at.chunk at.is)
           ∙ ap (λ n. slice_range at.chunk 0 (0 + n)) long ∙ at.bytes);
       formed = formed value;
     }
@@ -279,7 +280,8 @@ basic_formed Flag v = tt
 pub option_read : (trees : List SszType) (ids : List (Option ℕ)) (number id : ℕ)
     (node content : Tree) (v : Value) (box : Box Value Global) → length ids ≤ 128
     → Unmixes node content number → slice_get ids (number % 256) ≡ Some (Some id)
-    → ForValue (tree_at trees id) content (λ w. Stands (tree_at trees id) w v) → box.value ≡ v
+    → ForValue (type_tree_at trees id) content (λ w. Stands (type_tree_at trees id) w v)
+    → box.value ≡ v
     → ForValue (union (options_over trees ids)) node
     (λ w. Stands (union (options_over trees ids)) w (Union (number % 256) (Some box)))
 option_read trees ids number id node content v box few mixed here read boxed = λ w h.
@@ -295,14 +297,16 @@ option_read trees ids number id node content v box few mixed here read boxed = �
         elim of.option [
           | inl some ↦
               (let same_id : some.id ≡ id = cc in
-              let stands : Stands (tree_at trees id) some.value v = read some.value
-              (subst (λ c. IsTreeOf (tree_at trees id) some.value c) (sym (mixed.tree _ _ of.tree))
-              (subst (λ n. IsTreeOf (tree_at trees n) some.value of.content) same_id some.tree)) in
+              let stands : Stands (type_tree_at trees id) some.value v = read some.value
+              (subst (λ c. IsTreeOf (type_tree_at trees id) some.value c)
+              (sym (mixed.tree _ _ of.tree))
+              (subst (λ n. IsTreeOf (type_tree_at trees n) some.value of.content) same_id
+              some.tree)) in
               record {
                 value = chosen_is (number % 256) box
                     ∙ ap₂ chosen same (ap value_of boxed ∙ stands.value) ∙ sym some.is;
                 formed = chosen_formed trees ids (number % 256) id box (sym here)
-                    (subst (IsFormed (tree_at trees id)) (sym boxed) stands.formed);
+                    (subst (IsFormed (type_tree_at trees id)) (sym boxed) stands.formed);
               })
           | inr none ↦ absurd (let differ : Some None ≡ Some (Some id) =
               sym none.here ∙ at in cc)

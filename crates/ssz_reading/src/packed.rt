@@ -5,7 +5,7 @@ ghost use Rattle.ssz_schema.specs.declared.width.Width.TheVariants.{W8};
 ghost use Rattle.ssz_schema.specs.Types.{uint};
 ghost use Rattle.ssz_schema.specs.Sizes.{basic_size};
 ghost use Rattle.ssz_value.specs.Values.{SszValue, number, Fits};
-ghost use Rattle.ssz_value.specs.Encoding.{enc};
+ghost use Rattle.ssz_value.specs.Encoding.{serialize};
 ghost use Rattle.ssz_value.specs.Standing.{value_of};
 ghost use Rattle.ssz_arena.specs.Content.{IsNodeOf, tree_of};
 ghost use Rattle.ssz_nodes.specs.Shown.{AreBits, AreElements, ForElements, basic_type, bit_in, chunk_from};
@@ -69,7 +69,7 @@ fn append_values(
 ) -> Result<(), AllocError>
     requires { (size : ℕ) → basic_size (basic_type basic) ≡ Some size → count * size ≤ 32 }
     ensures { (vs : List SszValue) (j from : ℕ) → AllByRecursion (Fits (basic_type basic)) vs
-        → chunk.now.0 ≡ chunk_from (concat (map (enc (basic_type basic)) vs)) j
+        → chunk.now.0 ≡ chunk_from (concat (map (serialize (basic_type basic)) vs)) j
         → ((size : ℕ) → basic_size (basic_type basic) ≡ Some size → from * size ≡ 32 * j)
         → from + count ≤ length vs
         → OnOk result (map value_of parts.new.items

@@ -3,11 +3,11 @@ use Rattle.std.proofs.Common.{◌≡◌, ℕ, suc, ◌+◌, ◌-◌, ◌*◌, �
 use Rattle.std.specs.List.{sum_by}
 use Rattle.std.proofs.lemmas.List.{map-append, length-map, get_or_append_left, get_or-append-add, length-replicate}
 use Rattle.std.proofs.lemmas.List.Sums.{sum_by-append}
-use Rattle.ssz_chunk.specs.Tree.{Tree, root, full, grow}
+use Rattle.ssz_chunk.specs.Tree.{Tree, root, merkle_tree, merkle_pairs}
 use Rattle.ssz_chunk.proofs.Trees.{full-zero}
 use Rattle.ssz_schema.specs.Types.{SszType}
 use Rattle.ssz_value.specs.Encoding.{heads_length}
-use Rattle.ssz_value.specs.Faults.{why}
+use Rattle.ssz_value.specs.Faults.{first_fault}
 use Rattle.ssz_value.specs.Reading.{value_in}
 use Rattle.ssz_value.specs.Trees.{tree}
 use Rattle.ssz_value.specs.Pairs.{pairs}
@@ -65,11 +65,11 @@ cut_elements size n half a b within fixed =
 pub elements-halves : (pair_of : List ℕ → List ℕ → List ℕ) (t : SszType) (size : Option ℕ)
     (n d half a : ℕ) (b : List ℕ) (left right chunk : List ℕ) → half ≡ min (2 ^ d) n
     → AreFixed (replicate n size)
-    → left ≡ root pair_of (full d (trees_of t (pieces (replicate half size) a b)))
-    → right ≡ root pair_of (full d (trees_of t (pieces (replicate (n - half) size)
+    → left ≡ root pair_of (merkle_tree d (trees_of t (pieces (replicate half size) a b)))
+    → right ≡ root pair_of (merkle_tree d (trees_of t (pieces (replicate (n - half) size)
     (a + heads_length (replicate half size)) b)))
     → chunk ≡ pair_of left right
-    → chunk ≡ root pair_of (full (suc d) (trees_of t (pieces (replicate n size) a b)))
+    → chunk ≡ root pair_of (merkle_tree (suc d) (trees_of t (pieces (replicate n size) a b)))
 elements-halves pair_of t size n d half a b left right chunk middle fixed is_left is_right is =
     let made = cut_elements size n half a b (omega (arith, middle)) fixed in
     let front : List (List ℕ) = pieces (replicate half size) a b in
@@ -83,13 +83,13 @@ elements-halves pair_of t size n d half a b left right chunk middle fixed is_lef
     root-halves pair_of d n (trees_of t front) (trees_of t back) left right chunk
     (count front ∙ made.front_count ∙ middle)
     (count back ∙ made.back_count ∙ ap (λ k. n - k) middle) is_left is_right is
-    ∙ ap (λ ts. root pair_of (full (suc d) ts)) (sym split)
+    ∙ ap (λ ts. root pair_of (merkle_tree (suc d) ts)) (sym split)
 
 pub elements-pairs : (t : SszType) (size : Option ℕ) (n d half a : ℕ) (b : List ℕ)
     → half ≡ min (2 ^ d) n → 0 < n → n ≤ 2 ^ suc d → AreFixed (replicate n size)
-    → grow (suc d) n + pairs_of t (pieces (replicate n size) a b)
-    ≡ (grow d half + pairs_of t (pieces (replicate half size) a b))
-    + (grow d (n - half) + pairs_of t (pieces (replicate (n - half) size)
+    → merkle_pairs (suc d) n + pairs_of t (pieces (replicate n size) a b)
+    ≡ (merkle_pairs d half + pairs_of t (pieces (replicate half size) a b))
+    + (merkle_pairs d (n - half) + pairs_of t (pieces (replicate (n - half) size)
     (a + heads_length (replicate half size)) b)) + 1
 elements-pairs t size n d half a b middle some few fixed =
     let made = cut_elements size n half a b (omega (arith, middle)) fixed in
@@ -99,13 +99,15 @@ elements-pairs t size n d half a b middle some few fixed =
     let split : pairs_of t (pieces (replicate n size) a b) ≡ pairs_of t front + pairs_of t back =
     ap (pairs_of t) made.bytes ∙ ap (sum_by (pairs t)) (map-append (value_in t) front back)
     ∙ sum_by-append (pairs t) (map (value_in t) front) (map (value_in t) back) in
-    let above : grow (suc d) n ≡ 1 + grow d half + grow d (n - half) =
-    grow-halves d n some few ∙ ap (λ k. 1 + grow d k + grow d (n - k)) (sym middle) in
+    let above : merkle_pairs (suc d) n ≡ 1 + merkle_pairs d half + merkle_pairs d (n - half) =
+    grow-halves d n some few
+    ∙ ap (λ k. 1 + merkle_pairs d k + merkle_pairs d (n - k)) (sym middle) in
     omega (arith, above, split)
 
 -- no element has a fault
 abbrev pub HaveNone : SszType → Option ℕ → ℕ → ℕ → List ℕ → Type 0
-HaveNone t size n a b = (i : ℕ) → i < n → why t 0 (get_or (pieces (replicate n size) a b) i [])
+HaveNone t size n a b =
+    (i : ℕ) → i < n → first_fault t 0 (get_or (pieces (replicate n size) a b) i [])
     ≡ None
 
 pub none-front : (t : SszType) (size : Option ℕ) (n half a : ℕ) (b : List ℕ) → half ≤ n
@@ -115,7 +117,7 @@ none-front t size n half a b within fixed good i below =
     let front : List (List ℕ) = pieces (replicate half size) a b in
     let back : List (List ℕ) = pieces (replicate (n - half) size)
     (a + heads_length (replicate half size)) b in
-    ap (why t 0) (sym (ap (λ xs. get_or xs i []) made.bytes
+    ap (first_fault t 0) (sym (ap (λ xs. get_or xs i []) made.bytes
     ∙ get_or_append_left front back [] i (omega (arith, made.front_count))))
     ∙ good i (omega arith)
 
@@ -127,7 +129,7 @@ none-back t size n half a b within fixed good i below =
     let front : List (List ℕ) = pieces (replicate half size) a b in
     let back : List (List ℕ) = pieces (replicate (n - half) size)
     (a + heads_length (replicate half size)) b in
-    ap (why t 0) (sym (ap (λ xs. get_or xs (half + i) []) made.bytes
+    ap (first_fault t 0) (sym (ap (λ xs. get_or xs (half + i) []) made.bytes
     ∙ ap (λ k. get_or (front ++ back) (k + i) []) (sym made.front_count)
     ∙ get_or-append-add front back i []))
     ∙ good (half + i) (omega arith)
@@ -141,23 +143,23 @@ one_value t (Some z) a b fixed = refl
 pub one_element : (pair_of : List ℕ → List ℕ → List ℕ) (t : SszType) (size : Option ℕ)
     (n d a : ℕ) (b : List ℕ) → n ≡ 1 → d ≡ 0 → AreFixed (replicate n size)
     → root pair_of (tree t (value_in t (part_at size a b)))
-    ≡ root pair_of (full d (trees_of t (pieces (replicate n size) a b)))
+    ≡ root pair_of (merkle_tree d (trees_of t (pieces (replicate n size) a b)))
 one_element pair_of t size n d a b one flat fixed =
     let only : AreFixed (replicate 1 size) = subst (λ k. AreFixed (replicate k size)) one fixed in
-    sym (ap (λ k. root pair_of (full d (trees_of t (pieces (replicate k size) a b)))) one
-    ∙ ap (λ k. root pair_of (full k (trees_of t (pieces (replicate 1 size) a b)))) flat
-    ∙ ap (λ xs. root pair_of (full 0 (trees_of t xs))) (one_value t size a b only)
+    sym (ap (λ k. root pair_of (merkle_tree d (trees_of t (pieces (replicate k size) a b)))) one
+    ∙ ap (λ k. root pair_of (merkle_tree k (trees_of t (pieces (replicate 1 size) a b)))) flat
+    ∙ ap (λ xs. root pair_of (merkle_tree 0 (trees_of t xs))) (one_value t size a b only)
     ∙ ap (root pair_of) (full-zero (trees_of t (part_at size a b ∷ []))))
 
 pub one_element_pairs : (t : SszType) (size : Option ℕ) (n d a : ℕ) (b : List ℕ) → n ≡ 1
     → d ≡ 0 → AreFixed (replicate n size) → pairs t (value_in t (part_at size a b))
-    ≡ grow d n + pairs_of t (pieces (replicate n size) a b)
-unfolding grow
+    ≡ merkle_pairs d n + pairs_of t (pieces (replicate n size) a b)
+unfolding merkle_pairs
 one_element_pairs t size n d a b one flat fixed =
     let only : AreFixed (replicate 1 size) = subst (λ k. AreFixed (replicate k size)) one fixed in
     let sum : pairs_of t (part_at size a b ∷ []) ≡ pairs t (value_in t (part_at size a b)) =
     omega arith in
-    let none : grow d n ≡ 0 = ap (λ k. grow k n) flat in
+    let none : merkle_pairs d n ≡ 0 = ap (λ k. merkle_pairs k n) flat in
     let all : pairs_of t (pieces (replicate n size) a b)
     ≡ pairs_of t (part_at size a b ∷ []) =
     ap (λ k. pairs_of t (pieces (replicate k size) a b)) one

@@ -2,12 +2,12 @@
 use Rattle.std.proofs.Common.{◌≡◌, ℕ, zero, suc, ◌+◌, ◌-◌, ◌<◌, ◌≤◌, ◌^◌, min, List, [], ◌∷◌, ◌++◌, length, take, drop, get_or, replicate, Option, Some, None, refl, sym, ap, ◌∙◌, subst, arith, length-take, length-drop}
 use Rattle.std.specs.List.{AllByRecursion}
 use Rattle.std.proofs.lemmas.List.{take-append-drop, take_rest}
-use Rattle.ssz_chunk.specs.Tree.{root, full, grow}
+use Rattle.ssz_chunk.specs.Tree.{root, merkle_tree, merkle_pairs}
 use Rattle.ssz_chunk.proofs.Trees.{full-zero}
 use Rattle.ssz_schema.specs.Types.{SszType}
-use Rattle.ssz_schema.specs.Unfolding.{tree_at, fields_over}
+use Rattle.ssz_schema.specs.Unfolding.{type_tree_at, fields_over}
 use Rattle.ssz_value.specs.Encoding.{heads_length}
-use Rattle.ssz_value.specs.Faults.{why}
+use Rattle.ssz_value.specs.Faults.{first_fault}
 use Rattle.ssz_value.specs.Reading.{value_in}
 use Rattle.ssz_value.specs.Trees.{tree}
 use Rattle.ssz_value.specs.Pairs.{pairs}
@@ -92,13 +92,14 @@ cut_fields trees parts half a b fixed =
 pub fields-halves : (pair_of : List ℕ → List ℕ → List ℕ) (trees : List SszType)
     (parts : List Part) (d half a : ℕ) (b : List ℕ) (left right chunk : List ℕ)
     → half ≡ min (2 ^ d) (length parts) → AreFixed (sizes_of trees parts)
-    → left ≡ root pair_of (full d (trees_in trees (take half parts)
+    → left ≡ root pair_of (merkle_tree d (trees_in trees (take half parts)
     (pieces (sizes_of trees (take half parts)) a b)))
-    → right ≡ root pair_of (full d (trees_in trees (behind half parts)
+    → right ≡ root pair_of (merkle_tree d (trees_in trees (behind half parts)
     (pieces (sizes_of trees (behind half parts))
     (a + heads_length (sizes_of trees (take half parts))) b)))
     → chunk ≡ pair_of left right
-    → chunk ≡ root pair_of (full (suc d) (trees_in trees parts (pieces (sizes_of trees parts) a b)))
+    → chunk ≡ root pair_of
+    (merkle_tree (suc d) (trees_in trees parts (pieces (sizes_of trees parts) a b)))
 fields-halves pair_of trees parts d half a b left right chunk middle fixed is_left is_right is =
     let made = cut_fields trees parts half a b fixed in
     root-halves pair_of d (length parts) _ _ left right chunk
@@ -106,16 +107,16 @@ fields-halves pair_of trees parts d half a b left right chunk middle fixed is_le
     (made.back_count
     ∙ omega (arith, ap length (take_rest parts half), length-drop half parts, middle))
     is_left is_right is
-    ∙ ap (λ ts. root pair_of (full (suc d) ts)) (sym made.all_trees)
+    ∙ ap (λ ts. root pair_of (merkle_tree (suc d) ts)) (sym made.all_trees)
 
 -- and its pairs
 pub fields-pairs : (trees : List SszType) (parts : List Part) (d half a : ℕ) (b : List ℕ)
     → half ≡ min (2 ^ d) (length parts) → 0 < length parts → length parts ≤ 2 ^ suc d
     → AreFixed (sizes_of trees parts)
-    → grow (suc d) (length parts) + pairs_in trees parts (pieces (sizes_of trees parts) a b)
-    ≡ (grow d (length (take half parts)) + pairs_in trees (take half parts)
+    → merkle_pairs (suc d) (length parts) + pairs_in trees parts (pieces (sizes_of trees parts) a b)
+    ≡ (merkle_pairs d (length (take half parts)) + pairs_in trees (take half parts)
     (pieces (sizes_of trees (take half parts)) a b))
-    + (grow d (length (behind half parts)) + pairs_in trees (behind half parts)
+    + (merkle_pairs d (length (behind half parts)) + pairs_in trees (behind half parts)
     (pieces (sizes_of trees (behind half parts))
     (a + heads_length (sizes_of trees (take half parts))) b)) + 1
 fields-pairs trees parts d half a b middle some few fixed =
@@ -127,8 +128,8 @@ fields-pairs trees parts d half a b middle some few fixed =
     omega (
       arith,
       grow-halves d (length parts) some few,
-      ap (grow d) one,
-      ap (grow d) two,
+      ap (merkle_pairs d) one,
+      ap (merkle_pairs d) two,
       made.all_pairs,
     )
 
@@ -147,45 +148,47 @@ part_at size a b = get_or (pieces (replicate 1 size) a b) 0 []
 
 one_tree : (trees : List SszType) (part : Part) (a : ℕ) (b : List ℕ) (size : Option ℕ)
     → AreFixed (size ∷ []) → trees_in trees (part ∷ []) (pieces (size ∷ []) a b)
-    ≡ tree (tree_at trees part.1) (value_in (tree_at trees part.1) (part_at size a b)) ∷ []
+    ≡ tree (type_tree_at trees part.1) (value_in (type_tree_at trees part.1) (part_at size a b))
+    ∷ []
 one_tree trees part a b None fixed = absurd fixed
 one_tree trees part a b (Some z) fixed = refl
 
 one_field_pairs : (trees : List SszType) (part : Part) (a : ℕ) (b : List ℕ) (size : Option ℕ)
     → AreFixed (size ∷ []) → pairs_in trees (part ∷ []) (pieces (size ∷ []) a b)
-    ≡ pairs (tree_at trees part.1) (value_in (tree_at trees part.1) (part_at size a b))
+    ≡ pairs (type_tree_at trees part.1) (value_in (type_tree_at trees part.1) (part_at size a b))
 one_field_pairs trees part a b None fixed = absurd fixed
 one_field_pairs trees part a b (Some z) fixed = omega arith
 
 one_faultless : (trees : List SszType) (part : Part) (a : ℕ) (b : List ℕ) (size : Option ℕ)
     → AreFixed (size ∷ [])
     → AreFaultless (fields_over trees (part ∷ [])) (pieces (size ∷ []) a b)
-    → why (tree_at trees part.1) 0 (part_at size a b) ≡ None
+    → first_fault (type_tree_at trees part.1) 0 (part_at size a b) ≡ None
 one_faultless trees part a b None fixed good = absurd fixed
 one_faultless trees part a b (Some z) fixed good = good.0
 
 pub record IsOneField (pair_of : List ℕ → List ℕ → List ℕ) (trees : List SszType)
     (parts : List Part) (part : Part) (d a : ℕ) (b : List ℕ) : Type 0 where
-  pub one_root : root pair_of (tree (tree_at trees part.1) (value_in (tree_at trees part.1)
+  pub one_root : root pair_of
+      (tree (type_tree_at trees part.1) (value_in (type_tree_at trees part.1)
       (part_at (size_at trees part) a b)))
-      ≡ root pair_of (full d (trees_in trees parts (pieces (sizes_of trees parts) a b)))
-  pub one_pairs : pairs (tree_at trees part.1) (value_in (tree_at trees part.1)
+      ≡ root pair_of (merkle_tree d (trees_in trees parts (pieces (sizes_of trees parts) a b)))
+  pub one_pairs : pairs (type_tree_at trees part.1) (value_in (type_tree_at trees part.1)
       (part_at (size_at trees part) a b))
-      ≡ grow d (length parts) + pairs_in trees parts (pieces (sizes_of trees parts) a b)
+      ≡ merkle_pairs d (length parts) + pairs_in trees parts (pieces (sizes_of trees parts) a b)
   pub heads : heads_length (replicate 1 (size_at trees part)) ≡ heads_length (sizes_of trees parts)
   pub faultless : AreFaultless (fields_over trees parts) (pieces (sizes_of trees parts) a b)
-      → why (tree_at trees part.1) 0 (part_at (size_at trees part) a b) ≡ None
+      → first_fault (type_tree_at trees part.1) 0 (part_at (size_at trees part) a b) ≡ None
   pub fixed : AreFixed (replicate 1 (size_at trees part))
 
 pub one_field : (pair_of : List ℕ → List ℕ → List ℕ) (trees : List SszType) (parts : List Part)
     (part : Part) (d a : ℕ) (b : List ℕ) → d ≡ 0 → length parts ≡ 1 → part ≡ get_or parts 0 part
     → AreFixed (sizes_of trees parts) → IsOneField pair_of trees parts part d a b
-unfolding grow
+unfolding merkle_pairs
 one_field pair_of trees parts part d a b flat one is fixed =
     subst (λ k. IsOneField pair_of trees parts part k a b) (sym flat)
     (subst (λ ps. AreFixed (sizes_of trees ps) → IsOneField pair_of trees ps part 0 a b)
     (sym (one_item parts part one is)) (λ only. record {
-      one_root = sym (ap (λ ts. root pair_of (full 0 ts))
+      one_root = sym (ap (λ ts. root pair_of (merkle_tree 0 ts))
           (one_tree trees part a b (size_at trees part) only)
           ∙ ap (root pair_of) (full-zero _));
       one_pairs = omega (arith, one_field_pairs trees part a b (size_at trees part) only);

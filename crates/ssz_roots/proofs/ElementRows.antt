@@ -6,7 +6,7 @@ use Rattle.std.proofs.lemmas.List.{append-nil, map-append, drop-drop}
 use Rattle.std.proofs.lemmas.List.Sums.{sum_by-append}
 use Rattle.ssz_chunk.specs.declared.Chunk.{Chunk}
 use Rattle.ssz_chunk.specs.Chunk.{CountsUp}
-use Rattle.ssz_chunk.specs.Rows.{chunk_at}
+use Rattle.ssz_chunk.specs.Rows.{chunk_in_row}
 use Rattle.ssz_chunk.specs.Tree.{root}
 use Rattle.ssz_chunk.proofs.Counting.{CountsUp-none, CountsUp-add}
 use Rattle.ssz_schema.specs.Types.{SszType}
@@ -15,7 +15,7 @@ use Rattle.ssz_value.specs.Values.{SszValue}
 use Rattle.ssz_value.specs.Reading.{value_in, elements_in}
 use Rattle.ssz_value.specs.Trees.{tree}
 use Rattle.ssz_value.specs.Pairs.{pairs}
-use Rattle.ssz_merkle.specs.Frontier.{Frontier, Holds, bytes_of, whole_pairs}
+use Rattle.ssz_merkle.specs.Frontier.{Frontier, FrontierHolds, chunk_bytes, whole_pairs}
 use Rattle.ssz_merkle.proofs.WholePairs.{whole_pairs-zero}
 use Rattle.ssz_merkle.proofs.Gathering.{Gathered-pushed}
 use Rattle.ssz_parts.specs.PartValues.{element_values}
@@ -116,9 +116,9 @@ costs_more t count b n m next below =
 -- chunks that are the roots of the elements from n on
 pub roots_behind : (pair_of : List ℕ → List ℕ → List ℕ) (t : SszType) (count : ℕ) (b : List ℕ)
     (column : List Chunk) (n : ℕ) → n + length column ≤ count
-    → ((j : ℕ) → j < length column → chunk_at column j ≡ root pair_of (tree t (value_in t
+    → ((j : ℕ) → j < length column → chunk_in_row column j ≡ root pair_of (tree t (value_in t
     (get_or (elements_in (fixed_size t) count b) (n + j) []))))
-    → roots_to pair_of t count b n ++ bytes_of column
+    → roots_to pair_of t count b n ++ chunk_bytes column
     ≡ roots_to pair_of t count b (n + length column)
 roots_behind pair_of t count b [] n inside each =
     append-nil (roots_to pair_of t count b n) ∙ ap (roots_to pair_of t count b) (sym (add-zero n))
@@ -128,15 +128,16 @@ roots_behind pair_of t count b (chunk ∷ column) n inside each =
     (get_or (elements_in (fixed_size t) count b) n []))) = each 0 (omega arith)
     ∙ ap (λ k. root pair_of (tree t (value_in t
     (get_or (elements_in (fixed_size t) count b) k [])))) here in
-    let rest : (j : ℕ) → j < length column → chunk_at column j ≡ root pair_of (tree t (value_in t
+    let rest : (j : ℕ) → j < length column
+    → chunk_in_row column j ≡ root pair_of (tree t (value_in t
     (get_or (elements_in (fixed_size t) count b) (n + 1 + j) []))) =
     λ j below.
     let place : n + suc j ≡ n + 1 + j = omega arith in
     each (suc j) (omega arith) ∙ ap (λ k. root pair_of (tree t (value_in t
     (get_or (elements_in (fixed_size t) count b) k [])))) place in
     let last : n + 1 + length column ≡ n + suc (length column) = omega arith in
-    sym (append_assoc (roots_to pair_of t count b n) (chunk.0 ∷ []) (bytes_of column))
-    ∙ ap (λ cs. cs ++ bytes_of column)
+    sym (append_assoc (roots_to pair_of t count b n) (chunk.0 ∷ []) (chunk_bytes column))
+    ∙ ap (λ cs. cs ++ chunk_bytes column)
     (ap (λ c. roots_to pair_of t count b n ++ c ∷ []) first
     ∙ roots_more pair_of t count b n (omega arith))
     ∙ roots_behind pair_of t count b column (n + 1) (omega arith) rest
@@ -145,17 +146,17 @@ roots_behind pair_of t count b (chunk ∷ column) n inside each =
 -- the chunks of a column are the roots of as many elements
 pub column_roots : (pair_of : List ℕ → List ℕ → List ℕ) (t : SszType) (count : ℕ) (b : List ℕ)
     (column : List Chunk) (first n : ℕ) → length column ≡ n → first + n ≤ count
-    → ((j : ℕ) → j < n → chunk_at column j ≡ root pair_of (tree t (value_in t
+    → ((j : ℕ) → j < n → chunk_in_row column j ≡ root pair_of (tree t (value_in t
     (get_or (elements_in (fixed_size t) count b) (first + j) []))))
-    → bytes_of column ≡ roots_from pair_of t count b first n
+    → chunk_bytes column ≡ roots_from pair_of t count b first n
 column_roots pair_of t count b column first n long inside each =
     let before : List (List ℕ) = roots_to pair_of t count b first in
-    let behind : before ++ bytes_of column ≡ before ++ roots_from pair_of t count b first n =
+    let behind : before ++ chunk_bytes column ≡ before ++ roots_from pair_of t count b first n =
     roots_behind pair_of t count b column first (omega (arith, long))
     (λ j below. each j (omega (arith, below, long)))
     ∙ ap (λ k. roots_to pair_of t count b (first + k)) long
     ∙ sym (roots-split pair_of t (element_values t count b) first n) in
-    sym (drop-append_seam before (bytes_of column))
+    sym (drop-append_seam before (chunk_bytes column))
     ∙ ap (drop (length before)) behind
     ∙ drop-append_seam before (roots_from pair_of t count b first n)
 
@@ -199,7 +200,7 @@ counts_none t count b d now =
 pub FirstElements-eights : (pair_of : List ℕ → List ℕ → List ℕ) (depth : ℕ) (frontier : Frontier)
     (t : SszType) (count : ℕ) (b : List ℕ) (done start now new_depth : ℕ) → new_depth ≡ depth
     → frontier.depth ≡ new_depth → done ≤ count
-    → Holds pair_of (roots_to pair_of t count b done) frontier
+    → FrontierHolds pair_of (roots_to pair_of t count b done) frontier
     → CountsUp (whole_pairs new_depth done + costs_to t count b done) start now
     → FirstElements pair_of depth frontier t count b done start now
 FirstElements-eights pair_of depth frontier t count b done start now new_depth deep stays within
@@ -248,11 +249,11 @@ pub FirstElements-row : (pair_of : List ℕ → List ℕ → List ℕ) (depth : 
     (frontier after : Frontier) (t : SszType) (count : ℕ) (b : List ℕ)
     (i n start now middle end : ℕ) (row : List Chunk)
     → FirstElements pair_of depth frontier t count b i start now → i + n ≤ count
-    → bytes_of row ≡ roots_from pair_of t count b i n
+    → chunk_bytes row ≡ roots_from pair_of t count b i n
     → CountsUp (costs_from t count b i n) now middle
     → after.depth ≡ frontier.depth
-    → ((before : List (List ℕ)) → Holds pair_of before frontier
-    → Holds pair_of (before ++ bytes_of row) after)
+    → ((before : List (List ℕ)) → FrontierHolds pair_of before frontier
+    → FrontierHolds pair_of (before ++ chunk_bytes row) after)
     → CountsUp (whole_pairs frontier.depth (frontier.pushed + n)
     - whole_pairs frontier.depth frontier.pushed) middle end
     → FirstElements pair_of depth after t count b (i + n) start end
@@ -272,7 +273,7 @@ FirstElements-row pair_of depth frontier after t count b i n start now middle en
     omega (arith, costs-split t vs i n, whole_pairs-rise depth i n) in
     FirstElements-eights pair_of depth after t count b (i + n) start end depth refl
     (stays ∙ h.gathered.deep) inside
-    (subst (λ cs. Holds pair_of cs after)
+    (subst (λ cs. FrontierHolds pair_of cs after)
     (ap (λ cs. roots_to pair_of t count b i ++ cs) is ∙ roots-split pair_of t vs i n)
     (held (roots_to pair_of t count b i) h.gathered.holds))
     (subst (λ k. CountsUp k start end) sum

@@ -5,11 +5,11 @@ use Rattle.std.proofs.lemmas.Bool.{cases_lt}
 use Rattle.std.proofs.lemmas.List.{drop-drop, ext_get_or, get_or-map, length-map}
 use Rattle.ssz_chunk.specs.declared.Chunk.{Chunk}
 use Rattle.ssz_chunk.specs.Chunk.{CountsUp}
-use Rattle.ssz_chunk.specs.Rows.{chunk_at}
+use Rattle.ssz_chunk.specs.Rows.{chunk_in_row}
 use Rattle.ssz_chunk.proofs.Counting.{CountsUp-add}
 use Rattle.ssz_value.specs.Trees.{chunks}
-use Rattle.ssz_merkle.specs.Packing.{chunk_of}
-use Rattle.ssz_merkle.specs.Frontier.{Frontier, Holds, bytes_of, whole_pairs}
+use Rattle.ssz_merkle.specs.Packing.{packed_chunk}
+use Rattle.ssz_merkle.specs.Frontier.{Frontier, FrontierHolds, chunk_bytes, whole_pairs}
 use Rattle.ssz_merkle.proofs.WholePairs.{whole_pairs-rises}
 use Rattle.ssz_packing.specs.Bits.{undelimited}
 use Rattle.ssz_packing.proofs.BitChunks.{other_chunk}
@@ -24,39 +24,39 @@ chunks-split (suc m) n b =
     let place : 32 + 32 * m ≡ 32 * suc m = omega arith in
     let next : suc m + n ≡ suc (m + n) = omega arith in
     ap (λ k. chunks k b) next
-    ∙ ap (λ cs. chunk_of b 0 ∷ cs) (chunks-split m n (drop 32 b)
+    ∙ ap (λ cs. packed_chunk b 0 ∷ cs) (chunks-split m n (drop 32 b)
     ∙ ap (λ (rest : List ℕ). chunks m (drop 32 b) ++ chunks n rest)
     (drop-drop (32 * m) 32 b ∙ ap (λ k. drop k b) place))
 
 -- chunk i of so many
-pub chunks-at : (n i : ℕ) (b : List ℕ) → i < n → get_or (chunks n b) i [] ≡ chunk_of b i
+pub chunks-at : (n i : ℕ) (b : List ℕ) → i < n → get_or (chunks n b) i [] ≡ packed_chunk b i
 chunks-at zero i b below = absurd (omega arith)
 chunks-at (suc n) zero b below = refl
 chunks-at (suc n) (suc i) b below =
     let place : 32 + 32 * i ≡ 32 * suc i = omega arith in
     chunks-at n i (drop 32 b) (omega arith)
-    ∙ ap (λ (rest : List ℕ). chunk_of rest 0) (drop-drop (32 * i) 32 b
+    ∙ ap (λ (rest : List ℕ). packed_chunk rest 0) (drop-drop (32 * i) 32 b
     ∙ ap (λ k. drop k b) place)
 
 -- a row of chunks, one by one those of the bytes
 pub row_chunks : (row : List Chunk) (from n : ℕ) (b : List ℕ) → length row ≡ n
-    → ((i : ℕ) → i < n → chunk_at row i ≡ chunk_of b (from + i))
-    → chunks from b ++ bytes_of row ≡ chunks (from + n) b
+    → ((i : ℕ) → i < n → chunk_in_row row i ≡ packed_chunk b (from + i))
+    → chunks from b ++ chunk_bytes row ≡ chunks (from + n) b
 row_chunks row from n b long each =
     let rest : List ℕ = drop (32 * from) b in
-    let count : length (bytes_of row) ≡ length (chunks n rest) =
+    let count : length (chunk_bytes row) ≡ length (chunks n rest) =
     length-map row (λ (chunk : Chunk). chunk.0) ∙ long ∙ sym (length-chunks n rest) in
-    let one : (i : ℕ) → i < length (bytes_of row)
-    → get_or (bytes_of row) i [] ≡ get_or (chunks n rest) i [] =
+    let one : (i : ℕ) → i < length (chunk_bytes row)
+    → get_or (chunk_bytes row) i [] ≡ get_or (chunks n rest) i [] =
     λ i below.
     let within : i < n = omega (arith, count, length-chunks n rest) in
     let place : 32 * from + 32 * i ≡ 32 * (from + i) = omega arith in
     get_or-map (λ (chunk : Chunk). chunk.0) row i (record { 0 = [] }) [] (omega (arith, long))
     ∙ each i within
     ∙ sym (chunks-at n i rest within
-    ∙ ap (λ (bytes : List ℕ). chunk_of bytes 0) (drop-drop (32 * i) (32 * from) b
+    ∙ ap (λ (bytes : List ℕ). packed_chunk bytes 0) (drop-drop (32 * i) (32 * from) b
     ∙ ap (λ k. drop k b) place)) in
-    ap (λ cs. chunks from b ++ cs) (ext_get_or [] (bytes_of row) (chunks n rest) count one)
+    ap (λ cs. chunks from b ++ cs) (ext_get_or [] (chunk_bytes row) (chunks n rest) count one)
     ∙ sym (chunks-split from n b)
 
 -- more chunks make no fewer whole pairs
@@ -75,7 +75,8 @@ pub Packed-row : (pair_of : List ℕ → List ℕ → List ℕ) (depth : ℕ) (b
     (frontier after : Frontier) (start now end : ℕ)
     → Packed pair_of depth bytes i frontier start now → after.depth ≡ frontier.depth
     → after.pushed ≡ frontier.pushed + n
-    → (Holds pair_of (chunks i bytes) frontier → Holds pair_of (chunks (i + n) bytes) after)
+    → (FrontierHolds pair_of (chunks i bytes) frontier
+    → FrontierHolds pair_of (chunks (i + n) bytes) after)
     → CountsUp (whole_pairs frontier.depth (i + n) - whole_pairs frontier.depth i) now end
     → Packed pair_of depth bytes (i + n) after start end
 Packed-row pair_of depth bytes i n frontier after start now end h stays more held counts =
@@ -96,7 +97,7 @@ Packed-row pair_of depth bytes i n frontier after start now end h stays more hel
 -- what comes behind whole rows
 pub Packed-rows : (pair_of : List ℕ → List ℕ → List ℕ) (depth : ℕ) (bytes : List ℕ) (i : ℕ)
     (frontier : Frontier) (start now new_depth : ℕ) → new_depth ≡ depth
-    → frontier.depth ≡ new_depth → Holds pair_of (chunks i bytes) frontier
+    → frontier.depth ≡ new_depth → FrontierHolds pair_of (chunks i bytes) frontier
     → CountsUp (whole_pairs new_depth i) start now
     → Packed pair_of depth bytes i frontier start now
 Packed-rows pair_of depth bytes i frontier start now new_depth deep stays held counted = record {
@@ -116,7 +117,7 @@ row_high depth height room = ⊎_elim
     (cases_lt depth height)
 
 -- bytes with the same chunks
-chunks-same : (n : ℕ) (b c : List ℕ) → ((i : ℕ) → i < n → chunk_of b i ≡ chunk_of c i)
+chunks-same : (n : ℕ) (b c : List ℕ) → ((i : ℕ) → i < n → packed_chunk b i ≡ packed_chunk c i)
     → chunks n b ≡ chunks n c
 chunks-same zero b c each = refl
 chunks-same (suc n) b c each =

@@ -1,12 +1,12 @@
 // Eight values side by side: columns of eight chunks, one of each lane, and the trees over them.
 ghost use Rattle.std.specs.Prelude.{◌≡◌, ℕ, ◌+◌, ◌-◌, ◌*◌, ◌/◌, ◌<◌, ◌≤◌, ◌^◌, length, drop, min, slice_index};
 ghost use Rattle.ssz_chunk.specs.Chunk.{CountsUp};
-ghost use Rattle.ssz_chunk.specs.Rows.{chunk_at};
-ghost use Rattle.ssz_chunk.specs.Tree.{root, full, grow, zero_tree};
+ghost use Rattle.ssz_chunk.specs.Rows.{chunk_in_row};
+ghost use Rattle.ssz_chunk.specs.Tree.{root, merkle_tree, merkle_pairs, zero_tree};
 ghost use Rattle.ssz_value.specs.Trees.{chunks};
 ghost use Rattle.ssz_merkle.specs.Frontier.{leaves};
-ghost use Rattle.ssz_merkle.specs.Packing.{chunk_of};
-ghost use Rattle.ssz_roots.specs.Eights.{AreRoots, lane};
+ghost use Rattle.ssz_merkle.specs.Packing.{packed_chunk};
+ghost use Rattle.ssz_roots.specs.Eights.{AreRoots, lane_range};
 
 use ssz_chunk::{Chunk, PairHash, ZeroTable};
 use ssz_merkle::chunk_at;
@@ -39,8 +39,8 @@ pub(crate) struct Span {
 
 // The chunks of two columns, those of each lane side by side.
 fn woven(left: &Column, right: &Column) -> [Chunk; 2 * WIDE]
-    ensures left { (j : ℕ) → j < 8 → chunk_at result (2 * j) ≡ chunk_at left.now j }
-    ensures right { (j : ℕ) → j < 8 → chunk_at result (2 * j + 1) ≡ chunk_at right.now j }
+    ensures left { (j : ℕ) → j < 8 → chunk_in_row result (2 * j) ≡ chunk_in_row left.now j }
+    ensures right { (j : ℕ) → j < 8 → chunk_in_row result (2 * j + 1) ≡ chunk_in_row right.now j }
 {
     let mut row = [Chunk::ZERO; 2 * WIDE];
     for j in 0..WIDE {
@@ -52,7 +52,7 @@ fn woven(left: &Column, right: &Column) -> [Chunk; 2 * WIDE]
 
 // The first half of a row.
 fn first_half(row: &[Chunk; 2 * WIDE]) -> Column
-    ensures { (j : ℕ) → j < 8 → chunk_at result j ≡ chunk_at row.now j }
+    ensures { (j : ℕ) → j < 8 → chunk_in_row result j ≡ chunk_in_row row.now j }
 {
     let mut column = [Chunk::ZERO; WIDE];
     for j in 0..WIDE {
@@ -64,7 +64,7 @@ fn first_half(row: &[Chunk; 2 * WIDE]) -> Column
 /// The chunks of the pairs of each lane.
 pub(crate) fn pair_columns<H: PairHash>(left: &Column, right: &Column, hasher: &mut H) -> Column
     ensures value { (j : ℕ) → j < 8
-        → chunk_at result j ≡ H.pair_of (chunk_at left.now j) (chunk_at right.now j) }
+        → chunk_in_row result j ≡ H.pair_of (chunk_in_row left.now j) (chunk_in_row right.now j) }
     ensures counts { CountsUp 8 (H.pairs hasher.old) (H.pairs hasher.new) }
 {
     let mut row = woven(left, right);
@@ -88,7 +88,7 @@ pub(crate) fn zero_column<H: PairHash>(depth: u32, zeros: &ZeroTable<H>) -> Colu
 fn lane<'a, H: PairHash>(lanes: &Lanes<'a, H>, span: Span, j: usize) -> &'a [u8]
     requires below { j < 8 }
     requires room { span.from + 7 * lanes.now.stride + span.size ≤ length lanes.now.bytes.now }
-    ensures { result.now ≡ lane span.from lanes.now.stride span.size lanes.now.bytes.now j }
+    ensures { result.now ≡ lane_range span.from lanes.now.stride span.size lanes.now.bytes.now j }
 {
     let start = span.from + j * lanes.stride;
     let part = &lanes.bytes[start..start + span.size];
@@ -98,8 +98,8 @@ fn lane<'a, H: PairHash>(lanes: &Lanes<'a, H>, span: Span, j: usize) -> &'a [u8]
 /// Chunk i of the value in each lane.
 pub(crate) fn chunk_column<H: PairHash>(lanes: &Lanes<'_, H>, span: Span, i: usize) -> Column
     requires room { span.from + 7 * lanes.now.stride + span.size ≤ length lanes.now.bytes.now }
-    ensures { (j : ℕ) → j < 8 → chunk_at result j
-        ≡ chunk_of (lane span.from lanes.now.stride span.size lanes.now.bytes.now j) i }
+    ensures { (j : ℕ) → j < 8 → chunk_in_row result j
+        ≡ packed_chunk (lane_range span.from lanes.now.stride span.size lanes.now.bytes.now j) i }
 {
     let mut column = [Chunk::ZERO; WIDE];
     for j in 0..WIDE {
@@ -130,9 +130,11 @@ pub(crate) fn chunks_of_eight<H: PairHash>(
     requires room { span.from + 7 * lanes.now.stride + span.size ≤ length lanes.now.bytes.now }
     requires few { count ≤ 2 ^ depth }
     requires small { first + count < 2 ^ 60 }
-    ensures roots { AreRoots H.pair_of result (λ j. full depth (leaves (chunks count
-        (drop (32 * first) (lane span.from lanes.now.stride span.size lanes.now.bytes.now j))))) }
-    ensures counts { CountsUp (8 * grow depth count) (H.pairs hasher.old) (H.pairs hasher.new) }
+    ensures roots { AreRoots H.pair_of result (λ j. merkle_tree depth (leaves (chunks count
+        (drop (32 * first) (lane_range span.from lanes.now.stride span.size lanes.now.bytes.now
+        j))))) }
+    ensures counts { CountsUp (8 * merkle_pairs depth count) (H.pairs hasher.old)
+        (H.pairs hasher.new) }
 {
     if count == 0 {
         return zero_column(depth, lanes.zeros);

@@ -2,18 +2,18 @@
 ghost use Rattle.std.specs.Prelude.{◌≡◌, ℕ, ◌+◌, ◌*◌, ◌<◌, ◌≤◌, ◌^◌, ◌/◌, [], length, map, replicate, sum_by, None, Some, option_map, get_or};
 ghost use Rattle.std.specs.List.{AllByRecursion};
 ghost use Rattle.ssz_chunk.specs.Chunk.{CountsUp};
-ghost use Rattle.ssz_chunk.specs.Tree.{root, full, grow};
+ghost use Rattle.ssz_chunk.specs.Tree.{root, merkle_tree, merkle_pairs};
 ghost use Rattle.ssz_schema.specs.Sizes.{fixed_size, part_sizes, basic_size, element_chunks};
 ghost use Rattle.ssz_schema.specs.Legal.{IsLegal};
 ghost use Rattle.ssz_schema.specs.Unfolding.{type_of, fields_over};
 ghost use Rattle.ssz_value.specs.Encoding.{heads_length};
-ghost use Rattle.ssz_value.specs.Faults.{why, elements_fault};
+ghost use Rattle.ssz_value.specs.Faults.{first_fault, elements_fault};
 ghost use Rattle.ssz_value.specs.Reading.{value_in, fields_in};
 ghost use Rattle.ssz_value.specs.Trees.{tree, field_trees};
 ghost use Rattle.ssz_value.specs.Pairs.{pairs, field_pairs};
 ghost use Rattle.ssz_parts.specs.PartValues.{element_values};
 ghost use Rattle.ssz_packing.specs.Elements.{element_trees};
-ghost use Rattle.ssz_roots.specs.Eights.{AreRoots, AreFixed, AreFaultless, lane, eight, pieces};
+ghost use Rattle.ssz_roots.specs.Eights.{AreRoots, AreFixed, AreFaultless, lane_range, eight, pieces};
 
 use super::columns::{
     Column, Lanes, Span, chunk_column, chunks_of_eight, left_of, pair_columns, zero_column,
@@ -41,13 +41,13 @@ pub(crate) fn roots_of_eight<H: PairHash>(
     requires fixed { fixed_size (type_of lanes.now.schema.now id) ≡ Some span.size }
     requires room { span.from + 7 * lanes.now.stride + span.size ≤ length lanes.now.bytes.now }
     requires faultless { let t = type_of lanes.now.schema.now id in
-        let part = lane span.from lanes.now.stride span.size lanes.now.bytes.now in
-        (j : ℕ) → j < 8 → why t 0 (part j) ≡ None }
+        let part = lane_range span.from lanes.now.stride span.size lanes.now.bytes.now in
+        (j : ℕ) → j < 8 → first_fault t 0 (part j) ≡ None }
     ensures roots { let t = type_of lanes.now.schema.now id in
-        let part = lane span.from lanes.now.stride span.size lanes.now.bytes.now in
+        let part = lane_range span.from lanes.now.stride span.size lanes.now.bytes.now in
         AreRoots H.pair_of result (λ j. tree t (value_in t (part j))) }
     ensures counts { let t = type_of lanes.now.schema.now id in
-        let part = lane span.from lanes.now.stride span.size lanes.now.bytes.now in
+        let part = lane_range span.from lanes.now.stride span.size lanes.now.bytes.now in
         CountsUp (eight (λ j. pairs t (value_in t (part j))))
         (H.pairs hasher.old) (H.pairs hasher.new) }
 {
@@ -94,15 +94,15 @@ fn vector_of_eight<H: PairHash>(
         ≡ Some span.size }
     requires room { span.from + 7 * lanes.now.stride + span.size ≤ length lanes.now.bytes.now }
     requires faultless { let t = type_of lanes.now.schema.now elem in
-        let part = lane span.from lanes.now.stride span.size lanes.now.bytes.now in
-        (j : ℕ) → j < 8 → elements_fault (why t) (fixed_size t) count 0 (part j) ≡ None }
+        let part = lane_range span.from lanes.now.stride span.size lanes.now.bytes.now in
+        (j : ℕ) → j < 8 → elements_fault (first_fault t) (fixed_size t) count 0 (part j) ≡ None }
     ensures roots { let t = type_of lanes.now.schema.now elem in
-        let part = lane span.from lanes.now.stride span.size lanes.now.bytes.now in
+        let part = lane_range span.from lanes.now.stride span.size lanes.now.bytes.now in
         AreRoots H.pair_of result
-        (λ j. full depth (element_trees t (element_values t count (part j)))) }
+        (λ j. merkle_tree depth (element_trees t (element_values t count (part j)))) }
     ensures counts { let t = type_of lanes.now.schema.now elem in
-        let part = lane span.from lanes.now.stride span.size lanes.now.bytes.now in
-        CountsUp (eight (λ j. grow depth (element_chunks (basic_size t) count)
+        let part = lane_range span.from lanes.now.stride span.size lanes.now.bytes.now in
+        CountsUp (eight (λ j. merkle_pairs depth (element_chunks (basic_size t) count)
         + sum_by (pairs t) (element_values t count (part j))))
         (H.pairs hasher.old) (H.pairs hasher.new) }
 {
@@ -140,18 +140,19 @@ fn elements_of_eight<H: PairHash>(
         let step = lanes.now.stride in
         let sizes = replicate count (fixed_size t) in
         (j i : ℕ) → j < 8 → i < count
-        → why t 0 (get_or (pieces sizes (from + j * step) lanes.now.bytes.now) i []) ≡ None }
+        → first_fault t 0 (get_or (pieces sizes (from + j * step) lanes.now.bytes.now) i [])
+        ≡ None }
     ensures roots { let t = type_of lanes.now.schema.now elem in
         let step = lanes.now.stride in
         let sizes = replicate count (fixed_size t) in
-        AreRoots H.pair_of result.0 (λ j. full depth (map (tree t) (map (value_in t)
+        AreRoots H.pair_of result.0 (λ j. merkle_tree depth (map (tree t) (map (value_in t)
         (pieces sizes (from + j * step) lanes.now.bytes.now)))) }
     ensures place { result.1
         ≡ from + heads_length (replicate count (fixed_size (type_of lanes.now.schema.now elem))) }
     ensures counts { let t = type_of lanes.now.schema.now elem in
         let step = lanes.now.stride in
         let sizes = replicate count (fixed_size t) in
-        CountsUp (eight (λ j. grow depth count + sum_by (pairs t) (map (value_in t)
+        CountsUp (eight (λ j. merkle_pairs depth count + sum_by (pairs t) (map (value_in t)
         (pieces sizes (from + j * step) lanes.now.bytes.now))))
         (H.pairs hasher.old) (H.pairs hasher.new) }
 {
@@ -185,7 +186,8 @@ fn one_of_eight<H: PairHash>(
         let step = lanes.now.stride in
         let sizes = replicate 1 (fixed_size t) in
         (j : ℕ) → j < 8
-        → why t 0 (get_or (pieces sizes (from + j * step) lanes.now.bytes.now) 0 []) ≡ None }
+        → first_fault t 0 (get_or (pieces sizes (from + j * step) lanes.now.bytes.now) 0 [])
+        ≡ None }
     ensures roots { let t = type_of lanes.now.schema.now id in
         let step = lanes.now.stride in
         let sizes = replicate 1 (fixed_size t) in
@@ -234,13 +236,13 @@ fn fields_of_eight<H: PairHash>(
         → AreFaultless fs (pieces (part_sizes fs) (from + j * step) lanes.now.bytes.now) }
     ensures roots { let fs = fields_over lanes.now.schema.now.trees fields.now in
         let step = lanes.now.stride in
-        AreRoots H.pair_of result.0 (λ j. full depth (field_trees fs (fields_in fs
+        AreRoots H.pair_of result.0 (λ j. merkle_tree depth (field_trees fs (fields_in fs
         (pieces (part_sizes fs) (from + j * step) lanes.now.bytes.now)))) }
     ensures place { result.1
         ≡ from + heads_length (part_sizes (fields_over lanes.now.schema.now.trees fields.now)) }
     ensures counts { let fs = fields_over lanes.now.schema.now.trees fields.now in
         let step = lanes.now.stride in
-        CountsUp (eight (λ j. grow depth (length fields.now) + field_pairs fs (fields_in fs
+        CountsUp (eight (λ j. merkle_pairs depth (length fields.now) + field_pairs fs (fields_in fs
         (pieces (part_sizes fs) (from + j * step) lanes.now.bytes.now))))
         (H.pairs hasher.old) (H.pairs hasher.new) }
 {

@@ -1,6 +1,6 @@
 ghost use Rattle.std.specs.Prelude.{◌≡◌, ◌+◌, ◌/◌, ◌^◌, ◌≤◌, length};
 ghost use Rattle.ssz_chunk.specs.Chunk.{CountsUp};
-ghost use Rattle.ssz_chunk.specs.Tree.{root, full, grow};
+ghost use Rattle.ssz_chunk.specs.Tree.{root, merkle_tree, merkle_pairs};
 ghost use Rattle.ssz_merkle.specs.Frontier.{leaves};
 ghost use Rattle.ssz_value.specs.Trees.{pack};
 
@@ -17,8 +17,9 @@ pub fn packed_root<H: PairHash>(
 ) -> Chunk
     requires depth { depth ≤ 126 }
     requires few { (length bytes.now + 31) / 32 ≤ 2 ^ depth }
-    ensures root { result.0 ≡ root H.pair_of (full depth (leaves (pack bytes.now))) }
-    ensures counts { CountsUp (grow depth ((length bytes.now + 31) / 32)) (H.pairs hasher.old)
+    ensures root { result.0 ≡ root H.pair_of (merkle_tree depth (leaves (pack bytes.now))) }
+    ensures counts { CountsUp (merkle_pairs depth ((length bytes.now + 31) / 32))
+        (H.pairs hasher.old)
         (H.pairs hasher.new) }
 {
     if depth == 0 {

@@ -5,10 +5,10 @@ ghost use Rattle.ssz_chunk.specs.Tree.{root};
 ghost use Rattle.ssz_schema.specs.Legal.{IsLegal};
 ghost use Rattle.ssz_schema.specs.Sizes.{fixed_size};
 ghost use Rattle.ssz_schema.specs.Unfolding.{type_of};
-ghost use Rattle.ssz_value.specs.Faults.{why, elements_fault};
+ghost use Rattle.ssz_value.specs.Faults.{first_fault, elements_fault};
 ghost use Rattle.ssz_value.specs.Trees.{tree};
 ghost use Rattle.ssz_value.specs.Pairs.{pairs};
-ghost use Rattle.ssz_merkle.specs.Frontier.{Holds, bytes_of, whole_pairs};
+ghost use Rattle.ssz_merkle.specs.Frontier.{FrontierHolds, chunk_bytes, whole_pairs};
 ghost use Rattle.ssz_parts.specs.PartValues.{element_values};
 
 use super::columns::{Column, Lanes, Span, WIDE};
@@ -30,11 +30,11 @@ fn column_of<H: PairHash>(
     requires legal { IsLegal lanes.now.schema.now.format (type_of lanes.now.schema.now elem) }
     requires size { fixed_size (type_of lanes.now.schema.now elem) ≡ Some lanes.now.stride }
     requires faultless { let t = type_of lanes.now.schema.now elem in
-        elements_fault (why t) (fixed_size t) count 0 lanes.now.bytes.now ≡ None }
+        elements_fault (first_fault t) (fixed_size t) count 0 lanes.now.bytes.now ≡ None }
     requires inside { first + 8 ≤ count }
     ensures roots { let t = type_of lanes.now.schema.now elem in
         let vs = take 8 (drop first (element_values t count lanes.now.bytes.now)) in
-        bytes_of result ≡ map (root H.pair_of) (map (tree t) vs) }
+        chunk_bytes result ≡ map (root H.pair_of) (map (tree t) vs) }
     ensures counts { let t = type_of lanes.now.schema.now elem in
         let vs = take 8 (drop first (element_values t count lanes.now.bytes.now)) in
         CountsUp (sum_by (pairs t) vs) (H.pairs hasher.old) (H.pairs hasher.new) }
@@ -57,13 +57,13 @@ fn fill_row<H: PairHash>(
     requires legal { IsLegal lanes.now.schema.now.format (type_of lanes.now.schema.now elem) }
     requires size { fixed_size (type_of lanes.now.schema.now elem) ≡ Some lanes.now.stride }
     requires faultless { let t = type_of lanes.now.schema.now elem in
-        elements_fault (why t) (fixed_size t) count 0 lanes.now.bytes.now ≡ None }
+        elements_fault (first_fault t) (fixed_size t) count 0 lanes.now.bytes.now ≡ None }
     requires eights { length row.old % 8 ≡ 0 }
     requires inside { first + length row.old ≤ count }
     ensures roots { let t = type_of lanes.now.schema.now elem in
         let vs = take (length row.old)
         (drop first (element_values t count lanes.now.bytes.now)) in
-        bytes_of row.new ≡ map (root H.pair_of) (map (tree t) vs) }
+        chunk_bytes row.new ≡ map (root H.pair_of) (map (tree t) vs) }
     ensures counts { let t = type_of lanes.now.schema.now elem in
         let vs = take (length row.old)
         (drop first (element_values t count lanes.now.bytes.now)) in
@@ -89,14 +89,14 @@ fn push_element_rows<H: PairHash>(
     requires legal { IsLegal lanes.now.schema.now.format (type_of lanes.now.schema.now elem) }
     requires size { fixed_size (type_of lanes.now.schema.now elem) ≡ Some lanes.now.stride }
     requires faultless { let t = type_of lanes.now.schema.now elem in
-        elements_fault (why t) (fixed_size t) count 0 lanes.now.bytes.now ≡ None }
-    requires empty { Holds H.pair_of [] pushed.old }
+        elements_fault (first_fault t) (fixed_size t) count 0 lanes.now.bytes.now ≡ None }
+    requires empty { FrontierHolds H.pair_of [] pushed.old }
     requires few { count ≤ 2 ^ pushed.old.depth }
     ensures at_most { result ≤ count }
     ensures depth { pushed.new.depth ≡ pushed.old.depth }
     ensures holds { let t = type_of lanes.now.schema.now elem in
         let vs = take result (element_values t count lanes.now.bytes.now) in
-        Holds H.pair_of (map (root H.pair_of) (map (tree t) vs)) pushed.new }
+        FrontierHolds H.pair_of (map (root H.pair_of) (map (tree t) vs)) pushed.new }
     ensures counts { let t = type_of lanes.now.schema.now elem in
         let vs = take result (element_values t count lanes.now.bytes.now) in
         CountsUp (whole_pairs pushed.old.depth result + sum_by (pairs t) vs)
@@ -127,14 +127,14 @@ pub(crate) fn push_eights<H: PairHash>(
     requires legal { IsLegal schema.now.format (type_of schema.now elem) }
     requires short { length bytes.now < 2 ^ 32 }
     requires faultless { let t = type_of schema.now elem in
-        elements_fault (why t) (fixed_size t) count 0 bytes.now ≡ None }
-    requires empty { Holds H.pair_of [] pushed.old }
+        elements_fault (first_fault t) (fixed_size t) count 0 bytes.now ≡ None }
+    requires empty { FrontierHolds H.pair_of [] pushed.old }
     requires few { count ≤ 2 ^ pushed.old.depth }
     ensures at_most { result ≤ count }
     ensures depth { pushed.new.depth ≡ pushed.old.depth }
     ensures holds { let t = type_of schema.now elem in
         let vs = take result (element_values t count bytes.now) in
-        Holds H.pair_of (map (root H.pair_of) (map (tree t) vs)) pushed.new }
+        FrontierHolds H.pair_of (map (root H.pair_of) (map (tree t) vs)) pushed.new }
     ensures counts { let t = type_of schema.now elem in
         let vs = take result (element_values t count bytes.now) in
         CountsUp (whole_pairs pushed.old.depth result + sum_by (pairs t) vs)

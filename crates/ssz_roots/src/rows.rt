@@ -1,10 +1,10 @@
 // Chunks of bytes, a row at a time.
 ghost use Rattle.std.specs.Prelude.{◌≡◌, ℕ, [], ◌+◌, ◌-◌, ◌%◌, ◌<◌, ◌≤◌, ◌^◌, length};
 ghost use Rattle.ssz_chunk.specs.Chunk.{CountsUp};
-ghost use Rattle.ssz_chunk.specs.Rows.{chunk_at};
+ghost use Rattle.ssz_chunk.specs.Rows.{chunk_in_row};
 ghost use Rattle.ssz_value.specs.Trees.{chunks};
-ghost use Rattle.ssz_merkle.specs.Frontier.{Holds, whole_pairs};
-ghost use Rattle.ssz_merkle.specs.Packing.{chunk_of};
+ghost use Rattle.ssz_merkle.specs.Frontier.{FrontierHolds, whole_pairs};
+ghost use Rattle.ssz_merkle.specs.Packing.{packed_chunk};
 
 use ssz_chunk::{Chunk, PairHash};
 use ssz_merkle::{Accumulator, chunk_at};
@@ -41,7 +41,8 @@ pub(crate) fn next_row(done: usize, count: usize) -> (u32, usize)
 fn fill_row(row: &mut [Chunk], bytes: &[u8], from: usize)
     requires small { from < 2 ^ 60 }
     requires short { length row.old ≤ 512 }
-    ensures { (i : ℕ) → i < length row.new → chunk_at row.new i ≡ chunk_of bytes.now (from + i) }
+    ensures { (i : ℕ) → i < length row.new
+        → chunk_in_row row.new i ≡ packed_chunk bytes.now (from + i) }
 {
     for i in 0..row.len() {
         row[i] = chunk_at(bytes, from + i);
@@ -66,8 +67,8 @@ fn push_row_of<H: PairHash>(
     requires room { from + 2 ^ height ≤ 2 ^ pushed.old.depth }
     ensures depth { pushed.new.depth ≡ pushed.old.depth }
     ensures pushed { pushed.new.pushed ≡ pushed.old.pushed + 2 ^ height }
-    ensures holds { Holds H.pair_of (chunks from bytes.now) pushed.old
-        → Holds H.pair_of (chunks (from + 2 ^ height) bytes.now) pushed.new }
+    ensures holds { FrontierHolds H.pair_of (chunks from bytes.now) pushed.old
+        → FrontierHolds H.pair_of (chunks (from + 2 ^ height) bytes.now) pushed.new }
     ensures counts { CountsUp (whole_pairs pushed.old.depth (from + 2 ^ height)
         - whole_pairs pushed.old.depth from) (H.pairs hasher.old) (H.pairs hasher.new) }
 {
@@ -82,12 +83,12 @@ pub(crate) fn push_chunk_rows<H: PairHash>(
     count: usize,
     hasher: &mut H,
 ) -> usize
-    requires empty { Holds H.pair_of [] pushed.old }
+    requires empty { FrontierHolds H.pair_of [] pushed.old }
     requires small { count < 2 ^ 60 }
     requires room { count ≤ 2 ^ pushed.old.depth }
     ensures at_most { result ≤ count }
     ensures depth { pushed.new.depth ≡ pushed.old.depth }
-    ensures holds { Holds H.pair_of (chunks result bytes.now) pushed.new }
+    ensures holds { FrontierHolds H.pair_of (chunks result bytes.now) pushed.new }
     ensures counts { CountsUp (whole_pairs pushed.old.depth result)
         (H.pairs hasher.old) (H.pairs hasher.new) }
 {

@@ -16,9 +16,9 @@ use Rattle.ssz_said.specs.declared.fault.SszFault.{SszFault}
 use Rattle.ssz_said.specs.declared.status.TheConstants.{BAD_PROOF, NO_MEMORY, REFUSED, SYNTAX}
 use Rattle.ssz_said.specs.declared.verdict.Verdict.{Verdict}
 use Rattle.ssz_said.specs.declared.verdict.Verdict.TheVariants.{Holds, Unlike, BadProof, TooLong, Memory}
-use Rattle.ssz_said.specs.Outcome.{Outcome, ◌>>=◌, IsCopied, refused}
+use Rattle.ssz_said.specs.Outcome.{CallOutcome, ◌>>=◌, IsCopied, refused}
 use Rattle.ssz_said.specs.Texts.{name_in}
-use Rattle.ssz_said.specs.Verdict.{root_of, status_of}
+use Rattle.ssz_said.specs.Verdict.{sha_root_of, verdict_status}
 
 -- a number in two halves, and the number of two halves
 abbrev pub index_parts : ℕ → SszIndex
@@ -63,9 +63,9 @@ EntriesSayNone leaves nodes =
 -- what a verdict says of a root and two arrays
 abbrev pub JudgesEntries : Verdict → List ℕ → List SszEntry → List SszEntry → Type 0
 JudgesEntries Holds root leaves nodes =
-    (proof : Multiproof) × EntriesSay leaves nodes proof × (root_of proof ≡ root)
+    (proof : Multiproof) × EntriesSay leaves nodes proof × (sha_root_of proof ≡ root)
 JudgesEntries Unlike root leaves nodes =
-    (proof : Multiproof) × EntriesSay leaves nodes proof × (root_of proof ≢ root)
+    (proof : Multiproof) × EntriesSay leaves nodes proof × (sha_root_of proof ≢ root)
 JudgesEntries BadProof root leaves nodes = EntriesSayNone leaves nodes
 JudgesEntries TooLong root leaves nodes = ⊥
 JudgesEntries Memory root leaves nodes = Unit {0}
@@ -73,7 +73,7 @@ JudgesEntries Memory root leaves nodes = Unit {0}
 -- a status that says so
 abbrev pub IsEntriesVerdict : ℕ → List ℕ → List SszEntry → List SszEntry → Type 0
 IsEntriesVerdict status root leaves nodes =
-    (verdict : Verdict) × (status ≡ status_of verdict)
+    (verdict : Verdict) × (status ≡ verdict_status verdict)
     × JudgesEntries verdict root leaves nodes
 
 -- numbers as indices of a statement
@@ -81,19 +81,19 @@ abbrev pub numbers_said : List SszIndex → List Index
 numbers_said indices = map (λ index. Number (index_whole index)) indices
 
 -- `prove V I ..`, of one index or more, each a number
-abbrev pub prove_all_said : List ℕ → List SszIndex → Outcome Statement
+abbrev pub prove_all_said : List ℕ → List SszIndex → CallOutcome Statement
 prove_all_said v [] = Err (refused SYNTAX)
 prove_all_said v (index ∷ indices) = do
   version ← name_in v
   Ok (says.Prove version (numbers_said (index ∷ indices)))
 
 -- the multiproof that is answered, or why there is none; no reply but a proof's is that of `prove`
-abbrev pub IsProofIn : Outcome Reply → Outcome Multiproof → Type 0
-IsProofIn (Err why) proof = proof ≡ Err why
-IsProofIn (Ok (reply.Proof text)) (Ok proof) = IsReadAs text proof
-IsProofIn (Ok (reply.Proof text)) (Err why) =
+abbrev pub IsProofReply : CallOutcome Reply → CallOutcome Multiproof → Type 0
+IsProofReply (Err why) proof = proof ≡ Err why
+IsProofReply (Ok (reply.Proof text)) (Ok proof) = IsReadAs text proof
+IsProofReply (Ok (reply.Proof text)) (Err why) =
     (why ≡ refused NO_MEMORY) ⊎ ((why ≡ refused BAD_PROOF) × IsNoProof text)
-IsProofIn (Ok other) proof = proof ≡ Err (refused REFUSED)
+IsProofReply (Ok other) proof = proof ≡ Err (refused REFUSED)
 
 -- the leaves, how many they are, and then the nodes
 abbrev pub all_shown : Multiproof → List SszEntry
@@ -101,17 +101,17 @@ all_shown proof = map entry_shown proof.leaves ++ map entry_shown proof.nodes
 
 -- what stands behind the pointers after a call, and the fault: the leaves and nodes in front of what
 -- stood there, where there is room for them, and in any case how many they are; memory may run out
-abbrev pub IsShown : List SszEntry → List SszEntry → ℕ → ℕ → ℕ → ℕ → SszFault
-    → Outcome Multiproof → Type 0
-IsShown old new leaves_before leaves before len fault (Err why) =
+abbrev pub AreEntriesShown : List SszEntry → List SszEntry → ℕ → ℕ → ℕ → ℕ → SszFault
+    → CallOutcome Multiproof → Type 0
+AreEntriesShown old new leaves_before leaves before len fault (Err why) =
     (new ≡ old) × (leaves ≡ leaves_before) × (len ≡ before) × (fault ≡ why)
-IsShown old new leaves_before leaves before len fault (Ok proof) =
+AreEntriesShown old new leaves_before leaves before len fault (Ok proof) =
     ((fault ≡ refused NO_MEMORY) × (new ≡ old) × (leaves ≡ leaves_before) × (len ≡ before))
     ⊎ ((leaves ≡ length proof.leaves) × IsCopied old new before len fault (Ok (all_shown proof)))
 
 -- so it is of the proof that is answered
 abbrev pub IsProofShown : List SszEntry → List SszEntry → ℕ → ℕ → ℕ → ℕ → SszFault
-    → Outcome Reply → Type 0
+    → CallOutcome Reply → Type 0
 IsProofShown old new leaves_before leaves before len fault answer =
-    (proof : Outcome Multiproof) × IsProofIn answer proof
-    × IsShown old new leaves_before leaves before len fault proof
+    (proof : CallOutcome Multiproof) × IsProofReply answer proof
+    × AreEntriesShown old new leaves_before leaves before len fault proof

@@ -10,11 +10,11 @@ use Rattle.ssz_script.specs.declared.statement.Statement.{Statement}
 use Rattle.ssz_script.specs.declared.statement.Statement.TheVariants as says
 use Rattle.ssz_said.specs.declared.status.TheConstants.{BAD_PROOF, NO_MEMORY, REFUSED}
 use Rattle.ssz_said.specs.declared.fault.SszFault.{SszFault}
-use Rattle.ssz_said.specs.Outcome.{Outcome, ◌>>=◌, IsCopied, refused}
+use Rattle.ssz_said.specs.Outcome.{CallOutcome, ◌>>=◌, IsCopied, refused}
 use Rattle.ssz_said.specs.Texts.{index_in, name_in}
 
 -- `prove V I`, of one index
-abbrev pub prove_said : List ℕ → List ℕ → Outcome Statement
+abbrev pub prove_said : List ℕ → List ℕ → CallOutcome Statement
 prove_said v asked = do
   one ← index_in asked
   version ← name_in v
@@ -26,7 +26,7 @@ chunks_in known = flat_map (λ entry. entry.chunk.0) known
 
 -- The chunk at the index, and those beside its way to the root from below; or why there are none.
 -- No reply but a proof's is that of `prove`.
-abbrev pub IsBranchIn : Outcome Reply → Outcome (List ℕ) → Type 0
+abbrev pub IsBranchIn : CallOutcome Reply → CallOutcome (List ℕ) → Type 0
 IsBranchIn (Err why) branch = branch ≡ Err why
 IsBranchIn (Ok (reply.Proof text)) (Ok bytes) =
     (proof : Multiproof) × IsReadAs text proof
@@ -36,7 +36,7 @@ IsBranchIn (Ok (reply.Proof text)) (Err why) =
 IsBranchIn (Ok other) branch = branch ≡ Err (refused REFUSED)
 
 -- they were copied to a room
-abbrev pub IsBranchCopied : List ℕ → List ℕ → ℕ → ℕ → SszFault → Outcome Reply → Type 0
+abbrev pub IsBranchCopied : List ℕ → List ℕ → ℕ → ℕ → SszFault → CallOutcome Reply → Type 0
 IsBranchCopied old new before len fault answer =
-    (branch : Outcome (List ℕ)) × IsBranchIn answer branch
+    (branch : CallOutcome (List ℕ)) × IsBranchIn answer branch
     × IsCopied old new before len fault branch

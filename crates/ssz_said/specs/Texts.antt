@@ -5,20 +5,20 @@ use Rattle.ssz_line.specs.Paths.{index, path}
 use Rattle.ssz_line.specs.Single.{name}
 use Rattle.ssz_schema.specs.Paths.{Path}
 use Rattle.ssz_said.specs.declared.status.TheConstants.{MOST_TEXT, SYNTAX, TOO_LONG}
-use Rattle.ssz_said.specs.Outcome.{Outcome, ◌>>=◌, at_most, need}
+use Rattle.ssz_said.specs.Outcome.{CallOutcome, ◌>>=◌, at_most, need}
 
 -- the name that a text is
-abbrev pub name_in : List ℕ → Outcome (List ℕ)
+abbrev pub name_in : List ℕ → CallOutcome (List ℕ)
 name_in text = need SYNTAX (name text)
 
 -- the path that a text spells
-abbrev pub path_in : List ℕ → Outcome Path
+abbrev pub path_in : List ℕ → CallOutcome Path
 path_in text = do
   few ← at_most TOO_LONG MOST_TEXT text
   need SYNTAX (path few)
 
 -- the index that a text says, a number or a path
-abbrev pub index_in : List ℕ → Outcome Index
+abbrev pub index_in : List ℕ → CallOutcome Index
 index_in text = do
   few ← at_most TOO_LONG MOST_TEXT text
   need SYNTAX (index few)

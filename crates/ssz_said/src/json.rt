@@ -2,7 +2,7 @@
 ghost use Rattle.std.specs.Prelude.{◌≡◌, ◌<◌, ◌^◌, length};
 ghost use Rattle.std.specs.Result.{result_map_both};
 ghost use Rattle.ssz_schema.specs.Unfolding.{type_of};
-ghost use Rattle.ssz_said.specs.Json.{Makes, default_said, fault_of, text_said};
+ghost use Rattle.ssz_said.specs.Json.{MakesEncoding, default_said, json_fault_of, text_said};
 ghost use Rattle.ssz_said.specs.Outcome.{IsUnlessMemory};
 
 use super::fault::SszFault;
@@ -27,7 +27,7 @@ pub enum NoBytes {
 impl NoBytes {
     /// As C reads it.
     pub fn fault(self) -> SszFault
-        ensures { result ≡ fault_of self }
+        ensures { result ≡ json_fault_of self }
     {
         match self {
             NoBytes::Bad(fault) => SszFault {
@@ -49,7 +49,7 @@ pub fn bytes_of_text(
     text: &[u8],
 ) -> Result<Vec<u8>, NoBytes>
     requires { id < length schema.now.trees }
-    ensures { Makes (type_of schema.now id) text.now
+    ensures { MakesEncoding (type_of schema.now id) text.now
         (result_map_both (λ bytes. bytes.items) (λ why. why) result) }
 {
     let value = match read_json(alloc, schema, id, text) {

@@ -1,7 +1,7 @@
 // The chunks from which the root of a version can be calculated.
 ghost use Rattle.std.specs.Prelude.{◌≡◌, [], ◌∷◌, ◌++◌, Ok, IfOk};
 ghost use Rattle.std.specs.Result.{result_map_both};
-ghost use Rattle.ssz_said.specs.Entries.{IsProofIn, all_shown};
+ghost use Rattle.ssz_said.specs.Entries.{IsProofReply, all_shown};
 ghost use Rattle.ssz_said.specs.Outcome.{IsUnlessMemory};
 ghost use Rattle.ssz_said.specs.Proving.{IsBranchIn, chunks_in, prove_said};
 ghost use Rattle.ssz_said.specs.Statements.{HasShortLiteral};
@@ -88,7 +88,7 @@ pub fn branch_of(alloc: Global, answer: Result<Reply, SszFault>) -> Result<Vec<u
 
 // The proof that a text says.
 fn read_text(alloc: Global, text: &[u8]) -> Result<Proof, SszFault>
-    ensures { IsProofIn (Ok (Reply.Proof text.now)) result }
+    ensures { IsProofReply (Ok (Reply.Proof text.now)) result }
 {
     match read_proof(alloc, text) {
         Ok(proof) => Ok(proof),
@@ -99,7 +99,7 @@ fn read_text(alloc: Global, text: &[u8]) -> Result<Proof, SszFault>
 
 /// The proof that is answered.
 pub fn proof_of(alloc: Global, answer: Result<Reply, SszFault>) -> Result<Proof, SszFault>
-    ensures { IsProofIn answer result }
+    ensures { IsProofReply answer result }
 {
     match answer {
         Err(why) => Err(why),

@@ -1,6 +1,6 @@
 // What a reply says to C.
 ghost use Rattle.std.specs.Prelude.{◌≡◌};
-ghost use Rattle.ssz_said.specs.Replies.{coded, encoding_of, gindex_of, len_of, root_of, taken, text_of};
+ghost use Rattle.ssz_said.specs.Replies.{coded, encoding_of, gindex_of, reply_len, reply_root, reply_taken, reply_text};
 
 use super::entries::{SszIndex, halves};
 use super::fault::SszFault;
@@ -21,7 +21,7 @@ fn coded(code: u8) -> SszFault
 
 /// A reply, or the fault of a refusal.
 pub fn taken(reply: Reply) -> Result<Reply, SszFault>
-    ensures { result ≡ taken reply }
+    ensures { result ≡ reply_taken reply }
 {
     match reply {
         Reply::Refused {
@@ -52,7 +52,7 @@ pub fn taken(reply: Reply) -> Result<Reply, SszFault>
 
 /// The root that is answered.
 pub fn root_of(answer: Result<Reply, SszFault>) -> Result<[u8; 32], SszFault>
-    ensures { result ≡ root_of answer }
+    ensures { result ≡ reply_root answer }
 {
     match answer {
         Err(why) => Err(why),
@@ -74,7 +74,7 @@ pub fn encoding_of(answer: Result<Reply, SszFault>) -> Result<ByteRun, SszFault>
 
 /// The length that is answered.
 pub fn len_of(answer: Result<Reply, SszFault>) -> Result<u64, SszFault>
-    ensures { result ≡ len_of answer }
+    ensures { result ≡ reply_len answer }
 {
     match answer {
         Err(why) => Err(why),
@@ -96,7 +96,7 @@ pub fn gindex_of(answer: Result<Reply, SszFault>) -> Result<SszIndex, SszFault>
 
 /// The JSON text that is answered.
 pub fn text_of(answer: Result<Reply, SszFault>) -> Result<ByteRun, SszFault>
-    ensures { result ≡ text_of answer }
+    ensures { result ≡ reply_text answer }
 {
     match answer {
         Err(why) => Err(why),

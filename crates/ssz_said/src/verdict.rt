@@ -1,6 +1,6 @@
 // Whether the proof that a text says leads to a root.
 ghost use Rattle.std.specs.Prelude.{◌≡◌};
-ghost use Rattle.ssz_said.specs.Verdict.{Judges, status_of};
+ghost use Rattle.ssz_said.specs.Verdict.{Judges, verdict_status};
 
 use super::status;
 use ssz_chunk::{Chunk, ShaPair};
@@ -25,7 +25,7 @@ pub enum Verdict {
 impl Verdict {
     /// The status of a verdict.
     pub fn status(self) -> u32
-        ensures { result ≡ status_of self }
+        ensures { result ≡ verdict_status self }
     {
         match self {
             Verdict::Holds => status::OK,

@@ -9,7 +9,7 @@ use Rattle.ssz_schema.specs.Copies.{IsSameEntry}
 use Rattle.ssz_schema.specs.Types.{SszType}
 use Rattle.ssz_schema.specs.Legal.{IsLegal}
 use Rattle.ssz_schema.specs.Unfolding.{tree_over}
-use Rattle.ssz_schema.specs.Inside.{unfolded, types_of, AreFactsOf, IsSound, AreSound, IsSchema, IsWhole}
+use Rattle.ssz_schema.specs.Inside.{unfolded, types_of, AreFactsOf, IsSoundEntry, AreSound, IsSchema, IsWhole}
 
 unfolded-copied : (done : List SszType) (es fs : List Entry) → AllZip IsSameEntry es fs
     → unfolded done fs ≡ unfolded done es
@@ -21,7 +21,7 @@ unfolded-copied done (e ∷ es) (f ∷ fs) same =
     ∙ unfolded-copied (done ++ tree_over done e.ty ∷ []) es fs same.1
 
 IsSound-copied : (format : Format) (done : List SszType) (e f : Entry) → IsSameEntry e f
-    → IsSound format done e → IsSound format done f
+    → IsSoundEntry format done e → IsSoundEntry format done f
 IsSound-copied format done e f same sound = record {
   below = same.ty.below (length done) sound.below;
   legal = subst (IsLegal format) (sym (same.ty.tree done)) sound.legal;

@@ -9,13 +9,14 @@ use Rattle.ssz_schema.specs.declared.ty.Ty.TheVariants.{Uint, Boolean, Container
 use Rattle.ssz_schema.specs.declared.schema.Schema.TheInside.{Inside}
 use Rattle.ssz_schema.specs.Types.{SszType, boolean, container, vector, list, union, field, none_option, option}
 use Rattle.ssz_schema.specs.Legal.{IsLegal}
-use Rattle.ssz_schema.specs.Unfolding.{Types, tree_at, fields_over, options_over, tree_over, AreBelow, IsBelow}
+use Rattle.ssz_schema.specs.Unfolding.{Types, type_tree_at, fields_over, options_over, tree_over, AreBelow, IsBelow}
 use Rattle.ssz_schema.specs.Lookup.{lookup_name}
-use Rattle.ssz_schema.specs.Inside.{unfolded, types_of, basic_types, AreFactsOf, IsSound, AreSound, IsSchema, IsEntry, IsWhole, AreAllLegal, NamesAreBelow}
+use Rattle.ssz_schema.specs.Inside.{unfolded, types_of, basic_types, AreFactsOf, IsSoundEntry, AreSound, IsSchema, IsSchemaEntry, IsWhole, AreAllLegal, NamesAreBelow}
 
 -- the first count trees are the same
 abbrev SameBelow : ℕ → List SszType → List SszType → Type 0
-SameBelow count trees others = (id : ℕ) → id < count → tree_at trees id ≡ tree_at others id
+SameBelow count trees others =
+    (id : ℕ) → id < count → type_tree_at trees id ≡ type_tree_at others id
 
 same_fields : (count : ℕ) (trees others : List SszType) → SameBelow count trees others
     → (parts : List (List ℕ × ℕ)) → AllByRecursion (λ part. part.1 < count) parts
@@ -66,16 +67,16 @@ length-unfolded done (e ∷ entries) =
 
 -- what stands at a place of a list of trees
 pub record Stands (format : Format) (trees : List SszType) (id : ℕ) (e : Entry) : Type 0 where
-  pub form : tree_over trees e.ty ≡ tree_at trees id
+  pub form : tree_over trees e.ty ≡ type_tree_at trees id
   pub below : AreBelow id e.ty
-  pub legal : IsLegal format (tree_at trees id)
-  pub facts : AreFactsOf e.facts (tree_at trees id)
+  pub legal : IsLegal format (type_tree_at trees id)
+  pub facts : AreFactsOf e.facts (type_tree_at trees id)
 
 stands_first : (format : Format) (done : List SszType) (e : Entry) (entries : List Entry)
-    → IsSound format done e → Stands format (unfolded done (e ∷ entries)) (length done) e
+    → IsSoundEntry format done e → Stands format (unfolded done (e ∷ entries)) (length done) e
 stands_first format done e entries sound =
     let trees = unfolded (done ++ tree_over done e.ty ∷ []) entries in
-    let here : tree_at trees (length done) ≡ tree_over done e.ty =
+    let here : type_tree_at trees (length done) ≡ tree_over done e.ty =
     unfolded-below (done ++ tree_over done e.ty ∷ []) entries (length done)
     (omega (arith, length-append done (tree_over done e.ty ∷ [])))
     ∙ get_or_at done (tree_over done e.ty) [] boolean (length done) refl in
@@ -103,7 +104,7 @@ stands_at format done (f ∷ entries) sound (suc i) e below is =
     (stands_at format (done ++ tree_over done f.ty ∷ []) entries sound.1 i e (omega arith) is)
 
 pub entry_at : (a : Inside) → IsSchema a → (id : ℕ) (e : Entry) → id < length a.entries.items
-    → e ≡ get_or a.entries.items id e → IsEntry (types_of a) id e
+    → e ≡ get_or a.entries.items id e → IsSchemaEntry (types_of a) id e
 entry_at a h id e below is =
     let found = stands_at a.format [] a.entries.items h.entries id e below is in
     let place : 0 + id ≡ id = omega arith in
@@ -116,9 +117,9 @@ count_is a types e = sym (ap (λ (t : Types). length t.trees) e) ∙ length-unfo
     ∙ omega arith
 
 pub entry_is : (a : Inside) (types : Types) → types_of a ≡ types → IsSchema a → (id : ℕ) (e : Entry)
-    → id < length types.trees → e ≡ get_or a.entries.items id e → IsEntry types id e
+    → id < length types.trees → e ≡ get_or a.entries.items id e → IsSchemaEntry types id e
 entry_is a types same h id e below is =
-    subst (λ (t : Types). IsEntry t id e) same
+    subst (λ (t : Types). IsSchemaEntry t id e) same
     (entry_at a h id e (omega (arith, count_is a types same)) is)
 
 pub unfolded-append : (done : List SszType) (entries : List Entry) (e : Entry)
@@ -128,7 +129,7 @@ unfolded-append done [] e = refl
 unfolded-append done (f ∷ entries) e = unfolded-append (done ++ tree_over done f.ty ∷ []) entries e
 
 pub AreSound-append : (format : Format) (done : List SszType) (entries : List Entry) (e : Entry)
-    → AreSound format done entries → IsSound format (unfolded done entries) e
+    → AreSound format done entries → IsSoundEntry format (unfolded done entries) e
     → AreSound format done (entries ++ e ∷ [])
 AreSound-append format done [] e sound h = (h, tt)
 AreSound-append format done (f ∷ entries) e sound h =
@@ -156,11 +157,11 @@ IsWhole-more old new more h trees names = record {
 
 -- a schema after a push of an entry that is sound in it
 pub IsSchema-push : (a b : Inside) (types : Types) (e : Entry) → types_of a ≡ types → IsSchema a
-    → IsSound types.format types.trees e → b.format ≡ a.format → b.names ≡ a.names
+    → IsSoundEntry types.format types.trees e → b.format ≡ a.format → b.names ≡ a.names
     → b.entries.items ≡ a.entries.items ++ e ∷ [] → IsSchema b
 IsSchema-push a b types e same h sound format names pushed =
-    let here : IsSound a.format (unfolded [] a.entries.items) e =
-    subst (λ (t : Types). IsSound t.format t.trees e) (sym same) sound in
+    let here : IsSoundEntry a.format (unfolded [] a.entries.items) e =
+    subst (λ (t : Types). IsSoundEntry t.format t.trees e) (sym same) sound in
     let more = AreSound-append a.format [] a.entries.items e h.entries here in
     let trees : unfolded [] b.entries.items ≡ unfolded [] a.entries.items
     ++ tree_over (unfolded [] a.entries.items) e.ty ∷ [] =
@@ -261,22 +262,22 @@ IsSchema-take a b types count same h some below format names taken =
 
 legal_at : (format : Format) (done : List SszType) (entries : List Entry)
     → AreSound format done entries → (i : ℕ) → i < length entries
-    → IsLegal format (tree_at (unfolded done entries) (length done + i))
+    → IsLegal format (type_tree_at (unfolded done entries) (length done + i))
 legal_at format done [] sound i below = absurd (omega arith)
 legal_at format done (f ∷ entries) sound zero below =
     let place : length done ≡ length done + 0 = omega arith in
-    subst (λ (n : ℕ). IsLegal format (tree_at (unfolded done (f ∷ entries)) n)) place
+    subst (λ (n : ℕ). IsLegal format (type_tree_at (unfolded done (f ∷ entries)) n)) place
     (stands_first format done f entries sound.0).legal
 legal_at format done (f ∷ entries) sound (suc i) below =
     let place : length (done ++ tree_over done f.ty ∷ []) + i ≡ length done + suc i =
     omega (arith, length-append done (tree_over done f.ty ∷ [])) in
-    subst (λ (n : ℕ). IsLegal format (tree_at (unfolded done (f ∷ entries)) n)) place
+    subst (λ (n : ℕ). IsLegal format (type_tree_at (unfolded done (f ∷ entries)) n)) place
     (legal_at format (done ++ tree_over done f.ty ∷ []) entries sound.1 i (omega arith))
 
 -- every type of a schema is legal
 pub all_legal : (a : Inside) (types : Types) → types_of a ≡ types → IsSchema a → AreAllLegal types
 all_legal a types same h = subst AreAllLegal same (λ id below.
     let place : 0 + id ≡ id = omega arith in
-    subst (λ (n : ℕ). IsLegal a.format (tree_at (types_of a).trees n)) place
+    subst (λ (n : ℕ). IsLegal a.format (type_tree_at (types_of a).trees n)) place
     (legal_at a.format [] a.entries.items h.entries id
     (omega (arith, length-unfolded [] a.entries.items))))

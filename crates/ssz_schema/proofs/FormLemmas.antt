@@ -12,7 +12,7 @@ use Rattle.ssz_schema.specs.Types.{SszType, Fields, Options, container, union}
 use Rattle.ssz_schema.specs.Forms.{TypeForm, field_forms, option_forms, field_form_of, form_of, form_step, container_form, vector_form, list_form, bitvector_form, bitlist_form, union_form, option_form_count}
 use Rattle.ssz_schema.specs.Walk.{◌>>=◌, within_limits, is_wrong_size, resolved, resolved_fields, resolved_options}
 use Rattle.ssz_schema.specs.Unfolding.{Types, type_of, fields_over, options_over}
-use Rattle.ssz_schema.specs.Adding.{Resolves, IsType, AreFields, AreOptions}
+use Rattle.ssz_schema.specs.Adding.{Resolves, IsType, AreFieldTypes, AreOptions}
 use Rattle.ssz_schema.proofs.WalkLemmas.{goes_on}
 
 each_option : (o : Option TypeExpr) → former-TypeExpr-Union-0-at-1.map TypeExpr TypeForm form_of o
@@ -80,7 +80,7 @@ container_walk format known (f ∷ fields) some = refl
 
 pub container_then : (old mid new : Types) (walk : Result Fields SchemaFault)
     (parts : Vec (List ℕ × ℕ) Global) (result : Result ℕ SchemaError)
-    → Resolves AreFields walk old mid (Ok parts)
+    → Resolves AreFieldTypes walk old mid (Ok parts)
     → Resolves IsType (within_limits mid.format (container (fields_over mid.trees parts.items))) mid
     new result → Resolves IsType (walk >>= (λ fs. within_limits old.format (container fs))) old
     new result

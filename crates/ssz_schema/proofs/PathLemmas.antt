@@ -9,7 +9,7 @@ use Rattle.ssz_schema.specs.declared.width.Width.TheVariants.{W8, W16, W32, W64,
 use Rattle.ssz_schema.specs.declared.path.PathStep.{PathStep}
 use Rattle.ssz_schema.specs.declared.path.PathStep.TheVariants.{Field, Index, Len, Selector, Option as Chosen}
 use Rattle.ssz_schema.specs.Types.{SszType, Fields, Options, uint, boolean, container, vector, list, bitvector, bitlist, union, no_fields, field, no_options, none_option, option}
-use Rattle.ssz_schema.specs.Sizes.{basic_size, element_chunks, depth_of, field_count, levels, field_levels, option_levels}
+use Rattle.ssz_schema.specs.Sizes.{basic_size, element_chunks, depth_of, field_count, type_levels, field_levels, option_levels}
 use Rattle.ssz_schema.specs.Paths.{Path, step_type, field_type, field_number, option_type}
 use Rattle.ssz_schema.specs.Indices.{element_position, step_levels, step_position, step_index, generalized_index_from}
 use Rattle.ssz_schema.specs.IndexLaws.{IndicesAreWithinLevels}
@@ -28,37 +28,39 @@ if_within i n x y e = let both = cond_some (ltb i n) x y e in (ltb-true i n both
 -- Levels: a part has fewer than the whole.
 
 field-levels : (fs : Fields) (name : List ℕ) (u : SszType) → field_type fs name ≡ Some u
-    → levels u ≤ field_levels fs
+    → type_levels u ≤ field_levels fs
 field-levels no_fields name u e = absurd (none-some u e)
 field-levels (field other t fs) name u e = go (bytes_eq other name) (field-levels fs name u) e
   where
-    go : (b : Bool) → (field_type fs name ≡ Some u → levels u ≤ field_levels fs)
+    go : (b : Bool) → (field_type fs name ≡ Some u → type_levels u ≤ field_levels fs)
         → cond b (Some t) (field_type fs name) ≡ Some u
-        → levels u ≤ max (levels t) (field_levels fs)
-    go true rest e = omega (arith, ap (λ s. levels s) (same_Some t u e))
+        → type_levels u ≤ max (type_levels t) (field_levels fs)
+    go true rest e = omega (arith, ap (λ s. type_levels s) (same_Some t u e))
     go false rest e = omega (arith, rest e)
 
 option-levels : (os : Options) (k : ℕ) (u : SszType) → option_type os k ≡ Some u
-    → levels u ≤ option_levels os
+    → type_levels u ≤ option_levels os
 option-levels no_options k u e = absurd (none-some u e)
 option-levels (none_option os) zero u e = absurd (none-some u e)
-option-levels (option t os) zero u e = omega (arith, ap (λ s. levels s) (same_Some t u e))
+option-levels (option t os) zero u e = omega (arith, ap (λ s. type_levels s) (same_Some t u e))
 option-levels (none_option os) (suc k) u e = option-levels os k u e
 option-levels (option t os) (suc k) u e = omega (arith, option-levels os k u e)
 
 -- a step and what lies below it
 pub step-levels : (t : SszType) (step : PathStep) (u : SszType) → step_type t step ≡ Some u
-    → step_levels t step + levels u ≤ levels t
+    → step_levels t step + type_levels u ≤ type_levels t
 step-levels (container fs) (Field name) u e = omega (arith, field-levels fs name u e)
-step-levels (vector t n) (Index i) u e = omega (arith, ap (λ s. levels s) (if_within i n t u e).1)
-step-levels (list t n) (Index i) u e = omega (arith, ap (λ s. levels s) (if_within i n t u e).1)
-step-levels (list t n) Len u e = omega (arith, ap (λ s. levels s) (same_Some _ u e))
+step-levels (vector t n) (Index i) u e =
+    omega (arith, ap (λ s. type_levels s) (if_within i n t u e).1)
+step-levels (list t n) (Index i) u e =
+    omega (arith, ap (λ s. type_levels s) (if_within i n t u e).1)
+step-levels (list t n) Len u e = omega (arith, ap (λ s. type_levels s) (same_Some _ u e))
 step-levels (bitvector n) (Index i) u e =
-    omega (arith, ap (λ s. levels s) (if_within i n boolean u e).1)
+    omega (arith, ap (λ s. type_levels s) (if_within i n boolean u e).1)
 step-levels (bitlist n) (Index i) u e =
-    omega (arith, ap (λ s. levels s) (if_within i n boolean u e).1)
-step-levels (bitlist n) Len u e = omega (arith, ap (λ s. levels s) (same_Some _ u e))
-step-levels (union os) Selector u e = omega (arith, ap (λ s. levels s) (same_Some _ u e))
+    omega (arith, ap (λ s. type_levels s) (if_within i n boolean u e).1)
+step-levels (bitlist n) Len u e = omega (arith, ap (λ s. type_levels s) (same_Some _ u e))
+step-levels (union os) Selector u e = omega (arith, ap (λ s. type_levels s) (same_Some _ u e))
 step-levels (union os) (Chosen k) u e = omega (arith, option-levels os k u e)
 step-levels _ _ u e = absurd (none-some u e)
 
@@ -150,9 +152,9 @@ positive k down position pos =
     omega (arith, mul-le-mul_left k unit)
 
 within_from : (k : ℕ) (t : SszType) (path : Path) (g : ℕ) → 0 < k
-    → generalized_index_from k t path ≡ Some g → (0 < g) × (g < (k + 1) * 2 ^ levels t)
+    → generalized_index_from k t path ≡ Some g → (0 < g) × (g < (k + 1) * 2 ^ type_levels t)
 within_from k t [] g pos e =
-    let unit : 1 ≤ 2 ^ levels t = pow_pos (levels t) in
+    let unit : 1 ≤ 2 ^ type_levels t = pow_pos (type_levels t) in
     let same = same_Some k g e in
     (omega (arith, same), omega (arith, same, mul-le-mul_left (k + 1) unit))
 within_from k t (step ∷ path) g pos e =
@@ -164,7 +166,7 @@ within_from k t (step ∷ path) g pos e =
     let rest = within_from (step_index k t step) parts.0 path g
     (positive k (step_levels t step) (step_position t step) pos) parts.2 in (
       rest.0,
-      further k (step_index k t step) (step_levels t step) (levels parts.0) (levels t) g
+      further k (step_index k t step) (step_levels t step) (type_levels parts.0) (type_levels t) g
           (next k (step_levels t step) (step_position t step) below) rest.1
           (step-levels t step parts.0 parts.1),
     )
@@ -173,4 +175,4 @@ within_from k t (step ∷ path) g pos e =
 pub indices_within : IndicesAreWithinLevels
 indices_within t path index e =
     let both = within_from 1 t path index (omega arith) e in
-    record { some = both.0; few = omega (arith, both.1, pow-add 2 (levels t) 1) }
+    record { some = both.0; few = omega (arith, both.1, pow-add 2 (type_levels t) 1) }

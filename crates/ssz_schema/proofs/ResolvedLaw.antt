@@ -7,7 +7,7 @@ use Rattle.ssz_schema.specs.declared.width.Width.{Width}
 use Rattle.ssz_schema.specs.declared.schema_fault.SchemaFault.{SchemaFault}
 use Rattle.ssz_schema.specs.declared.schema_fault.SchemaFault.TheVariants.{BadName, EmptyContainer, NonePlace, UnionSize, FieldTaken}
 use Rattle.ssz_schema.specs.Types.{SszType, Fields, Options, uint, boolean, container, vector, list, bitvector, bitlist, union, no_fields, field, no_options, none_option, option}
-use Rattle.ssz_schema.specs.Sizes.{field_count, option_count, nesting, levels, default_length}
+use Rattle.ssz_schema.specs.Sizes.{field_count, option_count, nesting, type_levels, default_length}
 use Rattle.ssz_schema.specs.Names.{IsName, is_name}
 use Rattle.ssz_schema.specs.Legal.{IsLegal, AreLegalFields, AreLegalOptions, IsWithinLimits, IsNoneFirst, HasNoNone, field_names, greatest_limit, most_levels}
 use Rattle.ssz_schema.specs.Forms.{TypeForm, FieldForms, OptionForms, named, uint_form, boolean_form, container_form, vector_form, list_form, bitvector_form, bitlist_form, union_form, no_field_forms, field_form, no_option_forms, none_form, option_form, option_form_count}
@@ -30,13 +30,13 @@ module _ (format : Format) where
   within_ok : (t u : SszType) → within_limits format t ≡ Ok u → (t ≡ u) × IsWithinLimits format t
   within_ok t u e =
       let nest = guard_ok (ltb 32 (nesting t)) _ _ u e in
-      let level = guard_ok (ltb (most_levels format) (levels t)) _ _ u nest.1 in
+      let level = guard_ok (ltb (most_levels format) (type_levels t)) _ _ u nest.1 in
       let long = guard_ok (ltb (2 ^ 24) (default_length t)) _ _ u level.1 in (
         ok_is t u long.1,
         record {
           nesting = ltb-false 32 (nesting t) nest.0;
           levels =
-              ltb-false (most_levels format) (levels t) level.0;
+              ltb-false (most_levels format) (type_levels t) level.0;
           default_length =
               ltb-false (2 ^ 24) (default_length t) long.0;
         },

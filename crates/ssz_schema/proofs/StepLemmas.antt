@@ -7,9 +7,9 @@ use Rattle.ssz_schema.specs.declared.path.PathStep.TheVariants.{Field, Option as
 use Rattle.ssz_schema.specs.declared.ty.Ty.{Ty}
 use Rattle.ssz_schema.specs.declared.ty.Ty.TheVariants.{Container, Union}
 use Rattle.ssz_schema.specs.Types.{SszType, container, union}
-use Rattle.ssz_schema.specs.Unfolding.{Types, tree_at, type_of, tree_over, fields_over, options_over, IsBelow, AreBelow}
+use Rattle.ssz_schema.specs.Unfolding.{Types, type_tree_at, type_of, tree_over, fields_over, options_over, IsBelow, AreBelow}
 use Rattle.ssz_schema.specs.Paths.{step_type, field_type, field_number, option_type}
-use Rattle.ssz_schema.specs.Steps.{LeadsTo, lead_number, IsLead}
+use Rattle.ssz_schema.specs.Steps.{StepLeadsTo, lead_number, IsLead}
 
 abbrev pub Part : Type 0
 Part = List ℕ × ℕ
@@ -23,7 +23,7 @@ pub record IsFieldAt (trees : List SszType) (parts : List Part) (name : List ℕ
   pub below : k < length parts
   pub number : field_number (fields_over trees parts) name ≡ k
   pub type : (part : Part) → part ≡ get_or parts k part
-      → field_type (fields_over trees parts) name ≡ Some (tree_at trees part.1)
+      → field_type (fields_over trees parts) name ≡ Some (type_tree_at trees part.1)
 
 found_from : (trees : List SszType) (parts : List Part) (name : List ℕ) (i n : ℕ)
     → position_from (has_name name) i parts ≡ Some n
@@ -43,9 +43,9 @@ found_from trees (p ∷ parts) name i n e =
       record {
         below = omega arith;
         number = ap (λ b. cond b 0 (suc (field_number (fields_over trees parts) name))) is;
-        type = λ part at. ap (λ b. cond b (Some (tree_at trees p.1))
+        type = λ part at. ap (λ b. cond b (Some (type_tree_at trees p.1))
             (field_type (fields_over trees parts) name)) is
-            ∙ ap (λ (q : Part). Some (tree_at trees q.1)) (sym at);
+            ∙ ap (λ (q : Part). Some (type_tree_at trees q.1)) (sym at);
       },
     )
     go false is rest e =
@@ -57,7 +57,7 @@ found_from trees (p ∷ parts) name i n e =
             below = omega (arith, here.below);
             number = ap (λ b. cond b 0 (suc (field_number (fields_over trees parts) name))) is
                 ∙ ap suc here.number;
-            type = λ part at. ap (λ b. cond b (Some (tree_at trees p.1))
+            type = λ part at. ap (λ b. cond b (Some (type_tree_at trees p.1))
                 (field_type (fields_over trees parts) name)) is ∙ here.type part at;
           },
         )
@@ -79,7 +79,7 @@ missing_from trees (p ∷ parts) name i e =
     go : (b : Bool) → (position_from (has_name name) (i + 1) parts ≡ None
         → field_type (fields_over trees parts) name ≡ None)
         → cond b (Some i) (position_from (has_name name) (i + 1) parts) ≡ None
-        → cond b (Some (tree_at trees p.1)) (field_type (fields_over trees parts) name) ≡ None
+        → cond b (Some (type_tree_at trees p.1)) (field_type (fields_over trees parts) name) ≡ None
     go true rest e = absurd (none-some i (sym e))
     go false rest e = rest e
 
@@ -90,7 +90,7 @@ pub missing_field : (trees : List SszType) (parts : List Part) (name : List ℕ)
 missing_field trees parts name e = missing_from trees parts name 0 e
 
 pub option_at-type : (trees : List SszType) (ids : List (Option ℕ)) (k : ℕ)
-    → option_map (tree_at trees) (get_or ids k None) ≡ option_type (options_over trees ids) k
+    → option_map (type_tree_at trees) (get_or ids k None) ≡ option_type (options_over trees ids) k
 option_at-type trees [] zero = refl
 option_at-type trees [] (suc k) = refl
 option_at-type trees (None ∷ ids) zero = refl
@@ -119,7 +119,7 @@ part_below count (p ∷ parts) (suc k) part below h e =
 pub LeadsTo-option : (types : Types) (id k : ℕ) (ty : Ty) (ids : Vec (Option ℕ) Global)
     (answer : Option ℕ) → id < length types.trees → tree_over types.trees ty ≡ type_of types id
     → AreBelow id ty → ty ≡ Union ids
-    → answer ≡ get_or ids.items k None → LeadsTo types id (Chosen k) answer
+    → answer ≡ get_or ids.items k None → StepLeadsTo types id (Chosen k) answer
 LeadsTo-option types id k ty ids answer known form below is found =
     let tree : union (options_over types.trees ids.items) ≡ type_of types id =
     sym (ap (tree_over types.trees) is) ∙ form in
@@ -135,7 +135,7 @@ pub LeadsTo-field : (types : Types) (id k : ℕ) (ty : Ty) (parts : Vec Part Glo
     (name : List ℕ) → id < length types.trees → tree_over types.trees ty ≡ type_of types id
     → AreBelow id ty → ty ≡ Container parts
     → position_from (has_name name) 0 parts.items ≡ Some k → part ≡ get_or parts.items k part
-    → LeadsTo types id (Field name) (Some part.1)
+    → StepLeadsTo types id (Field name) (Some part.1)
 LeadsTo-field types id k ty parts part name known form below is found at =
     let tree : container (fields_over types.trees parts.items) ≡ type_of types id =
     sym (ap (tree_over types.trees) is) ∙ form in
@@ -149,7 +149,7 @@ LeadsTo-field types id k ty parts part name known form below is found at =
 
 pub LeadsTo-no_field : (types : Types) (id : ℕ) (ty : Ty) (parts : Vec Part Global) (name : List ℕ)
     → tree_over types.trees ty ≡ type_of types id → ty ≡ Container parts
-    → position_from (has_name name) 0 parts.items ≡ None → LeadsTo types id (Field name) None
+    → position_from (has_name name) 0 parts.items ≡ None → StepLeadsTo types id (Field name) None
 LeadsTo-no_field types id ty parts name form is missing =
     let tree : container (fields_over types.trees parts.items) ≡ type_of types id =
     sym (ap (tree_over types.trees) is) ∙ form in

@@ -4,8 +4,8 @@ use Rattle.std.specs.Prelude.{not, is_none, is_some}
 use Rattle.std.proofs.lemmas.List.{drop_all}
 use Rattle.ssz_schema.specs.declared.facts.Facts.{Facts}
 use Rattle.ssz_schema.specs.Types.{SszType}
-use Rattle.ssz_schema.specs.Sizes.{fixed_size, part_sizes, total_size, default_length, part_length, default_fields_length, levels, field_levels, nesting, field_nesting, field_count}
-use Rattle.ssz_schema.specs.Unfolding.{tree_at, fields_over}
+use Rattle.ssz_schema.specs.Sizes.{fixed_size, part_sizes, total_size, default_length, part_length, default_fields_length, type_levels, field_levels, nesting, field_nesting, field_count}
+use Rattle.ssz_schema.specs.Unfolding.{type_tree_at, fields_over}
 use Rattle.ssz_schema.specs.Inside.{capped, AreFactsOf}
 use Rattle.ssz_schema.specs.Sums.{AreSums}
 
@@ -54,13 +54,13 @@ fixed_step true (Some z) (Some x) sizes e =
 pub SumsFrom-more : (trees : List SszType) (parts : List Part) (i : ℕ) (part : Part) (f : Facts)
     (b c : Bool) (len add next lev lev' nest nest' : ℕ) → SumsFrom trees parts i b len lev nest
     → i < length parts → part ≡ get_or parts i part
-    → AreFactsOf f (tree_at trees part.1) → c ≡ (b && is_some f.fixed_size)
+    → AreFactsOf f (type_tree_at trees part.1) → c ≡ (b && is_some f.fixed_size)
     → add ≡ part_length f.fixed_size f.default_len → next ≡ min (len + add) (2 ^ 64 - 1)
     → lev' ≡ max lev f.levels → nest' ≡ max nest f.nesting
     → SumsFrom trees parts (i + 1) c next lev' nest'
 SumsFrom-more trees parts i part f b c len add next lev lev' nest nest' h below e facts c_is add_is
     next_is lev_is nest_is =
-    let t = tree_at trees part.1 in
+    let t = type_tree_at trees part.1 in
     let here = drop_field parts i part below e in
     let sizes = part_sizes (fields_over trees (drop (i + 1) parts)) in
     let lengths : default_fields_length (fields_over trees (drop i parts))
@@ -68,7 +68,7 @@ SumsFrom-more trees parts i part f b c len add next lev lev' nest nest' h below 
     (fields_over trees (drop (i + 1) parts)) =
     ap (λ ps. default_fields_length (fields_over trees ps)) here in
     let level : field_levels (fields_over trees (drop i parts))
-    ≡ max (levels t) (field_levels (fields_over trees (drop (i + 1) parts))) =
+    ≡ max (type_levels t) (field_levels (fields_over trees (drop (i + 1) parts))) =
     ap (λ ps. field_levels (fields_over trees ps)) here in
     let nested : field_nesting (fields_over trees (drop i parts))
     ≡ max (nesting t) (field_nesting (fields_over trees (drop (i + 1) parts))) =
@@ -79,7 +79,7 @@ SumsFrom-more trees parts i part f b c len add next lev lev' nest nest' h below 
       all_fixed = ap (λ k. k
           && not (is_none (total_size (part_sizes (fields_over trees (drop (i + 1) parts))))))
           (c_is ∙ ap (λ s. b && is_some s) facts.fixed_size)
-          ∙ fixed_step b (fixed_size (tree_at trees part.1))
+          ∙ fixed_step b (fixed_size (type_tree_at trees part.1))
           (total_size (part_sizes (fields_over trees (drop (i + 1) parts))))
           (part_sizes (fields_over trees (drop (i + 1) parts))) refl
           ∙ sym (ap (λ ps. b && not (is_none (total_size (part_sizes (fields_over trees ps)))))

@@ -14,10 +14,10 @@ use Rattle.ssz_schema.specs.Names.{is_name}
 use Rattle.ssz_schema.specs.Legal.{AreLegalFields, field_names}
 use Rattle.ssz_schema.specs.Forms.{field_forms, field_form_of, form_of}
 use Rattle.ssz_schema.specs.Walk.{◌>>=◌, resolved, resolved_fields, resolved_field}
-use Rattle.ssz_schema.specs.Unfolding.{Types, tree_at, fields_over, known_in}
+use Rattle.ssz_schema.specs.Unfolding.{Types, type_tree_at, fields_over, known_in}
 use Rattle.ssz_schema.specs.Repeats.{first_repeat, is_at}
 use Rattle.ssz_schema.specs.Inside.{IsWhole, AreAllLegal}
-use Rattle.ssz_schema.specs.Adding.{Extends, Resolves, AreFields, IsField}
+use Rattle.ssz_schema.specs.Adding.{ExtendsSchema, Resolves, AreFieldTypes, IsField}
 use Rattle.ssz_schema.proofs.WalkLemmas.{Extends-refl, Extends-trans}
 use Rattle.ssz_schema.proofs.KnownLemmas.{known_in-more, known_legal, type_of-more}
 use Rattle.ssz_schema.proofs.ResolvedLaw.{fields_are_legal}
@@ -35,22 +35,22 @@ names_of fields = map (λ f. f.0) fields
 abbrev pub fields_before : List SszType → List Part → Fields → Fields
 fields_before trees [] rest = rest
 fields_before trees (p ∷ parts) rest =
-    field p.0 (tree_at trees p.1) (fields_before trees parts rest)
+    field p.0 (type_tree_at trees p.1) (fields_before trees parts rest)
 
 fields_before-push : (trees : List SszType) (parts : List Part) (p : Part) (rest : Fields)
     → fields_before trees (parts ++ p ∷ []) rest ≡ fields_before trees parts
-    (field p.0 (tree_at trees p.1) rest)
+    (field p.0 (type_tree_at trees p.1) rest)
 fields_before-push trees [] p rest = refl
 fields_before-push trees (q ∷ parts) p rest =
-    ap (field q.0 (tree_at trees q.1)) (fields_before-push trees parts p rest)
+    ap (field q.0 (type_tree_at trees q.1)) (fields_before-push trees parts p rest)
 
 fields_before-none : (trees : List SszType) (parts : List Part)
     → fields_before trees parts no_fields ≡ fields_over trees parts
 fields_before-none trees [] = refl
 fields_before-none trees (p ∷ parts) =
-    ap (field p.0 (tree_at trees p.1)) (fields_before-none trees parts)
+    ap (field p.0 (type_tree_at trees p.1)) (fields_before-none trees parts)
 
-fields_before-more : (old new : Types) (parts : List Part) (rest : Fields) → Extends old new
+fields_before-more : (old new : Types) (parts : List Part) (rest : Fields) → ExtendsSchema old new
     → AllByRecursion (λ p. p.1 < length old.trees) parts
     → fields_before new.trees parts rest ≡ fields_before old.trees parts rest
 fields_before-more old new [] rest h below = refl
@@ -58,7 +58,7 @@ fields_before-more old new (p ∷ parts) rest h below =
     ap₂ (field p.0) (type_of-more old new p.1 h below.0)
     (fields_before-more old new parts rest h below.1)
 
-pub AllBelow-more : (old new : Types) (parts : List Part) → Extends old new
+pub AllBelow-more : (old new : Types) (parts : List Part) → ExtendsSchema old new
     → AllByRecursion (λ p. p.1 < length old.trees) parts
     → AllByRecursion (λ p. p.1 < length new.trees) parts
 AllBelow-more old new [] h below = tt
@@ -142,7 +142,7 @@ module _ (old : Types) (fields : List Written) where
   -- the first i fields are resolved to these parts
   pub record FieldsFrom (now : Types) (i : ℕ) (repeat : Option ℕ) (parts : List Part) : Type 0 where
     pub seen : List (List ℕ)
-    pub extends : Extends old now
+    pub extends : ExtendsSchema old now
     pub below : AllByRecursion (λ p. p.1 < length now.trees) parts
     pub walk : whole_walk
         ≡ (resolved_fields old.format (known_in old) seen
@@ -265,7 +265,7 @@ module _ (old : Types) (fields : List Written) where
       → FieldsFrom now i repeat parts → i < length fields
       → written ≡ get_or fields i written → is_repeat ≡ is_at repeat i
       → Resolves IsField (one_walk now is_repeat written) now new (Err e)
-      → Resolves AreFields whole_walk old new (Err e)
+      → Resolves AreFieldTypes whole_walk old new (Err e)
   fields_stop now new i repeat parts written is_repeat Memory whole h here at is r =
       record { extends = Extends-trans old now new h.extends r.extends; answer = tt }
   fields_stop now new i repeat parts written is_repeat (Fault fault) whole h here at is r = record {
@@ -289,7 +289,7 @@ module _ (old : Types) (fields : List Written) where
 
   pub fields_end : (now : Types) (i : ℕ) (repeat : Option ℕ) (parts : Vec Part Global)
       → FieldsFrom now i repeat parts.items → length fields ≤ i
-      → Resolves AreFields whole_walk old now (Ok parts)
+      → Resolves AreFieldTypes whole_walk old now (Ok parts)
   fields_end now i repeat parts h all = record {
     extends = h.extends;
     answer = (

@@ -9,15 +9,15 @@ use Rattle.ssz_schema.specs.declared.schema_fault.SchemaFault.TheVariants.{Nest,
 use Rattle.ssz_schema.specs.declared.schema_fault.SchemaError.{SchemaError}
 use Rattle.ssz_schema.specs.declared.schema_fault.SchemaError.TheVariants.{Fault, Memory}
 use Rattle.ssz_schema.specs.Types.{SszType, boolean}
-use Rattle.ssz_schema.specs.Sizes.{nesting, levels, default_length}
+use Rattle.ssz_schema.specs.Sizes.{nesting, type_levels, default_length}
 use Rattle.ssz_schema.specs.Legal.{IsWithinLimits, most_levels}
 use Rattle.ssz_schema.specs.Walk.{◌>>=◌, within_limits}
 use Rattle.ssz_schema.specs.Unfolding.{Types, tree_over}
-use Rattle.ssz_schema.specs.Inside.{IsSound, IsSoundButLimits}
-use Rattle.ssz_schema.specs.Adding.{Extends, IsType, AnswersBy, Resolves}
+use Rattle.ssz_schema.specs.Inside.{IsSoundEntry, IsSoundButLimits}
+use Rattle.ssz_schema.specs.Adding.{ExtendsSchema, IsType, AnswersBy, Resolves}
 use Rattle.ssz_schema.proofs.FactLemmas.{uncapped_facts}
 
-pub Extends-refl : (types : Types) → Extends types types
+pub Extends-refl : (types : Types) → ExtendsSchema types types
 Extends-refl types = record {
   more = [];
   format = refl;
@@ -26,7 +26,8 @@ Extends-refl types = record {
   names = refl;
 }
 
-pub Extends-trans : (old mid new : Types) → Extends old mid → Extends mid new → Extends old new
+pub Extends-trans : (old mid new : Types) → ExtendsSchema old mid → ExtendsSchema mid new
+    → ExtendsSchema old new
 Extends-trans old mid new a b = record {
   more = a.more ++ b.more;
   format = b.format ∙ a.format;
@@ -58,22 +59,23 @@ pub exceeds_nest : (format : Format) (t : SszType) → 32 < nesting t
 exceeds_nest format t h = cond-true _ _ _ (lt-ltb 32 (nesting t) h)
 
 pub exceeds_levels : (format : Format) (t : SszType) → nesting t ≤ 32
-    → most_levels format < levels t → within_limits format t ≡ Err Levels
+    → most_levels format < type_levels t → within_limits format t ≡ Err Levels
 exceeds_levels format t n h = cond-false _ _ _ (le-ltb 32 (nesting t) n)
-    ∙ cond-true _ _ _ (lt-ltb (most_levels format) (levels t) h)
+    ∙ cond-true _ _ _ (lt-ltb (most_levels format) (type_levels t) h)
 
-pub exceeds_size : (format : Format) (t : SszType) → nesting t ≤ 32 → levels t ≤ most_levels format
+pub exceeds_size : (format : Format) (t : SszType) → nesting t ≤ 32
+    → type_levels t ≤ most_levels format
     → 2 ^ 24 < default_length t → within_limits format t ≡ Err Size
 exceeds_size format t n l h =
     cond-false _ _ _ (le-ltb 32 (nesting t) n) ∙ cond-false _ _ _
-    (le-ltb (most_levels format) (levels t) l) ∙ cond-true _ _ _
+    (le-ltb (most_levels format) (type_levels t) l) ∙ cond-true _ _ _
     (lt-ltb (2 ^ 24) (default_length t) h)
 
 pub exceeds_none : (format : Format) (t : SszType) → IsWithinLimits format t
     → within_limits format t ≡ Ok t
 exceeds_none format t h =
     cond-false _ _ _ (le-ltb 32 (nesting t) h.nesting)
-    ∙ cond-false _ _ _ (le-ltb (most_levels format) (levels t) h.levels)
+    ∙ cond-false _ _ _ (le-ltb (most_levels format) (type_levels t) h.levels)
     ∙ cond-false _ _ _ (le-ltb (2 ^ 24) (default_length t) h.default_length)
 
 -- a type that keeps the limits, pushed
@@ -104,7 +106,7 @@ pushed format old new t id within number e = record {
 -- an entry that keeps the limits is sound
 pub sound_within : (format : Format) (done : List SszType) (e : Entry)
     → IsSoundButLimits format done e → IsWithinLimits format (tree_over done e.ty)
-    → IsSound format done e
+    → IsSoundEntry format done e
 sound_within format done e h within = record {
   below = h.below;
   legal = h.legal within;
@@ -116,7 +118,7 @@ sound_within format done e h within = record {
 -- the first part of a walk gives this, and the rest goes on from it
 pub goes_on : {A B X : Type 0} (Stands : Types → X → B → Type 0) (walk : Result A SchemaFault)
     (next : A → Result B SchemaFault) (a : A) (old mid new : Types) (result : Result X SchemaError)
-    → Extends old mid → walk ≡ Ok a → Resolves Stands (next a) mid new result
+    → ExtendsSchema old mid → walk ≡ Ok a → Resolves Stands (next a) mid new result
     → Resolves Stands (walk >>= next) old new result
 goes_on Stands walk next a old mid new result more e r = record {
   extends = Extends-trans old mid new more r.extends;

@@ -12,9 +12,9 @@ use Rattle.ssz_schema.specs.Types.{SszType, Options, no_options, none_option, op
 use Rattle.ssz_schema.specs.Legal.{AreLegalOptions, IsNoneFirst}
 use Rattle.ssz_schema.specs.Forms.{option_forms, form_of}
 use Rattle.ssz_schema.specs.Walk.{◌>>=◌, resolved, resolved_options, resolved_option}
-use Rattle.ssz_schema.specs.Unfolding.{Types, tree_at, options_over, known_in, IsBelow}
+use Rattle.ssz_schema.specs.Unfolding.{Types, type_tree_at, options_over, known_in, IsBelow}
 use Rattle.ssz_schema.specs.Inside.{IsWhole, AreAllLegal}
-use Rattle.ssz_schema.specs.Adding.{Extends, Resolves, AreOptions, IsOption}
+use Rattle.ssz_schema.specs.Adding.{ExtendsSchema, Resolves, AreOptions, IsOption}
 use Rattle.ssz_schema.proofs.WalkLemmas.{Extends-refl, Extends-trans}
 use Rattle.ssz_schema.proofs.KnownLemmas.{known_in-more, known_legal, type_of-more}
 use Rattle.ssz_schema.proofs.ResolvedLaw.{options_are_legal}
@@ -31,23 +31,24 @@ one_before (Some t) rest = option t rest
 abbrev pub options_before : List SszType → List (Option ℕ) → Options → Options
 options_before trees [] rest = rest
 options_before trees (id ∷ ids) rest =
-    one_before (option_map (tree_at trees) id) (options_before trees ids rest)
+    one_before (option_map (type_tree_at trees) id) (options_before trees ids rest)
 
 options_before-push : (trees : List SszType) (ids : List (Option ℕ)) (id : Option ℕ)
     (rest : Options) → options_before trees (ids ++ id ∷ []) rest
-    ≡ options_before trees ids (one_before (option_map (tree_at trees) id) rest)
+    ≡ options_before trees ids (one_before (option_map (type_tree_at trees) id) rest)
 options_before-push trees [] id rest = refl
 options_before-push trees (other ∷ ids) id rest =
-    ap (one_before (option_map (tree_at trees) other)) (options_before-push trees ids id rest)
+    ap (one_before (option_map (type_tree_at trees) other)) (options_before-push trees ids id rest)
 
 options_before-none : (trees : List SszType) (ids : List (Option ℕ))
     → options_before trees ids no_options ≡ options_over trees ids
 options_before-none trees [] = refl
 options_before-none trees (None ∷ ids) = ap none_option (options_before-none trees ids)
 options_before-none trees (Some id ∷ ids) =
-    ap (option (tree_at trees id)) (options_before-none trees ids)
+    ap (option (type_tree_at trees id)) (options_before-none trees ids)
 
-options_before-more : (old new : Types) (ids : List (Option ℕ)) (rest : Options) → Extends old new
+options_before-more : (old new : Types) (ids : List (Option ℕ)) (rest : Options)
+    → ExtendsSchema old new
     → AllByRecursion (IsBelow (length old.trees)) ids
     → options_before new.trees ids rest ≡ options_before old.trees ids rest
 options_before-more old new [] rest h below = refl
@@ -56,7 +57,7 @@ options_before-more old new (None ∷ ids) rest h below =
 options_before-more old new (Some id ∷ ids) rest h below =
     ap₂ option (type_of-more old new id h below.0) (options_before-more old new ids rest h below.1)
 
-AllBelow-more : (old new : Types) (ids : List (Option ℕ)) → Extends old new
+AllBelow-more : (old new : Types) (ids : List (Option ℕ)) → ExtendsSchema old new
     → AllByRecursion (IsBelow (length old.trees)) ids
     → AllByRecursion (IsBelow (length new.trees)) ids
 AllBelow-more old new [] h below = tt
@@ -103,7 +104,7 @@ module _ (old : Types) (options : List Written) where
 
   -- the first i options are resolved to these
   pub record OptionsFrom (now : Types) (i : ℕ) (ids : List (Option ℕ)) : Type 0 where
-    pub extends : Extends old now
+    pub extends : ExtendsSchema old now
     pub below : AllByRecursion (IsBelow (length now.trees)) ids
     pub walk : whole_walk ≡ (walk_from (eqb i 0) (drop i options) >>=
         (λ rest. Ok (options_before now.trees ids rest)))

@@ -8,24 +8,24 @@ use Rattle.ssz_schema.specs.Walk.{resolved}
 
 abbrev mutual
   -- a type, written in full
-  pub written : SszType → TypeForm
-  written (uint w) = uint_form w
-  written boolean = boolean_form
-  written (container fs) = container_form (written_fields fs)
-  written (vector t n) = vector_form (written t) n
-  written (list t limit) = list_form (written t) limit
-  written (bitvector n) = bitvector_form n
-  written (bitlist limit) = bitlist_form limit
-  written (union os) = union_form (written_options os)
+  pub form_written : SszType → TypeForm
+  form_written (uint w) = uint_form w
+  form_written boolean = boolean_form
+  form_written (container fs) = container_form (fields_written fs)
+  form_written (vector t n) = vector_form (form_written t) n
+  form_written (list t limit) = list_form (form_written t) limit
+  form_written (bitvector n) = bitvector_form n
+  form_written (bitlist limit) = bitlist_form limit
+  form_written (union os) = union_form (options_written os)
 
-  pub written_fields : Fields → FieldForms
-  written_fields no_fields = no_field_forms
-  written_fields (field name t fs) = field_form name (written t) (written_fields fs)
+  pub fields_written : Fields → FieldForms
+  fields_written no_fields = no_field_forms
+  fields_written (field name t fs) = field_form name (form_written t) (fields_written fs)
 
-  pub written_options : Options → OptionForms
-  written_options no_options = no_option_forms
-  written_options (none_option os) = none_form (written_options os)
-  written_options (option t os) = option_form (written t) (written_options os)
+  pub options_written : Options → OptionForms
+  options_written no_options = no_option_forms
+  options_written (none_option os) = none_form (options_written os)
+  options_written (option t os) = option_form (form_written t) (options_written os)
 
 -- where names stand for legal types, a form that is accepted is one of a legal type
 abbrev pub AcceptedAreLegal : Type 0
@@ -36,4 +36,4 @@ AcceptedAreLegal = (format : Format) (known : List ℕ → Option SszType)
 -- and each legal type, written in full, is accepted
 abbrev pub LegalAreAccepted : Type 0
 LegalAreAccepted = (format : Format) (known : List ℕ → Option SszType) (t : SszType)
-    → IsLegal format t → resolved format known (written t) ≡ Ok t
+    → IsLegal format t → resolved format known (form_written t) ≡ Ok t

@@ -8,19 +8,19 @@ use Rattle.ssz_schema.specs.declared.schema_fault.SchemaError.{SchemaError}
 use Rattle.ssz_schema.specs.declared.schema_fault.SchemaError.TheVariants.{Fault, Memory}
 use Rattle.ssz_schema.specs.Types.{SszType, Fields, Options}
 use Rattle.ssz_schema.specs.Lookup.{lookup_name}
-use Rattle.ssz_schema.specs.Unfolding.{Types, type_of, number_of, known_in, built_ins, fields_over, options_over, IsBelow}
+use Rattle.ssz_schema.specs.Unfolding.{Types, type_of, type_number, known_in, built_ins, fields_over, options_over, IsBelow}
 
 -- a schema of no definition: its names are the built-in ones
-pub record IsFresh (asked : Format) (types : Types) : Type 0 where
+pub record IsFreshSchema (asked : Format) (types : Types) : Type 0 where
   pub format : types.format ≡ asked
   pub names : (name : List ℕ) → known_in types name ≡ lookup_name built_ins name
 
 -- the schema has this name for a type, and is otherwise the same
-pub record Names (name : List ℕ) (old new : Types) (id : ℕ) : Type 0 where
+pub record NamesType (name : List ℕ) (old new : Types) (id : ℕ) : Type 0 where
   pub format : new.format ≡ old.format
   pub trees : new.trees ≡ old.trees
-  pub names : (other : List ℕ) → number_of new other
-      ≡ (if bytes_eq other name then Some id else number_of old other)
+  pub names : (other : List ℕ) → type_number new other
+      ≡ (if bytes_eq other name then Some id else type_number old other)
 
 -- the name is known for this type, and every other as before
 pub record Knows (name : List ℕ) (t : SszType) (old new : Types) : Type 0 where
@@ -33,20 +33,20 @@ pub record Defines (name : List ℕ) (old new : Types) (id : ℕ) : Type 0 where
   pub more : List SszType
   pub format : new.format ≡ old.format
   pub trees : new.trees ≡ old.trees ++ more
-  pub names : (other : List ℕ) → number_of new other
-      ≡ (if bytes_eq other name then Some id else number_of old other)
+  pub names : (other : List ℕ) → type_number new other
+      ≡ (if bytes_eq other name then Some id else type_number old other)
   pub known : id < length new.trees
 
 -- the answer is the type that the walk gives, or its first fault, unless memory runs out
-abbrev pub Answers : Result SszType SchemaFault → Types → Result ℕ SchemaError → Type 0
-Answers walk new (Ok id) = walk ≡ Ok (type_of new id)
-Answers walk new (Err (Fault fault)) = walk ≡ Err fault
-Answers walk new (Err Memory) = Unit {0}
+abbrev pub AnswersWalk : Result SszType SchemaFault → Types → Result ℕ SchemaError → Type 0
+AnswersWalk walk new (Ok id) = walk ≡ Ok (type_of new id)
+AnswersWalk walk new (Err (Fault fault)) = walk ≡ Err fault
+AnswersWalk walk new (Err Memory) = Unit {0}
 
 -- Inside a walk, types come in before the definition is accepted.
 
 -- the schema has more types, and is otherwise the same
-pub record Extends (old new : Types) : Type 0 where
+pub record ExtendsSchema (old new : Types) : Type 0 where
   pub more : List SszType
   pub format : new.format ≡ old.format
   pub trees : new.trees ≡ old.trees ++ more
@@ -57,7 +57,8 @@ pub record IsType (types : Types) (id : ℕ) (t : SszType) : Type 0 where
   pub known : id < length types.trees
   pub is : type_of types id ≡ t
 
-pub record AreFields (types : Types) (parts : Vec (List ℕ × ℕ) Global) (fs : Fields) : Type 0 where
+pub record AreFieldTypes (types : Types) (parts : Vec (List ℕ × ℕ) Global) (fs : Fields)
+    : Type 0 where
   pub known : AllByRecursion (λ part. part.1 < length types.trees) parts.items
   pub are : fields_over types.trees parts.items ≡ fs
 
@@ -83,12 +84,12 @@ AnswersBy Stands walk new (Err Memory) = Unit {0}
 
 pub record Resolves {A X : Type 0} (Stands : Types → X → A → Type 0) (walk : Result A SchemaFault)
     (old new : Types) (result : Result X SchemaError) : Type 0 where
-  pub extends : Extends old new
+  pub extends : ExtendsSchema old new
   pub answer : AnswersBy Stands walk new result
 
 -- a walk, and then the name of its type; after an error types may have come in
 abbrev pub DefinesOrExtends : List ℕ → Result SszType SchemaFault → Types → Types
     → Result ℕ SchemaError → Type 0
 DefinesOrExtends name walk old new (Ok id) = Defines name old new id × (walk ≡ Ok (type_of new id))
-DefinesOrExtends name walk old new (Err (Fault fault)) = Extends old new × (walk ≡ Err fault)
-DefinesOrExtends name walk old new (Err Memory) = Extends old new
+DefinesOrExtends name walk old new (Err (Fault fault)) = ExtendsSchema old new × (walk ≡ Err fault)
+DefinesOrExtends name walk old new (Err Memory) = ExtendsSchema old new

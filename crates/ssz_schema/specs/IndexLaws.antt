@@ -2,18 +2,18 @@
 -- bounds every generalized index.
 use Rattle.std.specs.Prelude.{ℕ, ◌+◌, ◌^◌, ◌<◌, ◌≤◌, ◌≡◌, Some}
 use Rattle.ssz_schema.specs.Types.{SszType}
-use Rattle.ssz_schema.specs.Sizes.{depth_of, levels}
+use Rattle.ssz_schema.specs.Sizes.{depth_of, type_levels}
 use Rattle.ssz_schema.specs.Paths.{Path}
 use Rattle.ssz_schema.specs.Indices.{generalized_index}
 
 -- an index has at most as many levels as the type
-pub record IsWithin (t : SszType) (index : ℕ) : Type 0 where
+pub record IsWithinType (t : SszType) (index : ℕ) : Type 0 where
   pub some : 0 < index
-  pub few : index < 2 ^ (levels t + 1)
+  pub few : index < 2 ^ (type_levels t + 1)
 
 abbrev pub IndicesAreWithinLevels : Type 0
 IndicesAreWithinLevels = (t : SszType) (path : Path) (index : ℕ)
-    → generalized_index t path ≡ Some index → IsWithin t index
+    → generalized_index t path ≡ Some index → IsWithinType t index
 
 -- two to the depth of a count is not less than the count
 abbrev pub DepthHolds : Type 0

@@ -6,7 +6,7 @@ use Rattle.ssz_schema.specs.declared.entry.Entry.{Entry}
 use Rattle.ssz_schema.specs.declared.facts.Facts.{Facts}
 use Rattle.ssz_schema.specs.declared.schema.Schema.TheInside.{Inside}
 use Rattle.ssz_schema.specs.Types.{SszType, boolean, uint}
-use Rattle.ssz_schema.specs.Sizes.{fixed_size, default_length, chunk_count, depth, levels, nesting}
+use Rattle.ssz_schema.specs.Sizes.{fixed_size, default_length, chunk_count, depth, type_levels, nesting}
 use Rattle.ssz_schema.specs.Legal.{IsLegal, IsWithinLimits}
 use Rattle.ssz_schema.specs.Unfolding.{Types, tree_over, AreBelow, type_of}
 use Rattle.ssz_schema.specs.Lookup.{lookup_name}
@@ -29,11 +29,11 @@ pub record AreFactsOf (facts : Facts) (t : SszType) : Type 0 where
   pub default_len : facts.default_len ≡ default_length t
   pub chunk_count : facts.chunk_count ≡ chunk_count t
   pub depth : facts.depth ≡ depth t
-  pub levels : facts.levels ≡ levels t
+  pub levels : facts.levels ≡ type_levels t
   pub nesting : facts.nesting ≡ nesting t
 
 -- an entry after those whose trees are done
-pub record IsSound (format : Format) (done : List SszType) (e : Entry) : Type 0 where
+pub record IsSoundEntry (format : Format) (done : List SszType) (e : Entry) : Type 0 where
   pub below : AreBelow (length done) e.ty
   pub legal : IsLegal format (tree_over done e.ty)
   pub facts : AreFactsOf e.facts (tree_over done e.ty)
@@ -48,7 +48,7 @@ pub record AreFactsUpTo (facts : Facts) (t : SszType) : Type 0 where
   pub default_len : facts.default_len ≡ capped (default_length t)
   pub chunk_count : facts.chunk_count ≡ chunk_count t
   pub depth : facts.depth ≡ depth t
-  pub levels : facts.levels ≡ levels t
+  pub levels : facts.levels ≡ type_levels t
   pub nesting : facts.nesting ≡ nesting t
 
 -- an entry that is sound if it keeps the limits
@@ -60,7 +60,7 @@ pub record IsSoundButLimits (format : Format) (done : List SszType) (e : Entry) 
 module _ (format : Format) where
   abbrev pub AreSound : List SszType → List Entry → Type 0
   AreSound done [] = Unit {0}
-  AreSound done (e ∷ entries) = IsSound format done e
+  AreSound done (e ∷ entries) = IsSoundEntry format done e
       × AreSound (done ++ tree_over done e.ty ∷ []) entries
 
 -- each name is that of one of count types
@@ -76,7 +76,7 @@ pub record AreSmall (facts : Facts) : Type 0 where
   pub depth : facts.depth ≤ 62
 
 -- the entry of this number
-pub record IsEntry (types : Types) (id : ℕ) (e : Entry) : Type 0 where
+pub record IsSchemaEntry (types : Types) (id : ℕ) (e : Entry) : Type 0 where
   pub form : tree_over types.trees e.ty ≡ type_of types id
   pub below : AreBelow id e.ty
   pub legal : IsLegal types.format (type_of types id)

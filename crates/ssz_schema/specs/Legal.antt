@@ -5,7 +5,7 @@ use Rattle.std.specs.List.{IsDistinct}
 use Rattle.ssz_schema.specs.declared.format.Format.{Format}
 use Rattle.ssz_schema.specs.declared.format.Format.TheVariants.{One, Two}
 use Rattle.ssz_schema.specs.Types.{SszType, Fields, Options, uint, boolean, container, vector, list, bitvector, bitlist, union, no_fields, field, no_options, none_option, option}
-use Rattle.ssz_schema.specs.Sizes.{field_count, option_count, nesting, levels, default_length}
+use Rattle.ssz_schema.specs.Sizes.{field_count, option_count, nesting, type_levels, default_length}
 use Rattle.ssz_schema.specs.Names.{IsName}
 
 -- the greatest limit of a list or bitlist
@@ -34,7 +34,7 @@ most_options = 128
 -- the limits of nesting, levels and default that every type keeps
 pub record IsWithinLimits (format : Format) (t : SszType) : Type 0 where
   pub nesting : nesting t ≤ most_nesting
-  pub levels : levels t ≤ most_levels format
+  pub levels : type_levels t ≤ most_levels format
   pub default_length : default_length t ≤ most_default
 
 abbrev pub field_names : Fields → List (List ℕ)

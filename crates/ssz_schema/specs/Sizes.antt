@@ -95,26 +95,27 @@ depth t = depth_of (chunk_count t)
 
 abbrev mutual
   -- the longest path of the type's tree
-  pub levels : SszType → ℕ
-  levels (uint w) = 0
-  levels boolean = 0
-  levels (container fs) = depth_of (field_count fs) + field_levels fs
-  levels (vector elem n) = depth_of (element_chunks (basic_size elem) n) + levels elem
-  levels (list elem limit) = depth_of (element_chunks (basic_size elem) limit) + levels elem + 1
-  levels (bitvector n) = depth_of ((n + 255) / 256)
-  levels (bitlist limit) = depth_of ((limit + 255) / 256) + 1
-  levels (union os) = option_levels os + 1
+  pub type_levels : SszType → ℕ
+  type_levels (uint w) = 0
+  type_levels boolean = 0
+  type_levels (container fs) = depth_of (field_count fs) + field_levels fs
+  type_levels (vector elem n) = depth_of (element_chunks (basic_size elem) n) + type_levels elem
+  type_levels (list elem limit) =
+      depth_of (element_chunks (basic_size elem) limit) + type_levels elem + 1
+  type_levels (bitvector n) = depth_of ((n + 255) / 256)
+  type_levels (bitlist limit) = depth_of ((limit + 255) / 256) + 1
+  type_levels (union os) = option_levels os + 1
 
   -- the greatest levels of a field
   pub field_levels : Fields → ℕ
   field_levels no_fields = 0
-  field_levels (field name t fs) = max (levels t) (field_levels fs)
+  field_levels (field name t fs) = max (type_levels t) (field_levels fs)
 
   -- the greatest levels of an option, None counting 0
   pub option_levels : Options → ℕ
   option_levels no_options = 0
   option_levels (none_option os) = option_levels os
-  option_levels (option t os) = max (levels t) (option_levels os)
+  option_levels (option t os) = max (type_levels t) (option_levels os)
 
 abbrev mutual
   -- how deep types stand in one another: basic types and types of bits 1, None 0

@@ -9,7 +9,7 @@ use Rattle.ssz_schema.specs.Unfolding.{Types, type_of}
 use Rattle.ssz_schema.specs.Paths.{step_type, field_number}
 
 -- the answer is the number of the type of the part, if the step fits
-pub record LeadsTo (types : Types) (id : ℕ) (step : PathStep) (result : Option ℕ) : Type 0 where
+pub record StepLeadsTo (types : Types) (id : ℕ) (step : PathStep) (result : Option ℕ) : Type 0 where
   pub exact : option_map (type_of types) result ≡ step_type (type_of types id) step
   pub known : ForSome result (λ part. part < length types.trees)
 

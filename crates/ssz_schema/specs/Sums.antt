@@ -2,8 +2,8 @@
 use Rattle.std.specs.Prelude.{ℕ, List, Option, Some, None, ◌≡◌, not, is_none}
 use Rattle.ssz_schema.specs.declared.adding.Sums.{Sums}
 use Rattle.ssz_schema.specs.Types.{SszType, Fields, Options}
-use Rattle.ssz_schema.specs.Sizes.{part_sizes, total_size, default_fields_length, field_levels, field_nesting, option_levels, option_nesting, levels, nesting}
-use Rattle.ssz_schema.specs.Unfolding.{tree_at}
+use Rattle.ssz_schema.specs.Sizes.{part_sizes, total_size, default_fields_length, field_levels, field_nesting, option_levels, option_nesting, type_levels, nesting}
+use Rattle.ssz_schema.specs.Unfolding.{type_tree_at}
 use Rattle.ssz_schema.specs.Inside.{capped}
 
 pub record AreSums (fs : Fields) (sums : Sums) : Type 0 where
@@ -19,5 +19,5 @@ pub record AreOptionSums (os : Options) (lev nest : ℕ) : Type 0 where
 -- the levels and the nesting of an option
 abbrev pub IsOption : List SszType → Option ℕ → ℕ → ℕ → Type 0
 IsOption trees None lev nest = (lev ≡ 0) × (nest ≡ 0)
-IsOption trees (Some id) lev nest = (lev ≡ levels (tree_at trees id))
-    × (nest ≡ nesting (tree_at trees id))
+IsOption trees (Some id) lev nest = (lev ≡ type_levels (type_tree_at trees id))
+    × (nest ≡ nesting (type_tree_at trees id))

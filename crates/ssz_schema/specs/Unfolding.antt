@@ -17,20 +17,20 @@ pub record Types : Type 0 where
   pub names : List (List ℕ × ℕ)
 
 -- the tree of a number, where the trees of all numbers are these
-abbrev pub tree_at : List SszType → ℕ → SszType
-tree_at trees id = get_or trees id boolean
+abbrev pub type_tree_at : List SszType → ℕ → SszType
+type_tree_at trees id = get_or trees id boolean
 
 -- the type of this number
 abbrev pub type_of : Types → ℕ → SszType
-type_of types id = tree_at types.trees id
+type_of types id = type_tree_at types.trees id
 
 -- the number of the type of this name
-abbrev pub number_of : Types → List ℕ → Option ℕ
-number_of types name = lookup_name types.names name
+abbrev pub type_number : Types → List ℕ → Option ℕ
+type_number types name = lookup_name types.names name
 
 -- the type of this name
 abbrev pub known_in : Types → List ℕ → Option SszType
-known_in types name = option_map (type_of types) (number_of types name)
+known_in types name = option_map (type_of types) (type_number types name)
 
 -- the names that every schema has
 abbrev pub built_ins : List (List ℕ × SszType)
@@ -49,20 +49,21 @@ built_ins =
 
 abbrev pub fields_over : List SszType → List (List ℕ × ℕ) → Fields
 fields_over trees [] = no_fields
-fields_over trees (part ∷ parts) = field part.0 (tree_at trees part.1) (fields_over trees parts)
+fields_over trees (part ∷ parts) =
+    field part.0 (type_tree_at trees part.1) (fields_over trees parts)
 
 abbrev pub options_over : List SszType → List (Option ℕ) → Options
 options_over trees [] = no_options
 options_over trees (None ∷ ids) = none_option (options_over trees ids)
-options_over trees (Some id ∷ ids) = option (tree_at trees id) (options_over trees ids)
+options_over trees (Some id ∷ ids) = option (type_tree_at trees id) (options_over trees ids)
 
 -- the tree of a type whose parts have these trees
 abbrev pub tree_over : List SszType → Ty → SszType
 tree_over trees (Uint w) = uint w
 tree_over trees Boolean = boolean
 tree_over trees (Container fields) = container (fields_over trees fields.items)
-tree_over trees (Vector id n) = vector (tree_at trees id) n
-tree_over trees (ListOf id limit) = list (tree_at trees id) limit
+tree_over trees (Vector id n) = vector (type_tree_at trees id) n
+tree_over trees (ListOf id limit) = list (type_tree_at trees id) limit
 tree_over trees (Bitvector n) = bitvector n
 tree_over trees (Bitlist limit) = bitlist limit
 tree_over trees (Union options) = union (options_over trees options.items)

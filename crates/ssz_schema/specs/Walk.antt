@@ -7,7 +7,7 @@ use Rattle.ssz_schema.specs.declared.format.Format.{Format}
 use Rattle.ssz_schema.specs.declared.schema_fault.SchemaFault.{SchemaFault}
 use Rattle.ssz_schema.specs.declared.schema_fault.SchemaFault.TheVariants.{BadName, NameTaken, UnknownName, ZeroLength, EmptyContainer, NonePlace, UnionSize, FieldTaken, LimitTooBig, Nest, Levels, Size}
 use Rattle.ssz_schema.specs.Types.{SszType, Fields, Options, uint, boolean, container, vector, list, bitvector, bitlist, union, no_fields, field, no_options, none_option, option}
-use Rattle.ssz_schema.specs.Sizes.{nesting, levels, default_length}
+use Rattle.ssz_schema.specs.Sizes.{nesting, type_levels, default_length}
 use Rattle.ssz_schema.specs.Names.{is_name}
 use Rattle.ssz_schema.specs.Legal.{greatest_limit, most_levels, most_nesting, most_default, most_options}
 use Rattle.ssz_schema.specs.Forms.{TypeForm, FieldForms, OptionForms, named, uint_form, boolean_form, container_form, vector_form, list_form, bitvector_form, bitlist_form, union_form, no_field_forms, field_form, no_option_forms, none_form, option_form, option_form_count}
@@ -25,7 +25,7 @@ module _ (format : Format) where
   abbrev pub within_limits : SszType → Result SszType SchemaFault
   within_limits t =
       if nat_lt most_nesting (nesting t) then Err Nest
-      else if nat_lt (most_levels format) (levels t) then Err Levels
+      else if nat_lt (most_levels format) (type_levels t) then Err Levels
       else if nat_lt most_default (default_length t) then Err Size
       else Ok t
 

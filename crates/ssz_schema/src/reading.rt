@@ -5,7 +5,7 @@ ghost use Rattle.std.specs.Option.{ForSome};
 ghost use Rattle.ssz_schema.specs.declared.path.PathStep.TheVariants.{Field, Index, Len, Selector, Option as Chosen};
 ghost use Rattle.ssz_schema.specs.Unfolding.{type_of};
 ghost use Rattle.ssz_schema.specs.Paths.{step_type, path_type};
-ghost use Rattle.ssz_schema.specs.Steps.{LeadsTo, IsLead};
+ghost use Rattle.ssz_schema.specs.Steps.{StepLeadsTo, IsLead};
 
 use super::lead::{Lead, unnumbered};
 use super::name::Name;
@@ -98,7 +98,7 @@ impl Schema {
 
     fn element_type(&self, id: TypeId, i: u64) -> Option<TypeId>
         requires { id < length self.now.trees }
-        ensures { LeadsTo self.now id (Index i) result }
+        ensures { StepLeadsTo self.now id (Index i) result }
     {
         match self.ty(id) {
             Ty::Vector(elem, n) => if_below(i, *n, *elem),
@@ -111,7 +111,7 @@ impl Schema {
 
     fn len_type(&self, id: TypeId) -> Option<TypeId>
         requires { id < length self.now.trees }
-        ensures { LeadsTo self.now id Len result }
+        ensures { StepLeadsTo self.now id Len result }
     {
         match self.ty(id) {
             Ty::List(_, _) | Ty::Bitlist(_) => Some(self.uint(Width::W64)),
@@ -121,7 +121,7 @@ impl Schema {
 
     fn selector_type(&self, id: TypeId) -> Option<TypeId>
         requires { id < length self.now.trees }
-        ensures { LeadsTo self.now id Selector result }
+        ensures { StepLeadsTo self.now id Selector result }
     {
         match self.ty(id) {
             Ty::Union(_) => Some(self.uint(Width::W8)),
@@ -131,7 +131,7 @@ impl Schema {
 
     fn option_type(&self, id: TypeId, selector: u8) -> Option<TypeId>
         requires { id < length self.now.trees }
-        ensures { LeadsTo self.now id (Chosen selector) result }
+        ensures { StepLeadsTo self.now id (Chosen selector) result }
     {
         match self.ty(id) {
             Ty::Union(options) => option_at(options.as_slice(), usize::from(selector)),

@@ -1,8 +1,8 @@
 ghost use Rattle.std.specs.Prelude.{◌≡◌, ◌<◌, ◌≤◌, ◌^◌, [], ◌∷◌, ◌++◌, length, take, option_map, IfOk, OnOk, OnErr};
 ghost use Rattle.std.specs.List.{AllByRecursion};
 ghost use Rattle.std.specs.Option.{ForSome};
-ghost use Rattle.ssz_schema.specs.Unfolding.{type_of, tree_over, AreBelow, number_of};
-ghost use Rattle.ssz_schema.specs.Sizes.{is_variable, fixed_size, basic_size, chunk_count, depth, levels, default_length};
+ghost use Rattle.ssz_schema.specs.Unfolding.{type_of, tree_over, AreBelow, type_number};
+ghost use Rattle.ssz_schema.specs.Sizes.{is_variable, fixed_size, basic_size, chunk_count, depth, type_levels, default_length};
 ghost use Rattle.ssz_schema.specs.Types.{uint, boolean};
 ghost use Rattle.ssz_schema.specs.Legal.{IsLegal, IsSize, most_levels};
 ghost use Rattle.ssz_schema.specs.Lookup.{name_for};
@@ -44,21 +44,21 @@ impl Model for Schema {
 }
 
 impl Schema {
-    ghost use Rattle.ssz_schema.specs.Inside.{IsEntry, IsSound, IsWhole, AreSmall, AreAllLegal, NamesAreBelow};
-    ghost use Rattle.ssz_schema.specs.Adding.{Names, Knows, IsFresh, IsType};
+    ghost use Rattle.ssz_schema.specs.Inside.{IsSchemaEntry, IsSoundEntry, IsWhole, AreSmall, AreAllLegal, NamesAreBelow};
+    ghost use Rattle.ssz_schema.specs.Adding.{NamesType, Knows, IsFreshSchema, IsType};
     ghost use Rattle.ssz_schema.specs.Inside.{basic_types};
 
     /// A schema of format 1 with the built-in names alone: boolean, byte, uint8, uint16, uint32,
     /// uint64, uint128 and uint256, where byte is uint8.
     pub fn empty(alloc: Global) -> Result<Schema, AllocError>
-        ensures { IfOk result (IsFresh Format.One) }
+        ensures { IfOk result (IsFreshSchema Format.One) }
     {
         Schema::empty_for(alloc, Format::One)
     }
 
     /// The same of this format.
     pub fn empty_for(alloc: Global, format: Format) -> Result<Schema, AllocError>
-        ensures { IfOk result (IsFresh format) }
+        ensures { IfOk result (IsFreshSchema format) }
     {
         let mut schema = Schema::unnamed(alloc, format)?;
         schema.name_basics()?;
@@ -90,7 +90,7 @@ impl Schema {
     fn name_basics(&mut self) -> Result<(), AllocError>
         requires trees { self.old.trees ≡ basic_types }
         requires names { self.old.names ≡ [] }
-        ensures { OnOk result (IsFresh self.old.format self.new) }
+        ensures { OnOk result (IsFreshSchema self.old.format self.new) }
     {
         self.name_uint(b"uint256", Width::W256)?;
         self.name_uint(b"uint128", Width::W128)?;
@@ -144,7 +144,7 @@ impl Schema {
     // What is known of the type of this number.
     pub(crate) fn entry(&self, id: TypeId) -> &Entry
         requires { id < length self.now.trees }
-        ensures entry { IsEntry self.now id result.now }
+        ensures entry { IsSchemaEntry self.now id result.now }
         ensures small { AreSmall result.now.facts }
     {
         &self.entries[id.index()]
@@ -160,7 +160,7 @@ impl Schema {
 
     // Puts a type behind the others.
     pub(crate) fn push(&mut self, entry: Entry) -> Result<TypeId, AllocError>
-        requires { IsSound self.old.format self.old.trees entry }
+        requires { IsSoundEntry self.old.format self.old.trees entry }
         ensures number { IfOk result (λ id. id ≡ length self.old.trees) }
         ensures added { OnOk result (self.new ≡ record self.old
             { trees = self.old.trees ++ tree_over self.old.trees entry.ty ∷ [] }) }
@@ -183,7 +183,7 @@ impl Schema {
     // Gives a name to a type.
     pub(crate) fn insert_name(&mut self, name: &[u8], id: TypeId) -> Result<(), AllocError>
         requires { id < length self.old.trees }
-        ensures added { OnOk result (Names name.now self.old self.new id) }
+        ensures added { OnOk result (NamesType name.now self.old self.new id) }
         ensures kept { OnErr result (self.new ≡ self.old) }
     {
         self.names.insert(name, id)
@@ -199,7 +199,7 @@ impl Schema {
 
     /// The type of the name, or None exactly where no type has the name.
     pub fn find(&self, name: &str) -> Option<TypeId>
-        ensures exact { result ≡ number_of self.now name.now }
+        ensures exact { result ≡ type_number self.now name.now }
         ensures known { ForSome result (λ id. id < length self.now.trees) }
     {
         self.find_bytes(name.as_bytes())
@@ -207,14 +207,14 @@ impl Schema {
 
     /// The same of a `Name`.
     pub fn find_name(&self, name: &Name) -> Option<TypeId>
-        ensures exact { result ≡ number_of self.now name.now }
+        ensures exact { result ≡ type_number self.now name.now }
         ensures known { ForSome result (λ id. id < length self.now.trees) }
     {
         self.find_bytes(name.as_bytes())
     }
 
     fn find_bytes(&self, name: &[u8]) -> Option<TypeId>
-        ensures exact { result ≡ number_of self.now name.now }
+        ensures exact { result ≡ type_number self.now name.now }
         ensures known { ForSome result (λ id. id < length self.now.trees) }
     {
         self.names.find(name)
@@ -321,7 +321,7 @@ impl Schema {
     /// in format 1 and 126 in format 2.
     pub fn levels(&self, id: TypeId) -> u32
         requires { id < length self.now.trees }
-        ensures exact { result ≡ levels (type_of self.now id) }
+        ensures exact { result ≡ type_levels (type_of self.now id) }
         ensures in_format { result ≤ most_levels self.now.format }
         ensures at_most { result ≤ 126 }
     {

@@ -1,5 +1,5 @@
 ghost use Rattle.std.specs.Prelude.{◌≡◌};
-ghost use Rattle.ssz_schema.specs.FaultCodes.{code_of};
+ghost use Rattle.ssz_schema.specs.FaultCodes.{schema_code};
 
 use std::alloc::{AllocError, AllocFailed};
 
@@ -35,7 +35,7 @@ pub enum SchemaFault {
 impl SchemaFault {
     /// The number of the fault's code: 3 for S3, and so on up to 14 for S14.
     pub fn code(self) -> u8
-        ensures { result ≡ code_of self }
+        ensures { result ≡ schema_code self }
     {
         match self {
             SchemaFault::BadName => 3,

@@ -3,7 +3,7 @@ ghost use Rattle.std.specs.Prelude.{◌≡◌, Option, List, true, OnErr, map, o
 ghost use Rattle.ssz_schema.specs.Forms.{form_of, field_form_of, field_forms, option_forms, container_form, union_form};
 ghost use Rattle.ssz_schema.specs.Walk.{resolved, resolved_fields, resolved_options, resolved_field, resolved_option, is_wrong_size, defined};
 ghost use Rattle.ssz_schema.specs.Unfolding.{known_in, type_of, fields_over, options_over};
-ghost use Rattle.ssz_schema.specs.Adding.{Resolves, IsType, AreFields, AreOptions, IsField, IsOption, Defines, Knows, Answers, DefinesOrExtends};
+ghost use Rattle.ssz_schema.specs.Adding.{Resolves, IsType, AreFieldTypes, AreOptions, IsField, IsOption, Defines, Knows, AnswersWalk, DefinesOrExtends};
 ghost use Rattle.ssz_schema.specs.Repeats.{first_repeat, is_at};
 ghost use Rattle.std.specs.List.{IsDistinct};
 ghost use Rattle.ssz_schema.specs.Legal.{AreLegalFields, AreLegalOptions, IsNoneFirst, field_names};
@@ -27,7 +27,7 @@ impl Schema {
     pub fn add(&mut self, name: &Name, expr: &TypeExpr) -> Result<TypeId, SchemaError>
         ensures added { IfOk result (Defines name.now self.old self.new) }
         ensures known { IfOk result (λ id. Knows name.now (type_of self.new id) self.old self.new) }
-        ensures answer { Answers (defined self.old.format (known_in self.old) name.now
+        ensures answer { AnswersWalk (defined self.old.format (known_in self.old) name.now
             (form_of expr.now)) self.new result }
         ensures kept { OnErr result (self.new ≡ self.old) }
     {
@@ -99,7 +99,7 @@ impl Schema {
         &mut self,
         fields: &Vec<(Name, TypeExpr)>,
     ) -> Result<Vec<(Name, TypeId)>, SchemaError>
-        ensures walk { Resolves AreFields
+        ensures walk { Resolves AreFieldTypes
             (resolved_fields self.old.format (known_in self.old) []
             (field_forms (map field_form_of fields.now.items))) self.old self.new result }
         ensures len { IfOk result (λ parts. length parts.items ≡ length fields.now.items) }

@@ -11,7 +11,7 @@ use Rattle.ssz_schema.specs.Forms.{form_of}
 use Rattle.ssz_schema.specs.Lookup.{lookup_name}
 use Rattle.ssz_schema.specs.Walk.{defined}
 use Rattle.ssz_schema.specs.Unfolding.{Types, built_ins, known_in, type_of}
-use Rattle.ssz_schema.specs.Adding.{IsFresh, Knows}
+use Rattle.ssz_schema.specs.Adding.{IsFreshSchema, Knows}
 use Rattle.ssz_schema_json.specs.declared.document.Definitions.{Definitions}
 use Rattle.ssz_schema_json.specs.Schema.{FileFault, at_definition, Named, NamedTypes, HasTypes, ◌>>=◌, in_definition, add_all, schema_of_document}
 use Rattle.ssz_schema_json.specs.Views.{document_view, fields_view}
@@ -40,7 +40,7 @@ pub record Adds (definitions : Definitions) (number : ℕ)
 -- before the first definition a schema has the built-in names
 pub adds_start : (definitions : Definitions) (left : IntoIter (List ℕ × TypeExpr) Global)
     (schema : Types)
-    → IsFresh definitions.format schema → into_iter_items left ≡ definitions.items.items
+    → IsFreshSchema definitions.format schema → into_iter_items left ≡ definitions.items.items
     → into_iter_len left ≡ length definitions.items.items → Adds definitions 0 left schema
 adds_start definitions left schema fresh is counted = record {
   known = built_ins;

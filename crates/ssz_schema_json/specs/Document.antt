@@ -60,8 +60,8 @@ abbrev mutual
       option_and_then (λ f. option_map (option_form f) (written_options rest)) (written_form form)
 
 -- the format of the number 1 or 2
-abbrev pub format_of : ℕ → Option Format
-format_of n = if n == 1 then Some One else if n == 2 then Some Two else None
+abbrev pub format_numbered : ℕ → Option Format
+format_numbered n = if n == 1 then Some One else if n == 2 then Some Two else None
 
 -- the values of an object's members, where these are "ssz" and "types" alone
 abbrev pub ssz_and_types : Members → Option (Data × Data)
@@ -74,7 +74,7 @@ ssz_and_types _ = None
 abbrev pub document_of : Data → Data → Option Document
 document_of (number (unsigned n)) (array items) =
     option_and_then (λ f. option_map (λ fields. record { format = f; definitions = fields })
-    (written_fields items)) (format_of n)
+    (written_fields items)) (format_numbered n)
 document_of _ _ = None
 
 -- the document that a value writes

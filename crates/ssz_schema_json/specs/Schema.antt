@@ -56,13 +56,13 @@ schema_of value = do
   schema_of_document document
 
 -- the value that `serde_json` reads from the bytes
-abbrev pub json_of : List ℕ → Option Data
-json_of bytes = if is_utf8 bytes then read bytes else None
+abbrev pub json_read : List ℕ → Option Data
+json_read bytes = if is_utf8 bytes then read bytes else None
 
 -- the schema that the bytes of a file define: S1 where no value is read, then as the value says
 abbrev pub schema_of_bytes : List ℕ → Result NamedTypes FileFault
 schema_of_bytes bytes = do
-  value ← ok_or (json_of bytes) not_json
+  value ← ok_or (json_read bytes) not_json
   schema_of value
 
 -- the schema has the format, and for each name its type
@@ -71,9 +71,9 @@ pub record HasTypes (schema : Types) (names : NamedTypes) : Type 0 where
   pub types : (name : List ℕ) → known_in schema name ≡ lookup_name names.types name
 
 -- the answer is the schema that is meant, or what is wrong with it, unless memory runs out
-abbrev pub Reads : Result Types SchemaRead → Result NamedTypes FileFault → Type 0
-Reads (Ok schema) meant = (names : NamedTypes) × (meant ≡ Ok names) × HasTypes schema names
-Reads (Err NotJson) meant = meant ≡ Err not_json
-Reads (Err Shape) meant = meant ≡ Err no_document
-Reads (Err (Def number fault)) meant = meant ≡ Err (at_definition number fault)
-Reads (Err Memory) meant = Unit {0}
+abbrev pub ReadsSchema : Result Types SchemaRead → Result NamedTypes FileFault → Type 0
+ReadsSchema (Ok schema) meant = (names : NamedTypes) × (meant ≡ Ok names) × HasTypes schema names
+ReadsSchema (Err NotJson) meant = meant ≡ Err not_json
+ReadsSchema (Err Shape) meant = meant ≡ Err no_document
+ReadsSchema (Err (Def number fault)) meant = meant ≡ Err (at_definition number fault)
+ReadsSchema (Err Memory) meant = Unit {0}

@@ -22,23 +22,23 @@ abbrev pub document_view : Definitions → Document
 document_view d = record { format = d.format; definitions = fields_view d.items.items }
 
 -- the value read, or none, unless memory runs out
-abbrev pub ReadsJson : Result Value SchemaRead → Option Data → Type 0
-ReadsJson (Ok value) json = json ≡ Some (view value)
-ReadsJson (Err NotJson) json = json ≡ None
-ReadsJson (Err Shape) json = ⊥
-ReadsJson (Err (Def number fault)) json = ⊥
-ReadsJson (Err Memory) json = Unit {0}
+abbrev pub ReadsSchemaJson : Result Value SchemaRead → Option Data → Type 0
+ReadsSchemaJson (Ok value) json = json ≡ Some (view value)
+ReadsSchemaJson (Err NotJson) json = json ≡ None
+ReadsSchemaJson (Err Shape) json = ⊥
+ReadsSchemaJson (Err (Def number fault)) json = ⊥
+ReadsSchemaJson (Err Memory) json = Unit {0}
 
 -- want of memory, or another error
-abbrev pub IsFaultOf : Error → SchemaRead → Type 0
-IsFaultOf error Memory = IsMemory error
-IsFaultOf error NotJson = ¬ (IsMemory error)
-IsFaultOf error _ = ⊥
+abbrev pub IsSchemaFaultOf : Error → SchemaRead → Type 0
+IsSchemaFaultOf error Memory = IsMemory error
+IsSchemaFaultOf error NotJson = ¬ (IsMemory error)
+IsSchemaFaultOf error _ = ⊥
 
 -- the answer stands for what is written, or nothing is, unless memory runs out
-abbrev pub Gives : {A B : Type 0} → (A → B) → Result A SchemaRead → Option B → Type 0
-Gives seen (Ok x) written = written ≡ Some (seen x)
-Gives seen (Err NotJson) written = ⊥
-Gives seen (Err Shape) written = written ≡ None
-Gives seen (Err (Def number fault)) written = ⊥
-Gives seen (Err Memory) written = Unit {0}
+abbrev pub GivesView : {A B : Type 0} → (A → B) → Result A SchemaRead → Option B → Type 0
+GivesView seen (Ok x) written = written ≡ Some (seen x)
+GivesView seen (Err NotJson) written = ⊥
+GivesView seen (Err Shape) written = written ≡ None
+GivesView seen (Err (Def number fault)) written = ⊥
+GivesView seen (Err Memory) written = Unit {0}

@@ -6,8 +6,8 @@ ghost use Rattle.serde_json.specs.Data.{no_items, item, object};
 ghost use Rattle.serde_json.specs.Find.{as_number, as_u64};
 ghost use Rattle.serde_json.specs.View.{view, items_view, members_view, number_view};
 ghost use Rattle.ssz_schema.specs.Forms.{form_of};
-ghost use Rattle.ssz_schema_json.specs.Document.{written_form, written_fields, written_sized, written_options, written_document, array_form, number_form, ssz_and_types, format_of as format_numbered};
-ghost use Rattle.ssz_schema_json.specs.Views.{Gives, document_view, fields_view, options_view};
+ghost use Rattle.ssz_schema_json.specs.Document.{written_form, written_fields, written_sized, written_options, written_document, array_form, number_form, ssz_and_types, format_numbered};
+ghost use Rattle.ssz_schema_json.specs.Views.{GivesView, document_view, fields_view, options_view};
 
 use super::fault::SchemaRead;
 use serde_json::{Map, Number, Value};
@@ -25,7 +25,7 @@ pub struct Definitions {
 
 /// The definitions that the value writes.
 pub fn definitions_of(alloc: Global, value: Value) -> Result<Definitions, SchemaRead>
-    ensures { Gives document_view result (written_document (view value)) }
+    ensures { GivesView document_view result (written_document (view value)) }
 {
     let Value::Object(members) = value else {
         return Err(SchemaRead::Shape);
@@ -77,7 +77,7 @@ fn format_of(value: &Value) -> Option<Format>
 // The type that a value writes.
 #[cycle(forms)]
 fn form_of(alloc: Global, value: Value) -> Result<TypeExpr, SchemaRead>
-    ensures { Gives form_of result (written_form (view value)) }
+    ensures { GivesView form_of result (written_form (view value)) }
 {
     match value {
         Value::String(name) => Ok(TypeExpr::Named(name_of(name))),
@@ -89,7 +89,7 @@ fn form_of(alloc: Global, value: Value) -> Result<TypeExpr, SchemaRead>
 // The type that an object writes, by its one member.
 #[cycle(forms)]
 fn object_form(alloc: Global, members: Map<String, Value>) -> Result<TypeExpr, SchemaRead>
-    ensures { Gives form_of result (written_form (object (members_view members.entries))) }
+    ensures { GivesView form_of result (written_form (object (members_view members.entries))) }
 {
     let Some((key, value)) = only_member(members) else {
         return Err(SchemaRead::Shape);
@@ -103,7 +103,7 @@ fn object_form(alloc: Global, members: Map<String, Value>) -> Result<TypeExpr, S
 
 // The type that a number under this key writes.
 fn number_form(key: &str, number: &Number) -> Result<TypeExpr, SchemaRead>
-    ensures { Gives form_of result
+    ensures { GivesView form_of result
         (option_and_then (number_form key.now) (as_u64 (number_view number.now))) }
 {
     match number.as_u64() {
@@ -116,7 +116,7 @@ fn number_form(key: &str, number: &Number) -> Result<TypeExpr, SchemaRead>
 // The type that an array under this key writes.
 #[cycle(forms)]
 fn array_form(alloc: Global, key: &str, items: Vec<Value>) -> Result<TypeExpr, SchemaRead>
-    ensures { Gives form_of result (array_form key.now (written_fields (items_view items.items))
+    ensures { GivesView form_of result (array_form key.now (written_fields (items_view items.items))
         (written_sized (items_view items.items)) (written_options (items_view items.items))) }
 {
     if key == "container" {
@@ -137,7 +137,8 @@ fn array_form(alloc: Global, key: &str, items: Vec<Value>) -> Result<TypeExpr, S
 // Names and types, one of each in each item: definitions, or the fields of a container.
 #[cycle(forms)]
 fn fields_of(alloc: Global, items: Vec<Value>) -> Result<Vec<(Name, TypeExpr)>, SchemaRead>
-    ensures { Gives (λ v. fields_view v.items) result (written_fields (items_view items.items)) }
+    ensures { GivesView (λ v. fields_view v.items) result
+        (written_fields (items_view items.items)) }
 {
     let mut fields = Vec::with_capacity(alloc, items.len())?;
     for item in items {
@@ -149,7 +150,7 @@ fn fields_of(alloc: Global, items: Vec<Value>) -> Result<Vec<(Name, TypeExpr)>, 
 // A name and a type.
 #[cycle(forms)]
 fn field_of(alloc: Global, value: Value) -> Result<(Name, TypeExpr), SchemaRead>
-    ensures { Gives (λ p. fields_view (p ∷ [])) result
+    ensures { GivesView (λ p. fields_view (p ∷ [])) result
         (written_fields (item (view value) no_items)) }
 {
     let Value::Array(items) = value else {
@@ -168,7 +169,7 @@ fn field_of(alloc: Global, value: Value) -> Result<(Name, TypeExpr), SchemaRead>
 // A type and a length or limit.
 #[cycle(forms)]
 fn sized_of(alloc: Global, items: Vec<Value>) -> Result<(Box<TypeExpr>, u64), SchemaRead>
-    ensures { Gives (λ p. (form_of (box_value p.0), p.1)) result
+    ensures { GivesView (λ p. (form_of (box_value p.0), p.1)) result
         (written_sized (items_view items.items)) }
 {
     let Some((elem, number)) = two(items) else {
@@ -184,7 +185,8 @@ fn sized_of(alloc: Global, items: Vec<Value>) -> Result<(Box<TypeExpr>, u64), Sc
 // The options of a union.
 #[cycle(forms)]
 fn options_of(alloc: Global, items: Vec<Value>) -> Result<Vec<Option<TypeExpr>>, SchemaRead>
-    ensures { Gives (λ v. options_view v.items) result (written_options (items_view items.items)) }
+    ensures { GivesView (λ v. options_view v.items) result
+        (written_options (items_view items.items)) }
 {
     let mut options = Vec::with_capacity(alloc, items.len())?;
     for item in items {
@@ -196,7 +198,7 @@ fn options_of(alloc: Global, items: Vec<Value>) -> Result<Vec<Option<TypeExpr>>,
 // A type, or None for null.
 #[cycle(forms)]
 fn option_of(alloc: Global, value: Value) -> Result<Option<TypeExpr>, SchemaRead>
-    ensures { Gives (λ o. options_view (o ∷ [])) result
+    ensures { GivesView (λ o. options_view (o ∷ [])) result
         (written_options (item (view value) no_items)) }
 {
     match value {

@@ -1,8 +1,8 @@
 //! From the bytes of a file to a schema.
 ghost use Rattle.std.specs.Prelude.{◌≡◌};
 ghost use Rattle.serde_json.specs.View.{view};
-ghost use Rattle.ssz_schema_json.specs.Schema.{Reads, json_of, schema_of_document, schema_of_bytes};
-ghost use Rattle.ssz_schema_json.specs.Views.{document_view, ReadsJson, IsFaultOf};
+ghost use Rattle.ssz_schema_json.specs.Schema.{ReadsSchema, json_read, schema_of_document, schema_of_bytes};
+ghost use Rattle.ssz_schema_json.specs.Views.{document_view, ReadsSchemaJson, IsSchemaFaultOf};
 
 use super::document::{Definitions, definitions_of};
 use super::fault::SchemaRead;
@@ -16,7 +16,7 @@ use std::alloc::Global;
 /// (S2) where that value is no document, wherever in it this shows, and `Def` (S3 to S14) with the
 /// first fault of the definitions in their order. `Memory` may come in place of any answer.
 pub fn read_schema(alloc: Global, bytes: &[u8]) -> Result<Schema, SchemaRead>
-    ensures { Reads result (schema_of_bytes bytes.now) }
+    ensures { ReadsSchema result (schema_of_bytes bytes.now) }
 {
     let value = value_of(alloc, bytes)?;
     let definitions = definitions_of(alloc, value)?;
@@ -25,7 +25,7 @@ pub fn read_schema(alloc: Global, bytes: &[u8]) -> Result<Schema, SchemaRead>
 
 // The value that `serde_json` reads.
 fn value_of(alloc: Global, bytes: &[u8]) -> Result<Value, SchemaRead>
-    ensures { ReadsJson result (json_of bytes.now) }
+    ensures { ReadsSchemaJson result (json_read bytes.now) }
 {
     match Value::from_slice(alloc, bytes) {
         Ok(value) => Ok(value),
@@ -35,7 +35,7 @@ fn value_of(alloc: Global, bytes: &[u8]) -> Result<Value, SchemaRead>
 
 // Want of memory is told apart from every other error of `serde_json`.
 fn fault_of(error: &serde_json::Error) -> SchemaRead
-    ensures { IsFaultOf error.now result }
+    ensures { IsSchemaFaultOf error.now result }
 {
     if error.is_memory() {
         SchemaRead::Memory
@@ -46,7 +46,7 @@ fn fault_of(error: &serde_json::Error) -> SchemaRead
 
 // The schema of the definitions, added in order.
 fn schema_of(alloc: Global, definitions: Definitions) -> Result<Schema, SchemaRead>
-    ensures { Reads result (schema_of_document (document_view definitions)) }
+    ensures { ReadsSchema result (schema_of_document (document_view definitions)) }
 {
     let mut schema = Schema::empty_for(alloc, definitions.format)?;
     let mut number = 0;

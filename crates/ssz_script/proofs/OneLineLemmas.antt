@@ -10,7 +10,7 @@ use Rattle.ssz_schema.specs.Names.{is_letter, is_name_byte, is_name}
 use Rattle.ssz_bytes.specs.declared.fault.Fault.{Fault}
 use Rattle.ssz_line.proofs.FileLemmas.{first_of_both, second_of_both}
 use Rattle.ssz_script.specs.declared.reply.Reply.TheVariants.{Done, List as Listed, Root, Bytes, Len, Gindex, Proof, Hashes, Refused, Blind, Json, BadJson}
-use Rattle.ssz_script.specs.Texts.{line, hexadecimal, refusals, refusal_name, refused, lettered, fault_words}
+use Rattle.ssz_script.specs.Texts.{line, hexadecimal, refusals, refusal_name, refused_line, lettered, fault_words}
 use Rattle.ssz_script.specs.OneLine.{is_empty, is_line, is_no_feed, RepliesAreLines}
 
 -- no line feed is among the bytes
@@ -142,7 +142,7 @@ also {w} {words} first rest =
     record { each = both (no_feed w) (list_all no_feed words) first.plain rest.each }
 
 EachNoFeed-refused : (number code : ℕ) {more : List (List ℕ)} → EachNoFeed more
-    → EachNoFeed (refused number code ++ more)
+    → EachNoFeed (refused_line number code ++ more)
 EachNoFeed-refused number code rest =
     also (record { plain = refl })
     (also (NoFeed-decimal number)
@@ -184,15 +184,15 @@ replies_are_lines_lem (Proof text) fits = fits
 replies_are_lines_lem (Hashes n) fits =
     two_words (codes "hashes") (decimal n) (record { plain = refl }) (NoFeed-decimal n)
 replies_are_lines_lem (Refused number code fault) fits =
-    is_line-words (refused number code ++ fault_words fault)
+    is_line-words (refused_line number code ++ fault_words fault)
     (EachNoFeed-refused number code (EachNoFeed-fault_words fault))
 replies_are_lines_lem (Blind number index) fits =
-    is_line-words (refused number 17 ++ decimal index ∷ [])
+    is_line-words (refused_line number 17 ++ decimal index ∷ [])
     (EachNoFeed-refused number 17 (also (NoFeed-decimal index) no_words))
 replies_are_lines_lem (Json text) fits =
     two_words (codes "json") text (record { plain = refl }) (record { plain = fits })
 replies_are_lines_lem (BadJson number code place) fits =
-    is_line-words (refused number 18 ++ lettered (codes "J") code ∷ decimal place ∷ [])
+    is_line-words (refused_line number 18 ++ lettered (codes "J") code ∷ decimal place ∷ [])
     (EachNoFeed-refused number 18
     (also (NoFeed-lettered (codes "J") code (record { plain = refl }))
     (also (NoFeed-decimal place) no_words)))

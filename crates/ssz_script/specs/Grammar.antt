@@ -103,15 +103,15 @@ partial_statements =
     ∷ []
 
 -- the form whose first word is this one
-abbrev pub form_of : {S : Type 0} → List (Word × Form S) → Word → Option (Form S)
-form_of [] word = None
-form_of (row ∷ rows) word = if bytes_eq word row.0 then Some row.1 else form_of rows word
+abbrev pub grammar_form : {S : Type 0} → List (Word × Form S) → Word → Option (Form S)
+grammar_form [] word = None
+grammar_form (row ∷ rows) word = if bytes_eq word row.0 then Some row.1 else grammar_form rows word
 
 -- the statement that the words are
 abbrev pub statement_of : {S : Type 0} → List (Word × Form S) → Form S
 statement_of rows [] = None
 statement_of rows (word ∷ words) = do
-  form ← form_of rows word
+  form ← grammar_form rows word
   form words
 
 abbrev pub is_comment : Word → Bool

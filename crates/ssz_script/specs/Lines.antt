@@ -23,15 +23,16 @@ before n (Some None) rest = rest
 before n (Some (Some statement)) rest = (n, Some statement) ∷ rest
 
 -- what lines say, by the table of statements
-abbrev pub said : {S : Type 0} → List (Word × Form S) → List (ℕ × List ℕ) → List (ℕ × Option S)
-said rows [] = []
-said rows (line ∷ more) = before line.0 (line_of rows line.1) (said rows more)
+abbrev pub lines_said : {S : Type 0} → List (Word × Form S) → List (ℕ × List ℕ)
+    → List (ℕ × Option S)
+lines_said rows [] = []
+lines_said rows (line ∷ more) = before line.0 (line_of rows line.1) (lines_said rows more)
 
 -- the statements of a script: each has its line's number, and is None where the line is not of the
 -- grammar
 abbrev pub statements_in : List ℕ → List (ℕ × Option Statement)
-statements_in script = said statements (numbered_lines script)
+statements_in script = lines_said statements (numbered_lines script)
 
 -- the same of a script for a partial tree
 abbrev pub partial_statements_in : List ℕ → List (ℕ × Option PartialStatement)
-partial_statements_in script = said partial_statements (numbered_lines script)
+partial_statements_in script = lines_said partial_statements (numbered_lines script)

@@ -28,8 +28,8 @@ refusal_name zero = []
 refusal_name (suc n) = get_or refusals n []
 
 -- the words of a refusal: the line's number, the code and its name
-abbrev pub refused : ℕ → ℕ → List (List ℕ)
-refused number code = codes "refused" ∷ decimal number ∷ decimal code ∷ refusal_name code ∷ []
+abbrev pub refused_line : ℕ → ℕ → List (List ℕ)
+refused_line number code = codes "refused" ∷ decimal number ∷ decimal code ∷ refusal_name code ∷ []
 
 -- a letter and the number of a code
 abbrev pub lettered : List ℕ → ℕ → List ℕ
@@ -51,8 +51,8 @@ reply_line (Gindex n) = line (codes "gindex" ∷ decimal n ∷ [])
 -- a proof's text is a line already
 reply_line (Proof text) = text
 reply_line (Hashes n) = line (codes "hashes" ∷ decimal n ∷ [])
-reply_line (Refused number code fault) = line (refused number code ++ fault_words fault)
-reply_line (Blind number index) = line (refused number 17 ++ decimal index ∷ [])
+reply_line (Refused number code fault) = line (refused_line number code ++ fault_words fault)
+reply_line (Blind number index) = line (refused_line number 17 ++ decimal index ∷ [])
 reply_line (Json text) = line (codes "json" ∷ text ∷ [])
 reply_line (BadJson number code place) =
-    line (refused number 18 ++ lettered (codes "J") code ∷ decimal place ∷ [])
+    line (refused_line number 18 ++ lettered (codes "J") code ∷ decimal place ∷ [])

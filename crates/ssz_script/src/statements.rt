@@ -1,6 +1,6 @@
 ghost use Rattle.std.specs.Prelude.{◌≡◌, ◌∷◌, [], IfOk, OnErr};
 ghost use Rattle.ssz_script.specs.Grammar.{statements};
-ghost use Rattle.ssz_script.specs.Lines.{said};
+ghost use Rattle.ssz_script.specs.Lines.{lines_said};
 ghost use Rattle.ssz_script.specs.Next.{IsNext};
 
 use super::lines::Lines;
@@ -25,7 +25,7 @@ fn next_statement(
     lines: &mut Lines<'_>,
 ) -> Result<Option<ScriptStatement>, AllocError>
     ensures { IfOk result
-        (λ next. IsNext next (said statements lines.old) (said statements lines.new)) }
+        (λ next. IsNext next (lines_said statements lines.old) (lines_said statements lines.new)) }
 {
     while let Some(line) = lines.next() {
         match read_line(alloc, line.text) {
@@ -59,11 +59,11 @@ impl<'a> Model for Statements<'a> {
     ghost use Rattle.std.specs.Prelude.{List, ℕ, Option};
     ghost use Rattle.ssz_script.specs.declared.statement.Statement.{Statement};
     ghost use Rattle.ssz_script.specs.Grammar.{statements};
-    ghost use Rattle.ssz_script.specs.Lines.{said};
+    ghost use Rattle.ssz_script.specs.Lines.{lines_said};
 
     ghost Value = { List (ℕ × Option Statement) };
 
-    ghost view = { λ a. said statements a.lines };
+    ghost view = { λ a. lines_said statements a.lines };
 }
 
 impl<'a> Statements<'a> {

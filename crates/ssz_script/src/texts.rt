@@ -1,7 +1,7 @@
 ghost use Rattle.std.specs.Prelude.{◌≡◌, ◌∷◌, ◌++◌, [], ℕ, IfOk, OnOk, OnErr, decimal, codes, string_bytes, IsOk};
 ghost use Rattle.std.specs.List.{flat_map};
 ghost use Rattle.hex.specs.Hex.{encode_lower};
-ghost use Rattle.ssz_script.specs.Texts.{line, hexadecimal, refusal_name, refused, lettered, fault_words, reply_line};
+ghost use Rattle.ssz_script.specs.Texts.{line, hexadecimal, refusal_name, refused_line, lettered, fault_words, reply_line};
 
 use super::reply::Reply;
 use ssz_bytes::Fault;
@@ -109,7 +109,7 @@ fn refusal_name(code: u8) -> &'static str
 }
 
 fn refused_text(alloc: Global, number: u64, code: u8) -> Result<String, AllocError>
-    ensures { IfOk result (λ text. string_bytes text ≡ line (refused number code)) }
+    ensures { IfOk result (λ text. string_bytes text ≡ line (refused_line number code)) }
 {
     let name = refusal_name(code);
     format!(in alloc; "refused {number} {code} {name}\n")
@@ -117,7 +117,7 @@ fn refused_text(alloc: Global, number: u64, code: u8) -> Result<String, AllocErr
 
 fn fault_text(alloc: Global, number: u64, code: u8, fault: Fault) -> Result<String, AllocError>
     ensures { IfOk result
-        (λ text. string_bytes text ≡ line (refused number code ++ fault_words (Some fault))) }
+        (λ text. string_bytes text ≡ line (refused_line number code ++ fault_words (Some fault))) }
 {
     let name = refusal_name(code);
     let (letter, position) = (fault.code, fault.position);
@@ -126,7 +126,7 @@ fn fault_text(alloc: Global, number: u64, code: u8, fault: Fault) -> Result<Stri
 
 fn blind_text(alloc: Global, number: u64, index: u128) -> Result<String, AllocError>
     ensures { IfOk result
-        (λ text. string_bytes text ≡ line (refused number 17 ++ decimal index ∷ [])) }
+        (λ text. string_bytes text ≡ line (refused_line number 17 ++ decimal index ∷ [])) }
 {
     let code = Reply::BLIND;
     format!(in alloc; "refused {number} {code} Blind {index}\n")
@@ -135,7 +135,7 @@ fn blind_text(alloc: Global, number: u64, index: u128) -> Result<String, AllocEr
 fn bad_json_text(alloc: Global, number: u64, code: u8, place: u64) -> Result<String, AllocError>
     ensures { IfOk result
         (λ text. string_bytes text ≡ line
-        (refused number 18 ++ lettered (codes "J") code ∷ decimal place ∷ [])) }
+        (refused_line number 18 ++ lettered (codes "J") code ∷ decimal place ∷ [])) }
 {
     let refusal = Reply::BAD_JSON;
     format!(in alloc; "refused {number} {refusal} BadJson J{code} {place}\n")
@@ -149,7 +149,7 @@ fn push_refused(
     fault: Option<Fault>,
 ) -> Result<(), AllocError>
     ensures ok { OnOk result
-        (out.new.items ≡ out.old.items ++ line (refused number code ++ fault_words fault)) }
+        (out.new.items ≡ out.old.items ++ line (refused_line number code ++ fault_words fault)) }
     ensures err { OnErr result (out.new.items ≡ out.old.items) }
 {
     let alloc = *out.allocator();

@@ -12,7 +12,7 @@ use Rattle.ssz_schema.specs.Legal.{IsLegal}
 use Rattle.ssz_schema.specs.Paths.{Path, path_type, step_type}
 use Rattle.ssz_schema.specs.Unfolding.{Types, type_of}
 use Rattle.ssz_value.specs.Values.{SszValue}
-use Rattle.ssz_value.specs.Faults.{why}
+use Rattle.ssz_value.specs.Faults.{first_fault}
 use Rattle.ssz_value.specs.Reading.{value_in}
 use Rattle.ssz_value.specs.Sizes.{size}
 use Rattle.ssz_value.specs.Parts.{part, step_part, or_absent}
@@ -22,9 +22,9 @@ use Rattle.ssz_slices.specs.declared.held.Held.{Held}
 use Rattle.ssz_slices.specs.declared.held.Held.TheVariants.{Bytes, Bit, Count}
 use Rattle.ssz_value.specs.declared.path_fault.PathFault.{PathFault}
 use Rattle.ssz_value.specs.declared.path_fault.PathFault.TheVariants.{BadPath, Absent}
-use Rattle.ssz_slices.specs.Place.{Span, within, place, step_span}
-use Rattle.ssz_slices.specs.Part.{Part, placed, reached}
-use Rattle.ssz_slices.specs.Held.{Holds, IsStretch, held_value, held_span, held_from, moved}
+use Rattle.ssz_slices.specs.Place.{Span, within, span_of_part, step_span}
+use Rattle.ssz_slices.specs.Part.{Part, placed, part_reached}
+use Rattle.ssz_slices.specs.Held.{HeldHasType, IsStretch, held_value, held_span, held_from, held_moved}
 use Rattle.ssz_slices.proofs.Leading.{IsAnswer, size_is}
 use Rattle.ssz_slices.proofs.Spans.{length-stretch}
 use Rattle.ssz_slices.proofs.Leads.{leads}
@@ -54,7 +54,7 @@ pub record Continues (t u : SszType) (b : List ℕ) (step : PathStep) (held next
   pub part : step_part t (held_value t b held) step ≡ Some (held_value u b next)
   pub span : placed_step (held_span held) (step_span t (held_value t b held) step)
       ≡ held_span next
-  pub holds : Holds u b next
+  pub holds : HeldHasType u b next
 
 abbrev pub GoesOn : SszType → SszType → List ℕ → PathStep → Held → Option Held → Type 0
 GoesOn t u b step held None = step_part t (held_value t b held) step ≡ None
@@ -63,7 +63,7 @@ GoesOn t u b step held (Some next) = Continues t u b step held next
 within_stretch : (t u : SszType) (b : List ℕ) (step : PathStep) (from to : ℕ)
     → IsStretch t b from to → (answer : Option Held)
     → IsAnswer t u (slice_range b from to) step answer
-    → GoesOn t u b step (Bytes from to) (option_map (moved from) answer)
+    → GoesOn t u b step (Bytes from to) (option_map (held_moved from) answer)
 within_stretch t u b step from to holds None is = is
 within_stretch t u b step from to holds (Some (Bytes start end)) is =
     let long : length (slice_range b from to) ≡ to - from =
@@ -77,7 +77,7 @@ within_stretch t u b step from to holds (Some (Bytes start end)) is =
       holds = record {
         up = omega (arith, is.holds.up);
         inside = omega (arith, holds.inside, holds.up, is.holds.inside, long);
-        faultless = ap (why u 0) (sym same) ∙ is.holds.faultless;
+        faultless = ap (first_fault u 0) (sym same) ∙ is.holds.faultless;
       };
     }
 within_stretch t u b step from to holds (Some (Bit bit)) is = record {
@@ -98,7 +98,7 @@ no_step_on : (u : SszType) (step : PathStep) → step_type (uint W64) step ≡ S
 no_step_on u step e = cc
 
 pub goes_on : (format : Format) (t u : SszType) (b : List ℕ) (step : PathStep) (held : Held)
-    → IsLegal format t → IsInput b → Holds t b held → step_type t step ≡ Some u
+    → IsLegal format t → IsInput b → HeldHasType t b held → step_type t step ≡ Some u
     → GoesOn t u b step held (held_from t b step (Some held))
 goes_on format t u b step (Bytes from to) legal input holds fits =
     within_stretch t u b step from to holds _
@@ -112,7 +112,7 @@ goes_on format t u b step (Count n) legal input holds fits =
 -- The steps before the rest lead from the whole to this part.
 pub record IsHere (whole : Part) (path : Path) (t : SszType) (held : Held) (rest : Path)
     : Type 0 where
-  pub holds : Holds t whole.input held
+  pub holds : HeldHasType t whole.input held
   pub part : part whole.form whole.value path ≡ part t (held_value t whole.input held) rest
   pub place : placed whole.place whole.form whole.value path
       ≡ placed (held_span held) t (held_value t whole.input held) rest
@@ -154,17 +154,18 @@ part_none t u v step rest fits is =
 abbrev place_by : PathStep → Path → Option SszType → Option SszValue → Option Span → Option Span
 place_by step rest type piece span =
     option_and_then (λ s. option_and_then (λ x. option_and_then
-    (λ y. option_map (within s) (place x y rest)) piece) type) span
+    (λ y. option_map (within s) (span_of_part x y rest)) piece) type) span
 
 pub place_next : (t u : SszType) (v w : SszValue) (step : PathStep) (rest : Path)
     → step_type t step ≡ Some u → step_part t v step ≡ Some w
-    → place t v (step ∷ rest)
-    ≡ option_and_then (λ s. option_map (within s) (place u w rest)) (step_span t v step)
+    → span_of_part t v (step ∷ rest)
+    ≡ option_and_then (λ s. option_map (within s) (span_of_part u w rest)) (step_span t v step)
 place_next t u v w step rest fits is =
     ap (λ x. place_by step rest x (step_part t v step) (step_span t v step)) fits
     ∙ ap (λ y. place_by step rest (Some u) y (step_span t v step)) is
 
-pub along-start : (whole : Part) (path : Path) (held : Held) → Holds whole.form whole.input held
+pub along-start : (whole : Part) (path : Path) (held : Held)
+    → HeldHasType whole.form whole.input held
     → whole.value ≡ held_value whole.form whole.input held → whole.place ≡ held_span held
     → IsAlong whole path whole.form (Some held) path
 along-start whole path held holds value span = record {
@@ -191,8 +192,8 @@ present_next whole path t u held step rest here fits (Some next) is =
       place = here.place
           ∙ ap (λ p. option_and_then (λ o. option_map (within o) p) (held_span held))
           (place_next t u v w step rest fits is.part)
-          ∙ placed_twice (held_span held) (step_span t v step) (place u w rest)
-          ∙ ap (option_and_then (λ s. option_map (within s) (place u w rest))) is.span;
+          ∙ placed_twice (held_span held) (step_span t v step) (span_of_part u w rest)
+          ∙ ap (option_and_then (λ s. option_map (within s) (span_of_part u w rest))) is.span;
     }
 
 pub along-step : (format : Format) (whole : Part) (path : Path) (t u : SszType)
@@ -222,14 +223,14 @@ answer_by whole type value place =
 -- a step that does not fit
 pub along-bad : (whole : Part) (path : Path) (t : SszType) (held : Option Held) (step : PathStep)
     (rest : Path) → IsAlong whole path t held (step ∷ rest) → step_type t step ≡ None
-    → Err BadPath ≡ reached whole path
+    → Err BadPath ≡ part_reached whole path
 along-bad whole path t held step rest along misfits =
     sym (ap (λ x. answer_by whole x (part whole.form whole.value path)
     (placed whole.place whole.form whole.value path))
     (along.fits ∙ ap (option_and_then (λ p. path_type p rest)) misfits))
 
 pub along-absent : (whole : Part) (path : Path) (t : SszType) → IsAlong whole path t None []
-    → Err Absent ≡ reached whole path
+    → Err Absent ≡ part_reached whole path
 along-absent whole path t along =
     let p = placed whole.place whole.form whole.value path in
     sym (ap (λ x. answer_by whole x (part whole.form whole.value path) p) along.fits
@@ -237,7 +238,7 @@ along-absent whole path t along =
 
 -- the stretch of a part that is held is as long as its size says
 held_placed : (format : Format) (t : SszType) (b : List ℕ) (held : Held) → IsLegal format t
-    → IsInput b → Holds t b held
+    → IsInput b → HeldHasType t b held
     → placed (held_span held) t (held_value t b held) [] ≡ held_span held
 held_placed format t b (Bytes from to) legal input holds =
     let long : size t (value_in t (slice_range b from to)) ≡ to - from =
@@ -255,7 +256,7 @@ pub along-end : (format : Format) (whole : Part) (path : Path) (t : SszType) (he
       value = held_value t whole.input held;
       input = whole.input;
       place = held_span held;
-    }) ≡ reached whole path
+    }) ≡ part_reached whole path
 along-end format whole path t held legal input along =
     let p = placed whole.place whole.form whole.value path in
     let v = held_value t whole.input held in
@@ -299,7 +300,7 @@ along-next types whole path id next i held answer step found legal input along b
     input here (sym exact ∙ ap (option_map (type_of types)) is))
 
 pub present_holds : (whole : Part) (path : Path) (t : SszType) (held : Option Held) (rest : Path)
-    → IsAlong whole path t held rest → IfSome held (Holds t whole.input)
+    → IsAlong whole path t held rest → IfSome held (HeldHasType t whole.input)
 present_holds whole path t None rest along = tt
 present_holds whole path t (Some held) rest along = along.present.holds
 
@@ -312,7 +313,7 @@ pub along-done : (format : Format) (whole : Part) (path : Path) (t : SszType) (i
       value = held_value t whole.input held;
       input = whole.input;
       place = held_span held;
-    }) ≡ reached whole path
+    }) ≡ part_reached whole path
 along-done format whole path t i held option legal input along all is =
     along-end format whole path t held legal input
     (subst (λ rest. IsAlong whole path t (Some held) rest) (drop_all i path all)

@@ -8,7 +8,7 @@ use Rattle.ssz_schema.specs.Sizes.{fixed_size, head_size}
 use Rattle.ssz_schema.specs.Legal.{IsLegal}
 use Rattle.ssz_value.specs.Encoding.{heads_length}
 use Rattle.ssz_value.specs.Sizes.{size}
-use Rattle.ssz_value.specs.Faults.{Scope, scopes, bytes_of, alike_fault, elements_fault, head_fault, why}
+use Rattle.ssz_value.specs.Faults.{Scope, scopes, scope_bytes, alike_fault, elements_fault, head_fault, first_fault}
 use Rattle.ssz_value.specs.Reading.{value_in, elements_in}
 use Rattle.ssz_value.proofs.Agree.{IsInput, AreInputs, AreInputs-scopes, no_faults}
 use Rattle.ssz_parts.specs.Ranges.{part_range}
@@ -17,7 +17,7 @@ use Rattle.ssz_parts.proofs.PartSizes.{heads_alike}
 use Rattle.ssz_slices.specs.declared.held.Held.{Held}
 use Rattle.ssz_slices.specs.declared.held.Held.TheVariants.{Bytes}
 use Rattle.ssz_slices.specs.Place.{spans, element_spans}
-use Rattle.ssz_slices.specs.Held.{held_value, held_span, Holds, element_held, stretch}
+use Rattle.ssz_slices.specs.Held.{held_value, held_span, HeldHasType, element_held, stretch}
 use Rattle.ssz_slices.proofs.Spans.{part_lies}
 use Rattle.ssz_slices.proofs.Leading.{size_is}
 
@@ -27,7 +27,7 @@ pub record IsElementAt (t : SszType) (count : ℕ) (b : List ℕ) (i : ℕ) (hel
       ≡ Some (held_value t b held)
   pub span : slice_get (element_spans t (map (value_in t) (elements_in (fixed_size t) count b))) i
       ≡ held_span held
-  pub holds : Holds t b held
+  pub holds : HeldHasType t b held
 
 abbrev pub IsElement : SszType → ℕ → List ℕ → ℕ → Option Held → Type 0
 IsElement t count b i None =
@@ -36,8 +36,8 @@ IsElement t count b i (Some held) = IsElementAt t count b i held
 
 -- the sizes of elements are the lengths of their bytes
 sizes_are : (format : Format) (t : SszType) → IsLegal format t → (s : ℕ) (parts : List Scope)
-    → AreInputs parts → alike_fault (why t) s parts ≡ None
-    → map (size t) (map (value_in t) (bytes_of parts)) ≡ map length (bytes_of parts)
+    → AreInputs parts → alike_fault (first_fault t) s parts ≡ None
+    → map (size t) (map (value_in t) (scope_bytes parts)) ≡ map length (scope_bytes parts)
 sizes_are format t legal s [] input e = refl
 sizes_are format t legal s (part ∷ parts) input e =
     let both = no_faults _ _ e in
@@ -45,7 +45,8 @@ sizes_are format t legal s (part ∷ parts) input e =
     (sizes_are format t legal s parts input.1 both.1)
 
 element_at : (format : Format) (t : SszType) → IsLegal format t → (count i from to : ℕ)
-    (b : List ℕ) → IsInput b → elements_fault (why t) (fixed_size t) count 0 b ≡ None → i < count
+    (b : List ℕ) → IsInput b → elements_fault (first_fault t) (fixed_size t) count 0 b ≡ None
+    → i < count
     → (from, to) ≡ part_range (fixed_size t) (replicate (count - (i + 1)) (fixed_size t))
     (i * head_size (fixed_size t)) b
     → IsElementAt t count b i (Bytes from to)
@@ -53,7 +54,8 @@ element_at format t legal count i from to b input h below e =
     let size = fixed_size t in
     let sizes = replicate count size in
     let bs = elements_in size count b in
-    let both = no_faults (head_fault sizes 0 b) (alike_fault (why t) 0 (scopes sizes 0 b)) h in
+    let both = no_faults (head_fault sizes 0 b)
+    (alike_fault (first_fault t) 0 (scopes sizes 0 b)) h in
     let front : heads_length (take i sizes) ≡ i * head_size size =
     ap heads_length (take-replicate i count size (omega arith)) ∙ heads_alike i size in
     let here : (from, to) ≡ part_range (get_or sizes i None) (drop (i + 1) sizes)
@@ -74,12 +76,12 @@ element_at format t legal count i from to b input h below e =
       holds = record {
         up = lies.up;
         inside = lies.inside;
-        faultless = ap (why t 0) (sym (get_or_from_slice_get bs i _ [] lies.bytes)) ∙ none;
+        faultless = ap (first_fault t 0) (sym (get_or_from_slice_get bs i _ [] lies.bytes)) ∙ none;
       };
     }
 
 pub element_leads : (format : Format) (t : SszType) → IsLegal format t → (count i : ℕ)
-    (b : List ℕ) → IsInput b → elements_fault (why t) (fixed_size t) count 0 b ≡ None
+    (b : List ℕ) → IsInput b → elements_fault (first_fault t) (fixed_size t) count 0 b ≡ None
     → IsElement t count b i (element_held (fixed_size t) count i b)
 element_leads format t legal count i b input h =
     go (part_range (fixed_size t) (replicate (count - (i + 1)) (fixed_size t))

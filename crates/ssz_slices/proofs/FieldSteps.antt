@@ -6,13 +6,13 @@ use Rattle.ssz_schema.specs.declared.ty.Ty.{Ty}
 use Rattle.ssz_schema.specs.declared.ty.Ty.TheVariants.{Container}
 use Rattle.ssz_schema.specs.Types.{container}
 use Rattle.ssz_schema.specs.Sizes.{part_sizes}
-use Rattle.ssz_schema.specs.Unfolding.{Types, tree_at, type_of, tree_over, fields_over, AreBelow}
+use Rattle.ssz_schema.specs.Unfolding.{Types, type_tree_at, type_of, tree_over, fields_over, AreBelow}
 use Rattle.ssz_schema.specs.Paths.{step_type, field_number}
 use Rattle.ssz_schema.proofs.StepLemmas.{found_field, missing_field}
-use Rattle.ssz_value.specs.Faults.{why, head_fault, fields_fault, scopes}
+use Rattle.ssz_value.specs.Faults.{first_fault, head_fault, fields_fault, scopes}
 use Rattle.ssz_value.proofs.Agree.{no_faults}
 use Rattle.ssz_value.proofs.PartLemmas.{Part, part_known, known_weaker}
-use Rattle.ssz_slices.specs.Held.{held_at, stretch, field_range}
+use Rattle.ssz_slices.specs.Held.{held_at_step, stretch, field_range}
 
 abbrev pub has_name : List ℕ → Part → Bool
 has_name name part = bytes_eq part.0 name
@@ -33,12 +33,12 @@ fields_of types id ty vec parts known form below is items = record {
 }
 
 pub head_of : (types : Types) (id : ℕ) (parts : List Part) (b : List ℕ)
-    → AreFieldsOf types id parts → why (type_of types id) 0 b ≡ None
+    → AreFieldsOf types id parts → first_fault (type_of types id) 0 b ≡ None
     → head_fault (part_sizes (fields_over types.trees parts)) 0 b ≡ None
 head_of types id parts b are h =
     let fs = fields_over types.trees parts in
     (no_faults (head_fault (part_sizes fs) 0 b) (fields_fault fs 0 (scopes (part_sizes fs) 0 b))
-    (ap (λ t. why t 0 b) are.type ∙ h)).0
+    (ap (λ t. first_fault t 0 b) are.type ∙ h)).0
 
 pub found_below : (types : Types) (parts : List Part) (name : List ℕ) (k : ℕ)
     → Some k ≡ position_from (has_name name) 0 parts → k < length parts
@@ -56,7 +56,7 @@ pub found_type : (types : Types) (id : ℕ) (parts : List Part) (name : List ℕ
     → Some k ≡ position_from (has_name name) 0 parts → part ≡ get_or parts k part
     → Some (type_of types (get_or parts k part).1) ≡ step_type (type_of types id) (Field name)
 found_type types id parts name k part are at is =
-    ap (λ (p : Part). Some (tree_at types.trees p.1)) (sym is)
+    ap (λ (p : Part). Some (type_tree_at types.trees p.1)) (sym is)
     ∙ sym ((found_field types.trees parts name k (sym at)).type part is)
     ∙ ap (λ t. step_type t (Field name)) are.type
 
@@ -64,7 +64,7 @@ pub found_held : (types : Types) (id : ℕ) (parts : List Part) (name : List ℕ
     (part : Part) (range : ℕ × ℕ) (b : List ℕ) → AreFieldsOf types id parts
     → Some k ≡ position_from (has_name name) 0 parts → part ≡ get_or parts k part
     → range ≡ field_range (part_sizes (fields_over types.trees parts)) k b
-    → Some (stretch range) ≡ held_at (type_of types id) b (Field name)
+    → Some (stretch range) ≡ held_at_step (type_of types id) b (Field name)
 found_held types id parts name k part range b are at is there =
     let fs = fields_over types.trees parts in
     let here = found_field types.trees parts name k (sym at) in
@@ -72,7 +72,7 @@ found_held types id parts name k part range b are at is there =
     ∙ ap (λ o. cond (is_some o)
     (Some (stretch (field_range (part_sizes fs) (field_number fs name) b))) None)
     (sym (here.type part is))
-    ∙ ap (λ t. held_at t b (Field name)) are.type
+    ∙ ap (λ t. held_at_step t b (Field name)) are.type
 
 pub missing_type : (types : Types) (id : ℕ) (parts : List Part) (name : List ℕ)
     → AreFieldsOf types id parts → None ≡ position_from (has_name name) 0 parts
@@ -83,10 +83,10 @@ missing_type types id parts name are at =
 
 pub missing_held : (types : Types) (id : ℕ) (parts : List Part) (name : List ℕ) (b : List ℕ)
     → AreFieldsOf types id parts → None ≡ position_from (has_name name) 0 parts
-    → None ≡ held_at (type_of types id) b (Field name)
+    → None ≡ held_at_step (type_of types id) b (Field name)
 missing_held types id parts name b are at =
     let fs = fields_over types.trees parts in
     ap (λ o. cond (is_some o)
     (Some (stretch (field_range (part_sizes fs) (field_number fs name) b))) None)
     (sym (missing_field types.trees parts name (sym at)))
-    ∙ ap (λ t. held_at t b (Field name)) are.type
+    ∙ ap (λ t. held_at_step t b (Field name)) are.type

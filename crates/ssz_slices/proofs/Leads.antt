@@ -14,7 +14,7 @@ use Rattle.ssz_schema.specs.Paths.{step_type, field_type}
 use Rattle.ssz_schema.proofs.PathLemmas.{if_within}
 use Rattle.ssz_bytes.proofs.Bits.{length-bits_of_number}
 use Rattle.ssz_value.specs.Values.{number, items, values}
-use Rattle.ssz_value.specs.Faults.{why, elements_fault, element_count, count_fault}
+use Rattle.ssz_value.specs.Faults.{first_fault, elements_fault, element_count, count_fault}
 use Rattle.ssz_value.specs.Reading.{value_in, elements_in}
 use Rattle.ssz_value.proofs.Agree.{IsInput, no_faults}
 use Rattle.ssz_value.proofs.Sequences.{items-values}
@@ -22,7 +22,7 @@ use Rattle.ssz_parts.proofs.ElementLemmas.{length-elements_in}
 use Rattle.ssz_slices.specs.declared.held.Held.{Held}
 use Rattle.ssz_slices.specs.declared.held.Held.TheVariants.{Bytes, Bit, Count}
 use Rattle.ssz_slices.specs.Place.{element_spans}
-use Rattle.ssz_slices.specs.Held.{held_at}
+use Rattle.ssz_slices.specs.Held.{held_at_step}
 use Rattle.ssz_slices.proofs.Leading.{IsPart, IsAnswer}
 use Rattle.ssz_slices.proofs.Elements.{IsElement, element_leads}
 use Rattle.ssz_slices.proofs.FieldParts.{field_leads}
@@ -91,18 +91,20 @@ field_step fs name u b held e is =
 
 -- the answer of a step that fits is the part to which it leads
 pub leads : (format : Format) (t u : SszType) (b : List ℕ) (step : PathStep) → IsLegal format t
-    → IsInput b → why t 0 b ≡ None → step_type t step ≡ Some u
-    → IsAnswer t u b step (held_at t b step)
+    → IsInput b → first_fault t 0 b ≡ None → step_type t step ≡ Some u
+    → IsAnswer t u b step (held_at_step t b step)
 leads format (container fs) u b (Field name) legal input h e =
     field_step fs name u b _ e (field_leads format fs name u b legal.1 input h e)
 leads format (vector elem n) u b (Index i) legal input h e =
-    subst (λ v. IsAnswer (vector elem n) v b (Index i) (held_at (vector elem n) b (Index i)))
+    subst (λ v. IsAnswer (vector elem n) v b (Index i) (held_at_step (vector elem n) b (Index i)))
     (if_within i n elem u e).1
     (vector_step elem n i b _ (element_leads format elem legal.0 n i b input h))
 leads format (list elem limit) u b (Index i) legal input h e =
     let both = no_faults (count_fault (fixed_size elem) limit 0 b)
-    (elements_fault (why elem) (fixed_size elem) (element_count (fixed_size elem) b) 0 b) h in
-    subst (λ v. IsAnswer (list elem limit) v b (Index i) (held_at (list elem limit) b (Index i)))
+    (elements_fault (first_fault elem) (fixed_size elem) (element_count (fixed_size elem) b) 0 b)
+    h in
+    subst (λ v. IsAnswer (list elem limit) v b (Index i)
+    (held_at_step (list elem limit) b (Index i)))
     (if_within i limit elem u e).1
     (list_step elem limit i b _
     (element_leads format elem legal.0 (element_count (fixed_size elem) b) i b input both.1))
@@ -110,10 +112,10 @@ leads format (list elem limit) u b Len legal input h e =
     let type : u ≡ uint W64 = cc in
     record { part = ap (λ n. Some (number n)) (list_length elem b); span = refl; holds = type }
 leads format (bitvector n) u b (Index i) legal input h e =
-    subst (λ v. IsAnswer (bitvector n) v b (Index i) (held_at (bitvector n) b (Index i)))
+    subst (λ v. IsAnswer (bitvector n) v b (Index i) (held_at_step (bitvector n) b (Index i)))
     (if_within i n boolean u e).1 (bitvector_step n i b _ (bit_leads n i b))
 leads format (bitlist limit) u b (Index i) legal input h e =
-    subst (λ v. IsAnswer (bitlist limit) v b (Index i) (held_at (bitlist limit) b (Index i)))
+    subst (λ v. IsAnswer (bitlist limit) v b (Index i) (held_at_step (bitlist limit) b (Index i)))
     (if_within i limit boolean u e).1
     (bitlist_step limit i b _ (bit_leads (bitlist_length b) i b))
 leads format (bitlist limit) u b Len legal input h e =

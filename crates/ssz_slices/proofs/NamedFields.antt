@@ -7,8 +7,8 @@ use Rattle.ssz_schema.specs.Paths.{step_type}
 use Rattle.ssz_value.proofs.Agree.{IsInput}
 use Rattle.ssz_slices.specs.declared.held.Held.{Held}
 use Rattle.ssz_slices.specs.declared.held.Held.TheVariants.{Bytes}
-use Rattle.ssz_slices.specs.Part.{Part, reached}
-use Rattle.ssz_slices.specs.Held.{Holds, HasRoom, IsStretch, held_value, held_span, held_at, moved}
+use Rattle.ssz_slices.specs.Part.{Part, part_reached}
+use Rattle.ssz_slices.specs.Held.{HeldHasType, HasRoom, IsStretch, held_value, held_span, held_at_step, held_moved}
 use Rattle.ssz_places.proofs.PathLaws.{step_legal}
 use Rattle.ssz_slices.proofs.Along.{IsAlong, along-start, along-step, along-end, GoesOn, Continues, goes_on}
 use Rattle.ssz_slices.proofs.Stretches.{step_room}
@@ -20,7 +20,7 @@ pub record IsFound (types : Types) (input : List ℕ) (id from to : ℕ) (name :
   pub input_is : IsInput input
   pub stretch : IsStretch (type_of types id) input from to
   pub form : Some (type_of types found.0) ≡ step_type (type_of types id) (Field name)
-  pub held : Some found.1 ≡ held_at (type_of types id) (slice_range input from to) (Field name)
+  pub held : Some found.1 ≡ held_at_step (type_of types id) (slice_range input from to) (Field name)
 
 pub field_room : (types : Types) (input : List ℕ) (id from to : ℕ) (name : List ℕ)
     (found : ℕ × Held) → IsFound types input id from to name found → HasRoom from found.1
@@ -32,26 +32,27 @@ field_room types input id from to name found is =
 pub record IsFieldPart (types : Types) (whole : Part) (name : List ℕ) (id : ℕ) (held : Held)
     : Type 0 where
   pub legal : IsLegal types.format (type_of types id)
-  pub holds : Holds (type_of types id) whole.input held
+  pub holds : HeldHasType (type_of types id) whole.input held
   pub answer : Ok (record {
     form = type_of types id;
     value = held_value (type_of types id) whole.input held;
     input = whole.input;
     place = held_span held;
-  }) ≡ reached whole (Field name ∷ [])
+  }) ≡ part_reached whole (Field name ∷ [])
 
 pub field_part : (types : Types) (whole : Part) (id from to : ℕ) (name : List ℕ)
     (found : ℕ × Held) (held : Held) → IsFound types whole.input id from to name found
     → whole.form ≡ type_of types id
     → whole.value ≡ held_value (type_of types id) whole.input (Bytes from to)
     → whole.place ≡ held_span (Bytes from to)
-    → held ≡ moved from found.1 → IsFieldPart types whole name found.0 held
+    → held ≡ held_moved from found.1 → IsFieldPart types whole name found.0 held
 field_part types whole id from to name found held is form value place there =
     let t = type_of types id in
     let u = type_of types found.0 in
     let fits : step_type t (Field name) ≡ Some u = sym is.form in
-    let answer : option_map (moved from) (held_at t (slice_range whole.input from to) (Field name))
-    ≡ Some held = ap (option_map (moved from)) (sym is.held) ∙ ap Some (sym there) in
+    let answer : option_map (held_moved from)
+    (held_at_step t (slice_range whole.input from to) (Field name))
+    ≡ Some held = ap (option_map (held_moved from)) (sym is.held) ∙ ap Some (sym there) in
     let on : Continues t u whole.input (Field name) (Bytes from to) held =
     subst (GoesOn t u whole.input (Field name) (Bytes from to)) answer
     (goes_on types.format t u whole.input (Field name) (Bytes from to) is.legal is.input_is

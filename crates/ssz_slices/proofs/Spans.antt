@@ -2,7 +2,7 @@
 use Rattle.std.proofs.Common.{ℕ, zero, suc, ◌+◌, ◌-◌, ◌<◌, ◌≤◌, ◌≡◌, List, [], ◌∷◌, length, map, take, drop, slice_get, slice_range, get_or, Option, Some, None, refl, sym, ap, ap₂, ◌∙◌, subst, arith, ltb, ltb-false, eqb, eqb-true, length-drop, length-take-le}
 use Rattle.ssz_schema.specs.Sizes.{head_size}
 use Rattle.ssz_value.specs.Encoding.{heads_length}
-use Rattle.ssz_value.specs.Faults.{Scope, scopes, bytes_of, head_fault, first_fault, next_offset, offset_at}
+use Rattle.ssz_value.specs.Faults.{Scope, scopes, scope_bytes, head_fault, first_offset_fault, next_offset, offset_at}
 use Rattle.ssz_value.proofs.Cut.{passes, chosen_none_of}
 use Rattle.ssz_parts.specs.Ranges.{part_range}
 use Rattle.ssz_parts.proofs.FieldLemmas.{InRange, first_in_range}
@@ -15,7 +15,7 @@ marks (part ∷ parts) = (part.0, length part.1) ∷ marks parts
 
 -- the first variable part begins where the fixed parts end, or nothing follows them
 first_ends : (sizes : List (Option ℕ)) (place end s : ℕ) (b : List ℕ) → end ≤ length b
-    → first_fault sizes place end s b ≡ None → next_offset sizes place b ≡ end
+    → first_offset_fault sizes place end s b ≡ None → next_offset sizes place b ≡ end
 first_ends [] place end s b low h =
     let high : length b ≤ end = ltb-false end (length b) (passes (ltb end (length b)) _ _ h).0 in
     omega arith
@@ -30,7 +30,7 @@ length-stretch b from to up inside =
     length-take-le (to - from) (drop from b) (omega (arith, length-drop from b))
 
 spans-scopes : (sizes : List (Option ℕ)) (place : ℕ) (b : List ℕ) → InRange sizes place b
-    → spans_from sizes (map length (bytes_of (scopes sizes place b))) place
+    → spans_from sizes (map length (scope_bytes (scopes sizes place b))) place
     (next_offset sizes place b)
     ≡ marks (scopes sizes place b)
 spans-scopes [] place b range = refl
@@ -44,7 +44,7 @@ spans-scopes (None ∷ sizes) place b range =
     length-stretch b from to range.0 range.1 in
     let end : from + length (slice_range b from to) ≡ to = omega (arith, range.0, long) in
     ap (λ rest. (from, length (slice_range b from to)) ∷ rest)
-    (ap (spans_from sizes (map length (bytes_of (scopes sizes (place + 4) b))) (place + 4)) end
+    (ap (spans_from sizes (map length (scope_bytes (scopes sizes (place + 4) b))) (place + 4)) end
     ∙ spans-scopes sizes (place + 4) b range.2)
 
 -- the range of a part, counted from the part before
@@ -104,12 +104,12 @@ pub record PartLies (sizes : List (Option ℕ)) (b : List ℕ) (i from to : ℕ)
   pub up : from ≤ to
   pub inside : to ≤ length b
   pub scope : slice_get (scopes sizes 0 b) i ≡ Some (from, slice_range b from to)
-  pub bytes : slice_get (bytes_of (scopes sizes 0 b)) i ≡ Some (slice_range b from to)
-  pub span : slice_get (spans sizes (map length (bytes_of (scopes sizes 0 b)))) i
+  pub bytes : slice_get (scope_bytes (scopes sizes 0 b)) i ≡ Some (slice_range b from to)
+  pub span : slice_get (spans sizes (map length (scope_bytes (scopes sizes 0 b)))) i
       ≡ Some (from, to - from)
 
 bytes_get : (parts : List Scope) (i : ℕ) (part : Scope) → slice_get parts i ≡ Some part
-    → slice_get (bytes_of parts) i ≡ Some part.1
+    → slice_get (scope_bytes parts) i ≡ Some part.1
 bytes_get [] i part e = cc
 bytes_get (p ∷ parts) zero part e = let same : p ≡ part = cc in ap (λ (q : Scope). Some q.1) same
 bytes_get (p ∷ parts) (suc i) part e = bytes_get parts i part e
@@ -135,7 +135,7 @@ part_lies sizes b i from to h below e =
     e ∙ ap (λ n. part_range (get_or sizes i None) (drop (i + 1) sizes) n b) (omega arith) in
     let within = range_at sizes 0 i b below range from to here in
     let scope = scope_at sizes 0 i b below from to here in
-    let whole = ap (spans_from sizes (map length (bytes_of (scopes sizes 0 b))) 0)
+    let whole = ap (spans_from sizes (map length (scope_bytes (scopes sizes 0 b))) 0)
     (sym (first_ends sizes 0 (heads_length sizes) 0 b room long.1))
     ∙ spans-scopes sizes 0 b range in
     record {

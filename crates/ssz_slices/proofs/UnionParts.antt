@@ -10,7 +10,7 @@ use Rattle.ssz_schema.specs.Paths.{option_type}
 use Rattle.ssz_schema.specs.Sizes.{option_count}
 use Rattle.ssz_value.specs.Values.{SszValue, number, wide, truth, sequence, bits, chosen, chosen_none}
 use Rattle.ssz_value.specs.Sizes.{size, option_size}
-use Rattle.ssz_value.specs.Faults.{why, option_fault}
+use Rattle.ssz_value.specs.Faults.{first_fault, option_fault}
 use Rattle.ssz_value.specs.Reading.{value_in, option_in}
 use Rattle.ssz_value.specs.Parts.{part_at}
 use Rattle.ssz_value.proofs.Agree.{IsInput, right_length}
@@ -38,7 +38,7 @@ selector_read (option t os) zero k b = refl
 selector_read (none_option os) (suc left) k b = selector_read os left k b
 selector_read (option t os) (suc left) k b = selector_read os left k b
 
-pub selector_leads : (os : Options) (b : List ℕ) → why (union os) 0 b ≡ None
+pub selector_leads : (os : Options) (b : List ℕ) → first_fault (union os) 0 b ≡ None
     → IsPart (union os) (uint W8) b Selector (Bytes 0 1)
 selector_leads os [] h = cc
 selector_leads os (k ∷ b) h =
@@ -68,7 +68,7 @@ record IsOptionOf (format : Format) (os : Options) (left k s : ℕ) (u : SszType
   pub value : option_in os left k b ≡ chosen k (value_in u b)
   pub length : (v : SszValue) → option_size os left v ≡ size u v
   pub legal : IsLegal format u
-  pub fault : option_fault os left s b ≡ why u s b
+  pub fault : option_fault os left s b ≡ first_fault u s b
 
 option_of : (format : Format) (os : Options) (left k s : ℕ) (u : SszType) (b : List ℕ)
     → AreLegalOptions format os → option_type os left ≡ Some u
@@ -81,7 +81,7 @@ option_of format (option t os) zero k s u b legal e =
       value = ap (λ v. chosen k (value_in v b)) type;
       length = λ v. ap (λ w. size w v) type;
       legal = subst (IsLegal format) type legal.0;
-      fault = ap (λ v. why v s b) type;
+      fault = ap (λ v. first_fault v s b) type;
     }
 option_of format (none_option os) (suc left) k s u b legal e =
     let more = option_of format os left k s u b legal e in
@@ -94,7 +94,7 @@ rest_is_input : (k : ℕ) (b : List ℕ) → IsInput (k ∷ b) → IsInput b
 rest_is_input k b h = record { bytes = λ i. h.bytes (suc i); short = omega (arith, h.short) }
 
 option_at : (format : Format) (os : Options) (k j : ℕ) (u : SszType) (b : List ℕ)
-    → AreLegalOptions format os → IsInput (k ∷ b) → why (union os) 0 (k ∷ b) ≡ None
+    → AreLegalOptions format os → IsInput (k ∷ b) → first_fault (union os) 0 (k ∷ b) ≡ None
     → option_type os j ≡ Some u → eqb k j ≡ true
     → IsPart (union os) u (k ∷ b) (Chosen j) (Bytes 1 (length (k ∷ b)))
 option_at format os k j u b legal input h e same =
@@ -115,12 +115,12 @@ option_at format os k j u b legal input h e same =
       holds = record {
         up = omega arith;
         inside = omega arith;
-        faultless = ap (why u 0) rest ∙ none;
+        faultless = ap (first_fault u 0) rest ∙ none;
       };
     }
 
 pub option_leads : (format : Format) (os : Options) (j : ℕ) (u : SszType) (b : List ℕ)
-    → AreLegalOptions format os → IsInput b → why (union os) 0 b ≡ None
+    → AreLegalOptions format os → IsInput b → first_fault (union os) 0 b ≡ None
     → option_type os j ≡ Some u
     → IsAnswer (union os) u b (Chosen j)
     (cond (eqb (get_or b 0 0) j) (Some (Bytes 1 (length b))) None)

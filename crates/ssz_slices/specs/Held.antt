@@ -10,7 +10,7 @@ use Rattle.ssz_bytes.specs.Faults.{bitlist_length}
 use Rattle.ssz_schema.specs.Paths.{field_type, field_number}
 use Rattle.ssz_value.specs.Values.{SszValue, number, truth}
 use Rattle.ssz_value.specs.Encoding.{heads_length}
-use Rattle.ssz_value.specs.Faults.{why, element_count}
+use Rattle.ssz_value.specs.Faults.{first_fault, element_count}
 use Rattle.ssz_value.specs.Reading.{value_in}
 use Rattle.ssz_parts.specs.Ranges.{part_range}
 use Rattle.ssz_slices.specs.declared.held.Held.{Held}
@@ -33,13 +33,13 @@ held_span (Count n) = None
 pub record IsStretch (t : SszType) (b : List ℕ) (from to : ℕ) : Type 0 where
   pub up : from ≤ to
   pub inside : to ≤ length b
-  pub faultless : why t 0 (slice_range b from to) ≡ None
+  pub faultless : first_fault t 0 (slice_range b from to) ≡ None
 
 -- what is held is a part of this type: a stretch of the bytes, a bit or a length
-abbrev pub Holds : SszType → List ℕ → Held → Type 0
-Holds t b (Bytes from to) = IsStretch t b from to
-Holds t b (Bit bit) = t ≡ boolean
-Holds t b (Count n) = t ≡ uint W64
+abbrev pub HeldHasType : SszType → List ℕ → Held → Type 0
+HeldHasType t b (Bytes from to) = IsStretch t b from to
+HeldHasType t b (Bit bit) = t ≡ boolean
+HeldHasType t b (Count n) = t ≡ uint W64
 
 -- Below, the bytes have no fault.
 
@@ -66,28 +66,28 @@ abbrev pub bit_held : ℕ → ℕ → List ℕ → Option Held
 bit_held n i b = if nat_lt i n then Some (Bit (le_number b / 2 ^ i % 2 == 1)) else None
 
 -- the part to which a step that fits leads, if it is present
-abbrev pub held_at : SszType → List ℕ → PathStep → Option Held
-held_at (container fs) b (Field name) =
+abbrev pub held_at_step : SszType → List ℕ → PathStep → Option Held
+held_at_step (container fs) b (Field name) =
     if is_some (field_type fs name)
     then Some (stretch (field_range (part_sizes fs) (field_number fs name) b))
     else None
-held_at (vector elem n) b (Index i) = element_held (fixed_size elem) n i b
-held_at (list elem limit) b (Index i) =
+held_at_step (vector elem n) b (Index i) = element_held (fixed_size elem) n i b
+held_at_step (list elem limit) b (Index i) =
     element_held (fixed_size elem) (element_count (fixed_size elem) b) i b
-held_at (list elem limit) b Len = Some (Count (element_count (fixed_size elem) b))
-held_at (bitvector n) b (Index i) = bit_held n i b
-held_at (bitlist limit) b (Index i) = bit_held (bitlist_length b) i b
-held_at (bitlist limit) b Len = Some (Count (bitlist_length b))
-held_at (union os) b Selector = Some (Bytes 0 1)
-held_at (union os) b (Chosen k) =
+held_at_step (list elem limit) b Len = Some (Count (element_count (fixed_size elem) b))
+held_at_step (bitvector n) b (Index i) = bit_held n i b
+held_at_step (bitlist limit) b (Index i) = bit_held (bitlist_length b) i b
+held_at_step (bitlist limit) b Len = Some (Count (bitlist_length b))
+held_at_step (union os) b Selector = Some (Bytes 0 1)
+held_at_step (union os) b (Chosen k) =
     if slice_index b 0 == k then Some (Bytes 1 (length b)) else None
-held_at _ _ _ = None
+held_at_step _ _ _ = None
 
 -- of a part of bytes that begin at from
-abbrev pub moved : ℕ → Held → Held
-moved from (Bytes start end) = Bytes (from + start) (from + end)
-moved from (Bit bit) = Bit bit
-moved from (Count n) = Count n
+abbrev pub held_moved : ℕ → Held → Held
+held_moved from (Bytes start end) = Bytes (from + start) (from + end)
+held_moved from (Bit bit) = Bit bit
+held_moved from (Count n) = Count n
 
 abbrev pub HasRoom : ℕ → Held → Type 0
 HasRoom from (Bytes start end) = (from + start < 2 ^ 64) × (from + end < 2 ^ 64)
@@ -96,5 +96,5 @@ HasRoom from _ = Unit {0}
 -- the same from a part of the bytes, if that is present
 abbrev pub held_from : SszType → List ℕ → PathStep → Option Held → Option Held
 held_from t b step (Some (Bytes from to)) =
-    option_map (moved from) (held_at t (slice_range b from to) step)
+    option_map (held_moved from) (held_at_step t (slice_range b from to) step)
 held_from t b step _ = None

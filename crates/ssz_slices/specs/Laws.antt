@@ -8,11 +8,11 @@ use Rattle.ssz_bytes.specs.Bytes.{IsBytes}
 use Rattle.ssz_schema.specs.Legal.{IsLegal}
 use Rattle.ssz_schema.specs.Paths.{Path, path_type, step_type}
 use Rattle.ssz_value.specs.Values.{SszValue}
-use Rattle.ssz_value.specs.Encoding.{enc}
+use Rattle.ssz_value.specs.Encoding.{serialize}
 use Rattle.ssz_value.specs.Parts.{part}
 use Rattle.ssz_value.specs.Laws.{Encodes}
-use Rattle.ssz_slices.specs.Place.{Span, place}
-use Rattle.ssz_slices.specs.Part.{bytes_at}
+use Rattle.ssz_slices.specs.Place.{Span, span_of_part}
+use Rattle.ssz_slices.specs.Part.{span_bytes}
 
 -- where a part of a value has a place in its encoding, the encoding of the part stands there
 abbrev pub PlacesHoldEncodings : Type 0
@@ -20,8 +20,8 @@ PlacesHoldEncodings =
     (format : Format) (t : SszType) (v : SszValue) (path : Path) (u : SszType) (w : SszValue)
     (span : Span) (b : List ℕ)
     → IsLegal format t → IsBytes b → length b < 2 ^ 32 → Encodes t v b
-    → path_type t path ≡ Some u → part t v path ≡ Some w → place t v path ≡ Some span
-    → bytes_at b span ≡ enc u w
+    → path_type t path ≡ Some u → part t v path ≡ Some w → span_of_part t v path ≡ Some span
+    → span_bytes b span ≡ serialize u w
 
 -- a step to a bit or to a length
 abbrev pub is_inner : SszType → PathStep → Bool
@@ -43,4 +43,4 @@ PlacesAreThere =
     (format : Format) (t : SszType) (v : SszValue) (path : Path) (u : SszType) (w : SszValue)
     (b : List ℕ) → IsLegal format t → IsBytes b → length b < 2 ^ 32 → Encodes t v b
     → path_type t path ≡ Some u → part t v path ≡ Some w
-    → is_some (place t v path) ≡ not (ends_inside t path)
+    → is_some (span_of_part t v path) ≡ not (ends_inside t path)

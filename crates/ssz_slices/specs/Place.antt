@@ -53,9 +53,10 @@ abbrev pub within : Span → Span → Span
 within outer inner = (outer.0 + inner.0, inner.1)
 
 -- the stretch of the part at a path that fits the type, if the part is present
-abbrev pub place : SszType → SszValue → Path → Option Span
-place t v [] = Some (0, size t v)
-place t v (step ∷ path) =
+abbrev pub span_of_part : SszType → SszValue → Path → Option Span
+span_of_part t v [] = Some (0, size t v)
+span_of_part t v (step ∷ path) =
     option_and_then (λ span. option_and_then (λ u. option_and_then
-    (λ w. option_map (within span) (place u w path)) (step_part t v step)) (step_type t step))
+    (λ w. option_map (within span) (span_of_part u w path)) (step_part t v step))
+    (step_type t step))
     (step_span t v step)

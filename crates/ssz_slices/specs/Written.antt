@@ -3,7 +3,7 @@ use Rattle.std.specs.Prelude.{ℕ, List}
 use Rattle.ssz_slices.specs.declared.encoding.Encoding.{Encoding}
 use Rattle.ssz_slices.specs.declared.encoding.Encoding.TheVariants.{Lent, Bit, Length}
 
-abbrev pub written : Encoding → List ℕ
-written (Lent bytes) = bytes.now
-written (Bit bytes) = bytes
-written (Length bytes) = bytes
+abbrev pub encoding_written : Encoding → List ℕ
+encoding_written (Lent bytes) = bytes.now
+encoding_written (Bit bytes) = bytes
+encoding_written (Length bytes) = bytes

@@ -3,9 +3,9 @@ ghost use Rattle.std.specs.Prelude.{◌≡◌, ◌*◌, ◌<◌, ◌^◌, length
 ghost use Rattle.ssz_schema.specs.Types.{bitlist};
 ghost use Rattle.ssz_schema.specs.Unfolding.{type_of};
 ghost use Rattle.ssz_bytes.specs.Faults.{bitlist_length};
-ghost use Rattle.ssz_value.specs.Faults.{why};
+ghost use Rattle.ssz_value.specs.Faults.{first_fault};
 ghost use Rattle.ssz_value.specs.Reading.{value_in};
-ghost use Rattle.ssz_slices.specs.Part.{len_of, selector_of, uint_of, boolean_of};
+ghost use Rattle.ssz_slices.specs.Part.{part_len, selector_of, uint_of, boolean_of};
 
 use ssz_basic::{read_bitlist, read_uint};
 use ssz_parts::element_count;
@@ -14,7 +14,7 @@ use ssz_schema::{Schema, Ty, TypeId, Width};
 /// How many bits a bitlist has.
 pub fn bitlist_len(limit: u64, bytes: &[u8]) -> u64
     requires short { length bytes.now < 2 ^ 32 }
-    requires faultless { why (bitlist limit) 0 bytes.now ≡ None }
+    requires faultless { first_fault (bitlist limit) 0 bytes.now ≡ None }
     ensures exact { result ≡ bitlist_length bytes.now }
     ensures room { result < 8 * length bytes.now }
 {
@@ -29,8 +29,8 @@ pub fn bitlist_len(limit: u64, bytes: &[u8]) -> u64
 pub fn len_in(schema: &Schema, id: TypeId, bytes: &[u8]) -> Option<u64>
     requires known { id < length schema.now.trees }
     requires short { length bytes.now < 2 ^ 32 }
-    requires faultless { why (type_of schema.now id) 0 bytes.now ≡ None }
-    ensures { let t = type_of schema.now id in result ≡ len_of t (value_in t bytes.now) }
+    requires faultless { first_fault (type_of schema.now id) 0 bytes.now ≡ None }
+    ensures { let t = type_of schema.now id in result ≡ part_len t (value_in t bytes.now) }
 {
     match schema.ty(id) {
         Ty::Vector(_, n) => Some(*n),
@@ -45,7 +45,7 @@ pub fn len_in(schema: &Schema, id: TypeId, bytes: &[u8]) -> Option<u64>
 pub fn selector_in(schema: &Schema, id: TypeId, bytes: &[u8]) -> Option<u8>
     requires known { id < length schema.now.trees }
     requires short { length bytes.now < 2 ^ 32 }
-    requires faultless { why (type_of schema.now id) 0 bytes.now ≡ None }
+    requires faultless { first_fault (type_of schema.now id) 0 bytes.now ≡ None }
     ensures { let t = type_of schema.now id in result ≡ selector_of t (value_in t bytes.now) }
 {
     match schema.ty(id) {
@@ -58,7 +58,7 @@ pub fn selector_in(schema: &Schema, id: TypeId, bytes: &[u8]) -> Option<u8>
 pub fn uint_in(schema: &Schema, id: TypeId, bytes: &[u8]) -> Option<u128>
     requires known { id < length schema.now.trees }
     requires short { length bytes.now < 2 ^ 32 }
-    requires faultless { why (type_of schema.now id) 0 bytes.now ≡ None }
+    requires faultless { first_fault (type_of schema.now id) 0 bytes.now ≡ None }
     ensures { let t = type_of schema.now id in result ≡ uint_of t (value_in t bytes.now) }
 {
     match schema.ty(id) {
@@ -72,7 +72,7 @@ pub fn uint_in(schema: &Schema, id: TypeId, bytes: &[u8]) -> Option<u128>
 pub fn boolean_in(schema: &Schema, id: TypeId, bytes: &[u8]) -> Option<bool>
     requires known { id < length schema.now.trees }
     requires short { length bytes.now < 2 ^ 32 }
-    requires faultless { why (type_of schema.now id) 0 bytes.now ≡ None }
+    requires faultless { first_fault (type_of schema.now id) 0 bytes.now ≡ None }
     ensures { let t = type_of schema.now id in result ≡ boolean_of t (value_in t bytes.now) }
 {
     match schema.ty(id) {

@@ -1,11 +1,11 @@
 ghost use Rattle.std.specs.Prelude.{◌≡◌, ◌<◌, ◌^◌, [], ◌∷◌, length, None, IfOk, IfSome, Option, option_map};
 ghost use Rattle.ssz_schema.specs.declared.path.PathStep.TheVariants.{Field, Index, Option as Chosen};
 ghost use Rattle.ssz_schema.specs.Unfolding.{type_of};
-ghost use Rattle.ssz_value.specs.Encoding.{enc};
-ghost use Rattle.ssz_value.specs.Faults.{why};
+ghost use Rattle.ssz_value.specs.Encoding.{serialize};
+ghost use Rattle.ssz_value.specs.Faults.{first_fault};
 ghost use Rattle.ssz_value.specs.Laws.{Encodes};
-ghost use Rattle.ssz_slices.specs.Written.{written};
-ghost use Rattle.ssz_slices.specs.Part.{opened, whole, reached, bytes_at, len_of, selector_of, uint_of, boolean_of};
+ghost use Rattle.ssz_slices.specs.Written.{encoding_written};
+ghost use Rattle.ssz_slices.specs.Part.{opened, whole, part_reached, span_bytes, part_len, selector_of, uint_of, boolean_of};
 
 use super::encoding::{Encoding, bit_encoding, length_encoding};
 use super::held::Held;
@@ -37,9 +37,9 @@ impl<'s, 'b> Model for Slice<'s, 'b> {
 
     ghost coded = { coded_part };
 
-    ghost use Rattle.ssz_slices.specs.Inside.{part_of, IsSlice};
+    ghost use Rattle.ssz_slices.specs.Inside.{part_inside, IsSlice};
 
-    ghost view = { part_of };
+    ghost view = { part_inside };
 
     ghost invariant = { IsSlice };
 }
@@ -67,7 +67,7 @@ impl<'s, 'b> Slice<'s, 'b> {
     pub fn whole(schema: &'s Schema, id: TypeId, bytes: &'b [u8]) -> Slice<'s, 'b>
         requires known { id < length schema.now.trees }
         requires short { length bytes.now < 2 ^ 32 }
-        requires faultless { why (type_of schema.now id) 0 bytes.now ≡ None }
+        requires faultless { first_fault (type_of schema.now id) 0 bytes.now ≡ None }
         ensures exact { result ≡ whole (type_of schema.now id) bytes.now }
         ensures encodes { Encodes result.form result.value bytes.now }
     {
@@ -87,7 +87,7 @@ impl<'s, 'b> Slice<'s, 'b> {
     /// Absent exactly where an element or bit is not below the length, or an option is not the
     /// present one.
     pub fn at(&self, path: &[PathStep]) -> Result<Slice<'s, 'b>, PathFault>
-        ensures { result ≡ reached self.now path.now }
+        ensures { result ≡ part_reached self.now path.now }
     {
         let mut id = self.id;
         let mut held = Some(self.held);
@@ -111,7 +111,7 @@ impl<'s, 'b> Slice<'s, 'b> {
 
     /// The field of this name, or BadPath exactly where there is none.
     pub fn field(&self, name: &str) -> Result<Slice<'s, 'b>, PathFault>
-        ensures { result ≡ reached self.now (Field name.now ∷ []) }
+        ensures { result ≡ part_reached self.now (Field name.now ∷ []) }
     {
         let Held::Bytes(from, to) = self.held else {
             return Err(PathFault::BadPath);
@@ -131,7 +131,7 @@ impl<'s, 'b> Slice<'s, 'b> {
     /// bitvector or the limit of a list or bitlist, and for other types; then Absent where it is
     /// not below the length.
     pub fn item(&self, index: u64) -> Result<Slice<'s, 'b>, PathFault>
-        ensures { result ≡ reached self.now (Index index ∷ []) }
+        ensures { result ≡ part_reached self.now (Index index ∷ []) }
     {
         self.at(&[PathStep::Index(index)])
     }
@@ -139,7 +139,7 @@ impl<'s, 'b> Slice<'s, 'b> {
     /// The value of a union, where its selector is this one. BadPath where the type has no option
     /// of this number with a type; then Absent where another one is present.
     pub fn option(&self, selector: u8) -> Result<Slice<'s, 'b>, PathFault>
-        ensures { result ≡ reached self.now (Chosen selector ∷ []) }
+        ensures { result ≡ part_reached self.now (Chosen selector ∷ []) }
     {
         self.at(&[PathStep::Option(selector)])
     }
@@ -148,9 +148,9 @@ impl<'s, 'b> Slice<'s, 'b> {
     /// exactly for a bit and for a length, which have no place.
     pub fn bytes(&self) -> Option<&'b [u8]>
         ensures place { option_map (λ bytes. bytes.now) result
-            ≡ option_map (bytes_at self.now.input) self.now.place }
+            ≡ option_map (span_bytes self.now.input) self.now.place }
         ensures encoding { IfSome result (λ bytes.
-            bytes.now ≡ enc self.now.form self.now.value) }
+            bytes.now ≡ serialize self.now.form self.now.value) }
     {
         match self.held {
             Held::Bytes(from, to) => Some(&self.input[from..to]),
@@ -161,7 +161,7 @@ impl<'s, 'b> Slice<'s, 'b> {
     /// The encoding of the part: its bytes of the input, and those of a bit or a length, which have
     /// none there, made.
     pub fn encoding(&self) -> Encoding<'b>
-        ensures { written result ≡ enc self.now.form self.now.value }
+        ensures { encoding_written result ≡ serialize self.now.form self.now.value }
     {
         match self.held {
             Held::Bytes(from, to) => Encoding::Lent(&self.input[from..to]),
@@ -183,7 +183,7 @@ impl<'s, 'b> Slice<'s, 'b> {
     /// How many elements or bits it has. None exactly where it is no vector, list, bitvector or
     /// bitlist.
     pub fn len(&self) -> Option<u64>
-        ensures { result ≡ len_of self.now.form self.now.value }
+        ensures { result ≡ part_len self.now.form self.now.value }
     {
         match self.held {
             Held::Bytes(from, to) => len_in(self.schema, self.id, &self.input[from..to]),

@@ -5,7 +5,7 @@ use Rattle.std.specs.Prelude.{IsTrue}
 use Rattle.std.specs.List.{AllByRecursion}
 use Rattle.ssz_chunk.specs.Chunk.{CountsUp}
 use Rattle.ssz_outside.specs.Content.{Content}
-use Rattle.ssz_outside.specs.Job.{CountsRun, Job, Ends, Finishes, IsFinished, StandsAt}
+use Rattle.ssz_outside.specs.Job.{CountsRun, Job, Ends, Finishes, IsFinished, JobStandsAt}
 use Rattle.ssz_outside.specs.Outcome.{Rose}
 use Rattle.ssz_outside.proofs.Finishing.{Finishes-quiet}
 use Rattle.ssz_outside.specs.Pieces.{Told}
@@ -24,15 +24,15 @@ use Rattle.ssz_machine.specs.Machine.{Turn, step, state_of}
 use Rattle.ssz_machine.specs.Plays.{Event, says as speaks, adopts, adopted, all_of, numbers_after, play}
 use Rattle.ssz_machine.specs.Jobs.{script_job, turns_of_script}
 use Rattle.ssz_machine.proofs.Endings.{ends_after_reading}
-use Rattle.ssz_machine.specs.Counts.{number_at}
+use Rattle.ssz_machine.specs.Counts.{turn_number_at}
 use Rattle.ssz_machine.proofs.Ledgers.{ledgers_count_lem}
 use Rattle.ssz_decisions.specs.Content.{rules_of as engine_rules}
 use Rattle.ssz_decisions.specs.Standing.{StandsFor}
-use Rattle.ssz_engine.specs.Scripts.{EndsRun, EndsScript, HasCounts, IsFresh, Scene}
+use Rattle.ssz_engine.specs.Scripts.{EndsRun, EndsScript, HasCounts, IsFreshScene, Scene}
 use Rattle.ssz_engine.proofs.Reaching.{same_charges}
 use Rattle.ssz_engine.proofs.Replies.{said_number}
 use Rattle.ssz_engine.proofs.Scripts.{told_append-none}
-use Rattle.ssz_tool.specs.Runs.{Does, job_of_line, job_of_print, job_of_task, pairs_of_task, reached_of_task, rules_of, turns_of_task}
+use Rattle.ssz_tool.specs.Runs.{JobDoes, job_of_line, job_of_print, job_of_task, pairs_of_task, reached_of_task, run_rules, turns_of_task}
 use Rattle.ssz_tool.specs.Tasks.{DoesSame}
 use Rattle.ssz_tool.specs.declared.line.Line.{Line}
 use Rattle.ssz_tool.specs.ToDo.{Printed, printed, Task, prints, plays, weaves, works, plays_tree}
@@ -46,7 +46,7 @@ zero_table first = record { rises = omega arith; at_most = omega arith; exact = 
 pub line_does : (ample : Bool) (held : Content) (reads : Bool) (made : Printed) (ended : Status)
     (first last : ℕ) (old new : Told) → Ends ample ended (job_of_print held reads made) old new
     (Some held)
-    → Does (λ numbers. job_of_print held reads made) (λ numbers. []) ended first last
+    → JobDoes (λ numbers. job_of_print held reads made) (λ numbers. []) ended first last
     (λ job. Ends ample ended job old new (Some held))
 line_does ample held reads made ended first last old new ends = record {
   numbers = [];
@@ -60,7 +60,7 @@ line_does ample held reads made ended first last old new ends = record {
 pub line_does_as : (ample : Bool) (held : Content) (reads : Bool) (line wanted : Line)
     (ended : Status) (first last : ℕ) (old new : Told) → line ≡ wanted
     → Ends ample ended (job_of_line held reads line) old new (Some held)
-    → Does (λ numbers. job_of_line held reads wanted) (λ numbers. []) ended first last
+    → JobDoes (λ numbers. job_of_line held reads wanted) (λ numbers. []) ended first last
     (λ job. Ends ample ended job old new (Some held))
 line_does_as ample held reads line wanted ended first last old new is ends =
     line_does ample held reads (printed wanted) ended first last old new
@@ -70,7 +70,7 @@ line_does_as ample held reads line wanted ended first last old new is ends =
 pub print_does : (ample : Bool) (pair_of : PairOf) (held : Content) (reads : Bool)
     (made : PairOf → Printed) (most : ℕ) (ended : Status) (first last : ℕ) (old new : Told)
     → Ends ample ended (job_of_print held reads (made pair_of)) old new (Some held)
-    → Does (λ numbers. job_of_task pair_of numbers held reads (prints made most))
+    → JobDoes (λ numbers. job_of_task pair_of numbers held reads (prints made most))
     (λ numbers. turns_of_task pair_of numbers held (prints made most)) ended first last
     (λ job. Ends ample ended job old new (Some held))
 print_does ample pair_of held reads made most ended first last old new ends = record {
@@ -85,7 +85,7 @@ pub said_does : (ample : Bool) (pair_of : PairOf) (held : Content) (reads : Bool
     (made : PairOf → Printed) (most : ℕ) (ended : Status) (first last : ℕ) (old new : Told)
     (left : Option Content) → task ≡ prints made most → left ≡ Some held
     → Ends ample ended (job_of_print held reads (made pair_of)) old new (Some held)
-    → Does (λ numbers. job_of_task pair_of numbers held reads task)
+    → JobDoes (λ numbers. job_of_task pair_of numbers held reads task)
     (λ numbers. turns_of_task pair_of numbers held task) ended first last
     (λ job. Ends ample ended job old new left)
 said_does ample pair_of held reads task made most ended first last old new left is told ends =
@@ -94,7 +94,7 @@ said_does ample pair_of held reads task made most ended first last old new left 
 -- before its first step a job has printed nothing, and the files are as they were
 pub stands_first : (pair_of : PairOf) (numbers : List ℕ) (held : Content) (reads : Bool)
     (task : Task) (told : Told)
-    → StandsAt ((job_of_task pair_of numbers held reads task).at 0) told told (Some held)
+    → JobStandsAt ((job_of_task pair_of numbers held reads task).at 0) told told (Some held)
 stands_first pair_of numbers held reads (prints made most) told =
     record { printed = told_append-none told; held = refl }
 stands_first pair_of numbers held reads (plays type_named most script) told =
@@ -121,7 +121,7 @@ no_number Run other = search
 no_number Weave other = refl
 
 zero_numbers : (rules : Rules) (place : Place) (state : State) (events : List Event) (i n : ℕ)
-    → number_at (play rules place [] state events) i ≡ Some n → n ≡ 0
+    → turn_number_at (play rules place [] state events) i ≡ Some n → n ≡ 0
 zero_numbers rules place state [] i n said = let differ : None ≡ Some n = said in cc
 zero_numbers rules place state (adopts writer ∷ events) i n said =
     zero_numbers rules place (adopted writer state) events i n said
@@ -130,7 +130,7 @@ zero_numbers rules place state (speaks writer line ∷ events) zero n said =
 zero_numbers rules place state (speaks writer line ∷ events) (suc i) n said =
     let turn = step rules place 0 state writer line in
     zero_numbers rules place (state_of turn) events i n
-    (subst (λ numbers. number_at (play rules place numbers (state_of turn) events) i ≡ Some n)
+    (subst (λ numbers. turn_number_at (play rules place numbers (state_of turn) events) i ≡ Some n)
     (no_number place line.1) said)
 
 -- and so they are counts where nothing was hashed yet
@@ -153,9 +153,9 @@ first_counts : (pair_of : PairOf) (held : Content) (task : Task) (ended : Status
     → ¬ IsFinished ended → HasCounts ended (turns_of_task pair_of [] held task) rise
 first_counts pair_of held (prints made most) ended rise stopped = no_counts ended rise
 first_counts pair_of held (plays type_named most script) ended rise stopped =
-    zero_counts (rules_of pair_of type_named most) (fresh held) script ended rise stopped
+    zero_counts (run_rules pair_of type_named most) (fresh held) script ended rise stopped
 first_counts pair_of held (weaves type_named most base order scripts) ended rise stopped =
-    weave_counts (rules_of pair_of type_named most) (fresh held) base order scripts ended rise
+    weave_counts (run_rules pair_of type_named most) (fresh held) base order scripts ended rise
 first_counts pair_of held (works type_named type_name seed count) ended rise stopped =
     no_counts ended rise
 first_counts pair_of held (plays_tree t lists script) ended rise stopped = no_counts ended rise
@@ -171,7 +171,7 @@ module _ (ample : Bool) (pair_of : PairOf) (held : Content) (reads : Bool) (task
 
   begun : (ended : Status) → ¬ IsFinished ended → CountsUp 126 first base
       → Ends ample ended (job []) told told (Some held)
-      → Does job turns ended first last (λ job. Ends ample ended job told told (Some held))
+      → JobDoes job turns ended first last (λ job. Ends ample ended job told told (Some held))
   begun ended stopped zeros ends = record {
     numbers = [];
     left = ends;
@@ -181,7 +181,7 @@ module _ (ample : Bool) (pair_of : PairOf) (held : Content) (reads : Bool) (task
   }
 
   pub wants_memory_first : CountsUp 126 first base
-      → Does job turns status.Memory first last
+      → JobDoes job turns status.Memory first last
       (λ job. Ends ample status.Memory job told told (Some held))
   wants_memory_first zeros =
       begun status.Memory (λ finished. finished) zeros
@@ -189,7 +189,7 @@ module _ (ample : Bool) (pair_of : PairOf) (held : Content) (reads : Bool) (task
 
 pub fails_first : (ample : Bool) (pair_of : PairOf) (held : Content) (reads : Bool) (task : Task)
     (first last : ℕ) (told : Told) → reads ≡ true
-    → Does (λ numbers. job_of_task pair_of numbers held reads task)
+    → JobDoes (λ numbers. job_of_task pair_of numbers held reads task)
     (λ numbers. turns_of_task pair_of numbers held task) status.ReadFault first last
     (λ job. Ends ample status.ReadFault job told told (Some held))
 fails_first ample pair_of held reads task first last told is =
@@ -204,9 +204,9 @@ fails_first ample pair_of held reads task first last told is =
 -- tasks that do the same end in the same way
 pub does_same : (pair_of : PairOf) (held : Content) (reads : Bool) (meant made : Task)
     (ended : Status) (first last : ℕ) (Left : Job → Type 0) → DoesSame meant made
-    → Does (λ numbers. job_of_task pair_of numbers held reads made)
+    → JobDoes (λ numbers. job_of_task pair_of numbers held reads made)
     (λ numbers. turns_of_task pair_of numbers held made) ended first last Left
-    → Does (λ numbers. job_of_task pair_of numbers held reads meant)
+    → JobDoes (λ numbers. job_of_task pair_of numbers held reads meant)
     (λ numbers. turns_of_task pair_of numbers held meant) ended first last Left
 does_same pair_of held reads meant made ended first last Left same does = record {
   numbers = does.numbers;
@@ -221,10 +221,10 @@ does_same pair_of held reads meant made ended first last Left same does = record
 pub does_quietly : (ample : Bool) (job : List ℕ → Job) (turns : List ℕ → List Turn)
     (ended : Status) (first last : ℕ) (old new : Told) (left : Option Content)
     (gets gets_now puts puts_now sinks sinks_now : ℕ)
-    → Does job turns ended first last (λ job. Ends ample ended job old new left)
+    → JobDoes job turns ended first last (λ job. Ends ample ended job old new left)
     → CountsRun ended gets gets_now puts puts_now sinks sinks_now → ¬ Rose gets gets_now
     → ¬ Rose puts puts_now → ¬ Rose sinks sinks_now → ended ≢ status.Memory
-    → Does job turns ended first last (λ job. Finishes job ended old new left)
+    → JobDoes job turns ended first last (λ job. Finishes job ended old new left)
 does_quietly ample job turns ended first last old new left gets gets_now puts puts_now sinks
     sinks_now does counts no_get no_put no_sink memory = record {
       numbers = does.numbers;
@@ -250,10 +250,10 @@ all_front P (x ∷ xs) ys all = (all.0, all_front P xs ys all.1)
 module _ (pair_of : PairOf) (schema : Types) (most : ℕ) (held : Content) (script : List ℕ)
     (ended : Status) (before after : Scene) (types : before.engine.types ≡ schema)
     (limit : before.engine.most ≡ most) (stands : StandsFor before.engine (λ writer. []))
-    (told : before.told ≡ Some held) (new : IsFresh before)
+    (told : before.told ≡ Some held) (new : IsFreshScene before)
     (ends : EndsScript pair_of script ended before after) where
   abbrev rules : Rules
-  rules = rules_of pair_of (known_in schema) most
+  rules = run_rules pair_of (known_in schema) most
 
   same : engine_rules pair_of before.engine ≡ rules
   same = rw (types, limit) refl
@@ -264,7 +264,7 @@ module _ (pair_of : PairOf) (schema : Types) (most : ℕ) (held : Content) (scri
 
   -- what it left is of the task's job
   pub script_does : (reads : Bool) (first : ℕ) → CountsUp 126 first before.hashed
-      → Does (λ numbers. job_of_task pair_of numbers held reads
+      → JobDoes (λ numbers. job_of_task pair_of numbers held reads
       (plays (known_in schema) most script))
       (λ numbers. turns_of_task pair_of numbers held (plays (known_in schema) most script)) ended
       first after.hashed (λ job. Ends before.ample ended job before.pieces after.pieces after.told)

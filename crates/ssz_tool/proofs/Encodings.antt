@@ -5,9 +5,9 @@ use Rattle.std.proofs.lemmas.Bool.{lt-ltb, le-ltb}
 use Rattle.ssz_bytes.specs.declared.fault.Fault.{Fault}
 use Rattle.ssz_schema.specs.Paths.{Path, path_type}
 use Rattle.ssz_schema.specs.Types.{SszType}
-use Rattle.ssz_slices.specs.Part.{Part, opened, reached, whole, with_value}
-use Rattle.ssz_value.specs.Encoding.{enc}
-use Rattle.ssz_value.specs.Faults.{why}
+use Rattle.ssz_slices.specs.Part.{Part, opened, part_reached, whole, with_value}
+use Rattle.ssz_value.specs.Encoding.{serialize}
+use Rattle.ssz_value.specs.Faults.{first_fault}
 use Rattle.ssz_value.specs.Parts.{or_absent, part, part_or_fault}
 use Rattle.ssz_value.specs.Reading.{value_in}
 use Rattle.ssz_value.specs.Values.{SszValue}
@@ -19,10 +19,11 @@ use Rattle.ssz_tool.specs.declared.line.Line.TheVariants as line
 
 -- the whole of bytes that has been opened
 opened-is : (t : SszType) (b : List ℕ) (found : Part) → Ok found ≡ opened t b
-    → (why t 0 b ≡ None) × (found ≡ whole t b)
-opened-is t b found is = by (why t 0 b) refl
+    → (first_fault t 0 b ≡ None) × (found ≡ whole t b)
+opened-is t b found is = by (first_fault t 0 b) refl
   where
-    by : (o : Option Fault) → why t 0 b ≡ o → (why t 0 b ≡ None) × (found ≡ whole t b)
+    by : (o : Option Fault) → first_fault t 0 b ≡ o
+        → (first_fault t 0 b ≡ None) × (found ≡ whole t b)
     by None none =
         let at : Ok found ≡ Ok (whole t b) = is ∙ rw none refl in
         let same : found ≡ whole t b = cc in
@@ -41,7 +42,7 @@ module _ (t : SszType) (b : List ℕ) (path : Path) (form : SszType)
     (fits : path_type t path ≡ Some form) where
   -- that the path fits is tested first
   reached-by : (o : Option SszValue) → part t (value_in t b) path ≡ o
-      → reached (whole t b) path
+      → part_reached (whole t b) path
       ≡ result_map_both (with_value (whole t b) path) (λ fault. fault) (or_absent o)
   reached-by o is =
       let fitting : part_or_fault t (value_in t b) path ≡ or_absent (part t (value_in t b) path) =
@@ -49,7 +50,7 @@ module _ (t : SszType) (b : List ℕ) (path : Path) (form : SszType)
       ap (λ r. result_map_both (with_value (whole t b) path) (λ fault. fault) r)
       (fitting ∙ ap or_absent is)
 
-  present : (found : Part) → Ok found ≡ reached (whole t b) path → IsFound t b path form found
+  present : (found : Part) → Ok found ≡ part_reached (whole t b) path → IsFound t b path form found
   present found is = by (part t (value_in t b) path) refl
     where
       by : (o : Option SszValue) → part t (value_in t b) path ≡ o → IsFound t b path form found
@@ -65,7 +66,7 @@ module _ (t : SszType) (b : List ℕ) (path : Path) (form : SszType)
             form_is = ap (λ (p : Part). p.form) same ∙ rw fits refl;
           }
 
-  absent : (fault : PathFault) → Err fault ≡ reached (whole t b) path
+  absent : (fault : PathFault) → Err fault ≡ part_reached (whole t b) path
       → part t (value_in t b) path ≡ None
   absent fault is = by (part t (value_in t b) path) refl
     where
@@ -82,9 +83,9 @@ module _ (most : ℕ) (whole_type form : SszType) (path : Path) (b : List ℕ) w
   pub encoding_in-fault : (fault : Fault) → Err fault ≡ opened whole_type b
       → encoding_in most whole_type form path b ≡ refuses (line.Invalid fault)
   unfolding encoding_in ◌>>=◌
-  encoding_in-fault fault is = by (why whole_type 0 b) refl
+  encoding_in-fault fault is = by (first_fault whole_type 0 b) refl
     where
-      by : (o : Option Fault) → why whole_type 0 b ≡ o
+      by : (o : Option Fault) → first_fault whole_type 0 b ≡ o
           → encoding_in most whole_type form path b ≡ refuses (line.Invalid fault)
       by None none =
           let at : Err fault ≡ Ok (whole whole_type b) = is ∙ rw none refl in
@@ -96,41 +97,41 @@ module _ (most : ℕ) (whole_type form : SszType) (path : Path) (b : List ℕ) w
 
   module _ (found : Part) (fits : path_type whole_type path ≡ Some form)
       (is : Ok found ≡ opened whole_type b) where
-    pub encoding_in-absent : (fault : PathFault) → Err fault ≡ reached found path
+    pub encoding_in-absent : (fault : PathFault) → Err fault ≡ part_reached found path
         → encoding_in most whole_type form path b ≡ refuses line.Absent
     unfolding encoding_in ◌>>=◌
     encoding_in-absent fault none =
         let whole_is = opened-is whole_type b found is in
         let gone = absent whole_type b path form fits fault
-        (none ∙ ap (λ (p : Part). reached p path) whole_is.1) in
+        (none ∙ ap (λ (p : Part). part_reached p path) whole_is.1) in
         rw (whole_is.0, gone) refl
 
-    pub encoding_in-long : (there : Part) → Ok there ≡ reached found path
-        → most < length (enc there.form there.value)
+    pub encoding_in-long : (there : Part) → Ok there ≡ part_reached found path
+        → most < length (serialize there.form there.value)
         → encoding_in most whole_type form path b ≡ refuses line.TooLong
     unfolding encoding_in ◌>>=◌
     encoding_in-long there at long =
         let whole_is = opened-is whole_type b found is in
         let present_is = present whole_type b path form fits there
-        (at ∙ ap (λ (p : Part). reached p path) whole_is.1) in
+        (at ∙ ap (λ (p : Part). part_reached p path) whole_is.1) in
         rw (
           whole_is.0,
           present_is.value,
           sym present_is.form_is,
-          lt-ltb most (length (enc there.form there.value)) long,
+          lt-ltb most (length (serialize there.form there.value)) long,
         ) refl
 
-    pub encoding_in-part : (there : Part) → Ok there ≡ reached found path
-        → length (enc there.form there.value) ≤ most
-        → encoding_in most whole_type form path b ≡ gives (enc there.form there.value)
+    pub encoding_in-part : (there : Part) → Ok there ≡ part_reached found path
+        → length (serialize there.form there.value) ≤ most
+        → encoding_in most whole_type form path b ≡ gives (serialize there.form there.value)
     unfolding encoding_in ◌>>=◌
     encoding_in-part there at few =
         let whole_is = opened-is whole_type b found is in
         let present_is = present whole_type b path form fits there
-        (at ∙ ap (λ (p : Part). reached p path) whole_is.1) in
+        (at ∙ ap (λ (p : Part). part_reached p path) whole_is.1) in
         rw (
           whole_is.0,
           present_is.value,
           sym present_is.form_is,
-          le-ltb most (length (enc there.form there.value)) few,
+          le-ltb most (length (serialize there.form there.value)) few,
         ) refl

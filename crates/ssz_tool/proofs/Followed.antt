@@ -7,8 +7,8 @@ use Rattle.ssz_outside.specs.Content.{Content, contents}
 use Rattle.ssz_tool.specs.Follows.{ComesOf, ComesOfWords}
 use Rattle.ssz_tool.specs.Plans.{AreReadable, Plan, files_in, gives, reads, refuses, task_in}
 use Rattle.ssz_tool.specs.Runs.{files_by, task_by}
-use Rattle.ssz_tool.specs.Tasks.{IsReady, IsTask, task_view}
-use Rattle.ssz_tool.specs.ToDo.{Task as Meant, is_script, says}
+use Rattle.ssz_tool.specs.Tasks.{IsTaskReady, IsTask, task_view}
+use Rattle.ssz_tool.specs.ToDo.{Task as Meant, is_script, prints_line}
 use Rattle.ssz_tool.specs.declared.job.Task.{Task}
 use Rattle.ssz_tool.specs.declared.line.Line.{Line}
 use Rattle.ssz_tool.specs.declared.stop.Stop.TheVariants as stop
@@ -21,21 +21,22 @@ module _ (held : Content) (P : List ℕ → Type 0) where
   made_of (gives task) made comes = comes
   made_of (refuses said) made comes = absurd comes
   made_of (reads name most long next) made (bytes, few, is, then) =
-      subst (λ (b : List ℕ). IsTask (cond (nat_lt most (length b)) (says long)
+      subst (λ (b : List ℕ). IsTask (cond (nat_lt most (length b)) (prints_line long)
       (task_in held (next b))) made) (sym (is held refl))
       (rw (le-ltb most (length bytes) few) (made_of (next bytes) made then))
 
   -- what refused is what the plan refuses with
   said_of : (plan : Plan Meant) (said : Line)
       → ComesOf {T = Task} (Some held) P IsTask plan (Err (stop.Says said))
-      → task_in held plan ≡ says said
+      → task_in held plan ≡ prints_line said
   said_of (gives task) said comes = absurd comes
-  said_of (refuses meant) said comes = ap says (sym comes)
+  said_of (refuses meant) said comes = ap prints_line (sym comes)
   said_of (reads name most long next) said (inl (is, many)) =
-      rw (lt-ltb most (length (contents held name)) (many held refl)) (ap says (sym is))
+      rw (lt-ltb most (length (contents held name)) (many held refl)) (ap prints_line (sym is))
   said_of (reads name most long next) said (inr (bytes, few, is, then)) =
-      subst (λ (b : List ℕ). cond (nat_lt most (length b)) (says long) (task_in held (next b))
-      ≡ says said) (sym (is held refl))
+      subst (λ (b : List ℕ).
+      cond (nat_lt most (length b)) (prints_line long) (task_in held (next b))
+      ≡ prints_line said) (sym (is held refl))
       (rw (le-ltb most (length bytes) few) (said_of (next bytes) said then))
 
   -- a read failed only of a file that is reached
@@ -58,7 +59,7 @@ module _ (held : Content) (P : List ℕ → Type 0) where
 
   pub line_said : (plan : Option (Plan Meant)) (said : Line)
       → ComesOfWords {T = Task} (Some held) P IsTask plan (Err (stop.Says said))
-      → task_by held plan ≡ says said
+      → task_by held plan ≡ prints_line said
   line_said None said comes = absurd comes
   line_said (Some plan) said comes = said_of plan said comes
 
@@ -101,14 +102,14 @@ module _ (told : Option Content) (P : List ℕ → Type 0) where
       (subst (λ o. ComesOfWords {T = Task} told P IsTask o (Err stop.Read)) is comes) all
 
   ready_of : (plan : Plan Meant) (made : Task) → ComesOf told P IsTask plan (Ok made)
-      → IsReady made
+      → IsTaskReady made
   ready_of (gives task) made comes = comes.ready
   ready_of (refuses said) made comes = absurd comes
   ready_of (reads name most long next) made (bytes, few, is, then) =
       ready_of (next bytes) made then
 
   pub task_ready : (plan : Option (Plan Meant)) (made : Task)
-      → ComesOfWords told P IsTask plan (Ok made) → IsReady made
+      → ComesOfWords told P IsTask plan (Ok made) → IsTaskReady made
   task_ready None made comes = absurd comes
   task_ready (Some plan) made comes = ready_of plan made comes
 

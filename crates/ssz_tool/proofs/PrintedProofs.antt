@@ -1,14 +1,14 @@
 -- What `verify` says of a proof that a script printed.
 use Rattle.std.proofs.Common.{ℕ, ◌≡◌, ◌≤◌, ◌^◌, List, length, Some, refl, sym, ap, ◌∙◌}
 use Rattle.std.proofs.lemmas.Slice.Eq.{bytes_eq-Decides}
-use Rattle.ssz_proof.specs.Calculation.{PairOf, calculated}
+use Rattle.ssz_proof.specs.Calculation.{PairOf, calculate_root}
 use Rattle.ssz_proof.specs.Multiproof.{Multiproof, known_of}
 use Rattle.ssz_script.specs.declared.reply.Reply.{Reply}
 use Rattle.ssz_script.specs.declared.reply.Reply.TheVariants.{Proof}
 use Rattle.ssz_value.specs.Trees.{hash_tree_root}
 use Rattle.ssz_machine.specs.Rules.{Effect}
 use Rattle.ssz_machine.specs.Asking.{prove}
-use Rattle.ssz_machine.specs.Proofs.{LeadsTo}
+use Rattle.ssz_machine.specs.Proofs.{ProofLeadsTo}
 use Rattle.ssz_machine.proofs.Proving.{printed_proofs_lead_lem}
 use Rattle.ssz_tool.specs.Commands.{proof_file, verify}
 use Rattle.ssz_tool.specs.Plans.{file, task_in, ◌>>=◌}
@@ -33,18 +33,18 @@ unfolding proof_file file ◌>>=◌
 verified held args text lists is short says =
     rw (is, le-ltb (2 ^ 26) (length text) short, says) refl
 
-valid : (pair_of : PairOf) (root : List ℕ) (reply : Reply) → LeadsTo pair_of root reply
+valid : (pair_of : PairOf) (root : List ℕ) (reply : Reply) → ProofLeadsTo pair_of root reply
     → IsValidFor pair_of root reply
 valid pair_of root (Proof text) (lists, says, leads) = λ short args held same is numbers reads.
     ap (job_of_task pair_of numbers held reads) (verified held args text lists is short says)
     ∙ ap (job_of_line held reads)
-    (same_root args.root (calculated pair_of (known_of lists) 1) (leads ∙ sym same))
+    (same_root args.root (calculate_root pair_of (known_of lists) 1) (leads ∙ sym same))
 valid pair_of root reply leads = absurd leads
 
 pub printed_proofs_are_valid_lem : PrintedProofsAreValid
 printed_proofs_are_valid_lem rules format versions v indices version makes some are found sound =
     let root = hash_tree_root rules.pair_of version.type version.value in
-    IfOk-weaker (λ (e : Effect). LeadsTo rules.pair_of root e.reply)
+    IfOk-weaker (λ (e : Effect). ProofLeadsTo rules.pair_of root e.reply)
     (λ e. IsValidFor rules.pair_of root e.reply) (λ e. valid rules.pair_of root e.reply)
     (prove rules versions v indices)
     (printed_proofs_lead_lem rules format versions v indices version makes some are found sound)

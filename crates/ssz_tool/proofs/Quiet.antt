@@ -8,14 +8,14 @@ use Rattle.ssz_machine.specs.Rules.{Rules}
 use Rattle.ssz_machine.specs.Machine.{Line, Turn, reply_of, state_of, step}
 use Rattle.ssz_machine.specs.Plays.{Event, says, adopts, adopted, play, weaving}
 use Rattle.ssz_machine.specs.Jobs.{turns_of_weave}
-use Rattle.ssz_machine.specs.Counts.{number_at, number_said}
+use Rattle.ssz_machine.specs.Counts.{turn_number_at, number_said}
 use Rattle.ssz_machine.proofs.NoNumbers.{same_weave}
 use Rattle.ssz_engine.specs.Scripts.{HasCounts}
 use Rattle.ssz_engine.proofs.Replies.{said_number}
 
 -- what is so of the numbers where there is none
 pub quiet_counts : (turns : List Turn)
-    → ((i n : ℕ) → number_at turns i ≡ Some n → ⊥) → (ended : Status) (rise : ℕ)
+    → ((i n : ℕ) → turn_number_at turns i ≡ Some n → ⊥) → (ended : Status) (rise : ℕ)
     → HasCounts ended turns rise
 quiet_counts turns none ended rise = record {
   total = rise;
@@ -30,7 +30,7 @@ quiet_counts turns none ended rise = record {
   };
 }
 
-no_step : (i n : ℕ) → number_at [] i ≡ Some n → ⊥
+no_step : (i n : ℕ) → turn_number_at [] i ≡ Some n → ⊥
 no_step i n said = let differ : None ≡ Some n = said in cc
 
 pub no_counts : (ended : Status) (rise : ℕ) → HasCounts ended [] rise
@@ -52,7 +52,7 @@ module _ (rules : Rules) where
 
   -- no line of a weave prints one
   quiet_weave : (events : List Event) (state : State) (i n : ℕ)
-      → number_at (play rules Weave [] state events) i ≡ Some n → ⊥
+      → turn_number_at (play rules Weave [] state events) i ≡ Some n → ⊥
   quiet_weave [] state i n said = no_step i n said
   quiet_weave (adopts writer ∷ events) state i n said =
       quiet_weave events (adopted writer state) i n said

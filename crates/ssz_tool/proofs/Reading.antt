@@ -6,12 +6,12 @@ use Rattle.ssz_outside.specs.Content.{Content}
 use Rattle.ssz_outside.specs.declared.outside.Files.{Ghosts}
 use Rattle.ssz_schema.specs.Lookup.{lookup_name}
 use Rattle.ssz_schema.specs.Types.{SszType}
-use Rattle.ssz_schema.specs.Unfolding.{Types, number_of, type_of}
+use Rattle.ssz_schema.specs.Unfolding.{Types, type_number, type_of}
 use Rattle.ssz_schema_json.specs.Schema.{FileFault, HasTypes as HasNames, NamedTypes}
-use Rattle.ssz_tool.specs.Commands.{script_file, script_files, types_of}
-use Rattle.ssz_tool.specs.Follows.{Answers, ComesOf, CountsStop, Follows}
+use Rattle.ssz_tool.specs.Commands.{script_file, script_files, types_read}
+use Rattle.ssz_tool.specs.Follows.{AnswersPlan, ComesOf, CountsStop, Follows}
 use Rattle.ssz_tool.specs.Plans.{Plan, file, gives, need, reads, refuses, ◌>>=◌}
-use Rattle.ssz_tool.specs.Tasks.{HasItems, HasTypes}
+use Rattle.ssz_tool.specs.Tasks.{HasItems, NamesHaveTypes}
 use Rattle.ssz_tool.specs.declared.line.Line.{Line}
 use Rattle.ssz_tool.specs.declared.stop.Stop.{Stop}
 use Rattle.ssz_tool.specs.declared.stop.Stop.TheVariants as stop
@@ -19,7 +19,7 @@ use Rattle.ssz_tool.proofs.Steps.{comes_stopped, comes_then, follows_here}
 
 -- the schema that was read knows each name for the type that the file defines
 pub has_types : (schema : Types) (names : NamedTypes) → HasNames schema names
-    → HasTypes (lookup_name names.types) schema
+    → NamesHaveTypes (lookup_name names.types) schema
 has_types schema names has = fun_ext (λ name. sym (has.types name))
 
 no_some : {A : Type 0} (o : Option A) → ((x : A) → o ≡ Some x → ⊥) → o ≡ None
@@ -28,16 +28,16 @@ no_some (Some x) none = absurd (none x refl)
 
 -- so the type that was found of a name is that of the file, and where none was, there is none
 pub named : (types : List ℕ → Option SszType) (schema : Types) (word text : List ℕ) (id : ℕ)
-    → HasTypes types schema → text ≡ word → Some id ≡ number_of schema text
+    → NamesHaveTypes types schema → text ≡ word → Some id ≡ type_number schema text
     → types word ≡ Some (type_of schema id)
 named types schema word text id has same is =
-    rw has (ap (option_map (type_of schema)) (ap (number_of schema) (sym same) ∙ sym is))
+    rw has (ap (option_map (type_of schema)) (ap (type_number schema) (sym same) ∙ sym is))
 
 pub not_named : (types : List ℕ → Option SszType) (schema : Types) (word text : List ℕ)
-    (found : Option ℕ) → HasTypes types schema → text ≡ word → found ≡ number_of schema text
+    (found : Option ℕ) → NamesHaveTypes types schema → text ≡ word → found ≡ type_number schema text
     → ((id : ℕ) → found ≡ Some id → ⊥) → types word ≡ None
 not_named types schema word text found has same is none =
-    rw has (ap (option_map (type_of schema)) (ap (number_of schema) (sym same) ∙ sym is
+    rw has (ap (option_map (type_of schema)) (ap (type_number schema) (sym same) ∙ sym is
     ∙ no_some found none))
 
 -- what is so where nothing is there, and something where something is
@@ -52,7 +52,7 @@ there (Some x) is = (x, refl)
 
 -- an answer of a plan that reads no file
 pub answered : {A T : Type 0} (told : Option Content) (P : List ℕ → Type 0) (S : A → T → Type 0)
-    (plan : Plan A) (result : Result T Stop) → Answers S plan result
+    (plan : Plan A) (result : Result T Stop) → AnswersPlan S plan result
     → ComesOf told P S plan result
 answered told P S plan (Err stop.Memory) is = tt
 answered told P S (gives x) (Ok made) is = is
@@ -69,7 +69,7 @@ answered told P S (reads name most long next) (Err (stop.Says said)) is = absurd
 answered told P S (reads name most long next) (Err stop.Read) is = absurd is
 
 counted : {A T : Type 0} (S : A → T → Type 0) (plan : Plan A) (result : Result T Stop) (n : ℕ)
-    → Answers S plan result → CountsStop result n n
+    → AnswersPlan S plan result → CountsStop result n n
 counted S plan (Ok made) n is = refl
 counted S plan (Err stop.Usage) n is = refl
 counted S plan (Err (stop.Says said)) n is = refl
@@ -79,7 +79,7 @@ counted S (refuses said) (Err stop.Read) n is = absurd is
 counted S (reads name most long next) (Err stop.Read) n is = absurd is
 
 pub follows_answered : {Self A T : Type 0} (F : Ghosts Self) (S : A → T → Type 0) (plan : Plan A)
-    (result : Result T Stop) (files : Self) → Answers S plan result
+    (result : Result T Stop) (files : Self) → AnswersPlan S plan result
     → Follows F S plan result files files
 follows_answered F S plan result files is =
     follows_here F S plan result files (counted S plan result (F.get_faults files) is)
@@ -116,12 +116,12 @@ module _ (told : Option Content) (P : List ℕ → Type 0) where
   -- the types of a schema, and where it is refused
   pub schema_given : (meant : Result NamedTypes FileFault) (schema : Types)
       → (names : NamedTypes) × (meant ≡ Ok names) × HasNames schema names
-      → ComesOf told P HasTypes (types_of meant) (Ok schema)
+      → ComesOf told P NamesHaveTypes (types_read meant) (Ok schema)
   schema_given meant schema (names, is, has) = rw is (has_types schema names has)
 
   pub schema_refused : (meant : Result NamedTypes FileFault) (fault : FileFault) (said : Line)
-      → meant ≡ Err fault → types_of (Err fault) ≡ refuses said
-      → ComesOf {T = Types} told P HasTypes (types_of meant) (Err (stop.Says said))
+      → meant ≡ Err fault → types_read (Err fault) ≡ refuses said
+      → ComesOf {T = Types} told P NamesHaveTypes (types_read meant) (Err (stop.Says said))
   schema_refused meant fault said is refused = rw (is, refused) refl
 
 -- ---- scripts, one behind another

@@ -8,7 +8,7 @@ use Rattle.ssz_value.specs.Trees.{hash_tree_root}
 use Rattle.ssz_machine.specs.declared.place.Place.{Place}
 use Rattle.ssz_machine.specs.State.{State, view_of}
 use Rattle.ssz_machine.specs.Rules.{Rules}
-use Rattle.ssz_machine.specs.Machine.{Line, said, step, state_of}
+use Rattle.ssz_machine.specs.Machine.{Line, row_said, step, state_of}
 use Rattle.ssz_machine.specs.Plays.{Event, says, adopts, adopted, next_number, numbers_after, play}
 use Rattle.ssz_machine.specs.Proofs.{MakesChunks}
 use Rattle.ssz_machine.specs.Sound.{IsSoundState}
@@ -22,7 +22,7 @@ module _ (rules : Rules) (format : Format) (place : Place) (makes : MakesChunks 
   here : (number : ℕ) (s : State) (writer : ℕ) (line : Line) → IsSoundState format s
       → ProvesValidly rules.pair_of (step rules place number s writer line)
   here number s writer line sound v indices version is some fine found =
-      subst (λ (o : Option Statement). IfOk (said rules place number (view_of writer s) o)
+      subst (λ (o : Option Statement). IfOk (row_said rules place number (view_of writer s) o)
       (λ effect. IsValidFor rules.pair_of
       (hash_tree_root rules.pair_of version.type version.value) effect.reply)) (sym is)
       (printed_proofs_are_valid_lem rules format (s.versions writer) v indices version makes some

@@ -9,9 +9,9 @@ use Rattle.ssz_proof.specs.Multiproof.{IsProofOf, Multiproof}
 use Rattle.ssz_schema.specs.Types.{SszType}
 use Rattle.ssz_machine.specs.Jobs.{after_reading}
 use Rattle.ssz_machine.proofs.Endings.{ends_after_reading}
-use Rattle.ssz_partial_script.specs.Plays.{script_job}
+use Rattle.ssz_partial_script.specs.Plays.{partial_script_job}
 use Rattle.ssz_partial_script.proofs.Order.{scripts_alike}
-use Rattle.ssz_tool.specs.Runs.{Does, job_of_task}
+use Rattle.ssz_tool.specs.Runs.{JobDoes, job_of_task}
 use Rattle.ssz_tool.specs.Tasks.{DoesSame}
 use Rattle.ssz_tool.specs.ToDo.{plays_tree}
 use Rattle.ssz_tool.proofs.Beginnings.{zero_table}
@@ -34,12 +34,13 @@ tree-given t lists proof script is = record {
 pub tree_does : (ample : Bool) (pair_of : PairOf) (t : SszType) (proof : Multiproof)
     (script : List ℕ) (held : Content) (reads : Bool) (ended : Status) (first last : ℕ)
     (old new : Told)
-    → Ends ample ended (script_job pair_of t proof held script) old new (Some held)
-    → Does (λ numbers. job_of_task pair_of numbers held reads (plays_tree t proof script))
+    → Ends ample ended (partial_script_job pair_of t proof held script) old new (Some held)
+    → JobDoes (λ numbers. job_of_task pair_of numbers held reads (plays_tree t proof script))
     (λ numbers. []) ended first last (λ job. Ends ample ended job old new (Some held))
 tree_does ample pair_of t proof script held reads ended first last old new ends = record {
   numbers = [];
-  left = ends_after_reading ample reads ended (script_job pair_of t proof held script) old new
+  left = ends_after_reading ample reads ended
+      (partial_script_job pair_of t proof held script) old new
       (Some held) ends;
   base = first + 126;
   zeros = zero_table first;

@@ -17,9 +17,9 @@ use Rattle.ssz_machine.specs.Work.{work_job}
 use Rattle.ssz_machine.proofs.Endings.{ends_after_reading}
 use Rattle.ssz_decisions.specs.Content.{rules_of as engine_rules}
 use Rattle.ssz_decisions.specs.Standing.{StandsFor}
-use Rattle.ssz_engine.specs.Scripts.{IsFresh, Scene}
+use Rattle.ssz_engine.specs.Scripts.{IsFreshScene, Scene}
 use Rattle.ssz_engine.specs.Works.{EndsWork, EndsWorkFrom}
-use Rattle.ssz_tool.specs.Runs.{Does, RisesWhere, job_of_task, least_of_task, pairs_of_task, rules_of_work, turns_of_task}
+use Rattle.ssz_tool.specs.Runs.{JobDoes, RisesWhere, job_of_task, least_of_task, pairs_of_task, rules_of_work, turns_of_task}
 use Rattle.ssz_tool.specs.ToDo.{works}
 use Rattle.ssz_tool.specs.Commands.{type_of_word}
 use Rattle.ssz_tool.proofs.Quiet.{no_counts}
@@ -47,7 +47,7 @@ type_of_no_name type_named word is = ap (option_and_then type_named) is
 module _ (pair_of : PairOf) (schema : Types) (held : Content) (type_name : Name) (seed count : ℕ)
     (ended : Status) (before after : Scene) (types : before.engine.types ≡ schema)
     (limit : before.engine.most ≡ 0) (stands : StandsFor before.engine (λ writer. []))
-    (told : before.told ≡ Some held) (new : IsFresh before)
+    (told : before.told ≡ Some held) (new : IsFreshScene before)
     (ends : EndsWork pair_of type_name seed count ended before after) where
   abbrev rules : Rules
   rules = rules_of_work pair_of (known_in schema)
@@ -61,7 +61,7 @@ module _ (pair_of : PairOf) (schema : Types) (held : Content) (type_name : Name)
 
   -- what it left is of the task's job
   pub work_does : (reads : Bool) (first : ℕ) → CountsUp 126 first before.hashed
-      → Does (λ numbers. job_of_task pair_of numbers held reads
+      → JobDoes (λ numbers. job_of_task pair_of numbers held reads
       (works (known_in schema) type_name seed count))
       (λ numbers. turns_of_task pair_of numbers held
       (works (known_in schema) type_name seed count)) ended first after.hashed

@@ -15,9 +15,9 @@ use Rattle.ssz_machine.specs.Jobs.{weave_job}
 use Rattle.ssz_machine.proofs.Endings.{ends_after_reading}
 use Rattle.ssz_decisions.specs.Content.{rules_of as engine_rules}
 use Rattle.ssz_decisions.specs.Standing.{StandsFor}
-use Rattle.ssz_engine.specs.Scripts.{AreNamedReadable, IsFresh, Scene, files_named}
+use Rattle.ssz_engine.specs.Scripts.{AreNamedReadable, IsFreshScene, Scene, files_named}
 use Rattle.ssz_engine.specs.Weaves.{EndsWeave, EndsWeaveFrom}
-use Rattle.ssz_tool.specs.Runs.{Does, job_of_task, pairs_of_task, reached_of_task, rules_of, turns_of_task}
+use Rattle.ssz_tool.specs.Runs.{JobDoes, job_of_task, pairs_of_task, reached_of_task, run_rules, turns_of_task}
 use Rattle.ssz_tool.specs.ToDo.{weaves}
 use Rattle.ssz_tool.proofs.Beginnings.{all_readable}
 use Rattle.ssz_tool.proofs.Quiet.{weave_counts}
@@ -34,9 +34,10 @@ module _ (pair_of : PairOf) (schema : Types) (most : ℕ) (held : Content) (base
     (scripts : List (List ℕ)) (ended : Status) (before after : Scene)
     (types : before.engine.types ≡ schema) (limit : before.engine.most ≡ most)
     (stands : StandsFor before.engine (λ writer. [])) (told : before.told ≡ Some held)
-    (new : IsFresh before) (ends : EndsWeave pair_of base order scripts ended before after) where
+    (new : IsFreshScene before)
+    (ends : EndsWeave pair_of base order scripts ended before after) where
   abbrev rules : Rules
-  rules = rules_of pair_of (known_in schema) most
+  rules = run_rules pair_of (known_in schema) most
 
   same : engine_rules pair_of before.engine ≡ rules
   same = rw (types, limit) refl
@@ -47,7 +48,7 @@ module _ (pair_of : PairOf) (schema : Types) (most : ℕ) (held : Content) (base
 
   -- what it left is of the task's job
   pub weave_does : (reads : Bool) (first : ℕ) → CountsUp 126 first before.hashed
-      → Does (λ numbers. job_of_task pair_of numbers held reads
+      → JobDoes (λ numbers. job_of_task pair_of numbers held reads
       (weaves (known_in schema) most base order scripts))
       (λ numbers. turns_of_task pair_of numbers held
       (weaves (known_in schema) most base order scripts)) ended first after.hashed

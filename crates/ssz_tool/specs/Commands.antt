@@ -10,8 +10,8 @@ use Rattle.ssz_schema.specs.Lookup.{lookup_name}
 use Rattle.ssz_schema.specs.Paths.{Path, path_type}
 use Rattle.ssz_schema.specs.Types.{SszType}
 use Rattle.ssz_schema_json.specs.Schema.{NamedTypes, FileFault, not_json, no_document, at_definition, schema_of_bytes}
-use Rattle.ssz_value.specs.Encoding.{enc}
-use Rattle.ssz_value.specs.Faults.{why}
+use Rattle.ssz_value.specs.Encoding.{serialize}
+use Rattle.ssz_value.specs.Faults.{first_fault}
 use Rattle.ssz_value.specs.Parts.{part as part_of}
 use Rattle.ssz_value.specs.Reading.{value_in}
 use Rattle.ssz_words.specs.Words.{command_of}
@@ -34,16 +34,16 @@ use Rattle.ssz_tool.specs.declared.line.Line.TheVariants as line
 -- ---- what the files of the words say; each but that of a value has at most 2 ^ 26 bytes
 
 -- types by their names, or the line that refuses the bytes of a schema file
-abbrev pub types_of : Result NamedTypes FileFault → Plan (List ℕ → Option SszType)
-types_of (Ok names) = gives (lookup_name names.types)
-types_of (Err not_json) = refuses line.NotJson
-types_of (Err no_document) = refuses line.Shape
-types_of (Err (at_definition number fault)) = refuses (line.Definition number fault)
+abbrev pub types_read : Result NamedTypes FileFault → Plan (List ℕ → Option SszType)
+types_read (Ok names) = gives (lookup_name names.types)
+types_read (Err not_json) = refuses line.NotJson
+types_read (Err no_document) = refuses line.Shape
+types_read (Err (at_definition number fault)) = refuses (line.Definition number fault)
 
 unfoldable pub schema_file : List ℕ → Plan (List ℕ → Option SszType)
 schema_file name = do
   bytes ← file name (2 ^ 26) line.SchemaTooLong
-  types_of (schema_of_bytes bytes)
+  types_read (schema_of_bytes bytes)
 
 -- the multiproof that a file says; refused with the line where it says none
 unfoldable pub proof_file : Line → List ℕ → Plan Multiproof
@@ -70,7 +70,7 @@ root args = do
   types ← schema_file args.schema
   t ← need line.NoType (types args.type_name)
   bytes ← file args.file args.max_bytes line.TooLong
-  faultless (why t 0 bytes)
+  faultless (first_fault t 0 bytes)
   gives (roots t bytes)
 
 -- `verify ROOT FILE`
@@ -108,10 +108,10 @@ work args = do
 -- the encoding of the part at a path in the value that bytes encode, within so many bytes
 unfoldable pub encoding_in : ℕ → SszType → SszType → Path → List ℕ → Plan (List ℕ)
 encoding_in most whole form path bytes = do
-  faultless (why whole 0 bytes)
+  faultless (first_fault whole 0 bytes)
   value ← need line.Absent (part_of whole (value_in whole bytes) path)
-  refuse line.TooLong (nat_lt most (length (enc form value)))
-  gives (enc form value)
+  refuse line.TooLong (nat_lt most (length (serialize form value)))
+  gives (serialize form value)
 
 -- `part SCHEMA TYPE FILE PATH`, with the path that PATH spells
 abbrev pub part : PartArgs → Path → Plan Task

@@ -25,8 +25,8 @@ pub record LeavesFiles {Self T : Type 0} (F : Ghosts Self) (result : Result T St
   pub put_faults : F.put_faults new ≡ F.put_faults old
 
 -- what is so of bytes that were read of a name: those that it holds, where that is told
-abbrev pub Reads : Option Content → List ℕ → ℕ → (List ℕ → Type 0) → Type 0
-Reads told name most Then =
+abbrev pub ReadsFile : Option Content → List ℕ → ℕ → (List ℕ → Type 0) → Type 0
+ReadsFile told name most Then =
     (bytes : List ℕ) × (length bytes ≤ most)
     × ForSome told (λ held. contents held name ≡ bytes) × Then bytes
 
@@ -39,22 +39,22 @@ ComesOf told readable Stands plan (Err stop.Memory) = ⊤
 ComesOf told readable Stands (gives x) (Ok made) = Stands x made
 ComesOf told readable Stands (refuses meant) (Err (stop.Says said)) = said ≡ meant
 ComesOf told readable Stands (reads name most long next) (Ok made) =
-    Reads told name most (λ bytes. ComesOf told readable Stands (next bytes) (Ok made))
+    ReadsFile told name most (λ bytes. ComesOf told readable Stands (next bytes) (Ok made))
 ComesOf told readable Stands (reads name most long next) (Err stop.Read) =
     (readable name → ⊥)
-    ⊎ Reads told name most (λ bytes. ComesOf told readable Stands (next bytes) (Err stop.Read))
+    ⊎ ReadsFile told name most (λ bytes. ComesOf told readable Stands (next bytes) (Err stop.Read))
 ComesOf told readable Stands (reads name most long next) (Err (stop.Says said)) =
     ((said ≡ long) × ForSome told (λ held. most < length (contents held name)))
-    ⊎ Reads told name most
+    ⊎ ReadsFile told name most
     (λ bytes. ComesOf told readable Stands (next bytes) (Err (stop.Says said)))
 ComesOf told readable Stands plan result = ⊥
 
 -- the same of a plan that reads no file
-abbrev pub Answers : {A T : Type 0} → (A → T → Type 0) → Plan A → Result T Stop → Type 0
-Answers Stands plan (Err stop.Memory) = ⊤
-Answers Stands (gives x) (Ok made) = Stands x made
-Answers Stands (refuses meant) (Err (stop.Says said)) = said ≡ meant
-Answers Stands plan result = ⊥
+abbrev pub AnswersPlan : {A T : Type 0} → (A → T → Type 0) → Plan A → Result T Stop → Type 0
+AnswersPlan Stands plan (Err stop.Memory) = ⊤
+AnswersPlan Stands (gives x) (Ok made) = Stands x made
+AnswersPlan Stands (refuses meant) (Err (stop.Says said)) = said ≡ meant
+AnswersPlan Stands plan result = ⊥
 
 -- the answer came of the plan, and files stay as they are
 pub record Follows {Self A T : Type 0} (F : Ghosts Self) (Stands : A → T → Type 0) (plan : Plan A)

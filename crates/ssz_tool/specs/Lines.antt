@@ -8,7 +8,7 @@ use Rattle.ssz_clash.specs.declared.fault.ClashFault.{ClashFault}
 use Rattle.ssz_clash.specs.declared.fault.ClashFault.TheVariants.{OtherIndices, OtherRoot}
 use Rattle.ssz_outside.specs.declared.status.Status.{Status}
 use Rattle.ssz_outside.specs.declared.status.Status.TheVariants as status
-use Rattle.ssz_schema.specs.FaultCodes.{code_of}
+use Rattle.ssz_schema.specs.FaultCodes.{schema_code}
 use Rattle.ssz_bytes.specs.declared.fault.Fault.{Fault}
 use Rattle.ssz_schema.specs.declared.schema_fault.SchemaFault.{SchemaFault}
 use Rattle.ssz_tool.specs.declared.line.Line.{Line}
@@ -21,7 +21,7 @@ ended text = text ++ 10 ∷ []
 -- the line of the first fault of a definition, and of which
 abbrev pub definition_text : ℕ → SchemaFault → List ℕ
 definition_text number fault =
-    codes "schema S" ++ (decimal (code_of fault) ++ (codes " " ++ ended (decimal number)))
+    codes "schema S" ++ (decimal (schema_code fault) ++ (codes " " ++ ended (decimal number)))
 
 -- the line of the first fault of bytes, and where it is
 abbrev pub fault_text : Fault → List ℕ
@@ -86,20 +86,20 @@ comparison_status (Ok clash) = status.Accepted
 comparison_status (Err fault) = status.Refused
 
 -- the status after a line was printed
-abbrev pub status_of : Line → Status
-status_of line.SchemaTooLong = status.SchemaFault
-status_of line.NotJson = status.SchemaFault
-status_of line.Shape = status.SchemaFault
-status_of (line.Definition number fault) = status.SchemaFault
-status_of line.NoType = status.Refused
-status_of line.TooLong = status.Refused
-status_of (line.Invalid fault) = status.Refused
-status_of (line.Root chunk) = status.Accepted
-status_of line.BadProof = status.Refused
-status_of line.Valid = status.Accepted
-status_of (line.Unlike chunk) = status.Refused
-status_of line.BadPath = status.Refused
-status_of line.Absent = status.Refused
-status_of line.FirstBadProof = status.Refused
-status_of line.SecondBadProof = status.Refused
-status_of (line.Compared result) = comparison_status result
+abbrev pub line_status : Line → Status
+line_status line.SchemaTooLong = status.SchemaFault
+line_status line.NotJson = status.SchemaFault
+line_status line.Shape = status.SchemaFault
+line_status (line.Definition number fault) = status.SchemaFault
+line_status line.NoType = status.Refused
+line_status line.TooLong = status.Refused
+line_status (line.Invalid fault) = status.Refused
+line_status (line.Root chunk) = status.Accepted
+line_status line.BadProof = status.Refused
+line_status line.Valid = status.Accepted
+line_status (line.Unlike chunk) = status.Refused
+line_status line.BadPath = status.Refused
+line_status line.Absent = status.Refused
+line_status line.FirstBadProof = status.Refused
+line_status line.SecondBadProof = status.Refused
+line_status (line.Compared result) = comparison_status result

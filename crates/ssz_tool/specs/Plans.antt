@@ -2,7 +2,7 @@
 use Rattle.std.specs.Prelude.{◌≡◌, ⊤, ℕ, nat_lt, List, [], ◌∷◌, length, Bool, true, Option, Some, None, if◌then◌else◌}
 use Rattle.ssz_outside.specs.Content.{Content, contents}
 use Rattle.ssz_bytes.specs.declared.fault.Fault.{Fault}
-use Rattle.ssz_tool.specs.ToDo.{Task, is_script, says}
+use Rattle.ssz_tool.specs.ToDo.{Task, is_script, prints_line}
 use Rattle.ssz_tool.specs.declared.line.Line.{Line}
 use Rattle.ssz_tool.specs.declared.line.Line.TheVariants as line
 
@@ -50,10 +50,10 @@ faultless (Some fault) = refuses (line.Invalid fault)
 -- the task, over what the files hold: a refusal is printed
 abbrev pub task_in : Content → Plan Task → Task
 task_in held (gives task) = task
-task_in held (refuses said) = says said
+task_in held (refuses said) = prints_line said
 task_in held (reads name most long next) =
     let bytes = contents held name in
-    if nat_lt most (length bytes) then says long else task_in held (next bytes)
+    if nat_lt most (length bytes) then prints_line long else task_in held (next bytes)
 
 -- the files that it reaches, in their order
 abbrev pub files_in : Content → Plan Task → List (List ℕ)

@@ -15,7 +15,7 @@ use Rattle.ssz_machine.specs.Rules.{Rules}
 use Rattle.ssz_machine.specs.Machine.{Turn}
 use Rattle.ssz_machine.specs.Plays.{Event, play}
 use Rattle.ssz_machine.specs.Asking.{prove}
-use Rattle.ssz_machine.specs.Proofs.{MakesChunks, IsIndex, IsSound}
+use Rattle.ssz_machine.specs.Proofs.{MakesChunks, IsIndex, IsSoundVersion}
 use Rattle.ssz_machine.specs.Sound.{HasLegalTypes, IsSoundState, TurnBringsBytes}
 use Rattle.ssz_words.specs.declared.commands.VerifyArgs.{VerifyArgs}
 use Rattle.ssz_tool.specs.Commands.{verify}
@@ -39,7 +39,7 @@ PrintedProofsAreValid =
     (rules : Rules) (format : Format) (versions : Versions) (v : Name) (indices : List Index)
     (version : Version)
     → MakesChunks rules.pair_of → indices ≢ [] → AllByRecursion IsIndex indices
-    → version_of v versions ≡ Some version → IsSound format version
+    → version_of v versions ≡ Some version → IsSoundVersion format version
     → IfOk (prove rules versions v indices) (λ effect.
     IsValidFor rules.pair_of (hash_tree_root rules.pair_of version.type version.value) effect.reply)
 

@@ -15,15 +15,15 @@ use Rattle.ssz_machine.specs.Work.{work_job}
 use Rattle.ssz_engine.specs.Scripts.{HasCounts, files_reached}
 use Rattle.ssz_decisions.specs.Roots.{RisesBy}
 use Rattle.ssz_engine.specs.Works.{whole_work}
-use Rattle.ssz_partial_script.specs.Plays.{charges as tree_charges, script_job as tree_job, turns_of_script as tree_turns}
+use Rattle.ssz_partial_script.specs.Plays.{partial_charges as tree_charges, partial_script_job as tree_job, partial_turns_of_script as tree_turns}
 use Rattle.ssz_tool.specs.Commands.{plan_of}
 use Rattle.ssz_tool.specs.Plans.{Plan, files_in, task_in}
 use Rattle.ssz_tool.specs.ToDo.{Printed, printed, Task, prints, plays, weaves, works, plays_tree, shows_usage}
 use Rattle.ssz_tool.specs.declared.line.Line.{Line}
 
 -- the rules of a script: the types of its schema, the most bytes of a value, the hasher's pair
-abbrev pub rules_of : PairOf → (List ℕ → Option SszType) → ℕ → Rules
-rules_of pair_of type_named most =
+abbrev pub run_rules : PairOf → (List ℕ → Option SszType) → ℕ → Rules
+run_rules pair_of type_named most =
     record { type_named = type_named; max_bytes = most; pair_of = pair_of }
 
 -- the job that prints a text, after it has read files or not
@@ -35,17 +35,17 @@ job_of_line held reads line = job_of_print held reads (printed line)
 
 -- a work reads and prints no encoding, so there is no most of its bytes
 abbrev pub rules_of_work : PairOf → (List ℕ → Option SszType) → Rules
-rules_of_work pair_of type_named = rules_of pair_of type_named 0
+rules_of_work pair_of type_named = run_rules pair_of type_named 0
 
 -- The job of a task, where `hashes` prints these numbers: files are read before the first
 -- statement, or not any more.
 abbrev pub job_of_task : PairOf → List ℕ → Content → Bool → Task → Job
 job_of_task pair_of numbers held reads (prints made most) = job_of_print held reads (made pair_of)
 job_of_task pair_of numbers held reads (plays type_named most script) =
-    after_reading reads (script_job (rules_of pair_of type_named most) numbers (fresh held) script)
+    after_reading reads (script_job (run_rules pair_of type_named most) numbers (fresh held) script)
 job_of_task pair_of numbers held reads (weaves type_named most base order scripts) =
     after_reading reads
-    (weave_job (rules_of pair_of type_named most) (fresh held) base order scripts)
+    (weave_job (run_rules pair_of type_named most) (fresh held) base order scripts)
 job_of_task pair_of numbers held reads (works type_named type_name seed count) =
     after_reading reads
     (work_job (rules_of_work pair_of type_named) (fresh held) type_name seed count)
@@ -62,8 +62,8 @@ abbrev pub task_of : Content → List (List ℕ) → Task
 task_of held words = task_by held (plan_of words)
 
 -- the job of these words over files with this content; files are read for words that are taken
-abbrev pub job_of : PairOf → List (List ℕ) → Content → List ℕ → Job
-job_of pair_of words held numbers =
+abbrev pub run_job_of : PairOf → List (List ℕ) → Content → List ℕ → Job
+run_job_of pair_of words held numbers =
     job_of_task pair_of numbers held (is_some (plan_of words)) (task_of held words)
 
 -- the same once the files that the words name are read
@@ -75,15 +75,15 @@ job_once_read pair_of words held numbers =
 abbrev pub turns_of_task : PairOf → List ℕ → Content → Task → List Turn
 turns_of_task pair_of numbers held (prints made most) = []
 turns_of_task pair_of numbers held (plays type_named most script) =
-    turns_of_script (rules_of pair_of type_named most) numbers (fresh held) script
+    turns_of_script (run_rules pair_of type_named most) numbers (fresh held) script
 turns_of_task pair_of numbers held (weaves type_named most base order scripts) =
-    turns_of_weave (rules_of pair_of type_named most) (fresh held) base order scripts
+    turns_of_weave (run_rules pair_of type_named most) (fresh held) base order scripts
 turns_of_task pair_of numbers held (works type_named type_name seed count) = []
 turns_of_task pair_of numbers held (plays_tree t lists script) = []
 
 -- the steps of the scripts that the words run, if they run any
-abbrev pub turns_of : PairOf → List (List ℕ) → Content → List ℕ → List Turn
-turns_of pair_of words held numbers = turns_of_task pair_of numbers held (task_of held words)
+abbrev pub run_turns : PairOf → List (List ℕ) → Content → List ℕ → List Turn
+run_turns pair_of words held numbers = turns_of_task pair_of numbers held (task_of held words)
 
 -- How many pairs a task may hash: of scripts, and of a work, the charges of the statements, and 126
 -- for the zero table, which a partial tree needs not.
@@ -124,7 +124,7 @@ pairs_allowed pair_of words held = pairs_of_task pair_of held (task_of held word
 
 -- What is so of a job, for some numbers that `hashes` printed: they are counts of the pairs that
 -- were hashed, beyond the 126 of the zero table, from a first count of them to a last.
-pub record Does (job : List ℕ → Job) (turns : List ℕ → List Turn) (ended : Status)
+pub record JobDoes (job : List ℕ → Job) (turns : List ℕ → List Turn) (ended : Status)
     (first last : ℕ) (Left : Job → Type 0) : Type 0 where
   pub numbers : List ℕ
   pub left : Left (job numbers)
@@ -150,12 +150,12 @@ reached_of_task pair_of held (prints made most) = []
 reached_of_task pair_of held (works type_named type_name seed count) = []
 reached_of_task pair_of held (plays_tree t lists script) = []
 reached_of_task pair_of held (plays type_named most script) =
-    files_reached (rules_of pair_of type_named most)
+    files_reached (run_rules pair_of type_named most)
     (turns_of_task pair_of [] held (plays type_named most script))
 reached_of_task pair_of held (weaves type_named most base order scripts) =
-    files_reached (rules_of pair_of type_named most)
+    files_reached (run_rules pair_of type_named most)
     (turns_of_task pair_of [] held (weaves type_named most base order scripts))
 
-abbrev pub reached : PairOf → Content → List (List ℕ) → List (List ℕ)
-reached pair_of held words =
+abbrev pub files_reached_by : PairOf → Content → List (List ℕ) → List (List ℕ)
+files_reached_by pair_of held words =
     reached_first held words ++ reached_of_task pair_of held (task_of held words)

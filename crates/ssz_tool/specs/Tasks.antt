@@ -7,7 +7,7 @@ use Rattle.ssz_proof.specs.Calculation.{PairOf}
 use Rattle.ssz_schema.specs.Types.{SszType}
 use Rattle.ssz_schema.specs.Unfolding.{Types, known_in, type_of}
 use Rattle.ssz_bytes.specs.declared.fault.Fault.{Fault}
-use Rattle.ssz_value.specs.Faults.{why}
+use Rattle.ssz_value.specs.Faults.{first_fault}
 use Rattle.ssz_words.specs.Limits.{IsWeaveOf}
 use Rattle.ssz_tool.specs.Lines.{bytes_text}
 use Rattle.ssz_tool.specs.Runs.{job_of_task, least_of_task, pairs_of_task, reached_of_task, turns_of_task}
@@ -25,8 +25,8 @@ HasItems bytes made = made.items ≡ bytes
 abbrev pub AreItems : List (List ℕ) → Vec (List ℕ) Global → Type 0
 AreItems scripts made = made.items ≡ scripts
 
-abbrev pub HasTypes : (List ℕ → Option SszType) → Types → Type 0
-HasTypes types schema = types ≡ known_in schema
+abbrev pub NamesHaveTypes : (List ℕ → Option SszType) → Types → Type 0
+NamesHaveTypes types schema = types ≡ known_in schema
 
 -- the line of an encoding
 abbrev pub IsTextOf : List ℕ → String Global → Type 0
@@ -78,19 +78,19 @@ pub record IsFaultless (trees : ℕ) (id : ℕ) (fault : Option Fault) (count : 
 abbrev pub IsReadyWeaving : Weaving → Type 0
 IsReadyWeaving weaving = IsWeaveOf weaving.scripts.items weaving.order.items
 
-abbrev pub IsReady : Task → Type 0
-IsReady (task.Text text) = ⊤
-IsReady (task.Root schema id bytes) =
-    IsFaultless (length schema.trees) id (why (type_of schema id) 0 bytes.items)
+abbrev pub IsTaskReady : Task → Type 0
+IsTaskReady (task.Text text) = ⊤
+IsTaskReady (task.Root schema id bytes) =
+    IsFaultless (length schema.trees) id (first_fault (type_of schema id) 0 bytes.items)
     (length bytes.items)
-IsReady (task.Verify root proof) = ⊤
-IsReady (task.Clash one other) = ⊤
-IsReady (task.Script schema most script) = ⊤
-IsReady (task.Weave weaving) = IsReadyWeaving weaving
-IsReady (task.Work work) = ⊤
-IsReady (task.Partial schema partial script) = partial.id < length schema.trees
+IsTaskReady (task.Verify root proof) = ⊤
+IsTaskReady (task.Clash one other) = ⊤
+IsTaskReady (task.Script schema most script) = ⊤
+IsTaskReady (task.Weave weaving) = IsReadyWeaving weaving
+IsTaskReady (task.Work work) = ⊤
+IsTaskReady (task.Partial schema partial script) = partial.id < length schema.trees
 
 -- a task that was made does what is meant, and can be done
 pub record IsTask (meant : job.Task) (made : Task) : Type 0 where
   pub same : DoesSame meant (task_view made)
-  pub ready : IsReady made
+  pub ready : IsTaskReady made

@@ -4,13 +4,13 @@ use Rattle.ssz_chunk.specs.Index.{levels}
 use Rattle.ssz_clash.specs.Compared.{compared}
 use Rattle.ssz_outside.specs.declared.status.Status.{Status}
 use Rattle.ssz_outside.specs.declared.status.Status.TheVariants as status
-use Rattle.ssz_proof.specs.Calculation.{PairOf, calculated, indices_of}
+use Rattle.ssz_proof.specs.Calculation.{PairOf, calculate_root, indices_of}
 use Rattle.ssz_proof.specs.Multiproof.{Multiproof, known_of}
 use Rattle.ssz_schema.specs.Types.{SszType}
 use Rattle.ssz_value.specs.Pairs.{pairs}
 use Rattle.ssz_value.specs.Reading.{value_in}
 use Rattle.ssz_value.specs.Trees.{hash_tree_root}
-use Rattle.ssz_tool.specs.Lines.{bytes_text, line_text, status_of, usage_text}
+use Rattle.ssz_tool.specs.Lines.{bytes_text, line_text, line_status, usage_text}
 use Rattle.ssz_tool.specs.declared.line.Line.{Line}
 use Rattle.ssz_tool.specs.declared.line.Line.TheVariants as line
 
@@ -20,7 +20,7 @@ pub record Printed : Type 0 where
   pub status : Status
 
 abbrev pub printed : Line → Printed
-printed line = record { text = line_text line; status = status_of line }
+printed line = record { text = line_text line; status = line_status line }
 
 -- A text to print that is made with the hasher's pairs, and how many of them at most; a script to
 -- run over types by their names, with the most bytes of a value; a base, an order and scripts to
@@ -36,8 +36,8 @@ pub data Task : Type 0 where
 -- ---- tasks that print one line
 
 -- a line to print, for which nothing is hashed
-abbrev pub says : Line → Task
-says line = prints (λ pair_of. printed line) 0
+abbrev pub prints_line : Line → Task
+prints_line line = prints (λ pair_of. printed line) 0
 
 -- the line that says how the program is used
 abbrev pub shows_usage : Task
@@ -64,7 +64,7 @@ line_of_root wanted made =
 
 -- the line of a root by the one that a multiproof leads to
 abbrev pub line_of_proof : PairOf → List ℕ → Multiproof → Line
-line_of_proof pair_of root lists = line_of_root root (calculated pair_of (known_of lists) 1)
+line_of_proof pair_of root lists = line_of_root root (calculate_root pair_of (known_of lists) 1)
 
 -- a root to compare with the one that a multiproof leads to
 abbrev pub verifies : List ℕ → Multiproof → Task

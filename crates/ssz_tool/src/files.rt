@@ -3,7 +3,7 @@ ghost use Rattle.ssz_proof.specs.Multiproof.{IsProofOf};
 ghost use Rattle.ssz_tool.specs.Commands.{proof_file, schema_file, script_file, script_files};
 ghost use Rattle.ssz_tool.specs.Follows.{Follows};
 ghost use Rattle.ssz_tool.specs.Plans.{file};
-ghost use Rattle.ssz_tool.specs.Tasks.{AreItems, HasItems, HasTypes};
+ghost use Rattle.ssz_tool.specs.Tasks.{AreItems, HasItems, NamesHaveTypes};
 
 use crate::line::Line;
 use crate::stop::Stop;
@@ -48,7 +48,7 @@ pub fn load<F: Files>(
 
 /// The types of a schema file.
 pub fn load_schema<F: Files>(alloc: Global, files: &mut F, name: &str) -> Result<Schema, Stop>
-    ensures { Follows F.Files HasTypes (schema_file name.now) result files.old files.new }
+    ensures { Follows F.Files NamesHaveTypes (schema_file name.now) result files.old files.new }
 {
     let bytes = load(alloc, files, name, MOST_BYTES, Line::SchemaTooLong)?;
     match read_schema(alloc, &bytes) {

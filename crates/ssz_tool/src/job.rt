@@ -1,7 +1,7 @@
 // From the words and the files to what is left to do.
 ghost use Rattle.std.specs.Prelude.{Some};
 ghost use Rattle.std.specs.Option.{option_and_then};
-ghost use Rattle.ssz_words.specs.Limits.{IsWithinLimits};
+ghost use Rattle.ssz_words.specs.Limits.{CommandIsWithinLimits};
 ghost use Rattle.ssz_tool.specs.Commands.{plan_of, plan_of_command, root, texts};
 ghost use Rattle.ssz_tool.specs.Follows.{Follows, FollowsWords};
 ghost use Rattle.ssz_tool.specs.Tasks.{IsTask};
@@ -64,7 +64,7 @@ pub fn task_of_root<F: Files>(alloc: Global, files: &mut F, args: &RootArgs) -> 
 }
 
 fn task_of_command<F: Files>(alloc: Global, files: &mut F, command: Command) -> Result<Task, Stop>
-    requires { IsWithinLimits command }
+    requires { CommandIsWithinLimits command }
     ensures { FollowsWords F.Files IsTask (plan_of_command command) result files.old files.new }
 {
     match command {

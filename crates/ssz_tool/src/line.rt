@@ -3,7 +3,7 @@ ghost use Rattle.std.specs.Prelude.{◌≡◌, ◌≢◌, IfOk, Ok, Err, string_
 ghost use Rattle.ssz_clash.specs.declared.finding.Clash.TheVariants.{Unlike};
 ghost use Rattle.ssz_clash.specs.declared.fault.ClashFault.TheVariants.{OtherRoot};
 ghost use Rattle.ssz_outside.specs.Job.{IsFinished};
-ghost use Rattle.ssz_tool.specs.Lines.{bytes_text, comparison_status, comparison_text, definition_text, fault_text, root_text, unlike_text, line_text, status_of};
+ghost use Rattle.ssz_tool.specs.Lines.{bytes_text, comparison_status, comparison_text, definition_text, fault_text, root_text, unlike_text, line_text, line_status};
 
 use ssz_bytes::Fault;
 use ssz_chunk::Chunk;
@@ -161,7 +161,7 @@ fn other_root_text(alloc: Global, a: &Chunk, b: &Chunk) -> Result<String, AllocE
 
 /// The status after a line was printed.
 pub fn status_of(line: &Line) -> Status
-    ensures value { result ≡ status_of line.now }
+    ensures value { result ≡ line_status line.now }
     ensures finished { IsFinished result }
     ensures usage { result ≢ Status.Usage }
 {

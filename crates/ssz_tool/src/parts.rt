@@ -4,7 +4,7 @@ ghost use Rattle.ssz_schema.specs.Paths.{path_type};
 ghost use Rattle.ssz_schema.specs.Types.{SszType};
 ghost use Rattle.ssz_schema.specs.Unfolding.{type_of};
 ghost use Rattle.ssz_tool.specs.Commands.{encoding_in, part};
-ghost use Rattle.ssz_tool.specs.Follows.{Answers, Follows};
+ghost use Rattle.ssz_tool.specs.Follows.{AnswersPlan, Follows};
 ghost use Rattle.ssz_tool.specs.Tasks.{IsTask, IsTextOf};
 
 use crate::files::{load, load_schema};
@@ -30,7 +30,7 @@ fn text_of_part(
     requires known { id < length schema.now.trees }
     requires short { length bytes.now ≤ max }
     ensures { (form : SszType) → path_type (type_of schema.now id) path.now ≡ Some form
-        → Answers IsTextOf (encoding_in max (type_of schema.now id) form path.now bytes.now)
+        → AnswersPlan IsTextOf (encoding_in max (type_of schema.now id) form path.now bytes.now)
         result }
 {
     let whole = match Slice::new(schema, id, bytes) {

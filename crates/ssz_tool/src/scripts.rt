@@ -6,7 +6,7 @@ ghost use Rattle.ssz_outside.specs.Job.{Ends, CountsRun};
 ghost use Rattle.ssz_schema.specs.Unfolding.{known_in};
 ghost use Rattle.ssz_tool.specs.Commands.{run};
 ghost use Rattle.ssz_tool.specs.Follows.{Follows};
-ghost use Rattle.ssz_tool.specs.Runs.{Does, job_of_task, pairs_of_task, reached_of_task, turns_of_task};
+ghost use Rattle.ssz_tool.specs.Runs.{JobDoes, job_of_task, pairs_of_task, reached_of_task, turns_of_task};
 ghost use Rattle.ssz_tool.specs.Tasks.{IsTask};
 ghost use Rattle.ssz_tool.specs.ToDo.{plays};
 
@@ -40,7 +40,7 @@ pub fn run_script<F: Files, S: Sink, H: PairHash>(
     hasher: &mut H,
 ) -> Status
     ensures ends { (reads : Bool) → ForSome (F.content files.old) (λ held.
-        Does (λ numbers. job_of_task H.pair_of numbers held reads
+        JobDoes (λ numbers. job_of_task H.pair_of numbers held reads
         (plays (known_in schema) max script.now))
         (λ numbers. turns_of_task H.pair_of numbers held (plays (known_in schema) max script.now))
         result (H.pairs hasher.old) (H.pairs hasher.new)

@@ -9,12 +9,12 @@ ghost use Rattle.ssz_outside.specs.Job.{Ends, Finishes, CountsRun, IsThatOrStopp
 ghost use Rattle.ssz_proof.specs.Calculation.{indices_of};
 ghost use Rattle.ssz_schema.specs.Unfolding.{type_of};
 ghost use Rattle.ssz_tool.specs.Commands.{plan_of, texts};
-ghost use Rattle.ssz_tool.specs.Lines.{status_of};
+ghost use Rattle.ssz_tool.specs.Lines.{line_status};
 ghost use Rattle.ssz_tool.specs.Plans.{AreReadable};
-ghost use Rattle.ssz_tool.specs.Runs.{Does, RisesWhere, job_of, job_of_line, job_of_task, job_once_read, least_asked, least_of_task, pairs_allowed, pairs_of_task, reached, reached_first, reached_of_task, turns_of, turns_of_task};
-ghost use Rattle.ssz_tool.specs.Tasks.{IsFaultless, IsReady, task_view};
+ghost use Rattle.ssz_tool.specs.Runs.{JobDoes, RisesWhere, run_job_of, job_of_line, job_of_task, job_once_read, least_asked, least_of_task, pairs_allowed, pairs_of_task, files_reached_by, reached_first, reached_of_task, run_turns, turns_of_task};
+ghost use Rattle.ssz_tool.specs.Tasks.{IsFaultless, IsTaskReady, task_view};
 ghost use Rattle.ssz_tool.specs.ToDo.{is_script, line_of_proof, line_of_value};
-ghost use Rattle.ssz_value.specs.Faults.{why};
+ghost use Rattle.ssz_value.specs.Faults.{first_fault};
 ghost use Rattle.ssz_value.specs.Pairs.{pairs};
 ghost use Rattle.ssz_value.specs.Reading.{value_in};
 
@@ -51,7 +51,8 @@ fn line_of_proof<H: PairHash>(root: &Chunk, proof: &Proof, hasher: &mut H) -> Li
 }
 
 fn line_of_value<H: PairHash>(schema: &Schema, id: TypeId, bytes: &[u8], hasher: &mut H) -> Line
-    requires { IsFaultless (length schema.now.trees) id (why (type_of schema.now id) 0 bytes.now)
+    requires { IsFaultless (length schema.now.trees) id
+        (first_fault (type_of schema.now id) 0 bytes.now)
         (length bytes.now) }
     ensures value { result ≡ line_of_value H.pair_of (type_of schema.now id) bytes.now }
     ensures pairs { H.pairs hasher.new ≤ H.pairs hasher.old
@@ -66,7 +67,7 @@ fn print_line<S: Sink>(alloc: Global, line: &Line, out: &mut S) -> Status
         (job_of_line held reads line.now) (S.pieces out.old) (S.pieces out.new) (Some held) }
     ensures counts { (gets puts : ℕ) → CountsRun result gets gets puts puts
         (S.faults out.old) (S.faults out.new) }
-    ensures status { IsThatOrStopped (status_of line.now) result }
+    ensures status { IsThatOrStopped (line_status line.now) result }
     ensures usage { result ≢ Status.Usage }
     ensures read { result ≢ Status.ReadFault }
 {
@@ -86,9 +87,9 @@ fn do_task<F: Files, S: Sink, H: PairHash>(
     out: &mut S,
     hasher: &mut H,
 ) -> Status
-    requires { IsReady task }
+    requires { IsTaskReady task }
     ensures ends { (reads : Bool) → ForSome (F.content files.old) (λ held.
-        Does (λ numbers. job_of_task H.pair_of numbers held reads (task_view task))
+        JobDoes (λ numbers. job_of_task H.pair_of numbers held reads (task_view task))
         (λ numbers. turns_of_task H.pair_of numbers held (task_view task)) result
         (H.pairs hasher.old) (H.pairs hasher.new)
         (λ job. Ends (S.ample out.old) result job (S.pieces out.old) (S.pieces out.new)
@@ -147,14 +148,16 @@ pub fn run<F: Files, S: Sink, H: PairHash>(
         → ¬ Rose (F.put_faults files.old) (F.put_faults files.new)
         → ¬ Rose (S.faults out.old) (S.faults out.new)
         → result ≢ Status.Memory
-        → Does (job_of H.pair_of (texts words.now) held) (turns_of H.pair_of (texts words.now) held)
+        → JobDoes (run_job_of H.pair_of (texts words.now) held)
+        (run_turns H.pair_of (texts words.now) held)
         result (H.pairs hasher.old) (H.pairs hasher.new)
         (λ job. Finishes job result (S.pieces out.old) (S.pieces out.new)
         (F.content files.new))) }
 
     // Whatever ended the run, what is left is of that job.
     ensures ends { ForSome (F.content files.old) (λ held.
-        Does (job_of H.pair_of (texts words.now) held) (turns_of H.pair_of (texts words.now) held)
+        JobDoes (run_job_of H.pair_of (texts words.now) held)
+        (run_turns H.pair_of (texts words.now) held)
         result (H.pairs hasher.old) (H.pairs hasher.new)
         (λ job. Ends (S.ample out.old) result job (S.pieces out.old) (S.pieces out.new)
         (F.content files.new))) }
@@ -164,8 +167,8 @@ pub fn run<F: Files, S: Sink, H: PairHash>(
     // of absent names alone, it is the first step whose file is absent as the files then stand.
     ensures in_turn { ForSome (F.content files.old) (λ held.
         AllByRecursion (F.readable files.old) (reached_first held (texts words.now))
-        → Does (job_once_read H.pair_of (texts words.now) held)
-        (turns_of H.pair_of (texts words.now) held) result
+        → JobDoes (job_once_read H.pair_of (texts words.now) held)
+        (run_turns H.pair_of (texts words.now) held) result
         (H.pairs hasher.old) (H.pairs hasher.new)
         (λ job. Ends (S.ample out.old) result job (S.pieces out.old) (S.pieces out.new)
         (F.content files.new))) }
@@ -182,7 +185,7 @@ pub fn run<F: Files, S: Sink, H: PairHash>(
     // A read fails only of the files that the job reaches: no other is read. Where it is not told
     // what the files hold, only of those that the words, or the statements of a script, may name.
     ensures reached { ForSome (F.content files.old) (λ held. AllByRecursion (F.readable files.old)
-        (reached H.pair_of held (texts words.now)) → result ≢ Status.ReadFault) }
+        (files_reached_by H.pair_of held (texts words.now)) → result ≢ Status.ReadFault) }
     ensures readable { ForSome (plan_of (texts words.now)) (λ plan.
         AreReadable (F.readable files.old) plan → result ≢ Status.ReadFault) }
 

@@ -6,7 +6,7 @@ ghost use Rattle.ssz_outside.specs.Job.{Ends, CountsRun};
 ghost use Rattle.ssz_words.specs.Limits.{IsWeaveOf};
 ghost use Rattle.ssz_tool.specs.Commands.{weave};
 ghost use Rattle.ssz_tool.specs.Follows.{Follows};
-ghost use Rattle.ssz_tool.specs.Runs.{Does, job_of_task, pairs_of_task, reached_of_task, turns_of_task};
+ghost use Rattle.ssz_tool.specs.Runs.{JobDoes, job_of_task, pairs_of_task, reached_of_task, turns_of_task};
 ghost use Rattle.ssz_tool.specs.Tasks.{IsReadyWeaving, IsTask, weaving_view};
 
 use crate::files::{load_schema, load_script, load_scripts};
@@ -59,7 +59,7 @@ pub fn run_weave<F: Files, S: Sink, H: PairHash>(
 ) -> Status
     requires { IsReadyWeaving weaving }
     ensures ends { (reads : Bool) → ForSome (F.content files.old) (λ held.
-        Does (λ numbers. job_of_task H.pair_of numbers held reads (weaving_view weaving))
+        JobDoes (λ numbers. job_of_task H.pair_of numbers held reads (weaving_view weaving))
         (λ numbers. turns_of_task H.pair_of numbers held (weaving_view weaving)) result
         (H.pairs hasher.old) (H.pairs hasher.new)
         (λ job. Ends (S.ample out.old) result job (S.pieces out.old) (S.pieces out.new)

@@ -4,7 +4,7 @@ ghost use Rattle.std.specs.Option.{ForSome};
 ghost use Rattle.ssz_outside.specs.Job.{Ends, CountsRun};
 ghost use Rattle.ssz_tool.specs.Commands.{work};
 ghost use Rattle.ssz_tool.specs.Follows.{Follows};
-ghost use Rattle.ssz_tool.specs.Runs.{Does, RisesWhere, job_of_task, least_of_task, pairs_of_task, turns_of_task};
+ghost use Rattle.ssz_tool.specs.Runs.{JobDoes, RisesWhere, job_of_task, least_of_task, pairs_of_task, turns_of_task};
 ghost use Rattle.ssz_tool.specs.Tasks.{IsTask, work_view};
 
 use crate::files::load_schema;
@@ -59,7 +59,7 @@ pub fn run_work<F: Files, S: Sink, H: PairHash>(
     hasher: &mut H,
 ) -> Status
     ensures ends { (reads : Bool) → ForSome (F.content files.old) (λ held.
-        Does (λ numbers. job_of_task H.pair_of numbers held reads (work_view work))
+        JobDoes (λ numbers. job_of_task H.pair_of numbers held reads (work_view work))
         (λ numbers. turns_of_task H.pair_of numbers held (work_view work)) result
         (H.pairs hasher.old) (H.pairs hasher.new)
         (λ job. Ends (S.ample out.old) result job (S.pieces out.old) (S.pieces out.new)

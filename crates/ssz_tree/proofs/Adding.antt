@@ -2,25 +2,25 @@
 use Rattle.std.proofs.Common.{◌≡◌, ℕ, suc, ◌+◌, ◌-◌, ◌^◌, ◌<◌, ◌≤◌, min, List, [], ◌∷◌, length, take, drop, refl, sym, ap, ap₂, subst, ◌∙◌, arith, zero-add, length-drop}
 use Rattle.std.proofs.lemmas.List.{take-map, drop-map, take-append-drop, length-take}
 use Rattle.std.proofs.lemmas.List.Sums.{sum_by-append}
-use Rattle.ssz_chunk.specs.Tree.{leaf, pair, full, grow, zero_tree}
+use Rattle.ssz_chunk.specs.Tree.{leaf, pair, merkle_tree, merkle_pairs, zero_tree}
 use Rattle.ssz_chunk.proofs.Growing.{grow-suc}
 use Rattle.ssz_chunk.proofs.Trees.{full-zero, full-suc}
 use Rattle.ssz_arena.specs.declared.node.NodeId.{NodeId}
-use Rattle.ssz_arena.specs.Content.{Content, tree_of, todo, unhashed, node_count, IsNodeOf, KeepsNodes, KeepsTodo}
+use Rattle.ssz_arena.specs.Content.{ArenaContent, tree_of, todo, unhashed, node_count, IsNodeOf, KeepsNodes, KeepsTodo}
 use Rattle.ssz_arena.proofs.Keeping.{keeps_same, keeps_trans}
-use Rattle.ssz_tree.specs.Added.{Adds, IsPart, Makes}
-use Rattle.ssz_making.specs.Parts.{Part, part_trees, costs, whole, joined, chunk_part, none_part}
-use Rattle.ssz_tree.specs.Stack.{AreNodes}
+use Rattle.ssz_tree.specs.Added.{AddsNodes, IsPartNode, MakesNode}
+use Rattle.ssz_making.specs.Parts.{MadePart, part_trees, costs, whole_of, joined_leaf, chunk_part, none_part}
+use Rattle.ssz_tree.specs.Stack.{LevelsAreNodes}
 
 -- as much is to be hashed as before, over two calls
-todo_then : (old middle new : Content) → KeepsNodes old middle → KeepsTodo old middle
+todo_then : (old middle new : ArenaContent) → KeepsNodes old middle → KeepsTodo old middle
     → KeepsTodo middle new → KeepsTodo old new
 todo_then old middle new keeps first second = record {
   each = λ id inside. second.each id (omega (arith, inside, keeps.count)) ∙ first.each id inside;
 }
 
 -- nothing was made
-pub Adds-none : (arena : Content) → Adds 0 0 arena arena
+pub Adds-none : (arena : ArenaContent) → AddsNodes 0 0 arena arena
 Adds-none arena = record {
   keeps = keeps_same arena arena refl;
   same = record { each = λ id inside. refl };
@@ -30,8 +30,8 @@ Adds-none arena = record {
 }
 
 -- one call, and then another
-pub Adds-then : (n p m q : ℕ) (old middle new : Content) → Adds n p old middle
-    → Adds m q middle new → Adds (n + m) (p + q) old new
+pub Adds-then : (n p m q : ℕ) (old middle new : ArenaContent) → AddsNodes n p old middle
+    → AddsNodes m q middle new → AddsNodes (n + m) (p + q) old new
 Adds-then n p m q old middle new first second = record {
   keeps = keeps_trans first.keeps second.keeps;
   same = todo_then old middle new first.keeps first.same second.same;
@@ -41,8 +41,8 @@ Adds-then n p m q old middle new first second = record {
 }
 
 -- it is no more than this
-pub Adds-within : (n p m q : ℕ) (old new : Content) → Adds n p old new → n ≤ m → p ≤ q
-    → Adds m q old new
+pub Adds-within : (n p m q : ℕ) (old new : ArenaContent) → AddsNodes n p old new → n ≤ m → p ≤ q
+    → AddsNodes m q old new
 Adds-within n p m q old new adds nodes pairs = record {
   keeps = adds.keeps;
   same = adds.same;
@@ -52,9 +52,9 @@ Adds-within n p m q old new adds nodes pairs = record {
 }
 
 -- a leaf, a pair
-pub Adds-leaf : (old new : Content) → KeepsNodes old new → KeepsTodo old new
+pub Adds-leaf : (old new : ArenaContent) → KeepsNodes old new → KeepsTodo old new
     → unhashed new ≡ unhashed old → node_count new ≡ node_count old + 1
-    → new.spare + 1 ≡ old.spare → Adds 1 0 old new
+    → new.spare + 1 ≡ old.spare → AddsNodes 1 0 old new
 Adds-leaf old new keeps same hashed more less = record {
   keeps = keeps;
   same = same;
@@ -63,9 +63,9 @@ Adds-leaf old new keeps same hashed more less = record {
   spare = omega (arith, less);
 }
 
-pub Adds-pair : (old new : Content) → KeepsNodes old new → KeepsTodo old new
+pub Adds-pair : (old new : ArenaContent) → KeepsNodes old new → KeepsTodo old new
     → unhashed new ≡ unhashed old + 1 → node_count new ≡ node_count old + 1
-    → new.spare + 1 ≡ old.spare → Adds 1 1 old new
+    → new.spare + 1 ≡ old.spare → AddsNodes 1 1 old new
 Adds-pair old new keeps same one more less = record {
   keeps = keeps;
   same = same;
@@ -75,33 +75,34 @@ Adds-pair old new keeps same one more less = record {
 }
 
 -- what a caller holds stays
-pub IsPart-kept : (old new : Content) (part : Part) (node : NodeId) → KeepsNodes old new
-    → IsPart old part node → IsPart new part node
+pub IsPart-kept : (old new : ArenaContent) (part : MadePart) (node : NodeId) → KeepsNodes old new
+    → IsPartNode old part node → IsPartNode new part node
 IsPart-kept old new part node keeps is = record {
   node = omega (arith, is.node, keeps.count);
   tree = keeps.trees node is.node ∙ is.tree;
   todo = omega (arith, keeps.todo node is.node, is.todo);
 }
 
-pub AreNodes-kept : (old new : Content) (nodes : List NodeId) → KeepsNodes old new
-    → AreNodes old nodes → AreNodes new nodes
+pub AreNodes-kept : (old new : ArenaContent) (nodes : List NodeId) → KeepsNodes old new
+    → LevelsAreNodes old nodes → LevelsAreNodes new nodes
 AreNodes-kept old new nodes keeps all = record {
   each = λ k within. omega (arith, all.each k within, keeps.count);
 }
 
 -- a node that was made as a leaf
-pub Makes-leaf : (old new : Content) (chunk : List ℕ) (node : NodeId) → IsNodeOf new node
-    → tree_of new node ≡ leaf chunk → todo new node ≡ 0 → Adds 1 0 old new
-    → Makes old new (chunk_part chunk) node
+pub Makes-leaf : (old new : ArenaContent) (chunk : List ℕ) (node : NodeId) → IsNodeOf new node
+    → tree_of new node ≡ leaf chunk → todo new node ≡ 0 → AddsNodes 1 0 old new
+    → MakesNode old new (chunk_part chunk) node
 Makes-leaf old new chunk node inside tree due adds = record {
   is = record { node = inside; tree = tree; todo = omega (arith, due) };
   adds = adds;
 }
 
 -- the full tree of depth 0 over one part is that part
-pub IsPart-one : (arena : Content) (part : Part) (node : NodeId) → IsPart arena part node
-    → IsPart arena (whole 0 (part ∷ [])) node
-unfolding grow
+pub IsPart-one : (arena : ArenaContent) (part : MadePart) (node : NodeId)
+    → IsPartNode arena part node
+    → IsPartNode arena (whole_of 0 (part ∷ [])) node
+unfolding merkle_pairs
 IsPart-one arena part node is = record {
   node = is.node;
   tree = is.tree ∙ sym (full-zero (part.tree ∷ []));
@@ -109,30 +110,33 @@ IsPart-one arena part node is = record {
 }
 
 -- with no part it is the zero tree
-pub IsPart-none : (arena : Content) (d : ℕ) (node : NodeId) → IsNodeOf arena node
-    → tree_of arena node ≡ zero_tree d → todo arena node ≡ 0 → IsPart arena (whole d []) node
+pub IsPart-none : (arena : ArenaContent) (d : ℕ) (node : NodeId) → IsNodeOf arena node
+    → tree_of arena node ≡ zero_tree d → todo arena node ≡ 0 → IsPartNode arena (whole_of d []) node
 IsPart-none arena d node inside tree due =
     record { node = inside; tree = tree; todo = omega (arith, due) }
 
 -- a pair of the full trees over the two halves
-pub IsPart-join : (old new : Content) (d : ℕ) (parts : List Part) (left right node : NodeId)
+pub IsPart-join : (old new : ArenaContent) (d : ℕ) (parts : List MadePart)
+    (left right node : NodeId)
     → 0 < length parts → length parts ≤ 2 ^ suc d
-    → IsPart old (whole d (take (2 ^ d) parts)) left
-    → IsPart old (whole d (drop (2 ^ d) parts)) right
+    → IsPartNode old (whole_of d (take (2 ^ d) parts)) left
+    → IsPartNode old (whole_of d (drop (2 ^ d) parts)) right
     → IsNodeOf new node → tree_of new node ≡ pair (tree_of old left) (tree_of old right)
-    → todo new node ≡ 1 + todo old left + todo old right → IsPart new (whole (suc d) parts) node
+    → todo new node ≡ 1 + todo old left + todo old right
+    → IsPartNode new (whole_of (suc d) parts) node
 IsPart-join old new d parts left right node some few is_left is_right inside tree due =
-    let halves : full (suc d) (part_trees parts)
-    ≡ pair (full d (part_trees (take (2 ^ d) parts))) (full d (part_trees (drop (2 ^ d) parts))) =
-    full-suc d (part_trees parts) ∙ ap₂ (λ ls rs. pair (full d ls) (full d rs))
-    (take-map (λ (part : Part). part.tree) (2 ^ d) parts)
-    (drop-map (λ (part : Part). part.tree) (2 ^ d) parts) in
+    let halves : merkle_tree (suc d) (part_trees parts)
+    ≡ pair (merkle_tree d (part_trees (take (2 ^ d) parts)))
+    (merkle_tree d (part_trees (drop (2 ^ d) parts))) =
+    full-suc d (part_trees parts) ∙ ap₂ (λ ls rs. pair (merkle_tree d ls) (merkle_tree d rs))
+    (take-map (λ (part : MadePart). part.tree) (2 ^ d) parts)
+    (drop-map (λ (part : MadePart). part.tree) (2 ^ d) parts) in
     let first : length (take (2 ^ d) parts) ≡ min (2 ^ d) (length parts) =
     length-take (2 ^ d) parts in
     let rest : length (drop (2 ^ d) parts) ≡ length parts - 2 ^ d = length-drop (2 ^ d) parts in
     let sum : costs parts ≡ costs (take (2 ^ d) parts) + costs (drop (2 ^ d) parts) =
     ap costs (sym (take-append-drop (2 ^ d) parts))
-    ∙ sum_by-append (λ (part : Part). part.cost) (take (2 ^ d) parts) (drop (2 ^ d) parts) in
+    ∙ sum_by-append (λ (part : MadePart). part.cost) (take (2 ^ d) parts) (drop (2 ^ d) parts) in
     record {
       node = inside;
       tree = tree ∙ ap₂ pair is_left.tree is_right.tree ∙ sym halves;
@@ -142,20 +146,20 @@ IsPart-join old new d parts left right node some few is_left is_right inside tre
         is_left.todo,
         is_right.todo,
         grow-suc d (length parts) some few,
-        ap (grow d) first,
-        ap (grow d) rest,
+        ap (merkle_pairs d) first,
+        ap (merkle_pairs d) rest,
         sum,
       );
     }
 
 -- a leaf was made
-pub record MakesLeaf (old new : Content) (chunk : List ℕ) (id : NodeId) : Type 0 where
+pub record MakesLeaf (old new : ArenaContent) (chunk : List ℕ) (id : NodeId) : Type 0 where
   pub node : IsNodeOf new id
   pub tree : tree_of new id ≡ leaf chunk
   pub todo : todo new id ≡ 0
-  pub adds : Adds 1 0 old new
+  pub adds : AddsNodes 1 0 old new
 
-pub makes_leaf : (old new : Content) (chunk : List ℕ) (id : NodeId) → IsNodeOf new id
+pub makes_leaf : (old new : ArenaContent) (chunk : List ℕ) (id : NodeId) → IsNodeOf new id
     → tree_of new id ≡ leaf chunk → todo new id ≡ 0 → KeepsNodes old new → KeepsTodo old new
     → unhashed new ≡ unhashed old → node_count new ≡ node_count old + 1
     → new.spare + 1 ≡ old.spare → MakesLeaf old new chunk id
@@ -167,13 +171,13 @@ makes_leaf old new chunk id inside tree due keeps same hashed more less = record
 }
 
 -- a pair was made
-pub record MakesPair (old new : Content) (left right id : NodeId) : Type 0 where
+pub record MakesPair (old new : ArenaContent) (left right id : NodeId) : Type 0 where
   pub node : IsNodeOf new id
   pub tree : tree_of new id ≡ pair (tree_of old left) (tree_of old right)
   pub todo : todo new id ≡ 1 + todo old left + todo old right
-  pub adds : Adds 1 1 old new
+  pub adds : AddsNodes 1 1 old new
 
-pub makes_pair : (old new : Content) (left right id : NodeId) → IsNodeOf new id
+pub makes_pair : (old new : ArenaContent) (left right id : NodeId) → IsNodeOf new id
     → tree_of new id ≡ pair (tree_of old left) (tree_of old right)
     → todo new id ≡ 1 + todo old left + todo old right → KeepsNodes old new → KeepsTodo old new
     → unhashed new ≡ unhashed old + 1 → node_count new ≡ node_count old + 1
@@ -186,15 +190,15 @@ makes_pair old new left right id inside tree due keeps same one more less = reco
 }
 
 -- the part of a leaf
-pub Makes-chunk : (old new : Content) (chunk : List ℕ) (id : NodeId)
-    → MakesLeaf old new chunk id → Makes old new (chunk_part chunk) id
+pub Makes-chunk : (old new : ArenaContent) (chunk : List ℕ) (id : NodeId)
+    → MakesLeaf old new chunk id → MakesNode old new (chunk_part chunk) id
 Makes-chunk old new chunk id made =
     Makes-leaf old new chunk id made.node made.tree made.todo made.adds
 
 -- a part, a leaf, and the pair of both
-pub Makes-joined : (old first second new : Content) (part : Part) (chunk : List ℕ)
-    (node number top : NodeId) → Makes old first part node → MakesLeaf first second chunk number
-    → MakesPair second new node number top → Makes old new (joined part chunk) top
+pub Makes-joined : (old first second new : ArenaContent) (part : MadePart) (chunk : List ℕ)
+    (node number top : NodeId) → MakesNode old first part node → MakesLeaf first second chunk number
+    → MakesPair second new node number top → MakesNode old new (joined_leaf part chunk) top
 Makes-joined old first second new part chunk node number top made a b =
     let kept = IsPart-kept first second part node a.adds.keeps made.is in
     record {
@@ -210,19 +214,20 @@ Makes-joined old first second new part chunk node number top made a b =
     }
 
 -- the option None, whose chunk the arena has
-pub Makes-none : (arena : Content) (id : NodeId) → IsNodeOf arena id
-    → tree_of arena id ≡ zero_tree 0 → todo arena id ≡ 0 → Makes arena arena none_part id
+pub Makes-none : (arena : ArenaContent) (id : NodeId) → IsNodeOf arena id
+    → tree_of arena id ≡ zero_tree 0 → todo arena id ≡ 0 → MakesNode arena arena none_part id
 Makes-none arena id inside tree due = record {
   is = record { node = inside; tree = tree ∙ full-zero []; todo = omega (arith, due) };
   adds = Adds-none arena;
 }
 
 -- an equal part
-pub Makes-same : (old new : Content) (a b : Part) (id : NodeId) → a ≡ b → Makes old new a id
-    → Makes old new b id
-Makes-same old new a b id e made = subst (λ part. Makes old new part id) e made
+pub Makes-same : (old new : ArenaContent) (a b : MadePart) (id : NodeId) → a ≡ b
+    → MakesNode old new a id
+    → MakesNode old new b id
+Makes-same old new a b id e made = subst (λ part. MakesNode old new part id) e made
 
 -- a number's leaf and the pair find room
-pub joined_room : (start first : Content) (nodes n : ℕ) → nodes + 2 ≡ n → n ≤ start.spare
+pub joined_room : (start first : ArenaContent) (nodes n : ℕ) → nodes + 2 ≡ n → n ≤ start.spare
     → start.spare ≤ first.spare + nodes → 2 ≤ first.spare
 joined_room start first nodes n is room made = omega arith

@@ -3,7 +3,7 @@ use Rattle.std.proofs.Common.{◌≡◌, ℕ, zero, suc, ◌+◌, ◌-◌, ◌*�
 use Rattle.std.specs.List.{AllByRecursion, sum_by}
 use Rattle.std.proofs.Math.Nat.{mul-le-mul_right}
 use Rattle.std.proofs.lemmas.List.Sums.{sum_by-cons}
-use Rattle.ssz_chunk.specs.Tree.{grow}
+use Rattle.ssz_chunk.specs.Tree.{merkle_pairs}
 use Rattle.ssz_chunk.proofs.Growing.{grow-suc}
 use Rattle.ssz_schema.specs.Types.{SszType, Fields, Options, uint, boolean, container, vector, list, bitvector, bitlist, union, no_fields, field, no_options, none_option, option}
 use Rattle.ssz_schema.specs.Sizes.{depth, basic_size, element_chunks, field_count}
@@ -13,14 +13,14 @@ use Rattle.ssz_value.specs.Pairs.{pairs, field_pairs, option_pairs}
 use Rattle.ssz_making.specs.Nodes.{new_nodes, field_nodes, option_nodes, element_nodes}
 
 -- n places have at least n - 1 pairs above them
-few_places : (d n : ℕ) → n ≤ 2 ^ d → n ≤ grow d n + 1
+few_places : (d n : ℕ) → n ≤ 2 ^ d → n ≤ merkle_pairs d n + 1
 few_places zero n few = omega arith
 few_places (suc d) zero few = omega arith
 few_places (suc d) (suc n) few =
     let power : 2 ^ suc d ≡ 2 * 2 ^ d = omega arith in
-    let left : min (2 ^ d) (suc n) ≤ grow d (min (2 ^ d) (suc n)) + 1 =
+    let left : min (2 ^ d) (suc n) ≤ merkle_pairs d (min (2 ^ d) (suc n)) + 1 =
     few_places d (min (2 ^ d) (suc n)) (omega arith) in
-    let right : suc n - 2 ^ d ≤ grow d (suc n - 2 ^ d) + 1 =
+    let right : suc n - 2 ^ d ≤ merkle_pairs d (suc n - 2 ^ d) + 1 =
     few_places d (suc n - 2 ^ d) (omega arith) in
     omega (arith, grow-suc d (suc n) (omega arith) few, left, right)
 
@@ -47,8 +47,8 @@ values_few t few (v ∷ vs) all = omega (
 
 -- and the pairs above them
 elements_few : (size : Option ℕ) (d n nodes pairs : ℕ) → element_chunks size n ≤ 2 ^ d
-    → nodes ≤ 2 * pairs + n → grow d (element_chunks size n) + element_nodes size n nodes
-    ≤ 2 * (grow d (element_chunks size n) + pairs) + 1
+    → nodes ≤ 2 * pairs + n → merkle_pairs d (element_chunks size n) + element_nodes size n nodes
+    ≤ 2 * (merkle_pairs d (element_chunks size n) + pairs) + 1
 elements_few (Some z) d n nodes pairs fits few =
     omega (arith, few_places d ((n * z + 31) / 32) fits)
 elements_few None d n nodes pairs fits few = omega (arith, few_places d n fits, few)

@@ -5,18 +5,18 @@ use Rattle.std.proofs.lemmas.Bool.{cases_lt, cases_eq}
 use Rattle.std.proofs.lemmas.List.{take_all, take-append-le, drop-append-le, get_or-set_same, get_or-set_other, length-set, length-replicate, get_or-replicate}
 use Rattle.std.proofs.lemmas.Nat.{pow_pos}
 use Rattle.ssz_arena.specs.declared.node.NodeId.{NodeId}
-use Rattle.ssz_arena.specs.Content.{Content, IsNodeOf, KeepsNodes}
+use Rattle.ssz_arena.specs.Content.{ArenaContent, IsNodeOf, KeepsNodes}
 use Rattle.ssz_merkle.proofs.Binary.{IsFollowed, shr-above, digit-low, digit-below, digit-at}
 use Rattle.ssz_merkle.proofs.Blocks.{start, start-left, start-right, start-within, start-near}
-use Rattle.ssz_making.specs.Parts.{Part, whole}
-use Rattle.ssz_tree.specs.Added.{IsPart}
-use Rattle.ssz_tree.specs.Stack.{Stack, AreNodes, Holds, block, node_at}
+use Rattle.ssz_making.specs.Parts.{MadePart, whole_of}
+use Rattle.ssz_tree.specs.Added.{IsPartNode}
+use Rattle.ssz_tree.specs.Stack.{Stack, LevelsAreNodes, StackHolds, part_block, stack_node}
 use Rattle.ssz_tree.proofs.Adding.{IsPart-kept, AreNodes-kept}
 use Rattle.ssz_tree.proofs.Blocks.{IsTop, IsTop-right, Joins}
 
 -- no node was pushed
-pub Holds-none : (arena : Content) (stack : Stack) → stack.pushed ≡ 0
-    → AreNodes arena stack.nodes → Holds arena [] stack
+pub Holds-none : (arena : ArenaContent) (stack : Stack) → stack.pushed ≡ 0
+    → LevelsAreNodes arena stack.nodes → StackHolds arena [] stack
 Holds-none arena stack none nodes = record {
   number = none;
   nodes = nodes;
@@ -24,8 +24,9 @@ Holds-none arena stack none nodes = record {
 }
 
 -- and in an arena with more nodes
-pub Holds-kept : (old new : Content) (parts : List Part) (stack : Stack) → KeepsNodes old new
-    → Holds old parts stack → Holds new parts stack
+pub Holds-kept : (old new : ArenaContent) (parts : List MadePart) (stack : Stack)
+    → KeepsNodes old new
+    → StackHolds old parts stack → StackHolds new parts stack
 Holds-kept old new parts stack keeps held = record {
   number = held.number;
   nodes = AreNodes-kept old new stack.nodes keeps held.nodes;
@@ -33,8 +34,8 @@ Holds-kept old new parts stack keeps held = record {
 }
 
 -- a block with a part behind it
-block-before : (parts : List Part) (part : Part) (k : ℕ) → bit_at (length parts) k ≡ 1
-    → block k parts ≡ take (2 ^ k) (drop (start (length parts) (suc k)) (parts ++ part ∷ []))
+block-before : (parts : List MadePart) (part : MadePart) (k : ℕ) → bit_at (length parts) k ≡ 1
+    → part_block k parts ≡ take (2 ^ k) (drop (start (length parts) (suc k)) (parts ++ part ∷ []))
 block-before parts part k one =
     let n : ℕ = length parts in
     let from : ℕ = start n (suc k) in
@@ -44,8 +45,8 @@ block-before parts part k one =
     ∙ take-append-le (2 ^ k) (drop from parts) (part ∷ []) (omega arith))
 
 -- the block that the last part is the end of
-block-last : (parts : List Part) (last low q : ℕ) → length parts ≡ last + 1
-    → IsFollowed last low q → block low parts ≡ drop (start last low) parts
+block-last : (parts : List MadePart) (last low q : ℕ) → length parts ≡ last + 1
+    → IsFollowed last low q → part_block low parts ≡ drop (start last low) parts
 block-last parts last low q count is =
     let left : start last low ≡ start last (suc low) =
     start-left last low (digit-low last low q is) in
@@ -58,29 +59,32 @@ block-last parts last low q count is =
     ∙ take_all (2 ^ low) (drop (start last low) parts) few
 
 -- a carried node with the node to its left
-pub IsTop-carry : (first old new : Content) (parts : List Part) (stack : Stack) (part : Part)
-    (carry node : NodeId) (k : ℕ) → Holds first parts stack → KeepsNodes first old
+pub IsTop-carry : (first old new : ArenaContent) (parts : List MadePart) (stack : Stack)
+    (part : MadePart)
+    (carry node : NodeId) (k : ℕ) → StackHolds first parts stack → KeepsNodes first old
     → bit_at stack.pushed k ≡ 1 → IsTop old stack.pushed k (parts ++ part ∷ []) carry
-    → Joins old new (node_at stack.nodes k) carry node
+    → Joins old new (stack_node stack.nodes k) carry node
     → IsTop new stack.pushed (k + 1) (parts ++ part ∷ []) node
 IsTop-carry first old new parts stack part carry node k held keeps one top joins =
     let here : bit_at (length parts) k ≡ 1 = ap (λ n. bit_at n k) (sym held.number) ∙ one in
-    let block_is : block k parts
+    let block_is : part_block k parts
     ≡ take (2 ^ k) (drop (start stack.pushed (suc k)) (parts ++ part ∷ [])) =
     block-before parts part k here
     ∙ ap (λ n. take (2 ^ k) (drop (start n (suc k)) (parts ++ part ∷ []))) (sym held.number) in
-    let left = subst (λ ps. IsPart old (whole k ps) (node_at stack.nodes k)) block_is
+    let left = subst (λ ps. IsPartNode old (whole_of k ps) (stack_node stack.nodes k)) block_is
     (IsPart-kept first old _ _ keeps (held.wholes k here)) in
-    IsTop-right old new stack.pushed k (parts ++ part ∷ []) (node_at stack.nodes k) carry node one
+    IsTop-right old new stack.pushed k (parts ++ part ∷ [])
+    (stack_node stack.nodes k) carry node one
     (length-append parts (part ∷ []) ∙ ap (λ n. n + 1) (sym held.number)) left top joins
 
 -- the nodes with another one among them
-pub AreNodes-set : (arena : Content) (nodes : List NodeId) (low : ℕ) (node : NodeId)
-    → AreNodes arena nodes → IsNodeOf arena node → AreNodes arena (slice_set nodes low node)
+pub AreNodes-set : (arena : ArenaContent) (nodes : List NodeId) (low : ℕ) (node : NodeId)
+    → LevelsAreNodes arena nodes → IsNodeOf arena node
+    → LevelsAreNodes arena (slice_set nodes low node)
 AreNodes-set arena nodes low node all inside = record {
   each = λ k within. ⊎_elim
       (λ (here : k ≡ low). subst (IsNodeOf arena)
-      (sym (ap (node_at (slice_set nodes low node)) here
+      (sym (ap (stack_node (slice_set nodes low node)) here
       ∙ get_or-set_same nodes low node (record { 0 = 0 })
       (omega (arith, within, length-set nodes low node, here)))) inside)
       (λ (other : k ≢ low). subst (IsNodeOf arena)
@@ -90,15 +94,16 @@ AreNodes-set arena nodes low node all inside = record {
 }
 
 -- one more node, carried up to its place
-pub Holds-push : (first arena : Content) (parts : List Part) (old new : Stack) (part : Part)
-    (carry : NodeId) (low q : ℕ) → Holds first parts old → KeepsNodes first arena
+pub Holds-push : (first arena : ArenaContent) (parts : List MadePart) (old new : Stack)
+    (part : MadePart)
+    (carry : NodeId) (low q : ℕ) → StackHolds first parts old → KeepsNodes first arena
     → IsFollowed old.pushed low q → low < length old.nodes
     → IsTop arena old.pushed low (parts ++ part ∷ []) carry
     → new.pushed ≡ old.pushed + 1 → new.nodes ≡ slice_set old.nodes low carry
-    → Holds arena (parts ++ part ∷ []) new
+    → StackHolds arena (parts ++ part ∷ []) new
 Holds-push first arena parts old new part carry low q held keeps is within top more set = record {
   number = more ∙ ap (λ n. n + 1) held.number ∙ sym count;
-  nodes = subst (AreNodes arena) (sym set) (AreNodes-set arena old.nodes low carry
+  nodes = subst (LevelsAreNodes arena) (sym set) (AreNodes-set arena old.nodes low carry
       (AreNodes-kept first arena old.nodes keeps held.nodes) top.node);
   wholes = λ k one. ⊎_elim
       (λ (below : k < low).
@@ -117,7 +122,7 @@ Holds-push first arena parts old new part carry low q held keeps is within top m
     last : ℕ
     last = length parts
 
-    all : List Part
+    all : List MadePart
     all = parts ++ part ∷ []
 
     count : length all ≡ last + 1
@@ -126,20 +131,22 @@ Holds-push first arena parts old new part carry low q held keeps is within top m
     followed : IsFollowed last low q
     followed = subst (λ n. IsFollowed n low q) held.number is
 
-    at_low : (k : ℕ) → k ≡ low → IsPart arena (whole k (block k all)) (node_at new.nodes k)
+    at_low : (k : ℕ) → k ≡ low
+        → IsPartNode arena (whole_of k (part_block k all)) (stack_node new.nodes k)
     at_low k here =
-        let node : node_at new.nodes low ≡ carry =
-        ap (λ (nodes : List NodeId). node_at nodes low) set
+        let node : stack_node new.nodes low ≡ carry =
+        ap (λ (nodes : List NodeId). stack_node nodes low) set
         ∙ get_or-set_same old.nodes low carry (record { 0 = 0 }) within in
-        let parts_are : drop (start old.pushed low) all ≡ block low all =
+        let parts_are : drop (start old.pushed low) all ≡ part_block low all =
         ap (λ n. drop (start n low) all) held.number
         ∙ sym (block-last all last low q count followed) in
-        subst (λ j. IsPart arena (whole j (block j all)) (node_at new.nodes j)) (sym here)
-        (subst (λ id. IsPart arena (whole low (block low all)) id) (sym node)
-        (subst (λ ps. IsPart arena (whole low ps) carry) parts_are top))
+        subst (λ j. IsPartNode arena (whole_of j (part_block j all)) (stack_node new.nodes j))
+        (sym here)
+        (subst (λ id. IsPartNode arena (whole_of low (part_block low all)) id) (sym node)
+        (subst (λ ps. IsPartNode arena (whole_of low ps) carry) parts_are top))
 
     above : (k : ℕ) → bit_at (length all) k ≡ 1 → low ≤ k → k ≢ low
-        → IsPart arena (whole k (block k all)) (node_at new.nodes k)
+        → IsPartNode arena (whole_of k (part_block k all)) (stack_node new.nodes k)
     above k one reached other =
         let same : (last + 1) / 2 ^ k ≡ last / 2 ^ k =
         shr-above last low q k followed (omega arith) in
@@ -148,33 +155,33 @@ Holds-push first arena parts old new part carry low q held keeps is within top m
         let digit : bit_at last k ≡ 1 = ap (λ a. a % 2) (sym same)
         ∙ ap (λ n. bit_at n k) (sym count)
         ∙ one in
-        let node : node_at new.nodes k ≡ node_at old.nodes k =
-        ap (λ (nodes : List NodeId). node_at nodes k) set
+        let node : stack_node new.nodes k ≡ stack_node old.nodes k =
+        ap (λ (nodes : List NodeId). stack_node nodes k) set
         ∙ get_or-set_other old.nodes low k carry (record { 0 = 0 }) other in
-        let parts_are : block k parts ≡ block k all =
+        let parts_are : part_block k parts ≡ part_block k all =
         block-before parts part k digit
         ∙ ap (λ a. take (2 ^ k) (drop (a * 2 ^ suc k) all))
         (sym higher ∙ ap (λ n. n / 2 ^ suc k) (sym count)) in
-        subst (λ id. IsPart arena (whole k (block k all)) id) (sym node)
-        (subst (λ ps. IsPart arena (whole k ps) (node_at old.nodes k)) parts_are
+        subst (λ id. IsPartNode arena (whole_of k (part_block k all)) id) (sym node)
+        (subst (λ ps. IsPartNode arena (whole_of k ps) (stack_node old.nodes k)) parts_are
         (IsPart-kept first arena _ _ keeps (held.wholes k digit)))
 
 -- the node of the last block
-pub IsTop-first : (arena : Content) (parts : List Part) (stack : Stack) (last low q : ℕ)
-    → Holds arena parts stack → stack.pushed ≡ last + 1 → IsFollowed last low q
-    → IsTop arena last low parts (node_at stack.nodes low)
+pub IsTop-first : (arena : ArenaContent) (parts : List MadePart) (stack : Stack) (last low q : ℕ)
+    → StackHolds arena parts stack → stack.pushed ≡ last + 1 → IsFollowed last low q
+    → IsTop arena last low parts (stack_node stack.nodes low)
 IsTop-first arena parts stack last low q held number is =
     let count : length parts ≡ last + 1 = sym held.number ∙ number in
-    subst (λ ps. IsPart arena (whole low ps) (node_at stack.nodes low))
+    subst (λ ps. IsPartNode arena (whole_of low ps) (stack_node stack.nodes low))
     (block-last parts last low q count is)
     (held.wholes low (ap (λ n. bit_at n low) count ∙ digit-at last low q is))
 
 -- and of the pair with the node to its left
-pub IsTop-next : (first old new : Content) (parts : List Part) (stack : Stack)
+pub IsTop-next : (first old new : ArenaContent) (parts : List MadePart) (stack : Stack)
     (last low q k : ℕ) (right node : NodeId)
-    → Holds first parts stack → KeepsNodes first old → stack.pushed ≡ last + 1
+    → StackHolds first parts stack → KeepsNodes first old → stack.pushed ≡ last + 1
     → IsFollowed last low q → low ≤ k → bit_at last k ≡ 1 → IsTop old last k parts right
-    → Joins old new (node_at stack.nodes k) right node → IsTop new last (k + 1) parts node
+    → Joins old new (stack_node stack.nodes k) right node → IsTop new last (k + 1) parts node
 IsTop-next first old new parts stack last low q k right node held keeps number is reached one top
     joins =
     let count : length parts ≡ last + 1 = sym held.number ∙ number in
@@ -188,14 +195,14 @@ IsTop-next first old new parts stack last low q k right node held keeps number i
     let from : start (length parts) (suc k) ≡ start last (suc k) =
     ap (λ n. start n (suc k)) count ∙ ap (λ a. a * 2 ^ suc k)
     (shr-above last low q (suc k) is (omega arith)) in
-    IsTop-right old new last k parts (node_at stack.nodes k) right node one count
-    (subst (λ ps. IsPart old (whole k ps) (node_at stack.nodes k))
+    IsTop-right old new last k parts (stack_node stack.nodes k) right node one count
+    (subst (λ ps. IsPartNode old (whole_of k ps) (stack_node stack.nodes k))
     (ap (λ n. take (2 ^ k) (drop n parts)) from)
     (IsPart-kept first old _ _ keeps (held.wholes k digit))) top joins
 
 -- one node for each level
-pub AreNodes-one : (arena : Content) (count : ℕ) (node : NodeId) → IsNodeOf arena node
-    → AreNodes arena (replicate count node)
+pub AreNodes-one : (arena : ArenaContent) (count : ℕ) (node : NodeId) → IsNodeOf arena node
+    → LevelsAreNodes arena (replicate count node)
 AreNodes-one arena count node inside = record {
   each = λ k within. subst (IsNodeOf arena)
       (sym (get_or-replicate count k node (record { 0 = 0 })

@@ -4,7 +4,7 @@ use Rattle.std.specs.List.{sum_by}
 use Rattle.std.proofs.Math.Nat.{mul-le-mul_left}
 use Rattle.std.proofs.lemmas.List.{length-replicate}
 use Rattle.std.proofs.lemmas.List.Folds.{sum_by-replicate}
-use Rattle.ssz_chunk.specs.Tree.{grow}
+use Rattle.ssz_chunk.specs.Tree.{merkle_pairs}
 use Rattle.ssz_chunk.proofs.Growing.{grow-suc}
 use Rattle.ssz_schema.specs.declared.format.Format.{Format}
 use Rattle.ssz_schema.specs.Types.{SszType, Fields, Options, uint, boolean, container, vector, list, bitvector, bitlist, union, no_fields, field, no_options, none_option, option}
@@ -18,15 +18,16 @@ use Rattle.ssz_value.proofs.Sequences.{items-values}
 use Rattle.ssz_tree.specs.Shared.{shared, shared_fields, shared_option, shared_vector}
 
 -- a tree over some places has a pair on each level
-grow-deep : (d n : ℕ) → 0 < n → n ≤ 2 ^ d → d ≤ grow d n
+grow-deep : (d n : ℕ) → 0 < n → n ≤ 2 ^ d → d ≤ merkle_pairs d n
 grow-deep zero n some few = omega arith
 grow-deep (suc d) n some few =
-    let below : d ≤ grow d (min (2 ^ d) n) = grow-deep d (min (2 ^ d) n) (omega arith) (omega arith)
+    let below : d ≤ merkle_pairs d (min (2 ^ d) n) =
+    grow-deep d (min (2 ^ d) n) (omega arith) (omega arith)
     in omega (arith, grow-suc d n some few, below)
 
 -- equal parts that share one node, and two nodes a level, beside all their pairs
-copies_few : (d n nodes cost all : ℕ) → 0 < n → d ≤ grow d n → nodes ≤ 2 * cost
-    → all ≡ n * cost → nodes + 2 * d ≤ 2 * (grow d n + all)
+copies_few : (d n nodes cost all : ℕ) → 0 < n → d ≤ merkle_pairs d n → nodes ≤ 2 * cost
+    → all ≡ n * cost → nodes + 2 * d ≤ 2 * (merkle_pairs d n + all)
 copies_few d n nodes cost all some deep few is =
     let once : cost * 1 ≤ cost * n = mul-le-mul_left cost some in
     let turned : cost * n ≡ n * cost = omega arith in
@@ -56,7 +57,7 @@ vector_few elem n some few None is =
       copies_few d n (shared elem) (pairs elem one)
           (sum_by (pairs elem) (items (values (replicate n one)))) some (grow-deep d n some places)
           few all,
-      ap (grow d) many,
+      ap (merkle_pairs d) many,
     )
 
 module _ (format : Format) where
@@ -70,7 +71,7 @@ module _ (format : Format) where
         ap (length {A = SszValue}) (items-values (default_fields fs)) ∙ count_defaults fs in
         omega (
           arith,
-          ap (grow (depth (container fs))) many,
+          ap (merkle_pairs (depth (container fs))) many,
           ap (field_pairs fs) (items-values (default_fields fs)),
           shared_fields_few fs legal.1,
         )

@@ -3,14 +3,14 @@ use Rattle.std.proofs.Common.{◌≡◌, ℕ, zero, suc, ◌+◌, ◌-◌, ◌*�
 use Rattle.std.specs.List.{concat}
 use Rattle.std.proofs.lemmas.List.{replicate-append-replicate, take-replicate, drop-replicate}
 use Rattle.ssz_chunk.specs.Chunk.{zero_chunk}
-use Rattle.ssz_chunk.specs.Tree.{leaf, full, zero_tree, place}
+use Rattle.ssz_chunk.specs.Tree.{leaf, merkle_tree, zero_tree, place}
 use Rattle.ssz_chunk.proofs.FullTrees.{full-Agree}
 use Rattle.ssz_schema.specs.declared.width.Width.TheVariants.{W8, W16, W32, W64, W128, W256}
 use Rattle.ssz_bytes.specs.Bytes.{le_bytes, number_of_bits}
 use Rattle.ssz_schema.specs.Types.{SszType, uint, boolean, container, vector, list, bitvector, bitlist, union}
 use Rattle.ssz_schema.specs.Sizes.{basic_size}
 use Rattle.ssz_value.specs.Defaults.{default_of}
-use Rattle.ssz_value.specs.Encoding.{enc}
+use Rattle.ssz_value.specs.Encoding.{serialize}
 use Rattle.ssz_value.specs.Trees.{padded, chunks, pack, pack_bits}
 
 -- zero bytes
@@ -39,13 +39,13 @@ place-zeros zero i = refl
 place-zeros (suc m) zero = refl
 place-zeros (suc m) (suc i) = place-zeros m i
 
-full-zeros : (d m : ℕ) → full d (replicate m (leaf zero_chunk)) ≡ zero_tree d
+full-zeros : (d m : ℕ) → merkle_tree d (replicate m (leaf zero_chunk)) ≡ zero_tree d
 full-zeros d m = full-Agree d [] (replicate m (leaf zero_chunk)) (λ i below. place-zeros m i)
 
-pub pack-zeros : (d k : ℕ) → full d (map leaf (pack (zeros k))) ≡ zero_tree d
+pub pack-zeros : (d k : ℕ) → merkle_tree d (map leaf (pack (zeros k))) ≡ zero_tree d
 pack-zeros d k =
-    ap (λ cs. full d (map leaf cs)) (chunks-zeros ((length (zeros k) + 31) / 32) k)
-    ∙ ap (full d) (map-replicate leaf ((length (zeros k) + 31) / 32) zero_chunk)
+    ap (λ cs. merkle_tree d (map leaf cs)) (chunks-zeros ((length (zeros k) + 31) / 32) k)
+    ∙ ap (merkle_tree d) (map-replicate leaf ((length (zeros k) + 31) / 32) zero_chunk)
     ∙ full-zeros d ((length (zeros k) + 31) / 32)
 
 -- the bytes of 0, and of bits that are all 0
@@ -57,11 +57,12 @@ no_bits : (n : ℕ) → number_of_bits (replicate n false) ≡ 0
 no_bits zero = refl
 no_bits (suc n) = omega (arith, no_bits n)
 
-pub pack_bits-zeros : (d n : ℕ) → full d (map leaf (pack_bits (replicate n false))) ≡ zero_tree d
+pub pack_bits-zeros : (d n : ℕ)
+    → merkle_tree d (map leaf (pack_bits (replicate n false))) ≡ zero_tree d
 pack_bits-zeros d n =
-    ap (λ m. full d (map leaf (pack (le_bytes ((length (replicate n false) + 7) / 8) m))))
+    ap (λ m. merkle_tree d (map leaf (pack (le_bytes ((length (replicate n false) + 7) / 8) m))))
     (no_bits n)
-    ∙ ap (λ bytes. full d (map leaf (pack bytes)))
+    ∙ ap (λ bytes. merkle_tree d (map leaf (pack bytes)))
     (le_bytes-zero ((length (replicate n false) + 7) / 8))
     ∙ pack-zeros d ((length (replicate n false) + 7) / 8)
 
@@ -69,7 +70,7 @@ pack_bits-zeros d n =
 same_some : (a b : ℕ) → Some a ≡ Some b → a ≡ b
 same_some a b e = cc
 
-pub enc-zeros : (t : SszType) (z : ℕ) → basic_size t ≡ Some z → enc t (default_of t) ≡ zeros z
+pub enc-zeros : (t : SszType) (z : ℕ) → basic_size t ≡ Some z → serialize t (default_of t) ≡ zeros z
 enc-zeros (uint W8) z e = ap zeros (same_some 1 z e)
 enc-zeros (uint W16) z e = ap zeros (same_some 2 z e)
 enc-zeros (uint W32) z e = ap zeros (same_some 4 z e)

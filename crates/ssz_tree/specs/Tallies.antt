@@ -1,7 +1,7 @@
 -- Pairs and nodes as a u64 counts them.
 use Rattle.std.specs.Prelude.{◌≡◌, ℕ, ◌-◌, ◌^◌, min}
 use Rattle.ssz_tree.specs.declared.tally.Tally.{Tally}
-use Rattle.ssz_making.specs.Parts.{Part}
+use Rattle.ssz_making.specs.Parts.{MadePart}
 
 -- so many pairs and nodes; the greatest u64 stands for all numbers from there on
 pub record Tallies (p n : ℕ) (tally : Tally) : Type 0 where
@@ -9,5 +9,5 @@ pub record Tallies (p n : ℕ) (tally : Tally) : Type 0 where
   pub nodes : tally.nodes ≡ min n (2 ^ 64 - 1)
 
 -- the pairs that a part costs, and the nodes that are made for it
-abbrev pub IsTallyOf : Part → Tally → Type 0
+abbrev pub IsTallyOf : MadePart → Tally → Type 0
 IsTallyOf part tally = Tallies part.cost part.nodes tally

@@ -1,11 +1,11 @@
 ghost use Rattle.std.specs.Prelude.{◌≡◌, ◌+◌, ◌-◌, ◌^◌, ◌<◌, ◌≤◌, min, List, [], ◌∷◌, ◌++◌, replicate};
 ghost use Rattle.ssz_chunk.specs.declared.TheConstants.{LEVELS};
-ghost use Rattle.ssz_chunk.specs.Tree.{grow};
+ghost use Rattle.ssz_chunk.specs.Tree.{merkle_pairs};
 ghost use Rattle.ssz_merkle.specs.Frontier.{whole_pairs};
 ghost use Rattle.ssz_arena.specs.Content.{IsNodeOf};
-ghost use Rattle.ssz_tree.specs.Added.{Adds, IsPart};
-ghost use Rattle.ssz_making.specs.Parts.{Part, whole};
-ghost use Rattle.ssz_tree.specs.Stack.{AreNodes, Holds};
+ghost use Rattle.ssz_tree.specs.Added.{AddsNodes, IsPartNode};
+ghost use Rattle.ssz_making.specs.Parts.{MadePart, whole_of};
+ghost use Rattle.ssz_tree.specs.Stack.{LevelsAreNodes, StackHolds};
 
 use ssz_arena::{Arena, NodeId};
 use ssz_chunk::{LEVELS, PairHash};
@@ -43,7 +43,7 @@ impl Builder {
         requires { depth ≤ LEVELS }
         ensures depth { result.depth ≡ depth }
         ensures pushed { result.pushed ≡ 0 }
-        ensures holds { Holds arena.now [] result }
+        ensures holds { StackHolds arena.now [] result }
     {
         let zero = arena.zero(0);
         Builder {
@@ -67,9 +67,9 @@ impl Builder {
         requires room { depth ≤ arena.old.spare }
         ensures depth { result.depth ≡ depth }
         ensures pushed { result.pushed ≡ count }
-        ensures holds { (part : Part) → IsPart arena.old part node
-            → Holds arena.new (replicate count part) result }
-        ensures adds { Adds depth (min depth (whole_pairs depth count)) arena.old arena.new }
+        ensures holds { (part : MadePart) → IsPartNode arena.old part node
+            → StackHolds arena.new (replicate count part) result }
+        ensures adds { AddsNodes depth (min depth (whole_pairs depth count)) arena.old arena.new }
     {
         let pushed = u128::from(count);
         let mut nodes = [node; NODES];
@@ -91,17 +91,18 @@ impl Builder {
     /// pairs of which it is the last node.
     pub fn push<H: PairHash>(&mut self, arena: &mut Arena<H>, node: NodeId)
         requires below { self.old.pushed < 2 ^ self.old.depth }
-        requires nodes { AreNodes arena.old self.old.nodes }
+        requires nodes { LevelsAreNodes arena.old self.old.nodes }
         requires node { IsNodeOf arena.old node }
         requires room { whole_pairs self.old.depth (self.old.pushed + 1)
             - whole_pairs self.old.depth self.old.pushed ≤ arena.old.spare }
         ensures depth { self.new.depth ≡ self.old.depth }
         ensures pushed { self.new.pushed ≡ self.old.pushed + 1 }
-        ensures holds { (parts : List Part) (part : Part) → Holds arena.old parts self.old
-            → IsPart arena.old part node → Holds arena.new (parts ++ part ∷ []) self.new }
+        ensures holds { (parts : List MadePart) (part : MadePart)
+            → StackHolds arena.old parts self.old
+            → IsPartNode arena.old part node → StackHolds arena.new (parts ++ part ∷ []) self.new }
         ensures adds { let made = whole_pairs self.old.depth (self.old.pushed + 1)
             - whole_pairs self.old.depth self.old.pushed in
-            Adds made made arena.old arena.new }
+            AddsNodes made made arena.old arena.new }
     {
         let mut carry = node;
         let whole = self.pushed.trailing_ones();
@@ -117,14 +118,14 @@ impl Builder {
     /// the pairs that are not whole, one a level, each with a zero tree or with the node to its
     /// left.
     pub fn finish<H: PairHash>(&self, arena: &mut Arena<H>) -> NodeId
-        requires nodes { AreNodes arena.old self.now.nodes }
-        requires room { grow self.now.depth self.now.pushed
+        requires nodes { LevelsAreNodes arena.old self.now.nodes }
+        requires room { merkle_pairs self.now.depth self.now.pushed
             - whole_pairs self.now.depth self.now.pushed ≤ arena.old.spare }
-        ensures part { (parts : List Part) → Holds arena.old parts self.now
-            → IsPart arena.new (whole self.now.depth parts) result }
-        ensures adds { let made = grow self.now.depth self.now.pushed
+        ensures part { (parts : List MadePart) → StackHolds arena.old parts self.now
+            → IsPartNode arena.new (whole_of self.now.depth parts) result }
+        ensures adds { let made = merkle_pairs self.now.depth self.now.pushed
             - whole_pairs self.now.depth self.now.pushed in
-            Adds made made arena.old arena.new }
+            AddsNodes made made arena.old arena.new }
     {
         if self.pushed == 0 {
             return arena.zero(self.depth);

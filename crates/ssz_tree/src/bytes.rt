@@ -1,11 +1,11 @@
 ghost use Rattle.std.specs.Prelude.{◌≡◌, ◌+◌, ◌-◌, ◌*◌, ◌<◌, ◌≤◌, ◌^◌, length, min, None, IsOk, IfOk, OnErr};
 ghost use Rattle.ssz_schema.specs.Unfolding.{type_of};
-ghost use Rattle.ssz_value.specs.Faults.{why};
+ghost use Rattle.ssz_value.specs.Faults.{first_fault};
 ghost use Rattle.ssz_value.specs.Reading.{value_in};
 ghost use Rattle.ssz_value.specs.Pairs.{pairs};
-ghost use Rattle.ssz_making.specs.Parts.{part_of};
+ghost use Rattle.ssz_making.specs.Parts.{part_of_value};
 ghost use Rattle.ssz_making.specs.Nodes.{new_nodes};
-ghost use Rattle.ssz_tree.specs.Added.{Adds, IsPart, Makes};
+ghost use Rattle.ssz_tree.specs.Added.{AddsNodes, IsPartNode, MakesNode};
 
 use super::counting::Counting;
 use super::growing::Growing;
@@ -28,11 +28,11 @@ pub fn build_bytes<H: PairHash>(
 ) -> Result<NodeId, AllocError>
     requires known { id < length schema.now.trees }
     requires short { length bytes.now < 2 ^ 32 }
-    requires faultless { why (type_of schema.now id) 0 bytes.now ≡ None }
-    ensures part { IfOk result (IsPart arena.new
-        (part_of (type_of schema.now id) (value_in (type_of schema.now id) bytes.now))) }
+    requires faultless { first_fault (type_of schema.now id) 0 bytes.now ≡ None }
+    ensures part { IfOk result (IsPartNode arena.new
+        (part_of_value (type_of schema.now id) (value_in (type_of schema.now id) bytes.now))) }
     ensures adds { let t = type_of schema.now id in let v = value_in t bytes.now in
-        Adds (new_nodes t v) (pairs t v) arena.old arena.new }
+        AddsNodes (new_nodes t v) (pairs t v) arena.old arena.new }
     ensures enough { let t = type_of schema.now id in
         new_nodes t (value_in t bytes.now) ≤ arena.old.spare → IsOk result }
     ensures err { OnErr result (arena.new ≡ arena.old) }
@@ -52,11 +52,11 @@ pub fn bytes_node<H: PairHash>(
 ) -> NodeId
     requires known { id < length schema.now.trees }
     requires short { length bytes.now < 2 ^ 32 }
-    requires faultless { why (type_of schema.now id) 0 bytes.now ≡ None }
+    requires faultless { first_fault (type_of schema.now id) 0 bytes.now ≡ None }
     requires room { let t = type_of schema.now id in
         new_nodes t (value_in t bytes.now) ≤ arena.old.spare }
-    ensures { Makes arena.old arena.new
-        (part_of (type_of schema.now id) (value_in (type_of schema.now id) bytes.now)) result }
+    ensures { MakesNode arena.old arena.new
+        (part_of_value (type_of schema.now id) (value_in (type_of schema.now id) bytes.now)) result }
 {
     let mut maker = Growing { arena };
     bytes_part(&mut maker, schema, id, bytes)
@@ -67,7 +67,7 @@ pub fn bytes_node<H: PairHash>(
 pub fn bytes_needed(schema: &Schema, id: TypeId, bytes: &[u8]) -> usize
     requires known { id < length schema.now.trees }
     requires short { length bytes.now < 2 ^ 32 }
-    requires faultless { why (type_of schema.now id) 0 bytes.now ≡ None }
+    requires faultless { first_fault (type_of schema.now id) 0 bytes.now ≡ None }
     ensures { let t = type_of schema.now id in
         result ≡ min (2 * pairs t (value_in t bytes.now) + 1) (2 ^ 64 - 1) }
 {

@@ -22,7 +22,7 @@ pub(crate) fn chunk_count(size: usize, len: usize) -> usize
 }
 
 impl Maker for Counting {
-    ghost use Rattle.ssz_chunk.specs.Tree.{grow};
+    ghost use Rattle.ssz_chunk.specs.Tree.{merkle_pairs};
     ghost use Rattle.std.specs.Prelude.{◌+◌};
     ghost use Rattle.ssz_making.specs.Parts.{costs, part_nodes};
     ghost use Rattle.ssz_tree.specs.Tallies.{IsTallyOf, Tallies};
@@ -36,7 +36,8 @@ impl Maker for Counting {
     ghost made = { λ start now part out. IsTallyOf part out };
 
     ghost gathered = { λ start now d count parts rows.
-        Tallies (grow d count + costs parts) (grow d count + part_nodes parts) rows };
+        Tallies (merkle_pairs d count + costs parts)
+        (merkle_pairs d count + part_nodes parts) rows };
 
     ghost room_less = { λ now n m less room. tt };
 

@@ -1,15 +1,15 @@
 ghost use Rattle.std.specs.Prelude.{◌≡◌, ◌+◌, ◌<◌, ◌≤◌, ◌^◌, length, min, IsOk, IfOk, OnErr, replicate};
 ghost use Rattle.std.specs.List.{AllByRecursion};
 ghost use Rattle.ssz_chunk.specs.declared.TheConstants.{LEVELS};
-ghost use Rattle.ssz_chunk.specs.Tree.{grow};
+ghost use Rattle.ssz_chunk.specs.Tree.{merkle_pairs};
 ghost use Rattle.ssz_schema.specs.Types.{union};
 ghost use Rattle.ssz_schema.specs.Sizes.{basic_size, element_chunks};
 ghost use Rattle.ssz_schema.specs.Unfolding.{type_of, fields_over, options_over, IsBelow};
 ghost use Rattle.ssz_value.specs.Defaults.{default_of};
 ghost use Rattle.ssz_value.specs.Pairs.{pairs};
-ghost use Rattle.ssz_tree.specs.Added.{Adds, IsPart};
+ghost use Rattle.ssz_tree.specs.Added.{AddsNodes, IsPartNode};
 ghost use Rattle.ssz_making.specs.Parts.{elements_part};
-ghost use Rattle.ssz_tree.specs.Given.{IsGiven, MakesFields, left_fields, made_at, part_at};
+ghost use Rattle.ssz_tree.specs.Given.{IsGiven, MakesFields, left_fields, made_at, given_part};
 ghost use Rattle.ssz_tree.specs.Shared.{MakesWith, default_part, empty_part, shared, shared_fields, shared_vector};
 
 use super::builder::Builder;
@@ -32,9 +32,9 @@ pub fn build_default<H: PairHash>(
     id: TypeId,
 ) -> Result<NodeId, AllocError>
     requires known { id < length schema.now.trees }
-    ensures part { IfOk result (IsPart arena.new (default_part (type_of schema.now id))) }
+    ensures part { IfOk result (IsPartNode arena.new (default_part (type_of schema.now id))) }
     ensures adds { let t = type_of schema.now id in
-        Adds (shared t) (min (shared t) (pairs t (default_of t))) arena.old arena.new }
+        AddsNodes (shared t) (min (shared t) (pairs t (default_of t))) arena.old arena.new }
     ensures enough { shared (type_of schema.now id) ≤ arena.old.spare → IsOk result }
     ensures err { OnErr result (arena.new ≡ arena.old) }
 {
@@ -121,7 +121,7 @@ pub fn container_node<H: PairHash>(
     requires few { length fields.now ≤ 2 ^ depth }
     requires given { AllByRecursion (IsGiven arena.old) given.now }
     requires room { let left = left_fields (fields_over schema.now.trees fields.now) given.now in
-        grow depth (length fields.now) + shared_fields left ≤ arena.old.spare }
+        merkle_pairs depth (length fields.now) + shared_fields left ≤ arena.old.spare }
     ensures { MakesFields arena.old arena.new depth (fields_over schema.now.trees fields.now)
         given.now result }
 {
@@ -145,7 +145,7 @@ fn field_node<H: PairHash>(
     requires given { IsGiven arena.old given }
     requires room { made_at (type_of schema.now id) given ≤ arena.old.spare }
     ensures { let t = type_of schema.now id in
-        MakesWith (made_at t given) arena.old arena.new (part_at arena.old t given) result }
+        MakesWith (made_at t given) arena.old arena.new (given_part arena.old t given) result }
 {
     match given {
         Some(node) => node,

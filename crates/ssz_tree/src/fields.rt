@@ -1,8 +1,8 @@
 ghost use Rattle.std.specs.Prelude.{◌<◌, ◌≤◌, ◌≡◌, length, min, IsOk, IfOk, OnErr};
 ghost use Rattle.std.specs.List.{AllByRecursion};
 ghost use Rattle.ssz_schema.specs.Unfolding.{type_of};
-ghost use Rattle.ssz_tree.specs.Added.{Adds, IsPart};
-ghost use Rattle.ssz_tree.specs.Given.{IsGiven, part_with, pairs_with, shared_with};
+ghost use Rattle.ssz_tree.specs.Added.{AddsNodes, IsPartNode};
+ghost use Rattle.ssz_tree.specs.Given.{IsGiven, given_part_with, pairs_with, shared_with};
 
 use super::defaults::{build_default, container_node};
 use super::room::reserve_nodes;
@@ -24,10 +24,10 @@ pub fn build_fields<H: PairHash>(
 ) -> Result<NodeId, AllocError>
     requires known { id < length schema.now.trees }
     requires given { AllByRecursion (IsGiven arena.old) given.now }
-    ensures part { IfOk result (IsPart arena.new
-        (part_with arena.old (type_of schema.now id) given.now)) }
+    ensures part { IfOk result (IsPartNode arena.new
+        (given_part_with arena.old (type_of schema.now id) given.now)) }
     ensures adds { let t = type_of schema.now id in let nodes = shared_with t given.now in
-        Adds nodes (min nodes (pairs_with t given.now)) arena.old arena.new }
+        AddsNodes nodes (min nodes (pairs_with t given.now)) arena.old arena.new }
     ensures enough { shared_with (type_of schema.now id) given.now ≤ arena.old.spare
         → IsOk result }
     ensures err { OnErr result (arena.new ≡ arena.old) }

@@ -18,7 +18,7 @@ pub(crate) struct Growing<'a, H: PairHash> {
 
 impl<'a, H: PairHash> Maker for Growing<'a, H> {
     ghost use Rattle.std.specs.Prelude.{◌≡◌, ◌≤◌};
-    ghost use Rattle.ssz_tree.specs.Added.{Makes};
+    ghost use Rattle.ssz_tree.specs.Added.{MakesNode};
     ghost use Rattle.ssz_tree.specs.Making.{PushesNodes};
     ghost use Rattle.ssz_tree.specs.RoomLaws.{less_room, next_room};
 
@@ -29,7 +29,7 @@ impl<'a, H: PairHash> Maker for Growing<'a, H> {
     ghost room = { λ now nodes. nodes ≤ now.arena.now.spare };
 
     ghost made = { λ start now part out. (now.arena.ghost_name ≡ start.arena.ghost_name)
-        × Makes start.arena.now now.arena.now part out };
+        × MakesNode start.arena.now now.arena.now part out };
 
     ghost gathered = { λ start now d count parts rows.
         (now.arena.ghost_name ≡ start.arena.ghost_name)

@@ -1,11 +1,11 @@
 ghost use Rattle.std.specs.Prelude.{◌+◌, ◌/◌, ◌^◌, ◌<◌, ◌≤◌, length, map};
 ghost use Rattle.ssz_chunk.specs.declared.TheConstants.{LEVELS};
-ghost use Rattle.ssz_chunk.specs.Tree.{grow};
+ghost use Rattle.ssz_chunk.specs.Tree.{merkle_pairs};
 ghost use Rattle.ssz_bytes.specs.Faults.{last_byte};
 ghost use Rattle.ssz_value.specs.Trees.{chunks, pack};
 ghost use Rattle.ssz_packing.specs.Bits.{undelimited};
-ghost use Rattle.ssz_tree.specs.Added.{Makes};
-ghost use Rattle.ssz_making.specs.Parts.{whole, chunk_part};
+ghost use Rattle.ssz_tree.specs.Added.{MakesNode};
+ghost use Rattle.ssz_making.specs.Parts.{whole_of, chunk_part};
 
 use super::builder::Builder;
 use ssz_arena::{Arena, NodeId};
@@ -18,8 +18,9 @@ pub fn packed_node<H: PairHash>(arena: &mut Arena<H>, depth: u32, bytes: &[u8]) 
     requires depth { depth ≤ LEVELS }
     requires few { (length bytes.now + 31) / 32 ≤ 2 ^ depth }
     requires room { let chunks = (length bytes.now + 31) / 32 in
-        grow depth chunks + chunks ≤ arena.old.spare }
-    ensures { Makes arena.old arena.new (whole depth (map chunk_part (pack bytes.now))) result }
+        merkle_pairs depth chunks + chunks ≤ arena.old.spare }
+    ensures { MakesNode arena.old arena.new
+        (whole_of depth (map chunk_part (pack bytes.now))) result }
 {
     // One chunk stands for itself, and needs no builder.
     if depth == 0 && !bytes.is_empty() {
@@ -34,8 +35,9 @@ fn chunks_node<H: PairHash>(arena: &mut Arena<H>, depth: u32, bytes: &[u8]) -> N
     requires depth { depth ≤ LEVELS }
     requires few { (length bytes.now + 31) / 32 ≤ 2 ^ depth }
     requires room { let chunks = (length bytes.now + 31) / 32 in
-        grow depth chunks + chunks ≤ arena.old.spare }
-    ensures { Makes arena.old arena.new (whole depth (map chunk_part (pack bytes.now))) result }
+        merkle_pairs depth chunks + chunks ≤ arena.old.spare }
+    ensures { MakesNode arena.old arena.new
+        (whole_of depth (map chunk_part (pack bytes.now))) result }
 {
     let count = (bytes.len() + 31) / 32;
     let mut leaves = Builder::new(arena, depth);
@@ -55,9 +57,10 @@ pub fn bits_node<H: PairHash>(arena: &mut Arena<H>, depth: u32, len: u64, bytes:
     requires len { len < 2 ^ 63 }
     requires few { (len + 255) / 256 ≤ 2 ^ depth }
     requires room { let chunks = (len + 255) / 256 in
-        grow depth chunks + chunks ≤ arena.old.spare }
-    ensures { Makes arena.old arena.new
-        (whole depth (map chunk_part (chunks ((len + 255) / 256) (undelimited bytes.now)))) result }
+        merkle_pairs depth chunks + chunks ≤ arena.old.spare }
+    ensures { MakesNode arena.old arena.new
+        (whole_of depth (map chunk_part (chunks ((len + 255) / 256) (undelimited bytes.now))))
+        result }
 {
     let count = (len + 255) / 256;
     let mut leaves = Builder::new(arena, depth);

@@ -1,15 +1,15 @@
 ghost use Rattle.std.specs.Prelude.{ℕ, ◌≡◌, ◌+◌, ◌*◌, ◌/◌, ◌^◌, ◌<◌, ◌≤◌, length, map, Some};
 ghost use Rattle.std.specs.List.{concat, AllByRecursion};
 ghost use Rattle.ssz_chunk.specs.declared.TheConstants.{LEVELS};
-ghost use Rattle.ssz_chunk.specs.Tree.{grow};
+ghost use Rattle.ssz_chunk.specs.Tree.{merkle_pairs};
 ghost use Rattle.ssz_schema.specs.Types.{SszType};
 ghost use Rattle.ssz_schema.specs.Sizes.{basic_size};
 ghost use Rattle.ssz_value.specs.Values.{Fits};
 ghost use Rattle.ssz_value.specs.Standing.{value_of};
 ghost use Rattle.ssz_value.specs.Trees.{pack, pack_bits};
 ghost use Rattle.ssz_packing.specs.Elements.{encodings_of};
-ghost use Rattle.ssz_tree.specs.Added.{Makes};
-ghost use Rattle.ssz_making.specs.Parts.{whole, chunk_part, AreBasic};
+ghost use Rattle.ssz_tree.specs.Added.{MakesNode};
+ghost use Rattle.ssz_making.specs.Parts.{whole_of, chunk_part, AreBasic};
 
 use super::builder::Builder;
 use super::counting::chunk_count;
@@ -30,11 +30,11 @@ pub fn packed_values_node<H: PairHash>(
     requires depth { depth ≤ LEVELS }
     requires few { (length parts.now * size + 31) / 32 ≤ 2 ^ depth }
     requires room { let chunks = (length parts.now * size + 31) / 32 in
-        grow depth chunks + chunks ≤ arena.old.spare }
+        merkle_pairs depth chunks + chunks ≤ arena.old.spare }
     ensures { (t : SszType) → basic_size t ≡ Some size
         → AllByRecursion (Fits t) (map value_of parts.now)
-        → Makes arena.old arena.new
-        (whole depth (map chunk_part (pack (concat (encodings_of t parts.now))))) result }
+        → MakesNode arena.old arena.new
+        (whole_of depth (map chunk_part (pack (concat (encodings_of t parts.now))))) result }
 {
     let count = chunk_count(size, parts.len());
     let mut leaves = Builder::new(arena, depth);
@@ -50,8 +50,9 @@ pub fn bit_values_node<H: PairHash>(arena: &mut Arena<H>, depth: u32, bits: &[bo
     requires depth { depth ≤ LEVELS }
     requires few { (length bits.now + 255) / 256 ≤ 2 ^ depth }
     requires room { let chunks = (length bits.now + 255) / 256 in
-        grow depth chunks + chunks ≤ arena.old.spare }
-    ensures { Makes arena.old arena.new (whole depth (map chunk_part (pack_bits bits.now))) result }
+        merkle_pairs depth chunks + chunks ≤ arena.old.spare }
+    ensures { MakesNode arena.old arena.new
+        (whole_of depth (map chunk_part (pack_bits bits.now))) result }
 {
     let count = (bits.len() + 255) / 256;
     let mut leaves = Builder::new(arena, depth);

@@ -1,6 +1,6 @@
 ghost use Rattle.std.specs.Prelude.{◌≡◌, ℕ, ◌+◌, ◌*◌, ◌-◌, ◌^◌, ◌≤◌, min, max, IsOk, OnOk, OnErr};
 ghost use Rattle.ssz_arena.specs.Content.{node_count};
-ghost use Rattle.ssz_chunk.specs.Tree.{grow};
+ghost use Rattle.ssz_chunk.specs.Tree.{merkle_pairs};
 
 use ssz_arena::Arena;
 use ssz_chunk::PairHash;
@@ -42,7 +42,7 @@ pub fn nodes_for(pairs: u64) -> u64
 /// The pairs of a full tree of depth d above its first n places; u64::MAX stands for all numbers
 /// from there on.
 pub fn pairs_above(depth: u32, n: u64) -> u64
-    ensures { result ≡ min (grow depth n) (2 ^ 64 - 1) }
+    ensures { result ≡ min (merkle_pairs depth n) (2 ^ 64 - 1) }
 {
     let mut left = n;
     let mut pairs = 0u64;

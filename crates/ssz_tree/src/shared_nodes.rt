@@ -1,6 +1,6 @@
 ghost use Rattle.std.specs.Prelude.{◌≡◌, ◌+◌, ◌-◌, ◌<◌, ◌^◌, min, length};
 ghost use Rattle.std.specs.List.{AllByRecursion};
-ghost use Rattle.ssz_chunk.specs.Tree.{grow};
+ghost use Rattle.ssz_chunk.specs.Tree.{merkle_pairs};
 ghost use Rattle.ssz_schema.specs.Types.{union};
 ghost use Rattle.ssz_schema.specs.Sizes.{basic_size};
 ghost use Rattle.ssz_schema.specs.Unfolding.{type_of, fields_over, options_over, IsBelow};
@@ -61,7 +61,7 @@ pub fn container_nodes(
     requires known { id < length schema.now.trees }
     requires before { AllByRecursion (λ part. part.1 < id) fields.now }
     ensures { let left = left_fields (fields_over schema.now.trees fields.now) given.now in
-        result ≡ min (grow depth (length fields.now) + shared_fields left) (2 ^ 64 - 1) }
+        result ≡ min (merkle_pairs depth (length fields.now) + shared_fields left) (2 ^ 64 - 1) }
 {
     let mut nodes = pairs_above(depth, fields.len() as u64);
     for (i, field) in fields.iter().enumerate() {

@@ -1,5 +1,5 @@
 ghost use Rattle.std.specs.Prelude.{ℕ, ◌≡◌, ◌+◌, ◌*◌, ◌<◌};
-ghost use Rattle.ssz_chunk.specs.Tree.{grow};
+ghost use Rattle.ssz_chunk.specs.Tree.{merkle_pairs};
 ghost use Rattle.ssz_tree.specs.Tallies.{Tallies};
 
 use super::room::pairs_above;
@@ -29,7 +29,7 @@ impl Tally {
 
     /// Of the pairs of a full tree of depth d above its first n places.
     pub fn above(depth: u32, n: u64) -> Self
-        ensures { Tallies (grow depth n) (grow depth n) result }
+        ensures { Tallies (merkle_pairs depth n) (merkle_pairs depth n) result }
     {
         let pairs = pairs_above(depth, n);
         Tally {
@@ -40,7 +40,7 @@ impl Tally {
 
     /// Of a full tree of depth d over n chunks.
     pub fn chunks(depth: u32, n: u64) -> Self
-        ensures { Tallies (grow depth n) (grow depth n + n) result }
+        ensures { Tallies (merkle_pairs depth n) (merkle_pairs depth n + n) result }
     {
         let pairs = pairs_above(depth, n);
         Tally {

@@ -2,9 +2,9 @@ ghost use Rattle.std.specs.Prelude.{◌≡◌, ◌+◌, ◌-◌, ◌*◌, ◌<�
 ghost use Rattle.ssz_schema.specs.Unfolding.{type_of};
 ghost use Rattle.ssz_value.specs.Standing.{value_of, IsValue};
 ghost use Rattle.ssz_value.specs.Pairs.{pairs};
-ghost use Rattle.ssz_making.specs.Parts.{part_of};
+ghost use Rattle.ssz_making.specs.Parts.{part_of_value};
 ghost use Rattle.ssz_making.specs.Nodes.{new_nodes};
-ghost use Rattle.ssz_tree.specs.Added.{Adds, IsPart, Makes};
+ghost use Rattle.ssz_tree.specs.Added.{AddsNodes, IsPartNode, MakesNode};
 
 use super::counting::Counting;
 use super::growing::Growing;
@@ -27,10 +27,10 @@ pub fn build<H: PairHash>(
 ) -> Result<NodeId, AllocError>
     requires known { id < length schema.now.trees }
     requires value { IsValue (type_of schema.now id) value.now }
-    ensures part { IfOk result (IsPart arena.new
-        (part_of (type_of schema.now id) (value_of value.now))) }
+    ensures part { IfOk result (IsPartNode arena.new
+        (part_of_value (type_of schema.now id) (value_of value.now))) }
     ensures adds { let t = type_of schema.now id in let v = value_of value.now in
-        Adds (new_nodes t v) (pairs t v) arena.old arena.new }
+        AddsNodes (new_nodes t v) (pairs t v) arena.old arena.new }
     ensures enough { new_nodes (type_of schema.now id) (value_of value.now) ≤ arena.old.spare
         → IsOk result }
     ensures err { OnErr result (arena.new ≡ arena.old) }
@@ -51,7 +51,8 @@ pub fn value_node<H: PairHash>(
     requires known { id < length schema.now.trees }
     requires value { IsValue (type_of schema.now id) value.now }
     requires room { new_nodes (type_of schema.now id) (value_of value.now) ≤ arena.old.spare }
-    ensures { Makes arena.old arena.new (part_of (type_of schema.now id) (value_of value.now))
+    ensures { MakesNode arena.old arena.new
+        (part_of_value (type_of schema.now id) (value_of value.now))
         result }
 {
     let mut maker = Growing { arena };

@@ -8,10 +8,10 @@ use Rattle.std.proofs.lemmas.Option.{none-some, same_Some}
 use Rattle.ssz_schema.specs.declared.ty.Ty.{Ty}
 use Rattle.ssz_schema.specs.declared.ty.Ty.TheVariants.{Container, Union}
 use Rattle.ssz_schema.specs.Types.{SszType, container, union}
-use Rattle.ssz_schema.specs.Unfolding.{Types, tree_at, type_of, tree_over, fields_over, options_over, IsBelow, AreBelow}
+use Rattle.ssz_schema.specs.Unfolding.{Types, type_tree_at, type_of, tree_over, fields_over, options_over, IsBelow, AreBelow}
 use Rattle.ssz_schema.proofs.StepLemmas.{Part, option_at-type, option_at-below}
 use Rattle.ssz_typed.specs.Forms.{alone_at, field_type_at, part_type}
-use Rattle.ssz_typed.specs.Parts.{IsPart}
+use Rattle.ssz_typed.specs.Parts.{IsPartType}
 
 -- the number at a place of fields
 abbrev pub number_at : List Part → ℕ → Option ℕ
@@ -19,7 +19,7 @@ number_at parts place = option_map (λ part. part.1) (slice_get parts place)
 
 -- is that of the type there
 type-at-over : (trees : List SszType) (parts : List Part) (place : ℕ)
-    → option_map (tree_at trees) (number_at parts place)
+    → option_map (type_tree_at trees) (number_at parts place)
     ≡ field_type_at (fields_over trees parts) place
 type-at-over trees [] place = refl
 type-at-over trees (part ∷ parts) zero = refl
@@ -61,7 +61,7 @@ module _ (types : Types) (id place : ℕ) (ty : Ty) (answer : Option ℕ)
     (below : AreBelow id ty) where
   -- a field
   pub field-part : (parts : Vec Part Global) → ty ≡ Container parts
-      → answer ≡ number_at parts.items place → IsPart types id place answer
+      → answer ≡ number_at parts.items place → IsPartType types id place answer
   field-part parts is found =
       let tree : container (fields_over types.trees parts.items) ≡ type_of types id
       = sym (ap (tree_over types.trees) is) ∙ form in
@@ -76,7 +76,7 @@ module _ (types : Types) (id place : ℕ) (ty : Ty) (answer : Option ℕ)
 
   -- an option
   pub option-part : (ids : Vec (Option ℕ) Global) → ty ≡ Union ids
-      → answer ≡ get_or ids.items place None → IsPart types id place answer
+      → answer ≡ get_or ids.items place None → IsPartType types id place answer
   option-part ids is found =
       let tree : union (options_over types.trees ids.items) ≡ type_of types id
       = sym (ap (tree_over types.trees) is) ∙ form in
@@ -91,14 +91,14 @@ module _ (types : Types) (id place : ℕ) (ty : Ty) (answer : Option ℕ)
   -- the type of elements, under its own form
   pub element-part : (element : ℕ) → element < id
       → ((n : ℕ) → alone_at (type_of types element) n ≡ part_type (type_of types id) n)
-      → answer ≡ cond (place == 0) (Some element) None → IsPart types id place answer
+      → answer ≡ cond (place == 0) (Some element) None → IsPartType types id place answer
   element-part element less same found =
       let is = alone types element place answer (omega arith) found in
       record { exact = is.0 ∙ same place; known = is.1 }
 
   -- no type at all
   pub no-part : ((n : ℕ) → None ≡ part_type (type_of types id) n) → answer ≡ None
-      → IsPart types id place answer
+      → IsPartType types id place answer
   no-part same found = record {
     exact = ap (option_map (type_of types)) found ∙ same place;
     known = λ part e. absurd (none-some part (sym found ∙ e));

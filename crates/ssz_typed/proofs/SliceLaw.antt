@@ -4,9 +4,9 @@ use Rattle.ssz_bytes.specs.declared.fault.Fault.{Fault}
 use Rattle.ssz_schema.specs.Paths.{Path}
 use Rattle.ssz_schema.specs.Unfolding.{Types, type_of}
 use Rattle.ssz_slices.specs.Part.{Part, whole, unless}
-use Rattle.ssz_value.specs.Faults.{why}
+use Rattle.ssz_value.specs.Faults.{first_fault}
 use Rattle.ssz_said.specs.declared.status.TheConstants.{TOO_LONG, MOST_BYTES}
-use Rattle.ssz_said.specs.Outcome.{Outcome, ◌>>=◌, at_most, faultless}
+use Rattle.ssz_said.specs.Outcome.{CallOutcome, ◌>>=◌, at_most, faultless}
 use Rattle.ssz_typed.specs.declared.checked_bytes.CheckedBytes.{CheckedBytes}
 use Rattle.ssz_typed.specs.declared.library.Library.{Library}
 use Rattle.ssz_typed.specs.Calls.{encoding_at, steps_in, valid}
@@ -15,15 +15,15 @@ use Rattle.ssz_typed.specs.Places.{stretch_at}
 use Rattle.ssz_typed.specs.SliceLaws.{PartsAgree, PlacesAgree}
 use Rattle.ssz_typed.specs.Slices.{Copies, IsCopyOf}
 
-module _ {A : Type 0} (asks : Part → Path → Outcome A) (library : Library) (bytes : List ℕ)
+module _ {A : Type 0} (asks : Part → Path → CallOutcome A) (library : Library) (bytes : List ℕ)
     (slice : CheckedBytes) (text : List ℕ) where
   -- what is asked of the whole of bytes without a fault
-  abbrev of_whole : Types → ℕ → List ℕ → Outcome A
+  abbrev of_whole : Types → ℕ → List ℕ → CallOutcome A
   of_whole types id given =
       steps_in (type_of types id) text >>= λ steps. asks (whole (type_of types id) given) steps
 
   -- what is asked of bytes of which this is the first fault
-  abbrev of_bytes : ℕ → Option Fault → Outcome A
+  abbrev of_bytes : ℕ → Option Fault → CallOutcome A
   of_bytes id fault =
       steps_in (type_of library.schema id) text
       >>= λ steps. valid (unless fault (whole (type_of library.schema id) bytes))
@@ -41,21 +41,22 @@ module _ {A : Type 0} (asks : Part → Path → Outcome A) (library : Library) (
   judged id (Some fault) is = absurd (cc)
 
   -- and are few
-  counted : (id : ℕ) (few : Outcome (List ℕ))
-      → Copies library bytes (few >>= λ _. faultless (why (type_of library.schema id) 0 bytes) id)
+  counted : (id : ℕ) (few : CallOutcome (List ℕ))
+      → Copies library bytes
+      (few >>= λ _. faultless (first_fault (type_of library.schema id) 0 bytes) id)
       (Ok slice)
       → of_whole slice.schema slice.id slice.bytes
-      ≡ (few >>= λ _. of_bytes id (why (type_of library.schema id) 0 bytes))
-  counted id (Ok few) is = judged id (why (type_of library.schema id) 0 bytes) is
+      ≡ (few >>= λ _. of_bytes id (first_fault (type_of library.schema id) 0 bytes))
+  counted id (Ok few) is = judged id (first_fault (type_of library.schema id) 0 bytes) is
   counted id (Err fault) is = absurd (cc)
 
   -- and their type is known
-  found : (kind : Outcome ℕ)
+  found : (kind : CallOutcome ℕ)
       → Copies library bytes (kind >>= λ id. at_most TOO_LONG MOST_BYTES bytes
-      >>= λ _. faultless (why (type_of library.schema id) 0 bytes) id) (Ok slice)
+      >>= λ _. faultless (first_fault (type_of library.schema id) 0 bytes) id) (Ok slice)
       → of_whole slice.schema slice.id slice.bytes
       ≡ (kind >>= λ id. at_most TOO_LONG MOST_BYTES bytes
-      >>= λ _. of_bytes id (why (type_of library.schema id) 0 bytes))
+      >>= λ _. of_bytes id (first_fault (type_of library.schema id) 0 bytes))
   found (Ok id) is = counted id (at_most TOO_LONG MOST_BYTES bytes) is
   found (Err fault) is = absurd (cc)
 

@@ -6,7 +6,7 @@ use Rattle.ssz_schema.specs.Unfolding.{type_of}
 use Rattle.ssz_typed.specs.declared.library.Library.{Library}
 use Rattle.ssz_said.specs.declared.status.TheConstants.{ABSENT}
 use Rattle.ssz_typed.specs.Library.{type_in}
-use Rattle.ssz_said.specs.Outcome.{Outcome, ◌>>=◌, need}
+use Rattle.ssz_said.specs.Outcome.{CallOutcome, ◌>>=◌, need}
 
 -- the name of the field at this place
 abbrev pub name_at : Fields → ℕ → Option (List ℕ)
@@ -25,12 +25,12 @@ fields_count (container fields) = field_count fields
 fields_count type = 0
 
 -- the same of the type of a number
-abbrev pub fields_in : Library → ℕ → Outcome ℕ
-fields_in library number = do
+abbrev pub fields_of_type : Library → ℕ → CallOutcome ℕ
+fields_of_type library number = do
   id ← type_in library number
   Ok (fields_count (type_of library.schema id))
 
-abbrev pub field_in : Library → ℕ → ℕ → Outcome (List ℕ)
+abbrev pub field_in : Library → ℕ → ℕ → CallOutcome (List ℕ)
 field_in library number place = do
   id ← type_in library number
   need ABSENT (field_name (type_of library.schema id) place)

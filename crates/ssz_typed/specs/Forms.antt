@@ -5,7 +5,7 @@ use Rattle.ssz_schema.specs.Sizes.{field_count, option_count}
 use Rattle.ssz_schema.specs.Types.{SszType, Fields, boolean, uint, container, vector, list, bitvector, bitlist, union, no_fields, field}
 use Rattle.ssz_schema.specs.Unfolding.{type_of}
 use Rattle.ssz_said.specs.declared.status.TheConstants.{ABSENT}
-use Rattle.ssz_said.specs.Outcome.{Outcome, ◌>>=◌, need}
+use Rattle.ssz_said.specs.Outcome.{CallOutcome, ◌>>=◌, need}
 use Rattle.ssz_typed.specs.declared.forms.TheConstants.{BOOLEAN, UINT, CONTAINER, VECTOR, LIST, BITVECTOR, BITLIST, UNION}
 use Rattle.ssz_typed.specs.declared.library.Library.{Library}
 use Rattle.ssz_typed.specs.Library.{type_in}
@@ -22,12 +22,12 @@ form_number (bitlist limit) = BITLIST
 form_number (union choices) = UNION
 
 -- how many elements or bits a value has, or has at most
-abbrev pub limit_of : SszType → Option ℕ
-limit_of (vector element n) = Some n
-limit_of (list element limit) = Some limit
-limit_of (bitvector n) = Some n
-limit_of (bitlist limit) = Some limit
-limit_of _ = None
+abbrev pub form_limit : SszType → Option ℕ
+form_limit (vector element n) = Some n
+form_limit (list element limit) = Some limit
+form_limit (bitvector n) = Some n
+form_limit (bitlist limit) = Some limit
+form_limit _ = None
 
 -- how many types a type is made of
 abbrev pub parts_count : SszType → ℕ
@@ -57,22 +57,22 @@ part_type (union choices) place = option_type choices place
 part_type _ place = None
 
 -- the same of the type of a number
-abbrev pub form_in : Library → ℕ → Outcome ℕ
+abbrev pub form_in : Library → ℕ → CallOutcome ℕ
 form_in library number = do
   id ← type_in library number
   Ok (form_number (type_of library.schema id))
 
-abbrev pub limit_in : Library → ℕ → Outcome ℕ
+abbrev pub limit_in : Library → ℕ → CallOutcome ℕ
 limit_in library number = do
   id ← type_in library number
-  need ABSENT (limit_of (type_of library.schema id))
+  need ABSENT (form_limit (type_of library.schema id))
 
-abbrev pub parts_in : Library → ℕ → Outcome ℕ
+abbrev pub parts_in : Library → ℕ → CallOutcome ℕ
 parts_in library number = do
   id ← type_in library number
   Ok (parts_count (type_of library.schema id))
 
-abbrev pub part_type_in : Library → ℕ → ℕ → Outcome SszType
+abbrev pub part_type_in : Library → ℕ → ℕ → CallOutcome SszType
 part_type_in library number place = do
   id ← type_in library number
   need ABSENT (part_type (type_of library.schema id) place)

@@ -1,19 +1,19 @@
 -- A schema as C knows it: its types by the numbers that were given out.
 use Rattle.std.specs.Prelude.{◌≡◌, ◌⊎◌, ℕ, nat_lt, if◌then◌else◌, ◌<◌, ◌≤◌, List, [], length, slice_index_or, Some, None, Ok, Err}
 use Rattle.std.specs.Str.{IsUtf8}
-use Rattle.ssz_schema.specs.FaultCodes.{code_of}
-use Rattle.ssz_schema.specs.Unfolding.{Types, number_of}
+use Rattle.ssz_schema.specs.FaultCodes.{schema_code}
+use Rattle.ssz_schema.specs.Unfolding.{Types, type_number}
 use Rattle.ssz_schema_json.specs.declared.fault.SchemaRead.{SchemaRead}
 use Rattle.ssz_schema_json.specs.declared.fault.SchemaRead.TheVariants.{NotJson, Shape, Def, Memory}
-use Rattle.ssz_schema_json.specs.Schema.{Reads, schema_of_bytes}
+use Rattle.ssz_schema_json.specs.Schema.{ReadsSchema, schema_of_bytes}
 use Rattle.ssz_said.specs.declared.fault.SszFault.{SszFault}
 use Rattle.ssz_typed.specs.declared.library.Library.{Library}
 use Rattle.ssz_said.specs.declared.status.TheConstants.{NO_TYPE, BAD_SCHEMA, NO_MEMORY, MOST_TEXT}
-use Rattle.ssz_typed.specs.Numbers.{Gives, IsNew}
-use Rattle.ssz_said.specs.Outcome.{Outcome, refused}
+use Rattle.ssz_typed.specs.Numbers.{GivesNumber, IsNew}
+use Rattle.ssz_said.specs.Outcome.{CallOutcome, refused}
 
 -- the type of a number that was given out
-abbrev pub type_in : Library → ℕ → Outcome ℕ
+abbrev pub type_in : Library → ℕ → CallOutcome ℕ
 type_in library number =
     if nat_lt number (length library.found.items)
     then Ok (slice_index_or library.found.items number 0)
@@ -24,7 +24,7 @@ abbrev pub fault_of_read : SchemaRead → SszFault
 fault_of_read NotJson = record { status = BAD_SCHEMA; code = 1; position = 0 }
 fault_of_read Shape = record { status = BAD_SCHEMA; code = 2; position = 0 }
 fault_of_read (Def number fault) =
-    record { status = BAD_SCHEMA; code = code_of fault; position = number }
+    record { status = BAD_SCHEMA; code = schema_code fault; position = number }
 fault_of_read Memory = refused NO_MEMORY
 
 -- S15: more bytes than a schema may have
@@ -32,27 +32,27 @@ abbrev pub too_long : SszFault
 too_long = record { status = BAD_SCHEMA; code = 15; position = 0 }
 
 -- what there is in bytes that are not too many
-abbrev pub ReadsText : Outcome Types → List ℕ → Type 0
-ReadsText (Ok types) bytes = Reads (Ok types) (schema_of_bytes bytes)
+abbrev pub ReadsText : CallOutcome Types → List ℕ → Type 0
+ReadsText (Ok types) bytes = ReadsSchema (Ok types) (schema_of_bytes bytes)
 ReadsText (Err fault) bytes =
-    (why : SchemaRead) × (fault ≡ fault_of_read why) × Reads (Err why) (schema_of_bytes bytes)
+    (why : SchemaRead) × (fault ≡ fault_of_read why) × ReadsSchema (Err why) (schema_of_bytes bytes)
 
 -- the types that the bytes define, or why there are none
-pub record ReadsTypes (result : Outcome Types) (bytes : List ℕ) : Type 0 where
+pub record ReadsTypes (result : CallOutcome Types) (bytes : List ℕ) : Type 0 where
   pub long : MOST_TEXT < length bytes → result ≡ Err too_long
   pub short : length bytes ≤ MOST_TEXT → ReadsText result bytes
 
 -- the same, with no number given out
-abbrev pub ReadsLibrary : Outcome Library → List ℕ → Type 0
+abbrev pub ReadsLibrary : CallOutcome Library → List ℕ → Type 0
 ReadsLibrary (Ok library) bytes =
     ReadsTypes (Ok library.schema) bytes × (library.found.items ≡ [])
 ReadsLibrary (Err fault) bytes = ReadsTypes (Err fault) bytes
 
 -- A type has a number, and no type has two, while numbers that were given out stay; or it has none
 -- yet and memory ran out.
-abbrev pub Numbers : ℕ → Library → Library → Outcome ℕ → Type 0
+abbrev pub Numbers : ℕ → Library → Library → CallOutcome ℕ → Type 0
 Numbers id old new (Ok number) =
-    (type_in new number ≡ Ok id) × Gives old.found.items new.found.items id number
+    (type_in new number ≡ Ok id) × GivesNumber old.found.items new.found.items id number
 Numbers id old new (Err fault) =
     (new.found.items ≡ old.found.items) × (fault ≡ refused NO_MEMORY) × IsNew old.found.items id
 
@@ -60,14 +60,14 @@ Numbers id old new (Err fault) =
 abbrev pub IsUnnamed : List ℕ → Library → SszFault → Type 0
 IsUnnamed name library fault =
     (fault ≡ refused NO_MEMORY)
-    × ((id : ℕ) × (number_of library.schema name ≡ Some id) × IsNew library.found.items id)
-    ⊎ (fault ≡ refused NO_TYPE) × ((¬ IsUtf8 name) ⊎ (number_of library.schema name ≡ None))
+    × ((id : ℕ) × (type_number library.schema name ≡ Some id) × IsNew library.found.items id)
+    ⊎ (fault ≡ refused NO_TYPE) × ((¬ IsUtf8 name) ⊎ (type_number library.schema name ≡ None))
 
 -- The name's type has the number, and no type has two, so that a name has one number; numbers that
 -- were given out stay.
-abbrev pub Names : List ℕ → Library → Library → Outcome ℕ → Type 0
-Names name old new (Ok number) =
-    (id : ℕ) × (number_of old.schema name ≡ Some id) × (type_in new number ≡ Ok id)
-    × Gives old.found.items new.found.items id number
-Names name old new (Err fault) =
+abbrev pub NumbersName : List ℕ → Library → Library → CallOutcome ℕ → Type 0
+NumbersName name old new (Ok number) =
+    (id : ℕ) × (type_number old.schema name ≡ Some id) × (type_in new number ≡ Ok id)
+    × GivesNumber old.found.items new.found.items id number
+NumbersName name old new (Err fault) =
     (new.found.items ≡ old.found.items) × IsUnnamed name old fault

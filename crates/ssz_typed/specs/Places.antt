@@ -2,10 +2,10 @@
 use Rattle.std.specs.Prelude.{ℕ, List, length, Option, option_map}
 use Rattle.ssz_schema.specs.Paths.{Path}
 use Rattle.ssz_schema.specs.Unfolding.{type_of}
-use Rattle.ssz_slices.specs.Part.{Part, opened, reached}
-use Rattle.ssz_value.specs.Encoding.{enc}
+use Rattle.ssz_slices.specs.Part.{Part, opened, part_reached}
+use Rattle.ssz_value.specs.Encoding.{serialize}
 use Rattle.ssz_said.specs.declared.status.TheConstants.{TOO_LONG, MOST_BYTES, NO_PLACE}
-use Rattle.ssz_said.specs.Outcome.{Outcome, ◌>>=◌, need, at_most}
+use Rattle.ssz_said.specs.Outcome.{CallOutcome, ◌>>=◌, need, at_most}
 use Rattle.ssz_typed.specs.declared.calls.SszStretch.{SszStretch}
 use Rattle.ssz_typed.specs.declared.library.Library.{Library}
 use Rattle.ssz_typed.specs.Calls.{part_or, steps_in, valid}
@@ -14,17 +14,17 @@ use Rattle.ssz_typed.specs.Library.{type_in}
 -- where the encoding of a part begins, and its length; a bit and a length stand nowhere
 abbrev pub stretch_of : Part → Option SszStretch
 stretch_of part =
-    option_map (λ span. record { start = span.0; len = length (enc part.form part.value) })
+    option_map (λ span. record { start = span.0; len = length (serialize part.form part.value) })
     part.place
 
 -- where the part of a value at a path stands
-abbrev pub stretch_at : Part → Path → Outcome SszStretch
+abbrev pub stretch_at : Part → Path → CallOutcome SszStretch
 stretch_at whole path = do
-  part ← part_or (reached whole path)
+  part ← part_or (part_reached whole path)
   need NO_PLACE (stretch_of part)
 
 -- where the part that a path leads to stands, in bytes that encode a value of the type
-abbrev pub place_in : Library → ℕ → List ℕ → List ℕ → Outcome SszStretch
+abbrev pub place_in : Library → ℕ → List ℕ → List ℕ → CallOutcome SszStretch
 place_in library number bytes text = do
   id ← type_in library number
   few ← at_most TOO_LONG MOST_BYTES bytes

@@ -1,10 +1,10 @@
 // What the calls do, over what a handle holds.
 ghost use Rattle.std.specs.Prelude.{◌≡◌, ◌<◌, ◌^◌, length, None, IfOk};
 ghost use Rattle.std.specs.Result.{result_map_both};
-ghost use Rattle.ssz_slices.specs.Written.{written};
+ghost use Rattle.ssz_slices.specs.Written.{encoding_written};
 ghost use Rattle.ssz_schema.specs.Unfolding.{type_of};
 ghost use Rattle.ssz_schema.specs.Indices.{generalized_index};
-ghost use Rattle.ssz_value.specs.Faults.{why};
+ghost use Rattle.ssz_value.specs.Faults.{first_fault};
 ghost use Rattle.ssz_typed.specs.Calls.{checked_in, encoding_at, gindex_in, part_in, root_in, size_in, status_of_path, steps_in};
 ghost use Rattle.ssz_typed.specs.Places.{place_in, stretch_at, stretch_of};
 ghost use Rattle.ssz_said.specs.Outcome.{IsUnlessMemory, refused};
@@ -27,7 +27,7 @@ pub fn checked(library: &Library, number: u64, bytes: &[u8]) -> Result<TypeId, S
     ensures known { IfOk result (λ id. id < length library.now.schema.trees) }
     ensures short { IfOk result (λ id. length bytes.now < 2 ^ 32) }
     ensures faultless { IfOk result (λ id.
-        why (type_of library.now.schema id) 0 bytes.now ≡ None) }
+        first_fault (type_of library.now.schema id) 0 bytes.now ≡ None) }
 {
     let id = match library.type_at(number) {
         Ok(id) => id,
@@ -142,7 +142,8 @@ pub(crate) fn part_at<'s, 'b>(
     whole: &Slice<'s, 'b>,
     path: &[PathStep],
 ) -> Result<Encoding<'b>, SszFault>
-    ensures { result_map_both written (λ fault. fault) result ≡ encoding_at whole.now path.now }
+    ensures { result_map_both encoding_written (λ fault. fault) result
+        ≡ encoding_at whole.now path.now }
 {
     match whole.at(path) {
         Ok(part) => Ok(part.encoding()),
@@ -158,7 +159,7 @@ pub fn part<'b>(
     bytes: &'b [u8],
     text: &[u8],
 ) -> Result<Encoding<'b>, SszFault>
-    ensures { IsUnlessMemory (result_map_both written (λ fault. fault) result)
+    ensures { IsUnlessMemory (result_map_both encoding_written (λ fault. fault) result)
         (part_in library.now number bytes.now text.now) }
 {
     let id = match library.type_at(number) {

@@ -1,7 +1,7 @@
 // What a slice of C is.
 ghost use Rattle.std.specs.Prelude.{◌≡◌, ◌<◌, ◌^◌, length, None};
 ghost use Rattle.ssz_schema.specs.Unfolding.{type_of};
-ghost use Rattle.ssz_value.specs.Faults.{why};
+ghost use Rattle.ssz_value.specs.Faults.{first_fault};
 
 use ssz_bytes::ByteRun;
 use ssz_schema::{Schema, TypeId};
@@ -14,5 +14,5 @@ pub struct CheckedBytes {
     pub bytes: ByteRun,
     pub ghost known: { id < length schema.trees },
     pub ghost short: { length bytes < 2 ^ 32 },
-    pub ghost faultless: { why (type_of schema id) 0 bytes ≡ None },
+    pub ghost faultless: { first_fault (type_of schema id) 0 bytes ≡ None },
 }

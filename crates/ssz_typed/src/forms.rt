@@ -1,7 +1,7 @@
 // What a type is: its form, its length or limit, and how many types it is made of.
 ghost use Rattle.std.specs.Prelude.{◌≡◌, ◌<◌, length};
 ghost use Rattle.ssz_schema.specs.Unfolding.{type_of};
-ghost use Rattle.ssz_typed.specs.Forms.{form_in, form_number, limit_in, limit_of, parts_count, parts_in};
+ghost use Rattle.ssz_typed.specs.Forms.{form_in, form_number, limit_in, form_limit, parts_count, parts_in};
 
 use super::library::Library;
 use ssz_said::{SszFault, status};
@@ -72,7 +72,7 @@ pub fn limit(library: &Library, number: u64) -> Result<u64, SszFault>
 
 fn limit_at(schema: &Schema, id: TypeId) -> Option<u64>
     requires { id < length schema.now.trees }
-    ensures { result ≡ limit_of (type_of schema.now id) }
+    ensures { result ≡ form_limit (type_of schema.now id) }
 {
     match schema.ty(id) {
         Ty::Vector(_, n) => Some(*n),

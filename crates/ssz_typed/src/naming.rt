@@ -1,7 +1,7 @@
 // A schema of C: read, and its types by name and by number.
 ghost use Rattle.std.specs.Prelude.{◌≡◌, [], ◌∷◌, ◌++◌, ◌<◌, length, IfOk, OnErr};
-ghost use Rattle.ssz_typed.specs.Numbers.{IsFound, IsNew};
-ghost use Rattle.ssz_typed.specs.Library.{Names, Numbers, ReadsLibrary, ReadsTypes, fault_of_read, type_in};
+ghost use Rattle.ssz_typed.specs.Numbers.{IsNumberFound, IsNew};
+ghost use Rattle.ssz_typed.specs.Library.{NumbersName, Numbers, ReadsLibrary, ReadsTypes, fault_of_read, type_in};
 
 use super::library::Library;
 use ssz_chunk::{ShaPair, ZeroTable};
@@ -64,7 +64,7 @@ impl Library {
 
     /// The number of the type of this name: its own number, if it has one, or the next.
     pub fn number_of(&mut self, name: &[u8]) -> Result<u64, SszFault>
-        ensures names { Names name.now self.old self.new result }
+        ensures names { NumbersName name.now self.old self.new result }
         ensures schema { self.new.schema ≡ self.old.schema }
     {
         let Ok(name) = std::str::from_utf8(name) else {
@@ -109,7 +109,7 @@ impl Library {
 
 // The place of a type among those that have a number.
 fn place_of(found: &[TypeId], id: TypeId) -> Option<u64>
-    ensures { IsFound found.now id result }
+    ensures { IsNumberFound found.now id result }
 {
     for k in 0..found.len() {
         if found[k] == id {

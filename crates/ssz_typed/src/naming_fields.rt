@@ -2,7 +2,7 @@
 ghost use Rattle.std.specs.Prelude.{◌≡◌, ◌<◌, length, option_map};
 ghost use Rattle.std.specs.Result.{result_map_both};
 ghost use Rattle.ssz_schema.specs.Unfolding.{type_of};
-ghost use Rattle.ssz_typed.specs.Fields.{field_in, field_name, fields_in};
+ghost use Rattle.ssz_typed.specs.Fields.{field_in, field_name, fields_of_type};
 
 use super::library::Library;
 use ssz_said::{SszFault, status};
@@ -26,7 +26,7 @@ fn name_at<'a>(schema: &'a Schema, id: TypeId, place: u64) -> Option<&'a [u8]>
 
 /// How many fields the type has.
 pub fn fields(library: &Library, number: u64) -> Result<u64, SszFault>
-    ensures { result ≡ fields_in library.now number }
+    ensures { result ≡ fields_of_type library.now number }
 {
     match library.type_at(number) {
         Ok(id) => match library.schema.ty(id) {

@@ -1,6 +1,6 @@
 // The numbers of the types that a type is made of, by their places.
 ghost use Rattle.std.specs.Prelude.{◌≡◌, ◌<◌, ◌==◌, length, if◌then◌else◌, Some, None, option_map, slice_get, slice_index_or};
-ghost use Rattle.ssz_typed.specs.Parts.{IsPart, PartIsNumbered};
+ghost use Rattle.ssz_typed.specs.Parts.{IsPartType, PartIsNumbered};
 ghost use Rattle.ssz_typed.specs.Forms.{part_type_in};
 
 use super::library::Library;
@@ -37,7 +37,7 @@ fn element_at(element: TypeId, place: u64) -> Option<TypeId>
 // The type at this place of those that a type is made of.
 fn part_at(schema: &Schema, id: TypeId, place: u64) -> Option<TypeId>
     requires { id < length schema.now.trees }
-    ensures { IsPart schema.now id place result }
+    ensures { IsPartType schema.now id place result }
 {
     match schema.ty(id) {
         Ty::Container(fields) => field_at(fields.as_slice(), place),

@@ -2,8 +2,8 @@
 ghost use Rattle.std.specs.Prelude.{◌≡◌, ◌<◌, ◌^◌, length, None, IfOk};
 ghost use Rattle.std.specs.Result.{result_map_both};
 ghost use Rattle.ssz_schema.specs.Unfolding.{type_of};
-ghost use Rattle.ssz_slices.specs.Written.{written};
-ghost use Rattle.ssz_value.specs.Faults.{why};
+ghost use Rattle.ssz_slices.specs.Written.{encoding_written};
+ghost use Rattle.ssz_value.specs.Faults.{first_fault};
 ghost use Rattle.ssz_said.specs.Outcome.{IsUnlessMemory};
 ghost use Rattle.ssz_typed.specs.Slices.{Opens, slice_part, slice_place};
 
@@ -26,7 +26,7 @@ impl CheckedBytes {
     ) -> Result<CheckedBytes, AllocError>
         requires known { id < length schema.now.trees }
         requires short { length bytes.now < 2 ^ 32 }
-        requires faultless { why (type_of schema.now id) 0 bytes.now ≡ None }
+        requires faultless { first_fault (type_of schema.now id) 0 bytes.now ≡ None }
         ensures schema { IfOk result (λ slice. slice.schema ≡ schema.now) }
         ensures kind { IfOk result (λ slice. slice.id ≡ id) }
         ensures bytes { IfOk result (λ slice. slice.bytes ≡ bytes.now) }
@@ -57,7 +57,7 @@ impl CheckedBytes {
 
     /// The encoding of the part that a path leads to.
     pub fn part<'b>(&'b self, alloc: Global, text: &[u8]) -> Result<Encoding<'b>, SszFault>
-        ensures { IsUnlessMemory (result_map_both written (λ fault. fault) result)
+        ensures { IsUnlessMemory (result_map_both encoding_written (λ fault. fault) result)
             (slice_part self.now text.now) }
     {
         let steps = match steps_of(alloc, &self.schema, self.id, text) {

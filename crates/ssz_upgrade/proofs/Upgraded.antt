@@ -4,7 +4,7 @@ use Rattle.std.specs.Prelude.{Ok}
 use Rattle.std.specs.List.{sum_by}
 use Rattle.std.proofs.lemmas.Option.{none-some, same_Some}
 use Rattle.ssz_chunk.specs.Index.{at}
-use Rattle.ssz_chunk.specs.Tree.{full, place, grow}
+use Rattle.ssz_chunk.specs.Tree.{merkle_tree, place, merkle_pairs}
 use Rattle.ssz_chunk.proofs.FullTrees.{at-full}
 use Rattle.ssz_schema.specs.declared.format.Format.{Format}
 use Rattle.ssz_schema.specs.Types.{SszType, Fields, container, no_fields, field}
@@ -13,7 +13,7 @@ use Rattle.ssz_schema.specs.Legal.{IsLegal}
 use Rattle.ssz_schema.specs.Unfolding.{fields_over}
 use Rattle.ssz_schema.proofs.DepthLemmas.{depth_of-holds}
 use Rattle.ssz_arena.specs.declared.node.NodeId.{NodeId}
-use Rattle.ssz_arena.specs.Content.{Content, tree_of, todo, node_count, IsNodeOf}
+use Rattle.ssz_arena.specs.Content.{ArenaContent, tree_of, todo, node_count, IsNodeOf}
 use Rattle.ssz_arena.specs.Laws.{LawOfParts}
 use Rattle.ssz_value.specs.Values.{SszValue, sequence, Values, values, items, FitFields}
 use Rattle.ssz_value.specs.Trees.{tree, field_trees}
@@ -22,27 +22,27 @@ use Rattle.ssz_value.proofs.PartLemmas.{Part as FieldPart}
 use Rattle.ssz_value.proofs.Sequences.{items-values}
 use Rattle.ssz_places.specs.PlaceLaws.{IsTreeOf}
 use Rattle.ssz_forms.specs.Upgrades.{all_taken, upgraded, upgraded_fields}
-use Rattle.ssz_tree.specs.Added.{Adds, IsPart}
-use Rattle.ssz_tree.specs.Given.{parts_with, part_with, pairs_with, shared_with}
+use Rattle.ssz_tree.specs.Added.{AddsNodes, IsPartNode}
+use Rattle.ssz_tree.specs.Given.{parts_with, given_part_with, pairs_with, shared_with}
 use Rattle.ssz_tree.proofs.DefaultForms.{count-fields}
 use Rattle.ssz_upgrade.specs.Fields.{AreFieldNodes, pick}
-use Rattle.ssz_upgrade.specs.Upgraded.{Answers, IsUpgrade, upgrade_nodes}
+use Rattle.ssz_upgrade.specs.Upgraded.{AnswersUpgrade, IsUpgrade, upgrade_nodes}
 use Rattle.ssz_upgrade.proofs.Weighing.{weights-few}
 use Rattle.ssz_upgrade.proofs.Picking.{trees_taken, all_fit, costs_taken, costs_left}
 use Rattle.ssz_upgrade.proofs.Sharing.{nodes_left, upgrade_few}
 use Rattle.ssz_upgrade.proofs.Walking.{trees_alike}
 
 -- the parts of fields are as many as the fields
-parts_many : (arena : Content) (fs : Fields) (given : List (Option NodeId))
+parts_many : (arena : ArenaContent) (fs : Fields) (given : List (Option NodeId))
     → length (parts_with arena fs given) ≡ field_count fs
 parts_many arena no_fields given = refl
 parts_many arena (field name t fs) [] = omega (arith, parts_many arena fs [])
 parts_many arena (field name t fs) (first ∷ given) = omega (arith, parts_many arena fs given)
 
 -- the nodes of the fields of a value have the trees of its parts
-fields_found : (arena : Content) (node : NodeId) (fs : Fields) (vs : List SszValue)
+fields_found : (arena : ArenaContent) (node : NodeId) (fs : Fields) (vs : List SszValue)
     (nodes : List NodeId) → FitFields fs vs
-    → tree_of arena node ≡ full (depth (container fs)) (field_trees fs vs)
+    → tree_of arena node ≡ merkle_tree (depth (container fs)) (field_trees fs vs)
     → AreFieldNodes arena node (depth (container fs)) (field_count fs) nodes
     → map (tree_of arena) nodes ≡ field_trees fs vs
 fields_found arena node fs vs nodes fit whole are =
@@ -65,19 +65,19 @@ fields_found arena node fs vs nodes fit whole are =
     slice_get-below (y ∷ xs) (suc i) x e = omega (arith, slice_get-below xs i x e)
 
 -- what the calls below made of two containers
-pub record Made (format : Format) (old new : Content) (node made : NodeId) (fs gs : Fields)
+pub record Made (format : Format) (old new : ArenaContent) (node made : NodeId) (fs gs : Fields)
     (nodes : List NodeId) (given : List (Option NodeId)) : Type 0 where
   pub inside : IsNodeOf old node
   pub law : LawOfParts old
   pub legal : IsLegal format (container gs)
   pub fields : AreFieldNodes old node (depth (container fs)) (field_count fs) nodes
   pub picks : given ≡ map (pick nodes) (all_taken fs gs)
-  pub part : IsPart new (part_with old (container gs) given) made
+  pub part : IsPartNode new (given_part_with old (container gs) given) made
   pub adds : (let nodes = shared_with (container gs) given in
-      Adds nodes (min nodes (pairs_with (container gs) given)) old new)
+      AddsNodes nodes (min nodes (pairs_with (container gs) given)) old new)
 
 -- the value is a sequence of the fields' values
-made_of : (format : Format) (old new : Content) (node made : NodeId) (fs gs : Fields)
+made_of : (format : Format) (old new : ArenaContent) (node made : NodeId) (fs gs : Fields)
     (nodes : List NodeId) (given : List (Option NodeId))
     → Made format old new node made fs gs nodes given → (vs : Values)
     → FitFields fs (items vs) → tree_of old node ≡ tree (container fs) (sequence vs)
@@ -87,8 +87,8 @@ made_of format old new node made fs gs nodes given h vs fit whole =
     let picked = map (pick nodes) (all_taken fs gs) in
     let ups = upgraded_fields fs (items vs) gs in
     let trees = fields_found old node fs (items vs) nodes fit whole h.fields in
-    let part : IsPart new (part_with old (container gs) picked) made =
-    subst (λ ns. IsPart new (part_with old (container gs) ns) made) h.picks h.part in
+    let part : IsPartNode new (given_part_with old (container gs) picked) made =
+    subst (λ ns. IsPartNode new (given_part_with old (container gs) ns) made) h.picks h.part in
     let back : items (values ups) ≡ ups = items-values ups in
     let hashed : sum_by (todo old) nodes ≤ todo old node =
     h.law node h.inside (depth (container fs)) nodes h.fields.places in
@@ -108,12 +108,13 @@ made_of format old new node made fs gs nodes given h vs fit whole =
       fits = subst (FitFields gs) (sym back)
           (all_fit format old nodes fs (items vs) gs fit trees h.legal.1);
       is = part.tree
-          ∙ ap (full (depth (container gs))) (trees_taken old nodes fs (items vs) gs fit trees)
-          ∙ ap (λ ws. full (depth (container gs)) (field_trees gs ws)) (sym back);
+          ∙ ap (merkle_tree (depth (container gs)))
+          (trees_taken old nodes fs (items vs) gs fit trees)
+          ∙ ap (λ ws. merkle_tree (depth (container gs)) (field_trees gs ws)) (sym back);
       due = omega (
         arith,
         part.todo,
-        ap (grow (depth (container gs))) (parts_many old gs picked),
+        ap (merkle_pairs (depth (container gs))) (parts_many old gs picked),
         all,
         few,
         hashed,
@@ -129,11 +130,11 @@ made_of format old new node made fs gs nodes given h vs fit whole =
     }
 
 -- for each value of the old type
-answers_of : (format : Format) (old new : Content) (node made : NodeId) (fs gs : Fields)
+answers_of : (format : Format) (old new : ArenaContent) (node made : NodeId) (fs gs : Fields)
     (nodes : List NodeId) (given : List (Option NodeId))
     → Made format old new node made fs gs nodes given → (v : SszValue)
     → IsTreeOf (container fs) v (tree_of old node)
-    → Answers (container fs) (container gs) old new node
+    → AnswersUpgrade (container fs) (container gs) old new node
     (upgraded (container fs) v (container gs)) (Ok made)
 answers_of format old new node made fs gs nodes given h (sequence vs) of = (
   sequence (values (upgraded_fields fs (items vs) gs)),
@@ -142,14 +143,16 @@ answers_of format old new node made fs gs nodes given h (sequence vs) of = (
 )
 answers_of format old new node made fs gs nodes given h _ of = absurd of.fits
 
-pub upgrade_answers : (s t : SszType) (format : Format) (old new : Content) (node made : NodeId)
+pub upgrade_answers : (s t : SszType) (format : Format) (old new : ArenaContent)
+    (node made : NodeId)
     (fs gs : Fields) (nodes : List NodeId) (given : List (Option NodeId)) → s ≡ container fs
     → t ≡ container gs → Made format old new node made fs gs nodes given → (v : SszValue)
     → IsTreeOf s v (tree_of old node)
-    → Answers s t old new node (upgraded s v t) (Ok made)
+    → AnswersUpgrade s t old new node (upgraded s v t) (Ok made)
 upgrade_answers s t format old new node made fs gs nodes given is_old is_new h v of =
-    subst (λ x. Answers x t old new node (upgraded x v t) (Ok made)) (sym is_old)
-    (subst (λ y. Answers (container fs) y old new node (upgraded (container fs) v y) (Ok made))
+    subst (λ x. AnswersUpgrade x t old new node (upgraded x v t) (Ok made)) (sym is_old)
+    (subst (λ y. AnswersUpgrade (container fs) y old new node (upgraded (container fs) v y)
+    (Ok made))
     (sym is_new)
     (answers_of format old new node made fs gs nodes given h v
     (subst (λ x. IsTreeOf x v (tree_of old node)) is_old of)))
@@ -166,7 +169,7 @@ few_fields s trees parts d count form deep many =
     omega (arith, few, many, count-fields trees parts)
 
 -- the nodes of the fields of a container, by its fields
-pub fields_of : (arena : Content) (node : NodeId) (s : SszType) (trees : List SszType)
+pub fields_of : (arena : ArenaContent) (node : NodeId) (s : SszType) (trees : List SszType)
     (parts : List FieldPart) (d count : ℕ) (nodes : List NodeId)
     → s ≡ container (fields_over trees parts) → d ≡ depth s → count ≡ length parts
     → AreFieldNodes arena node d count nodes

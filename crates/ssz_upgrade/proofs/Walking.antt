@@ -5,18 +5,18 @@ use Rattle.std.proofs.lemmas.Option.{none-some}
 use Rattle.ssz_chunk.specs.Index.{at}
 use Rattle.ssz_chunk.specs.Tree.{Tree, place}
 use Rattle.ssz_arena.specs.declared.node.NodeId.{NodeId}
-use Rattle.ssz_arena.specs.Content.{Content, tree_of}
-use Rattle.ssz_upgrade.specs.Fields.{AreFieldNodes, IsFieldAt, StandsAt, pick}
+use Rattle.ssz_arena.specs.Content.{ArenaContent, tree_of}
+use Rattle.ssz_upgrade.specs.Fields.{AreFieldNodes, IsFieldAt, FieldStandsAt, pick}
 
 -- the nodes of the first i fields were found
-pub record FieldsSoFar (arena : Content) (node : NodeId) (d count i : ℕ) (nodes : List NodeId)
+pub record FieldsSoFar (arena : ArenaContent) (node : NodeId) (d count i : ℕ) (nodes : List NodeId)
     : Type 0 where
   pub within : i ≤ count
   pub many : length nodes ≡ i
   pub each : (j : ℕ) (field : NodeId) → slice_get nodes j ≡ Some field
-      → StandsAt arena node (2 ^ d + j) field
+      → FieldStandsAt arena node (2 ^ d + j) field
 
-pub FieldsSoFar-start : (arena : Content) (node : NodeId) (d count : ℕ)
+pub FieldsSoFar-start : (arena : ArenaContent) (node : NodeId) (d count : ℕ)
     → FieldsSoFar arena node d count 0 []
 FieldsSoFar-start arena node d count = record {
   within = omega arith;
@@ -34,20 +34,20 @@ last_or_before (z ∷ xs) x zero y P all end here = all 0 y here
 last_or_before (z ∷ xs) x (suc j) y P all end here =
     last_or_before xs x j y (λ k. P (suc k)) (λ k. all (suc k)) end here
 
-pub FieldsSoFar-more : (arena : Content) (node : NodeId) (d count i : ℕ)
+pub FieldsSoFar-more : (arena : ArenaContent) (node : NodeId) (d count i : ℕ)
     (nodes more : List NodeId) (field : NodeId) → FieldsSoFar arena node d count i nodes
-    → i < count → StandsAt arena node (2 ^ d + i) field → more ≡ nodes ++ field ∷ []
+    → i < count → FieldStandsAt arena node (2 ^ d + i) field → more ≡ nodes ++ field ∷ []
     → FieldsSoFar arena node d count (i + 1) more
 FieldsSoFar-more arena node d count i nodes more field h below stands is = record {
   within = omega (arith, below);
   many = omega (arith, ap (length {A = NodeId}) is, length-append nodes (field ∷ []), h.many);
   each = λ j next here. last_or_before nodes field j next
-      (λ k x. StandsAt arena node (2 ^ d + k) x) h.each
-      (subst (λ k. StandsAt arena node (2 ^ d + k) field) (sym h.many) stands)
+      (λ k x. FieldStandsAt arena node (2 ^ d + k) x) h.each
+      (subst (λ k. FieldStandsAt arena node (2 ^ d + k) field) (sym h.many) stands)
       (sym (ap (λ (xs : List NodeId). slice_get xs j) is) ∙ here);
 }
 
-pub FieldsSoFar-end : (arena : Content) (node : NodeId) (d count i : ℕ) (nodes : List NodeId)
+pub FieldsSoFar-end : (arena : ArenaContent) (node : NodeId) (d count i : ℕ) (nodes : List NodeId)
     → FieldsSoFar arena node d count i nodes → count ≤ 2 ^ d → count ≤ i
     → AreFieldNodes arena node d count nodes
 FieldsSoFar-end arena node d count i nodes h few last = record {
@@ -60,7 +60,7 @@ FieldsSoFar-end arena node d count i nodes h few last = record {
 }
 
 -- a field is not there
-pub FieldsSoFar-short : (arena : Content) (node : NodeId) (d count i : ℕ) (nodes : List NodeId)
+pub FieldsSoFar-short : (arena : ArenaContent) (node : NodeId) (d count i : ℕ) (nodes : List NodeId)
     (found : Option NodeId) → FieldsSoFar arena node d count i nodes → count ≤ 2 ^ d
     → i < count → IsFieldAt arena node d i found → found ≡ None
     → AreFieldNodes arena node d count nodes
@@ -104,7 +104,7 @@ drop_number (k ∷ taken) (suc i) number below e =
     drop_number taken i number (omega arith) e ∙ ap (λ n. number ∷ drop n (k ∷ taken)) up
 
 -- nodes with these trees, place by place
-pub trees_alike : (arena : Content) (nodes : List NodeId) (trees : List Tree)
+pub trees_alike : (arena : ArenaContent) (nodes : List NodeId) (trees : List Tree)
     → length nodes ≡ length trees
     → ((i : ℕ) (id : NodeId) → slice_get nodes i ≡ Some id → tree_of arena id ≡ place trees i)
     → map (tree_of arena) nodes ≡ trees

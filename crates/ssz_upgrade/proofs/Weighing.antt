@@ -9,7 +9,7 @@ use Rattle.ssz_schema.specs.Types.{SszType, Fields, no_fields, field}
 use Rattle.ssz_schema.specs.Legal.{field_names}
 use Rattle.ssz_schema.specs.Paths.{field_type, field_number}
 use Rattle.ssz_forms.specs.SameType.{same_type}
-use Rattle.ssz_forms.specs.Upgrades.{taken}
+use Rattle.ssz_forms.specs.Upgrades.{field_taken}
 
 module _ {X : Type 0} (weight : X → ℕ) where
   -- what is counted for the element of this number
@@ -20,7 +20,7 @@ module _ {X : Type 0} (weight : X → ℕ) where
   -- for each new field that takes one
   abbrev pub weights : Fields → List X → Fields → ℕ
   weights old xs no_fields = 0
-  weights old xs (field name t fs) = weight_at xs (taken old name t) + weights old xs fs
+  weights old xs (field name t fs) = weight_at xs (field_taken old name t) + weights old xs fs
 
   -- the number of an old field, where its type is equal
   abbrev pub where_same : SszType → Option SszType → ℕ → Option ℕ
@@ -47,7 +47,8 @@ module _ {X : Type 0} (weight : X → ℕ) where
   -- of a field of another name it is that of the later fields
   apart : (a : List ℕ) (u : SszType) (fs : Fields) (x : X) (xs : List X) (name : List ℕ)
       (t : SszType) → bytes_eq a name ≡ false
-      → weight_at (x ∷ xs) (taken (field a u fs) name t) ≡ weight_at xs (taken fs name t)
+      → weight_at (x ∷ xs) (field_taken (field a u fs) name t)
+      ≡ weight_at xs (field_taken fs name t)
   apart a u fs x xs name t other =
       ap (λ b. weight_at (x ∷ xs) (where_same t (cond b (Some u) (field_type fs name))
       (cond b 0 (suc (field_number fs name))))) other
@@ -55,7 +56,7 @@ module _ {X : Type 0} (weight : X → ℕ) where
 
   alike : (a : List ℕ) (u : SszType) (fs : Fields) (x : X) (xs : List X) (name : List ℕ)
       (t : SszType) → bytes_eq a name ≡ true
-      → weight_at (x ∷ xs) (taken (field a u fs) name t) ≤ weight x
+      → weight_at (x ∷ xs) (field_taken (field a u fs) name t) ≤ weight x
   alike a u fs x xs name t same =
       subst (λ n. n ≤ weight x) (sym (ap (λ b. weight_at (x ∷ xs) (where_same t
       (cond b (Some u) (field_type fs name)) (cond b 0 (suc (field_number fs name))))) same))
@@ -105,7 +106,7 @@ module _ {X : Type 0} (weight : X → ℕ) where
   none_there : (old new : Fields) → weights old [] new ≡ 0
   none_there old no_fields = refl
   none_there old (field name t new) =
-      ap₂ (λ m n. m + n) (weight_nowhere (taken old name t)) (none_there old new)
+      ap₂ (λ m n. m + n) (weight_nowhere (field_taken old name t)) (none_there old new)
 
   pub weights-few : (old : Fields) (xs : List X) (new : Fields)
       → IsDistinct bytes_eq (field_names new) → weights old xs new ≤ sum_by weight xs

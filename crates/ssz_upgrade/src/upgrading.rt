@@ -4,7 +4,7 @@ ghost use Rattle.ssz_value.specs.Values.{SszValue};
 ghost use Rattle.ssz_places.specs.PlaceLaws.{IsTreeOf};
 ghost use Rattle.ssz_arena.specs.Content.{IsNodeOf, KeepsNodes, KeepsTodo, tree_of};
 ghost use Rattle.ssz_forms.specs.Upgrades.{upgraded};
-ghost use Rattle.ssz_upgrade.specs.Upgraded.{Answers};
+ghost use Rattle.ssz_upgrade.specs.Upgraded.{AnswersUpgrade};
 
 use super::fields::{field_nodes, nodes_taken};
 use ssz_arena::{Arena, NodeId};
@@ -30,7 +30,7 @@ pub fn upgrade<H: PairHash>(
     requires node { IsNodeOf arena.old node }
     ensures answers { let s = type_of schema.now from in let t = type_of schema.now to in
         (v : SszValue) → IsTreeOf s v (tree_of arena.old node)
-        → Answers s t arena.old arena.new node (upgraded s v t) result }
+        → AnswersUpgrade s t arena.old arena.new node (upgraded s v t) result }
     ensures node { IfOk result (IsNodeOf arena.new) }
     ensures keeps { KeepsNodes arena.old arena.new }
     ensures same { KeepsTodo arena.old arena.new }

@@ -5,21 +5,21 @@ use Rattle.ssz_schema.specs.Sizes.{fixed_size, part_sizes, option_count, total_s
 use Rattle.ssz_bytes.specs.declared.fault.Fault.{Fault}
 use Rattle.ssz_bytes.specs.Bytes.{IsBytes}
 use Rattle.ssz_value.specs.Values.{SszValue, Fits, FitFields, FitsOption, IsNoneOption, chosen, chosen_none}
-use Rattle.ssz_value.specs.Encoding.{enc, field_encodings, option_encoding}
-use Rattle.ssz_value.specs.Faults.{why, fields_fault, option_fault, Scope, scopes, bytes_of, length_fault, ◌otherwise◌, next_offset, offset_at}
+use Rattle.ssz_value.specs.Encoding.{serialize, field_encodings, option_encoding}
+use Rattle.ssz_value.specs.Faults.{first_fault, fields_fault, option_fault, Scope, scopes, scope_bytes, length_fault, ◌otherwise◌, next_offset, offset_at}
 use Rattle.ssz_value.specs.Reading.{value_in, fields_in, option_in}
 use Rattle.ssz_value.proofs.Cut.{AreParts, passed, passes}
 use Rattle.ssz_bytes.proofs.Numbers.{IsBytes-drop, IsBytes-take}
 
 -- the bytes of the value have no fault, and are read as this value
 pub record IsReadBack (t : SszType) (s : ℕ) (v : SszValue) : Type 0 where
-  pub faultless : why t s (enc t v) ≡ None
-  pub value : value_in t (enc t v) ≡ v
+  pub faultless : first_fault t s (serialize t v) ≡ None
+  pub value : value_in t (serialize t v) ≡ v
 
 -- the bytes are the encoding of the value that is read
 pub record IsWrittenBack (t : SszType) (b : List ℕ) : Type 0 where
   pub fits : Fits t (value_in t b)
-  pub bytes : enc t (value_in t b) ≡ b
+  pub bytes : serialize t (value_in t b) ≡ b
 
 -- bytes, fewer than 2 ^ 32
 pub record IsInput (b : List ℕ) : Type 0 where
@@ -28,9 +28,9 @@ pub record IsInput (b : List ℕ) : Type 0 where
 
 -- the law at one type, and what its size says
 pub record Agrees (t : SszType) : Type 0 where
-  pub known : (s : ℕ) (v : SszValue) → Fits t v → length (enc t v) < 2 ^ 32 → IsReadBack t s v
-  pub only : (s : ℕ) (b : List ℕ) → IsInput b → why t s b ≡ None → IsWrittenBack t b
-  pub sized : (z : ℕ) (v : SszValue) → fixed_size t ≡ Some z → Fits t v → length (enc t v) ≡ z
+  pub known : (s : ℕ) (v : SszValue) → Fits t v → length (serialize t v) < 2 ^ 32 → IsReadBack t s v
+  pub only : (s : ℕ) (b : List ℕ) → IsInput b → first_fault t s b ≡ None → IsWrittenBack t b
+  pub sized : (z : ℕ) (v : SszValue) → fixed_size t ≡ Some z → Fits t v → length (serialize t v) ≡ z
   pub positive : (z : ℕ) → fixed_size t ≡ Some z → 0 < z
 
 abbrev pub AreShort : List Scope → Type 0
@@ -44,12 +44,12 @@ AreInputs (part ∷ parts) = IsInput part.1 × AreInputs parts
 -- the law at fields
 pub record FieldsAgree (fs : Fields) : Type 0 where
   pub known : (s : ℕ) (vs : List SszValue) (parts : List Scope) → FitFields fs vs → AreShort parts
-      → bytes_of parts ≡ field_encodings fs vs
-      → (fields_fault fs s parts ≡ None) × (fields_in fs (bytes_of parts) ≡ vs)
+      → scope_bytes parts ≡ field_encodings fs vs
+      → (fields_fault fs s parts ≡ None) × (fields_in fs (scope_bytes parts) ≡ vs)
   pub only : (s : ℕ) (parts : List Scope) → AreInputs parts → length parts ≡ length (part_sizes fs)
       → fields_fault fs s parts ≡ None
-      → FitFields fs (fields_in fs (bytes_of parts)) ×
-      (field_encodings fs (fields_in fs (bytes_of parts)) ≡ bytes_of parts)
+      → FitFields fs (fields_in fs (scope_bytes parts)) ×
+      (field_encodings fs (fields_in fs (scope_bytes parts)) ≡ scope_bytes parts)
   pub sized : (vs : List SszValue) → FitFields fs vs
       → AreParts (part_sizes fs) (field_encodings fs vs)
   pub positive : (z : ℕ) → 0 < length (part_sizes fs) → total_size (part_sizes fs) ≡ Some z → 0 < z
@@ -145,6 +145,6 @@ length-scopes [] place b = refl
 length-scopes (Some z ∷ sizes) place b = ap suc (length-scopes sizes (place + z) b)
 length-scopes (None ∷ sizes) place b = ap suc (length-scopes sizes (place + 4) b)
 
-pub length-bytes_of : (parts : List Scope) → length (bytes_of parts) ≡ length parts
+pub length-bytes_of : (parts : List Scope) → length (scope_bytes parts) ≡ length parts
 length-bytes_of [] = refl
 length-bytes_of (part ∷ parts) = ap suc (length-bytes_of parts)

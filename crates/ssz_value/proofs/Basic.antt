@@ -7,7 +7,7 @@ use Rattle.ssz_schema.specs.Types.{uint, boolean, bitvector, bitlist}
 use Rattle.ssz_schema.specs.Sizes.{byte_count}
 use Rattle.ssz_bytes.specs.Bytes.{IsBytes, le_bytes, le_number, number_of_bits, bits_of_number}
 use Rattle.ssz_value.specs.Values.{SszValue, number, wide, truth, bits, FitsWidth, Fits}
-use Rattle.ssz_value.specs.Encoding.{enc}
+use Rattle.ssz_value.specs.Encoding.{serialize}
 use Rattle.ssz_bytes.specs.Faults.{bool_fault, bitvector_fault, bitlist_fault, bitlist_length, last_after, highest_bit}
 use Rattle.ssz_bytes.proofs.Numbers.{length-le_bytes, le_number-le_bytes, le_bytes_of, le_number_lt, IsBytes-le_bytes}
 use Rattle.ssz_bytes.proofs.Bits.{length-bits_of_number, bits_of_number-number_of_bits, bits_of_number-delimited, number_of_bits-bits_of_number, number_of_bits-delimited, number_of_bits_lt, HasTop, HasTop-delimited, same_top, power_up, power_of_bytes}
@@ -82,7 +82,7 @@ number_only W128 b h e =
 number_only W256 b h e = record { fits = (e, h.bytes); bytes = refl }
 
 pub number_sized : (w : Width) (v : SszValue) → FitsWidth w v
-    → length (enc (uint w) v) ≡ byte_count w
+    → length (serialize (uint w) v) ≡ byte_count w
 number_sized W8 (number n) h = refl
 number_sized W16 (number n) h = refl
 number_sized W32 (number n) h = refl
@@ -122,7 +122,7 @@ truth_only s (suc (suc n) ∷ []) e h =
     absurd (omega (arith, ltb-false 1 (suc (suc n)) (passes _ _ _ h).0))
 truth_only s (x ∷ y ∷ b) e h = absurd (omega arith)
 
-truth_sized : (v : SszValue) → Fits boolean v → length (enc boolean v) ≡ 1
+truth_sized : (v : SszValue) → Fits boolean v → length (serialize boolean v) ≡ 1
 truth_sized (truth b) h = refl
 truth_sized _ h = absurd h
 
@@ -170,7 +170,7 @@ bitvector_only n s b input e h =
     }
 
 bitvector_sized : (n : ℕ) (v : SszValue) → Fits (bitvector n) v
-    → length (enc (bitvector n) v) ≡ (n + 7) / 8
+    → length (serialize (bitvector n) v) ≡ (n + 7) / 8
 bitvector_sized n (bits bs) h = length-le_bytes ((n + 7) / 8) (number_of_bits bs)
 bitvector_sized n _ h = absurd h
 

@@ -3,7 +3,7 @@ use Rattle.std.proofs.Common.{ℕ, zero, suc, ◌+◌, ◌-◌, ◌*◌, ◌/◌
 use Rattle.std.proofs.lemmas.List.{take-take, take-append-le, length-take-le}
 use Rattle.std.proofs.lemmas.Bool.{cases_lt}
 use Rattle.ssz_chunk.specs.Chunk.{zero_chunk}
-use Rattle.ssz_chunk.specs.Tree.{Tree, leaf, pair, full}
+use Rattle.ssz_chunk.specs.Tree.{Tree, leaf, pair, merkle_tree}
 use Rattle.ssz_value.specs.Trees.{padded, chunks, pack}
 
 pub same_leaf : (a b : List ℕ) → leaf a ≡ leaf b → a ≡ b
@@ -20,8 +20,8 @@ half_length : (n : ℕ) (xs : List Tree) → length (drop n xs) ≡ length xs - 
 half_length n xs = length-drop n xs
 
 pub same_full : (d : ℕ) (xs ys : List Tree) → length xs ≡ length ys → length xs ≤ 2 ^ d
-    → full d xs ≡ full d ys → xs ≡ ys
-unfolding full
+    → merkle_tree d xs ≡ merkle_tree d ys → xs ≡ ys
+unfolding merkle_tree
 same_full zero [] [] e few h = refl
 same_full zero [] (y ∷ ys) e few h = absurd (omega arith)
 same_full zero (x ∷ xs) [] e few h = absurd (omega arith)

@@ -4,8 +4,8 @@ use Rattle.std.proofs.lemmas.Bool.{cond-true}
 use Rattle.ssz_schema.specs.Types.{SszType, Fields, Options, container, union, no_fields, field, no_options, none_option, option}
 use Rattle.ssz_schema.specs.Sizes.{fixed_size, part_sizes, total_size, option_count}
 use Rattle.ssz_value.specs.Values.{SszValue, Fits, sequence, chosen, chosen_none, items, values, FitFields, FitsOption, IsNoneOption}
-use Rattle.ssz_value.specs.Encoding.{enc, joined, field_encodings, option_encoding}
-use Rattle.ssz_value.specs.Faults.{why, Scope, scopes, bytes_of, fields_fault, option_fault}
+use Rattle.ssz_value.specs.Encoding.{serialize, joined, field_encodings, option_encoding}
+use Rattle.ssz_value.specs.Faults.{first_fault, Scope, scopes, scope_bytes, fields_fault, option_fault}
 use Rattle.ssz_value.specs.Reading.{value_in, fields_in, option_in}
 use Rattle.ssz_value.proofs.Cut.{AreParts, passes, chosen_none_of, cut-joined, joined-cut}
 use Rattle.ssz_value.proofs.Agree.{IsReadBack, IsWrittenBack, IsInput, Agrees, FieldsAgree, OptionsAgree, IsNoneRead, IsChosenRead, AreShort, AreInputs, AreShort-scopes, AreInputs-scopes, length-scopes, no_fault, no_faults, no_some}
@@ -14,15 +14,15 @@ use Rattle.ssz_value.proofs.Sequences.{items-values, values-items, length-joined
 -- fields
 
 none_known : (s : ℕ) (vs : List SszValue) (parts : List Scope) → FitFields no_fields vs
-    → bytes_of parts ≡ [] → (fields_fault no_fields s parts ≡ None) ×
-    (fields_in no_fields (bytes_of parts) ≡ vs)
+    → scope_bytes parts ≡ [] → (fields_fault no_fields s parts ≡ None) ×
+    (fields_in no_fields (scope_bytes parts) ≡ vs)
 none_known s [] [] fit e = (refl, refl)
 none_known s [] (part ∷ parts) fit e = cc
 none_known s (v ∷ vs) parts fit e = absurd fit
 
 none_only : (s : ℕ) (parts : List Scope) → length parts ≡ 0
-    → FitFields no_fields (fields_in no_fields (bytes_of parts)) ×
-    (field_encodings no_fields (fields_in no_fields (bytes_of parts)) ≡ bytes_of parts)
+    → FitFields no_fields (fields_in no_fields (scope_bytes parts)) ×
+    (field_encodings no_fields (fields_in no_fields (scope_bytes parts)) ≡ scope_bytes parts)
 none_only s [] e = (tt, refl)
 none_only s (part ∷ parts) e = absurd (omega arith)
 
@@ -41,27 +41,27 @@ FieldsAgree-none = record {
 
 field_known : (name : List ℕ) (t : SszType) (fs : Fields) → Agrees t → FieldsAgree fs
     → (s : ℕ) (vs : List SszValue) (parts : List Scope) → FitFields (field name t fs) vs
-    → AreShort parts → bytes_of parts ≡ field_encodings (field name t fs) vs
+    → AreShort parts → scope_bytes parts ≡ field_encodings (field name t fs) vs
     → (fields_fault (field name t fs) s parts ≡ None) ×
-    (fields_in (field name t fs) (bytes_of parts) ≡ vs)
+    (fields_in (field name t fs) (scope_bytes parts) ≡ vs)
 field_known name t fs law laws s [] parts fit small e = absurd fit
 field_known name t fs law laws s (v ∷ vs) [] fit small e = cc
 field_known name t fs law laws s (v ∷ vs) (part ∷ parts) fit small e =
-    let first : part.1 ≡ enc t v = cc in
-    let others : bytes_of parts ≡ field_encodings fs vs = cc in
+    let first : part.1 ≡ serialize t v = cc in
+    let others : scope_bytes parts ≡ field_encodings fs vs = cc in
     let read = law.known (s + part.0) v fit.0
     (subst (λ (bytes : List ℕ). length bytes < 2 ^ 32) first small.0) in
     let rest = laws.known s vs parts fit.1 small.1 others in (
-      no_fault _ _ (ap (why t (s + part.0)) first ∙ read.faultless) rest.0,
+      no_fault _ _ (ap (first_fault t (s + part.0)) first ∙ read.faultless) rest.0,
       ap₂ ◌∷◌ (ap (value_in t) first ∙ read.value) rest.1,
     )
 
 field_only : (name : List ℕ) (t : SszType) (fs : Fields) → Agrees t → FieldsAgree fs
     → (s : ℕ) (parts : List Scope) → AreInputs parts → length parts ≡ suc (length (part_sizes fs))
     → fields_fault (field name t fs) s parts ≡ None
-    → FitFields (field name t fs) (fields_in (field name t fs) (bytes_of parts)) ×
-    (field_encodings (field name t fs) (fields_in (field name t fs) (bytes_of parts))
-    ≡ bytes_of parts)
+    → FitFields (field name t fs) (fields_in (field name t fs) (scope_bytes parts)) ×
+    (field_encodings (field name t fs) (fields_in (field name t fs) (scope_bytes parts))
+    ≡ scope_bytes parts)
 field_only name t fs law laws s [] input many e = absurd (omega arith)
 field_only name t fs law laws s (part ∷ parts) input many e =
     let both = no_faults _ _ e in
@@ -70,9 +70,10 @@ field_only name t fs law laws s (part ∷ parts) input many e =
     ((first.fits, rest.0), ap₂ ◌∷◌ first.bytes rest.1)
 
 field_parts : (t : SszType) (fs : Fields) (size : Option ℕ)
-    → ((z : ℕ) (v : SszValue) → size ≡ Some z → Fits t v → length (enc t v) ≡ z) → FieldsAgree fs
+    → ((z : ℕ) (v : SszValue) → size ≡ Some z → Fits t v → length (serialize t v) ≡ z)
+    → FieldsAgree fs
     → (v : SszValue) (vs : List SszValue) → Fits t v → FitFields fs vs
-    → AreParts (size ∷ part_sizes fs) (enc t v ∷ field_encodings fs vs)
+    → AreParts (size ∷ part_sizes fs) (serialize t v ∷ field_encodings fs vs)
 field_parts t fs (Some z) sized laws v vs fit fits = (sized z v refl fit, laws.sized vs fits)
 field_parts t fs None sized laws v vs fit fits = laws.sized vs fits
 
@@ -101,7 +102,7 @@ FieldsAgree-field name t fs law laws = record {
 -- containers
 
 container_known : (fs : Fields) → FieldsAgree fs → (s : ℕ) (v : SszValue) → Fits (container fs) v
-    → length (enc (container fs) v) < 2 ^ 32 → IsReadBack (container fs) s v
+    → length (serialize (container fs) v) < 2 ^ 32 → IsReadBack (container fs) s v
 container_known fs laws s (sequence vs) fit small =
     let b = joined (part_sizes fs) (field_encodings fs (items vs)) in
     let cuts = cut-joined (part_sizes fs) (field_encodings fs (items vs)) s
@@ -115,11 +116,11 @@ container_known fs laws s (sequence vs) fit small =
 container_known fs laws s _ fit small = absurd fit
 
 container_only : (fs : Fields) → FieldsAgree fs → (s : ℕ) (b : List ℕ) → IsInput b
-    → why (container fs) s b ≡ None → IsWrittenBack (container fs) b
+    → first_fault (container fs) s b ≡ None → IsWrittenBack (container fs) b
 container_only fs laws s b input e =
     let both = no_faults _ _ e in
     let parts = scopes (part_sizes fs) 0 b in
-    let vs = fields_in fs (bytes_of parts) in
+    let vs = fields_in fs (scope_bytes parts) in
     let each = laws.only s parts (AreInputs-scopes (part_sizes fs) 0 b input)
     (length-scopes (part_sizes fs) 0 b) both.1 in
     record {
@@ -129,7 +130,8 @@ container_only fs laws s b input e =
     }
 
 container_sized : (fs : Fields) → FieldsAgree fs → (z : ℕ) (v : SszValue)
-    → fixed_size (container fs) ≡ Some z → Fits (container fs) v → length (enc (container fs) v) ≡ z
+    → fixed_size (container fs) ≡ Some z → Fits (container fs) v
+    → length (serialize (container fs) v) ≡ z
 container_sized fs laws z (sequence vs) e fit =
     length-joined (part_sizes fs) (field_encodings fs (items vs)) z e (laws.sized (items vs) fit)
 container_sized fs laws z _ e fit = absurd fit
@@ -254,7 +256,7 @@ OptionsAgree-none_option os laws = record {
 -- unions
 
 union_known : (os : Options) → OptionsAgree os → (s : ℕ) (v : SszValue) → Fits (union os) v
-    → length (enc (union os) v) < 2 ^ 32 → IsReadBack (union os) s v
+    → length (serialize (union os) v) < 2 ^ 32 → IsReadBack (union os) s v
 union_known os laws s (chosen k v) fit small =
     let read = laws.known (s + 1) k k v fit (omega arith) in
     record {
@@ -275,18 +277,18 @@ union_written : (os : Options) (k : ℕ) (b : List ℕ) → IsNoneRead os k k b 
     → IsWrittenBack (union os) (k ∷ b)
 union_written os k b (inl r) = record {
   fits = subst (Fits (union os)) (sym r.value) r.fits;
-  bytes = ap (enc (union os)) r.value ∙ ap (λ bytes. k ∷ bytes) (sym r.bytes);
+  bytes = ap (serialize (union os)) r.value ∙ ap (λ bytes. k ∷ bytes) (sym r.bytes);
 }
 union_written os k b (inr r) = record {
   fits = subst (Fits (union os)) (sym r.value) r.fits;
-  bytes = ap (enc (union os)) r.value ∙ ap (λ bytes. k ∷ bytes) r.bytes;
+  bytes = ap (serialize (union os)) r.value ∙ ap (λ bytes. k ∷ bytes) r.bytes;
 }
 
 rest_is_input : (k : ℕ) (b : List ℕ) → IsInput (k ∷ b) → IsInput b
 rest_is_input k b h = record { bytes = λ i. h.bytes (suc i); short = omega (arith, h.short) }
 
 union_only : (os : Options) → OptionsAgree os → (s : ℕ) (b : List ℕ) → IsInput b
-    → why (union os) s b ≡ None → IsWrittenBack (union os) b
+    → first_fault (union os) s b ≡ None → IsWrittenBack (union os) b
 union_only os laws s [] input e = cc
 union_only os laws s (k ∷ b) input e =
     let found = chosen_none_of (ltb k (option_count os)) _ _ e in

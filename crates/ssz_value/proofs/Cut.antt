@@ -5,7 +5,7 @@ use Rattle.std.proofs.lemmas.Bool.{cond-true}
 use Rattle.ssz_bytes.specs.declared.fault.Fault.{Fault}
 use Rattle.ssz_bytes.specs.Bytes.{IsBytes, le_bytes, le_number}
 use Rattle.ssz_value.specs.Encoding.{heads_length, heads, bodies, joined}
-use Rattle.ssz_value.specs.Faults.{offset_at, next_offset, later_fault, first_fault, head_fault, scopes, bytes_of}
+use Rattle.ssz_value.specs.Faults.{offset_at, next_offset, later_fault, first_offset_fault, head_fault, scopes, scope_bytes}
 use Rattle.ssz_bytes.proofs.Numbers.{le_number-le_bytes, le_bytes_of, IsBytes-drop, IsBytes-take}
 
 -- a part for each size, as long as a fixed size says
@@ -128,7 +128,7 @@ later_stands (None ∷ sizes) (p ∷ parts) place before offset s b m small up h
 
 first_stands : (sizes : List (Option ℕ)) (parts : List (List ℕ)) (place end s : ℕ) (b : List ℕ)
     → AreParts sizes parts → length b < 2 ^ 32 → Stands sizes parts place end b
-    → first_fault sizes place end s b ≡ None
+    → first_offset_fault sizes place end s b ≡ None
 first_stands [] [] place end s b m small h =
     passed _ _ _ (le-ltb _ _ (omega (arith, end_stands place end b h))) refl
 first_stands [] (p ∷ parts) place end s b m small h = absurd m
@@ -145,7 +145,7 @@ first_stands (None ∷ sizes) (p ∷ parts) place end s b m small h =
 
 scopes_stand : (sizes : List (Option ℕ)) (parts : List (List ℕ)) (place offset : ℕ) (b : List ℕ)
     → AreParts sizes parts → length b < 2 ^ 32 → Stands sizes parts place offset b
-    → bytes_of (scopes sizes place b) ≡ parts
+    → scope_bytes (scopes sizes place b) ≡ parts
 scopes_stand [] [] place offset b m small h = refl
 scopes_stand [] (p ∷ parts) place offset b m small h = absurd m
 scopes_stand (Some z ∷ sizes) [] place offset b m small h = absurd m
@@ -188,7 +188,7 @@ joined_stands sizes parts m = record {
 pub record CutsBack (sizes : List (Option ℕ)) (parts : List (List ℕ)) (s : ℕ)
     (b : List ℕ) : Type 0 where
   pub head : head_fault sizes s b ≡ None
-  pub scopes : bytes_of (scopes sizes 0 b) ≡ parts
+  pub scopes : scope_bytes (scopes sizes 0 b) ≡ parts
 
 pub cut-joined : (sizes : List (Option ℕ)) (parts : List (List ℕ)) (s : ℕ) → AreParts sizes parts
     → length (joined sizes parts) < 2 ^ 32 → CutsBack sizes parts s (joined sizes parts)
@@ -202,9 +202,9 @@ cut-joined sizes parts s m small =
 -- the parts as they are cut, joined again
 JoinsBack : (sizes : List (Option ℕ)) (place offset : ℕ) (b : List ℕ) → Type 0
 JoinsBack sizes place offset b =
-    (heads sizes (bytes_of (scopes sizes place b)) offset
+    (heads sizes (scope_bytes (scopes sizes place b)) offset
     ≡ take (heads_length sizes) (drop place b))
-    × (bodies sizes (bytes_of (scopes sizes place b)) ≡ drop offset b)
+    × (bodies sizes (scope_bytes (scopes sizes place b)) ≡ drop offset b)
 
 end_joins : (place offset : ℕ) (b : List ℕ) → length b ≤ offset → JoinsBack [] place offset b
 unfolding JoinsBack
@@ -242,7 +242,7 @@ variable_joins_at sizes place b bytes room up inside h =
     let past : from + (to - from) ≡ to = omega arith in
     let rest : drop to b ≡ drop (to - from) (drop from b) =
     ap (λ n. drop n b) (sym past) ∙ sym (drop-drop (to - from) from b) in (
-      ap₂ ◌++◌ first (ap (heads sizes (bytes_of (scopes sizes (place + 4) b))) upto ∙ h.0
+      ap₂ ◌++◌ first (ap (heads sizes (scope_bytes (scopes sizes (place + 4) b))) upto ∙ h.0
           ∙ ap (take (heads_length sizes)) (sym (drop-drop 4 place b)))
           ∙ sym (take-add 4 (heads_length sizes) (drop place b)),
       ap (λ bytes. slice_range b from to ++ bytes) (h.1 ∙ rest)
@@ -281,7 +281,7 @@ later_joins (None ∷ sizes) place before s b bytes up room h =
     }
 
 first_joins : (sizes : List (Option ℕ)) (place end s : ℕ) (b : List ℕ) → IsBytes b → end ≤ length b
-    → place + heads_length sizes ≤ length b → first_fault sizes place end s b ≡ None
+    → place + heads_length sizes ≤ length b → first_offset_fault sizes place end s b ≡ None
     → JoinsBack sizes place end b
 first_joins [] place end s b bytes low room h =
     end_joins place end b (ltb-false _ _ (passes _ _ _ h).0)
@@ -297,7 +297,7 @@ first_joins (None ∷ sizes) place end s b bytes low room h =
     (omega (arith, e, rest.up)) rest.inside rest.joins)
 
 pub joined-cut : (sizes : List (Option ℕ)) (s : ℕ) (b : List ℕ) → IsBytes b
-    → head_fault sizes s b ≡ None → joined sizes (bytes_of (scopes sizes 0 b)) ≡ b
+    → head_fault sizes s b ≡ None → joined sizes (scope_bytes (scopes sizes 0 b)) ≡ b
 unfolding JoinsBack
 joined-cut sizes s b bytes h =
     let long = passes _ _ _ h in

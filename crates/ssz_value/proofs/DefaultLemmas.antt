@@ -3,7 +3,7 @@ use Rattle.std.proofs.Common.{ℕ, zero, suc, ◌≡◌, ◌<◌, ◌≤◌, ◌
 use Rattle.std.specs.List.{AllByRecursion}
 use Rattle.std.proofs.lemmas.List.{append-nil, drop_all, replicate_more}
 use Rattle.ssz_schema.specs.Types.{SszType, union}
-use Rattle.ssz_schema.specs.Unfolding.{tree_at, fields_over, options_over}
+use Rattle.ssz_schema.specs.Unfolding.{type_tree_at, fields_over, options_over}
 use Rattle.ssz_value.specs.declared.value.Value.{Value}
 use Rattle.ssz_value.specs.Values.{number, chosen, chosen_none}
 use Rattle.ssz_value.specs.Standing.{value_of, IsFormed, FieldsFormed, Stands}
@@ -40,7 +40,8 @@ pub record FieldDefaults (trees : List SszType) (fields : List Part) (i : ℕ)
 pub FieldDefaults-more : (trees : List SszType) (fields : List Part) (i : ℕ) (vs ws : List Value)
     (part : Part) (v : Value) → FieldDefaults trees fields i vs → i < length fields
     → part ≡ get_or fields i part
-    → Stands (tree_at trees part.1) (default_of (tree_at trees part.1)) v → ws ≡ vs ++ v ∷ []
+    → Stands (type_tree_at trees part.1) (default_of (type_tree_at trees part.1)) v
+    → ws ≡ vs ++ v ∷ []
     → FieldDefaults trees fields (i + 1) ws
 FieldDefaults-more trees fields i vs ws part v h below e s is =
     let here = ap (λ fs. default_fields (fields_over trees fs)) (drop_at fields i part below e) in
@@ -71,11 +72,11 @@ FieldDefaults-end trees fields i vs h all =
 
 pub union_default : (trees : List SszType) (ids : List (Option ℕ)) (id : ℕ)
     → Some (Some id) ≡ slice_get ids 0
-    → default_of (union (options_over trees ids)) ≡ chosen 0 (default_of (tree_at trees id))
+    → default_of (union (options_over trees ids)) ≡ chosen 0 (default_of (type_tree_at trees id))
 union_default trees [] id e = cc
 union_default trees (None ∷ ids) id e = cc
 union_default trees (Some other ∷ ids) id e = let same : other ≡ id =
-    cc in ap (λ n. chosen 0 (default_of (tree_at trees n))) same
+    cc in ap (λ n. chosen 0 (default_of (type_tree_at trees n))) same
 
 pub union_default_none : (trees : List SszType) (ids : List (Option ℕ))
     → Some None ≡ slice_get ids 0 → default_of (union (options_over trees ids)) ≡ chosen_none 0

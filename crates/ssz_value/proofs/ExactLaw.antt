@@ -5,7 +5,7 @@ use Rattle.ssz_schema.specs.Types.{SszType, Fields, Options, uint, boolean, cont
 use Rattle.ssz_schema.specs.Legal.{IsLegal, AreLegalFields, AreLegalOptions}
 use Rattle.ssz_schema.specs.Sizes.{field_count, part_sizes}
 use Rattle.ssz_value.specs.Values.{SszValue}
-use Rattle.ssz_value.specs.Faults.{why}
+use Rattle.ssz_value.specs.Faults.{first_fault}
 use Rattle.ssz_value.specs.Reading.{value_in}
 use Rattle.ssz_value.specs.Laws.{Encodes, FaultlessIsRead, FaultlessWhereEncoded, OneValue}
 use Rattle.ssz_value.proofs.Agree.{Agrees, FieldsAgree, OptionsAgree, IsInput}
@@ -43,9 +43,9 @@ mutual
       OptionsAgree-option t os (agrees format t legal.0) (options_agree format os legal.1)
 
 faultless_of : (format : Format) (t : SszType) (b : List ℕ) → IsLegal format t → length b < 2 ^ 32
-    → (v : SszValue) → Encodes t v b → why t 0 b ≡ None
+    → (v : SszValue) → Encodes t v b → first_fault t 0 b ≡ None
 faultless_of format t b legal short v h =
-    ap (why t 0) (sym h.bytes)
+    ap (first_fault t 0) (sym h.bytes)
     ∙ ((agrees format t legal).known 0 v h.fits
     (subst (λ (bytes : List ℕ). length bytes < 2 ^ 32) (sym h.bytes) short)).faultless
 

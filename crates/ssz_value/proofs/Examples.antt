@@ -7,11 +7,11 @@ use Rattle.ssz_schema.specs.Types.{SszType, uint, boolean, container, vector, li
 use Rattle.ssz_schema.specs.Sizes.{depth_of, exponent}
 use Rattle.ssz_bytes.specs.Faults.{short, extra, bad_bool, first_offset, offset_range, offset_order, ragged, too_many, padding_bits, no_delimiter, bad_selector}
 use Rattle.ssz_chunk.specs.Chunk.{zero_chunk}
-use Rattle.ssz_chunk.specs.Tree.{full, grow}
+use Rattle.ssz_chunk.specs.Tree.{merkle_tree, merkle_pairs}
 use Rattle.ssz_value.specs.Values.{SszValue, number, truth, sequence, bits, chosen, values}
 use Rattle.ssz_value.specs.Defaults.{default_of}
-use Rattle.ssz_value.specs.Encoding.{enc}
-use Rattle.ssz_value.specs.Faults.{why}
+use Rattle.ssz_value.specs.Encoding.{serialize}
+use Rattle.ssz_value.specs.Faults.{first_fault}
 use Rattle.ssz_value.specs.Reading.{value_in}
 use Rattle.ssz_value.specs.Trees.{hash_tree_root}
 use Rattle.ssz_value.specs.Pairs.{pairs}
@@ -95,12 +95,13 @@ rows =
     ∷ (vector boolean 3, 1 ∷ 2 ∷ 3 ∷ [], bad_bool 1)
     ∷ []
 
-faults_of_rows : map (λ (row : Row). why row.0 0 row.1) rows ≡ map (λ (row : Row). row.2) rows
+faults_of_rows : map (λ (row : Row). first_fault row.0 0 row.1) rows
+    ≡ map (λ (row : Row). row.2) rows
 faults_of_rows = refl
 
 -- values and their encodings
 
-encoding_with_bytes : enc with_bytes
+encoding_with_bytes : serialize with_bytes
     (sequence (values (number 0xbbaa ∷ sequence (values (number 1 ∷ number 2 ∷ [])) ∷ [])))
     ≡ 0xaa ∷ 0xbb ∷ 6 ∷ 0 ∷ 0 ∷ 0 ∷ 1 ∷ 2 ∷ []
 encoding_with_bytes = refl
@@ -110,7 +111,7 @@ value_of_two_offsets =
     sequence (values (sequence (values (number 1 ∷ number 2 ∷ [])) ∷ truth true ∷ bits
     (true ∷ false ∷ true ∷ []) ∷ []))
 
-encoding_two_offsets : enc two_offsets value_of_two_offsets
+encoding_two_offsets : serialize two_offsets value_of_two_offsets
     ≡ 9 ∷ 0 ∷ 0 ∷ 0 ∷ 1 ∷ 11 ∷ 0 ∷ 0 ∷ 0 ∷ 1 ∷ 2 ∷ 13 ∷ []
 encoding_two_offsets = refl
 
@@ -126,12 +127,12 @@ xor_of left right = xor_bytes (drop 1 left ++ take 1 left) right
 root_with_bytes : hash_tree_root xor_of with_bytes
     (value_in with_bytes (0xaa ∷ 0xbb ∷ 6 ∷ 0 ∷ 0 ∷ 0 ∷ 1 ∷ 2 ∷ []))
     ≡ 0xbb ∷ replicate 30 0 ++ 0xab ∷ []
-unfolding depth_of exponent full
+unfolding depth_of exponent merkle_tree
 root_with_bytes = refl
 
 root_none_or_uint : hash_tree_root xor_of none_or_uint (chosen 1 (number 5))
     ≡ 1 ∷ replicate 30 0 ++ 5 ∷ []
-unfolding depth_of exponent full
+unfolding depth_of exponent merkle_tree
 root_none_or_uint = refl
 
 -- whatever the hash: a value whose root is the pair of two zero chunks
@@ -140,35 +141,35 @@ zero_pair hash = hash zero_chunk zero_chunk
 
 root_pair_of_uints : (hash : List ℕ → List ℕ → List ℕ)
     → hash_tree_root hash pair_of_uints (default_of pair_of_uints) ≡ zero_pair hash
-unfolding depth_of exponent full
+unfolding depth_of exponent merkle_tree
 root_pair_of_uints hash = refl
 
 root_empty_bitlist : (hash : List ℕ → List ℕ → List ℕ)
     → hash_tree_root hash (bitlist 8) (value_in (bitlist 8) (1 ∷ [])) ≡ zero_pair hash
-unfolding depth_of exponent full
+unfolding depth_of exponent merkle_tree
 root_empty_bitlist hash = refl
 
 root_none : (hash : List ℕ → List ℕ → List ℕ)
     → hash_tree_root hash none_or_uint (value_in none_or_uint (0 ∷ [])) ≡ zero_pair hash
-unfolding depth_of exponent full
+unfolding depth_of exponent merkle_tree
 root_none hash = refl
 
 root_empty_list : (hash : List ℕ → List ℕ → List ℕ)
     → hash_tree_root hash (list (uint W64) 4) (value_in (list (uint W64) 4) []) ≡ zero_pair hash
-unfolding depth_of exponent full
+unfolding depth_of exponent merkle_tree
 root_empty_list hash = refl
 
 root_bitvector : (hash : List ℕ → List ℕ → List ℕ)
     → hash_tree_root hash (bitvector 8) (value_in (bitvector 8) (0x10 ∷ [])) ≡ 0x10 ∷ replicate 31 0
-unfolding depth_of exponent full
+unfolding depth_of exponent merkle_tree
 root_bitvector hash = refl
 
 root_wide : (hash : List ℕ → List ℕ → List ℕ)
     → hash_tree_root hash (uint W256) (value_in (uint W256) (replicate 32 255)) ≡ replicate 32 255
-unfolding depth_of exponent full
+unfolding depth_of exponent merkle_tree
 root_wide hash = refl
 
 pairs_with_bytes : pairs with_bytes (value_in with_bytes (0xaa ∷ 0xbb ∷ 6 ∷ 0 ∷ 0 ∷ 0 ∷ 1 ∷ 2 ∷ []))
     ≡ 2
-unfolding depth_of exponent full grow
+unfolding depth_of exponent merkle_tree merkle_pairs
 pairs_with_bytes = refl

@@ -5,7 +5,7 @@ use Rattle.std.specs.declared.boxed.Box.{Box}
 use Rattle.std.proofs.lemmas.List.{drop_all}
 use Rattle.ssz_schema.specs.declared.width.Width.TheVariants.{W8}
 use Rattle.ssz_schema.specs.Types.{SszType, Fields, uint, container, vector, list, union, no_fields, field}
-use Rattle.ssz_schema.specs.Unfolding.{tree_at, fields_over, options_over}
+use Rattle.ssz_schema.specs.Unfolding.{type_tree_at, fields_over, options_over}
 use Rattle.ssz_value.specs.declared.value.Value.{Value, out-Value}
 use Rattle.ssz_value.specs.declared.value.Value.TheVariants.{Bytes, Seq, Union}
 use Rattle.ssz_bytes.specs.Bytes.{IsBytes}
@@ -131,7 +131,7 @@ seq_container fs parts h = record {
 
 pub chosen_value : (trees : List SszType) (ids : List (Option ℕ)) (k id : ℕ)
     (inner : Box Value Global) → Some (Some id) ≡ slice_get ids k
-    → IsValue (tree_at trees id) inner.value
+    → IsValue (type_tree_at trees id) inner.value
     → IsValue (union (options_over trees ids)) (Union k (Some inner))
 chosen_value trees ids k id inner e h = record {
   fits = subst (Fits (union (options_over trees ids))) (sym (chosen_is k inner)) (go ids k e);
@@ -143,7 +143,7 @@ chosen_value trees ids k id inner e h = record {
     go [] k e = cc
     go (None ∷ ids) zero e = cc
     go (Some other ∷ ids) zero e = let same : id ≡ other =
-        cc in subst (λ (n : ℕ). Fits (tree_at trees n) (value_of inner.value)) same h.fits
+        cc in subst (λ (n : ℕ). Fits (type_tree_at trees n) (value_of inner.value)) same h.fits
     go (None ∷ ids) (suc k) e = go ids k e
     go (Some other ∷ ids) (suc k) e = go ids k e
 
@@ -218,7 +218,7 @@ FieldsFrom-start trees fields vs = record { all = λ h. h; rest = λ h. h }
 pub FieldsFrom-more : (trees : List SszType) (fields : List Part) (vs : List Value) (i : ℕ)
     (part : Part) (v : Value) → FieldsFrom trees fields vs i → i < length fields → i < length vs
     → part ≡ get_or fields i part → v ≡ get_or vs i v
-    → IsValue (tree_at trees part.1) v → FieldsFrom trees fields vs (i + 1)
+    → IsValue (type_tree_at trees part.1) v → FieldsFrom trees fields vs (i + 1)
 FieldsFrom-more trees fields vs i part v h below within e is fit =
     let fs = drop_at fields i part below e in
     let ws = drop_at vs i v within is in
@@ -238,7 +238,7 @@ FieldsFrom-more trees fields vs i part v h below within e is fit =
 pub FieldsFrom-this : (trees : List SszType) (fields : List Part) (vs : List Value) (i : ℕ)
     (part : Part) (v : Value) → FieldsFrom trees fields vs i → i < length fields → i < length vs
     → part ≡ get_or fields i part → v ≡ get_or vs i v
-    → AreFields (fields_over trees fields) vs → IsValue (tree_at trees part.1) v
+    → AreFields (fields_over trees fields) vs → IsValue (type_tree_at trees part.1) v
 FieldsFrom-this trees fields vs i part v h below within e is all =
     (subst (λ (xs : List Value). AreFields (fields_over trees (part ∷ drop (i + 1) fields)) xs)
     (drop_at vs i v within is)

@@ -4,7 +4,7 @@ use Rattle.std.specs.List.{AllByRecursion}
 use Rattle.std.specs.declared.boxed.Box.{Box}
 use Rattle.ssz_schema.specs.declared.width.Width.TheVariants.{W8, W16, W32, W64, W128, W256}
 use Rattle.ssz_schema.specs.Types.{SszType, Fields, Options, uint, boolean, container, vector, list, bitvector, bitlist, union, no_fields, field}
-use Rattle.ssz_schema.specs.Unfolding.{tree_at, options_over, fields_over}
+use Rattle.ssz_schema.specs.Unfolding.{type_tree_at, options_over, fields_over}
 use Rattle.ssz_value.specs.declared.value.Value.{Value, out-Value}
 use Rattle.ssz_value.specs.declared.value.Value.TheViews.{out-roll-Value}
 use Rattle.ssz_value.specs.declared.value.Value.TheVariants.{Bytes, Seq, Union, rolls-Seq, rolls-Bytes, rolls-Union}
@@ -123,7 +123,7 @@ element_at elem (w ∷ vs) (suc i) v all h e = element_at elem vs i v all.1 (ome
 -- the option that a value of a union has, where its number is that of a type
 pub chosen_fits : (trees : List SszType) (ids : List (Option ℕ)) (k id : ℕ)
     (inner : Box Value Global) → IsValue (union (options_over trees ids)) (Union k (Some inner))
-    → Some (Some id) ≡ slice_get ids k → IsValue (tree_at trees id) inner.value
+    → Some (Some id) ≡ slice_get ids k → IsValue (type_tree_at trees id) inner.value
 chosen_fits trees ids k id inner h e =
     let fit : FitsOption (options_over trees ids) k (value_of inner.value) =
     subst (Fits (union (options_over trees ids))) (chosen_is k inner) h.fits in
@@ -134,11 +134,11 @@ chosen_fits trees ids k id inner h e =
     go : (ids : List (Option ℕ)) (k : ℕ)
         → FitsOption (options_over trees ids) k (value_of inner.value)
         → OptionFormed (options_over trees ids) k inner.value → Some (Some id) ≡ slice_get ids k
-        → IsValue (tree_at trees id) inner.value
+        → IsValue (type_tree_at trees id) inner.value
     go [] k fit formed e = cc
     go (None ∷ ids) zero fit formed e = cc
     go (Some other ∷ ids) zero fit formed e = let same : other ≡ id =
-        cc in subst (λ (n : ℕ). IsValue (tree_at trees n) inner.value) same
+        cc in subst (λ (n : ℕ). IsValue (type_tree_at trees n) inner.value) same
         (record { fits = fit; formed = formed })
     go (None ∷ ids) (suc k) fit formed e = go ids k fit formed e
     go (Some other ∷ ids) (suc k) fit formed e = go ids k fit formed e
@@ -184,11 +184,11 @@ no_fields_formed (field name t fs) = tt
 
 pub fields_push : (trees : List SszType) (fields : List Part) (vs : List Value) (i : ℕ)
     (part : Part) (v : Value) → FieldsFormed (fields_over trees fields) vs → length vs ≡ i
-    → i < length fields → part ≡ get_or fields i part → IsFormed (tree_at trees part.1) v
+    → i < length fields → part ≡ get_or fields i part → IsFormed (type_tree_at trees part.1) v
     → FieldsFormed (fields_over trees fields) (vs ++ v ∷ [])
 fields_push trees [] vs i part v all count below e h = absurd (omega arith)
 fields_push trees (f ∷ fields) [] zero part v all count below e h = (
-  subst (λ (p : Part). IsFormed (tree_at trees p.1) v) e h,
+  subst (λ (p : Part). IsFormed (type_tree_at trees p.1) v) e h,
   no_fields_formed
       (fields_over trees fields),
 )
@@ -212,7 +212,7 @@ seq_formed_fields fs parts h = subst (OfParts (FieldsFormed fs)) (sym (seq_out p
 
 pub chosen_formed : (trees : List SszType) (ids : List (Option ℕ)) (k id : ℕ)
     (inner : Box Value Global) → Some (Some id) ≡ slice_get ids k
-    → IsFormed (tree_at trees id) inner.value
+    → IsFormed (type_tree_at trees id) inner.value
     → IsFormed (union (options_over trees ids)) (Union k (Some inner))
 chosen_formed trees ids k id inner e h =
     subst (OfChosen (OptionFormed (options_over trees ids))) (sym (chosen_out k inner)) (go ids k e)
@@ -222,7 +222,7 @@ chosen_formed trees ids k id inner e h =
     go [] k e = cc
     go (None ∷ ids) zero e = cc
     go (Some other ∷ ids) zero e = let same : id ≡ other =
-        cc in subst (λ (n : ℕ). IsFormed (tree_at trees n) inner.value) same h
+        cc in subst (λ (n : ℕ). IsFormed (type_tree_at trees n) inner.value) same h
     go (None ∷ ids) (suc k) e = go ids k e
     go (Some other ∷ ids) (suc k) e = go ids k e
 

@@ -4,7 +4,7 @@ use Rattle.std.specs.List.{AllByRecursion}
 use Rattle.std.proofs.lemmas.List.{map-append}
 use Rattle.ssz_schema.specs.Types.{SszType}
 use Rattle.ssz_schema.specs.Sizes.{fixed_size, part_sizes}
-use Rattle.ssz_schema.specs.Unfolding.{tree_at, fields_over}
+use Rattle.ssz_schema.specs.Unfolding.{type_tree_at, fields_over}
 use Rattle.ssz_schema.proofs.WalkFields.{drop_at}
 use Rattle.ssz_value.specs.declared.value.Value.{Value}
 use Rattle.ssz_value.specs.Standing.{value_of}
@@ -19,7 +19,7 @@ abbrev pub sizes_of : List SszType → List Part → List (Option ℕ)
 sizes_of trees parts = part_sizes (fields_over trees parts)
 
 abbrev pub size_at : List SszType → Part → Option ℕ
-size_at trees part = fixed_size (tree_at trees part.1)
+size_at trees part = fixed_size (type_tree_at trees part.1)
 
 pub part_known : (count : ℕ) (parts : List Part) (i : ℕ) (part : Part) → i < length parts
     → part ≡ get_or parts i part → AllByRecursion (λ (p : Part). p.1 < count) parts → part.1 < count

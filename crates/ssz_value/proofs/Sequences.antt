@@ -8,8 +8,8 @@ use Rattle.ssz_schema.specs.Types.{SszType, vector, list}
 use Rattle.ssz_schema.specs.Sizes.{fixed_size, total_size}
 use Rattle.ssz_bytes.specs.declared.fault.Fault.{Fault}
 use Rattle.ssz_value.specs.Values.{SszValue, Fits, Values, no_values, value_before, sequence, items, values}
-use Rattle.ssz_value.specs.Encoding.{enc, heads_length, heads, bodies, joined, joined_alike}
-use Rattle.ssz_value.specs.Faults.{why, Scope, scopes, bytes_of, alike_fault, elements_fault, count_fault, element_count, offset_at}
+use Rattle.ssz_value.specs.Encoding.{serialize, heads_length, heads, bodies, joined, joined_alike}
+use Rattle.ssz_value.specs.Faults.{first_fault, Scope, scopes, scope_bytes, alike_fault, elements_fault, count_fault, element_count, offset_at}
 use Rattle.ssz_value.specs.Reading.{value_in, elements_in}
 use Rattle.ssz_value.proofs.Cut.{AreParts, passed, passes, cut-joined, joined-cut, length-heads, joined_stands, offset_stands}
 use Rattle.ssz_value.proofs.Agree.{IsReadBack, IsWrittenBack, IsInput, Agrees, AreShort, AreInputs, AreShort-scopes, AreInputs-scopes, length-scopes, length-bytes_of, no_fault, no_faults, same_some, no_some}
@@ -65,29 +65,29 @@ heads_length-replicate (suc n) = ap (λ m. 4 + m) (heads_length-replicate n) ∙
 -- elements
 
 elements_known : (t : SszType) → Agrees t → (s : ℕ) (vs : List SszValue) (parts : List Scope)
-    → AllByRecursion (Fits t) vs → AreShort parts → bytes_of parts ≡ map (enc t) vs
-    → (alike_fault (why t) s parts ≡ None) × (map (value_in t) (bytes_of parts) ≡ vs)
+    → AllByRecursion (Fits t) vs → AreShort parts → scope_bytes parts ≡ map (serialize t) vs
+    → (alike_fault (first_fault t) s parts ≡ None) × (map (value_in t) (scope_bytes parts) ≡ vs)
 elements_known t law s [] [] fit small e = (refl, refl)
 elements_known t law s [] (part ∷ parts) fit small e = cc
 elements_known t law s (v ∷ vs) [] fit small e = cc
 elements_known t law s (v ∷ vs) (part ∷ parts) fit small e =
-    let first : part.1 ≡ enc t v = cc in
-    let others : bytes_of parts ≡ map (enc t) vs = cc in
+    let first : part.1 ≡ serialize t v = cc in
+    let others : scope_bytes parts ≡ map (serialize t) vs = cc in
     let read = law.known (s + part.0) v fit.0
     (subst (λ (bytes : List ℕ). length bytes < 2 ^ 32) first small.0) in
     let rest = elements_known t law s vs parts fit.1 small.1 others in (
-      no_fault _ _ (ap (why t (s + part.0)) first ∙ read.faultless) rest.0,
+      no_fault _ _ (ap (first_fault t (s + part.0)) first ∙ read.faultless) rest.0,
       ap₂ ◌∷◌ (ap (value_in t) first ∙ read.value) rest.1,
     )
 
 -- values that fit, and whose encodings are these
 record AreWritten (t : SszType) (vs : List SszValue) (parts : List (List ℕ)) : Type 0 where
   pub fit : AllByRecursion (Fits t) vs
-  pub bytes : map (enc t) vs ≡ parts
+  pub bytes : map (serialize t) vs ≡ parts
 
 elements_only : (t : SszType) → Agrees t → (s : ℕ) (parts : List Scope) → AreInputs parts
-    → alike_fault (why t) s parts ≡ None
-    → AreWritten t (map (value_in t) (bytes_of parts)) (bytes_of parts)
+    → alike_fault (first_fault t) s parts ≡ None
+    → AreWritten t (map (value_in t) (scope_bytes parts)) (scope_bytes parts)
 elements_only t law s [] input e = record { fit = tt; bytes = refl }
 elements_only t law s (part ∷ parts) input e =
     let both = no_faults _ _ e in
@@ -96,9 +96,9 @@ elements_only t law s (part ∷ parts) input e =
     record { fit = (first.fits, rest.fit); bytes = ap₂ ◌∷◌ first.bytes rest.bytes }
 
 pub AreParts-alike : (t : SszType) (size : Option ℕ)
-    → ((z : ℕ) (v : SszValue) → size ≡ Some z → Fits t v → length (enc t v) ≡ z)
+    → ((z : ℕ) (v : SszValue) → size ≡ Some z → Fits t v → length (serialize t v) ≡ z)
     → (vs : List SszValue) → AllByRecursion (Fits t) vs
-    → AreParts (replicate (length (map (enc t) vs)) size) (map (enc t) vs)
+    → AreParts (replicate (length (map (serialize t) vs)) size) (map (serialize t) vs)
 AreParts-alike t (Some z) sized [] fit = tt
 AreParts-alike t None sized [] fit = tt
 AreParts-alike t (Some z) sized (v ∷ vs) fit =
@@ -107,48 +107,49 @@ AreParts-alike t None sized (v ∷ vs) fit = AreParts-alike t None sized vs fit.
 
 -- the encoding of values of one type is read as them
 record AreReadBack (t : SszType) (s count : ℕ) (vs : List SszValue) (b : List ℕ) : Type 0 where
-  pub faultless : elements_fault (why t) (fixed_size t) count s b ≡ None
+  pub faultless : elements_fault (first_fault t) (fixed_size t) count s b ≡ None
   pub value : map (value_in t) (elements_in (fixed_size t) count b) ≡ vs
 
 alike_known : (t : SszType) → Agrees t → (s count : ℕ) (vs : List SszValue)
-    → AllByRecursion (Fits t) vs → length (joined_alike (fixed_size t) (map (enc t) vs)) < 2 ^ 32
+    → AllByRecursion (Fits t) vs
+    → length (joined_alike (fixed_size t) (map (serialize t) vs)) < 2 ^ 32
     → length vs ≡ count
-    → AreReadBack t s count vs (joined_alike (fixed_size t) (map (enc t) vs))
+    → AreReadBack t s count vs (joined_alike (fixed_size t) (map (serialize t) vs))
 alike_known t law s count vs fit small e =
-    let parts = map (enc t) vs in
+    let parts = map (serialize t) vs in
     let b = joined_alike (fixed_size t) parts in
     let cuts = cut-joined (replicate (length parts) (fixed_size t)) parts s
     (AreParts-alike t (fixed_size t) law.sized vs fit) small in
     let each = elements_known t law s vs (scopes (replicate (length parts) (fixed_size t)) 0 b) fit
     (AreShort-scopes (replicate (length parts) (fixed_size t)) 0 b small) cuts.scopes in
-    subst (λ (n : ℕ). AreReadBack t s n vs b) (length-map vs (enc t) ∙ e)
+    subst (λ (n : ℕ). AreReadBack t s n vs b) (length-map vs (serialize t) ∙ e)
     (record { faultless = no_fault _ _ cuts.head each.0; value = each.1 })
 
 alike_only : (t : SszType) → Agrees t → (s count : ℕ) (b : List ℕ) → IsInput b
-    → elements_fault (why t) (fixed_size t) count s b ≡ None
+    → elements_fault (first_fault t) (fixed_size t) count s b ≡ None
     → AreWritten t (map (value_in t) (elements_in (fixed_size t) count b))
     (elements_in (fixed_size t) count b)
     × (length (map (value_in t) (elements_in (fixed_size t) count b)) ≡ count)
     × (joined_alike (fixed_size t)
-    (map (enc t) (map (value_in t) (elements_in (fixed_size t) count b))) ≡ b)
+    (map (serialize t) (map (value_in t) (elements_in (fixed_size t) count b))) ≡ b)
 alike_only t law s count b input e =
     let both = no_faults _ _ e in
     let sizes = replicate count (fixed_size t) in
     let parts = scopes sizes 0 b in
     let written = elements_only t law s parts (AreInputs-scopes sizes 0 b input) both.1 in
-    let many : length (bytes_of parts) ≡ count =
+    let many : length (scope_bytes parts) ≡ count =
     length-bytes_of parts ∙ length-scopes sizes 0 b ∙ length-replicate count (fixed_size t) in (
       written,
-      length-map (bytes_of parts) (value_in t) ∙ many,
+      length-map (scope_bytes parts) (value_in t) ∙ many,
       ap (joined_alike (fixed_size t)) written.bytes
-          ∙ ap (λ n. joined (replicate n (fixed_size t)) (bytes_of parts)) many
+          ∙ ap (λ n. joined (replicate n (fixed_size t)) (scope_bytes parts)) many
           ∙ joined-cut sizes s b input.bytes both.0,
     )
 
 -- vectors
 
 vector_known : (t : SszType) (n : ℕ) → Agrees t → (s : ℕ) (v : SszValue) → Fits (vector t n) v
-    → length (enc (vector t n) v) < 2 ^ 32 → IsReadBack (vector t n) s v
+    → length (serialize (vector t n) v) < 2 ^ 32 → IsReadBack (vector t n) s v
 vector_known t n law s (sequence vs) fit small =
     let read = alike_known t law s n (items vs) fit.1 small fit.0 in
     record {
@@ -159,14 +160,15 @@ vector_known t n law s (sequence vs) fit small =
 vector_known t n law s _ fit small = absurd fit
 
 vector_only : (t : SszType) (n : ℕ) → Agrees t → (s : ℕ) (b : List ℕ) → IsInput b
-    → why (vector t n) s b ≡ None → IsWrittenBack (vector t n) b
+    → first_fault (vector t n) s b ≡ None → IsWrittenBack (vector t n) b
 vector_only t n law s b input e =
     let found = alike_only t law s n b input e in
     let vs = map (value_in t) (elements_in (fixed_size t) n b) in
     record {
       fits = subst (λ (ws : List SszValue). (length ws ≡ n) × AllByRecursion (Fits t) ws)
           (sym (items-values vs)) (found.1, found.0.fit);
-      bytes = ap (λ ws. joined_alike (fixed_size t) (map (enc t) ws)) (items-values vs) ∙ found.2;
+      bytes = ap (λ ws. joined_alike (fixed_size t) (map (serialize t) ws)) (items-values vs)
+          ∙ found.2;
     }
 
 vector_size : (n z : ℕ) (size : Option ℕ) → option_map (λ y. n * y) size ≡ Some z
@@ -176,16 +178,16 @@ vector_size n z (Some y) e = (y, refl, same_some (n * y) z e)
 
 alike_sized : (t : SszType) (y n : ℕ) → Agrees t → fixed_size t ≡ Some y → (vs : List SszValue)
     → AllByRecursion (Fits t) vs → length vs ≡ n
-    → length (joined_alike (fixed_size t) (map (enc t) vs)) ≡ n * y
+    → length (joined_alike (fixed_size t) (map (serialize t) vs)) ≡ n * y
 alike_sized t y n law e vs fit many =
-    let parts = map (enc t) vs in
+    let parts = map (serialize t) vs in
     length-joined (replicate (length parts) (fixed_size t)) parts (n * y)
-    (ap₂ (λ m size. total_size (replicate m size)) (length-map vs (enc t) ∙ many) e
+    (ap₂ (λ m size. total_size (replicate m size)) (length-map vs (serialize t) ∙ many) e
     ∙ total_size-replicate n y)
     (AreParts-alike t (fixed_size t) law.sized vs fit)
 
 vector_sized : (t : SszType) (n z : ℕ) (v : SszValue) → Agrees t → fixed_size (vector t n) ≡ Some z
-    → Fits (vector t n) v → length (enc (vector t n) v) ≡ z
+    → Fits (vector t n) v → length (serialize (vector t n) v) ≡ z
 vector_sized t n z (sequence vs) law e fit =
     let of = vector_size n z (fixed_size t) e in
     alike_sized t of.0 n law of.1 (items vs) fit.1 fit.0 ∙ of.2
@@ -261,17 +263,18 @@ variable_counted limit s (p ∷ parts) h fits small =
     }
 
 counted : (t : SszType) (size : Option ℕ)
-    → ((z : ℕ) (v : SszValue) → size ≡ Some z → Fits t v → length (enc t v) ≡ z)
+    → ((z : ℕ) (v : SszValue) → size ≡ Some z → Fits t v → length (serialize t v) ≡ z)
     → ((z : ℕ) → size ≡ Some z → 0 < z)
     → (limit s : ℕ) (vs : List SszValue) → AllByRecursion (Fits t) vs → length vs ≤ limit
-    → length (joined_alike size (map (enc t) vs)) < 2 ^ 32
-    → IsCounted size limit s (length (map (enc t) vs)) (joined_alike size (map (enc t) vs))
+    → length (joined_alike size (map (serialize t) vs)) < 2 ^ 32
+    → IsCounted size limit s (length (map (serialize t) vs))
+    (joined_alike size (map (serialize t) vs))
 counted t (Some z) sized positive limit s vs fit fits small =
-    fixed_counted z limit s (map (enc t) vs) (positive z refl)
-    (AreParts-alike t (Some z) sized vs fit) (omega (arith, length-map vs (enc t)))
+    fixed_counted z limit s (map (serialize t) vs) (positive z refl)
+    (AreParts-alike t (Some z) sized vs fit) (omega (arith, length-map vs (serialize t)))
 counted t None sized positive limit s vs fit fits small =
-    variable_counted limit s (map (enc t) vs) (AreParts-alike t None sized vs fit)
-    (omega (arith, length-map vs (enc t))) small
+    variable_counted limit s (map (serialize t) vs) (AreParts-alike t None sized vs fit)
+    (omega (arith, length-map vs (serialize t))) small
 
 -- no fault of the number keeps the limit
 within_limit : (size : Option ℕ) (limit s : ℕ) (b : List ℕ) → count_fault size limit s b ≡ None
@@ -291,14 +294,14 @@ within_limit None limit s (x ∷ b) e =
     ltb-false limit (offset_at (x ∷ b) 0 / 4) few.0
 
 list_known : (t : SszType) (limit : ℕ) → Agrees t → (s : ℕ) (v : SszValue) → Fits (list t limit) v
-    → length (enc (list t limit) v) < 2 ^ 32 → IsReadBack (list t limit) s v
+    → length (serialize (list t limit) v) < 2 ^ 32 → IsReadBack (list t limit) s v
 list_known t limit law s (sequence vs) fit small =
-    let b = joined_alike (fixed_size t) (map (enc t) (items vs)) in
+    let b = joined_alike (fixed_size t) (map (serialize t) (items vs)) in
     let counts = counted t (fixed_size t) law.sized law.positive limit s
     (items vs) fit.1 fit.0 small in
     let read : AreReadBack t s (element_count (fixed_size t) b) (items vs) b =
     alike_known t law s (element_count (fixed_size t) b) (items vs) fit.1 small
-    (sym (length-map (items vs) (enc t)) ∙ sym counts.number) in
+    (sym (length-map (items vs) (serialize t)) ∙ sym counts.number) in
     record {
       faultless = no_fault _ _ counts.faultless read.faultless;
       value = ap (λ ws. sequence (values ws)) read.value ∙ ap sequence (values-items vs);
@@ -306,7 +309,7 @@ list_known t limit law s (sequence vs) fit small =
 list_known t limit law s _ fit small = absurd fit
 
 list_only : (t : SszType) (limit : ℕ) → Agrees t → (s : ℕ) (b : List ℕ) → IsInput b
-    → why (list t limit) s b ≡ None → IsWrittenBack (list t limit) b
+    → first_fault (list t limit) s b ≡ None → IsWrittenBack (list t limit) b
 list_only t limit law s b input e =
     let both = no_faults _ _ e in
     let count = element_count (fixed_size t) b in
@@ -316,7 +319,8 @@ list_only t limit law s b input e =
     record {
       fits = subst (λ (ws : List SszValue). (length ws ≤ limit) × AllByRecursion (Fits t) ws)
           (sym (items-values vs)) (omega (arith, found.1, few), found.0.fit);
-      bytes = ap (λ ws. joined_alike (fixed_size t) (map (enc t) ws)) (items-values vs) ∙ found.2;
+      bytes = ap (λ ws. joined_alike (fixed_size t) (map (serialize t) ws)) (items-values vs)
+          ∙ found.2;
     }
 
 pub Agrees-list : (t : SszType) (limit : ℕ) → Agrees t → Agrees (list t limit)

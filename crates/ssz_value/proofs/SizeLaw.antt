@@ -11,7 +11,7 @@ use Rattle.ssz_schema.specs.Legal.{IsLegal, AreLegalFields, AreLegalOptions}
 use Rattle.ssz_schema.specs.Sizes.{fixed_size, part_sizes, part_length, option_count, default_length, default_fields_length, default_option_length}
 use Rattle.ssz_value.specs.Laws.{DefaultsHaveLength}
 use Rattle.ssz_value.specs.Values.{SszValue, truth, sequence, bits, chosen, chosen_none, items, Fits, FitFields, FitsOption, FitsWidth}
-use Rattle.ssz_value.specs.Encoding.{enc, heads, bodies, joined, heads_length, field_encodings, option_encoding}
+use Rattle.ssz_value.specs.Encoding.{serialize, heads, bodies, joined, heads_length, field_encodings, option_encoding}
 use Rattle.ssz_value.specs.Defaults.{default_of, default_number, default_fields, default_option}
 use Rattle.ssz_value.specs.Sizes.{size, fields_size, option_size}
 use Rattle.ssz_bytes.proofs.Numbers.{length-le_bytes, IsBytes-le_bytes}
@@ -47,10 +47,11 @@ length-joined_parts sizes parts =
 
 -- the length of the encoding of each value is this
 HasLengths : (t : SszType) → (SszValue → ℕ) → List SszValue → Type 0
-HasLengths t f vs = AllByRecursion (λ v. length (enc t v) ≡ f v) vs
+HasLengths t f vs = AllByRecursion (λ v. length (serialize t v) ≡ f v) vs
 
 alike_length : (t : SszType) (s : Option ℕ) (f : SszValue → ℕ) (vs : List SszValue)
-    → HasLengths t f vs → parts_length (replicate (length (map (enc t) vs)) s) (map (enc t) vs)
+    → HasLengths t f vs → parts_length (replicate (length (map (serialize t) vs)) s)
+    (map (serialize t) vs)
     ≡ sum_by (λ v. part_length s (f v)) vs
 unfolding parts_length HasLengths
 alike_length t s f [] h = refl
@@ -60,7 +61,7 @@ alike_length t s f (v ∷ vs) h =
 
 -- by the law at one type
 pub record IsMeasured (t : SszType) : Type 0 where
-  pub length_is : (v : SszValue) → Fits t v → length (enc t v) ≡ size t v
+  pub length_is : (v : SszValue) → Fits t v → length (serialize t v) ≡ size t v
 
 have_lengths : (t : SszType) → IsMeasured t → (vs : List SszValue) → AllByRecursion (Fits t) vs
     → HasLengths t (size t) vs
@@ -68,40 +69,40 @@ unfolding HasLengths
 have_lengths t law [] fit = tt
 have_lengths t law (v ∷ vs) fit = (law.length_is v fit.0, have_lengths t law vs fit.1)
 
-truth_length : (v : SszValue) → Fits boolean v → length (enc boolean v) ≡ 1
+truth_length : (v : SszValue) → Fits boolean v → length (serialize boolean v) ≡ 1
 truth_length (truth b) fit = refl
 truth_length _ fit = absurd fit
 
 vector_length : (t : SszType) (n : ℕ) → IsMeasured t → (v : SszValue) → Fits (vector t n) v
-    → length (enc (vector t n) v) ≡ size (vector t n) v
+    → length (serialize (vector t n) v) ≡ size (vector t n) v
 vector_length t n law (sequence vs) fit =
-    length-joined_parts (replicate (length (map (enc t) (items vs))) (fixed_size t))
-    (map (enc t) (items vs))
+    length-joined_parts (replicate (length (map (serialize t) (items vs))) (fixed_size t))
+    (map (serialize t) (items vs))
     ∙ alike_length t (fixed_size t) (size t) (items vs) (have_lengths t law (items vs) fit.1)
 vector_length t n law _ fit = absurd fit
 
 list_length : (t : SszType) (n : ℕ) → IsMeasured t → (v : SszValue) → Fits (list t n) v
-    → length (enc (list t n) v) ≡ size (list t n) v
+    → length (serialize (list t n) v) ≡ size (list t n) v
 list_length t n law (sequence vs) fit =
-    length-joined_parts (replicate (length (map (enc t) (items vs))) (fixed_size t))
-    (map (enc t) (items vs))
+    length-joined_parts (replicate (length (map (serialize t) (items vs))) (fixed_size t))
+    (map (serialize t) (items vs))
     ∙ alike_length t (fixed_size t) (size t) (items vs) (have_lengths t law (items vs) fit.1)
 list_length t n law _ fit = absurd fit
 
 bitvector_length : (n : ℕ) (v : SszValue) → Fits (bitvector n) v
-    → length (enc (bitvector n) v) ≡ size (bitvector n) v
+    → length (serialize (bitvector n) v) ≡ size (bitvector n) v
 bitvector_length n (bits bs) fit = length-le_bytes ((n + 7) / 8) _
 bitvector_length n _ fit = absurd fit
 
 bitlist_length_is : (n : ℕ) (v : SszValue) → Fits (bitlist n) v
-    → length (enc (bitlist n) v) ≡ size (bitlist n) v
+    → length (serialize (bitlist n) v) ≡ size (bitlist n) v
 bitlist_length_is n (bits bs) fit = length-le_bytes (length bs / 8 + 1) _
 bitlist_length_is n _ fit = absurd fit
 
 container_length : (fs : Fields)
     → ((vs : List SszValue) → FitFields fs vs
     → parts_length (part_sizes fs) (field_encodings fs vs) ≡ fields_size fs vs) → (v : SszValue)
-    → Fits (container fs) v → length (enc (container fs) v) ≡ size (container fs) v
+    → Fits (container fs) v → length (serialize (container fs) v) ≡ size (container fs) v
 container_length fs law (sequence vs) fit =
     length-joined_parts (part_sizes fs) (field_encodings fs (items vs)) ∙ law (items vs) fit
 container_length fs law _ fit = absurd fit
@@ -142,7 +143,7 @@ none_length os laws (suc k) v fit = laws k v fit
 union_length : (os : Options)
     → ((k : ℕ) (v : SszValue) → FitsOption os k v
     → length (option_encoding os k v) ≡ option_size os k v) → (v : SszValue) → Fits (union os) v
-    → length (enc (union os) v) ≡ size (union os) v
+    → length (serialize (union os) v) ≡ size (union os) v
 union_length os laws (chosen k v) fit = omega (arith, laws k v fit)
 union_length os laws (chosen_none k) fit = refl
 union_length os laws _ fit = absurd fit

@@ -13,8 +13,8 @@ use Rattle.ssz_schema.specs.Sizes.{byte_count, basic_size, fixed_size, element_c
 use Rattle.ssz_schema.proofs.DepthLemmas.{depth_of-holds}
 use Rattle.ssz_bytes.specs.Bytes.{le_bytes, number_of_bits, le_number, bits_of_number}
 use Rattle.ssz_value.specs.Values.{SszValue, sequence, bits, items, Fits}
-use Rattle.ssz_value.specs.Encoding.{enc}
-use Rattle.ssz_chunk.specs.Tree.{Tree, leaf, full}
+use Rattle.ssz_value.specs.Encoding.{serialize}
+use Rattle.ssz_chunk.specs.Tree.{Tree, leaf, merkle_tree}
 use Rattle.ssz_value.specs.Trees.{padded, pack, pack_bits, element_leaves, tree}
 use Rattle.ssz_bytes.proofs.Numbers.{length-le_bytes, le_number-le_bytes}
 use Rattle.ssz_bytes.proofs.Bits.{number_of_bits_lt, bits_of_number-number_of_bits, power_up, power_of_bytes}
@@ -25,26 +25,27 @@ use Rattle.ssz_value.proofs.PartLaw.{TellsApart, sequence_is, same_number, no_fi
 
 -- values of one type with one encoding
 enc_tells : (t : SszType) → Agrees t → (v w : SszValue) → Fits t v → Fits t w
-    → length (enc t v) < 2 ^ 32 → enc t v ≡ enc t w → v ≡ w
+    → length (serialize t v) < 2 ^ 32 → serialize t v ≡ serialize t w → v ≡ w
 enc_tells t law v w fit fits small e =
     sym (law.known 0 v fit small).value ∙ ap (value_in t) e
     ∙ (law.known 0 w fits (subst (λ (b : List ℕ). length b < 2 ^ 32) e small)).value
 
 basic_tells : (t : SszType) (z : ℕ) → Agrees t → fixed_size t ≡ Some z → z ≤ 32 → (v w : SszValue)
-    → Fits t v → Fits t w → leaf (padded (enc t v)) ≡ leaf (padded (enc t w)) → v ≡ w
+    → Fits t v → Fits t w → leaf (padded (serialize t v)) ≡ leaf (padded (serialize t w)) → v ≡ w
 basic_tells t z law size few v w fit fits h =
-    let long : length (enc t v) ≡ z = law.sized z v size fit in
-    let other : length (enc t w) ≡ z = law.sized z w size fits in
+    let long : length (serialize t v) ≡ z = law.sized z v size fit in
+    let other : length (serialize t w) ≡ z = law.sized z w size fits in
     enc_tells t law v w fit fits (omega (arith, long))
-    (same_padded (enc t v) (enc t w) (long ∙ sym other) (omega (arith, long)) (same_leaf _ _ h))
+    (same_padded (serialize t v) (serialize t w) (long ∙ sym other) (omega (arith, long))
+    (same_leaf _ _ h))
 
 -- elements
 
 all_long : (t : SszType) (z : ℕ) → Agrees t → fixed_size t ≡ Some z → (vs : List SszValue)
-    → AllByRecursion (Fits t) vs → length (concat (map (enc t) vs)) ≡ length vs * z
+    → AllByRecursion (Fits t) vs → length (concat (map (serialize t) vs)) ≡ length vs * z
 all_long t z law size [] fit = sym (zero-mul z)
 all_long t z law size (v ∷ vs) fit =
-    length-append (enc t v) (concat (map (enc t) vs))
+    length-append (serialize t v) (concat (map (serialize t) vs))
     ∙ ap₂ ◌+◌ (law.sized z v size fit.0) (all_long t z law size vs fit.1) ∙ omega arith
 
 same_joined : (a b x y : List ℕ) → length a ≡ length b → a ++ x ≡ b ++ y → (a ≡ b) × (x ≡ y)
@@ -55,14 +56,16 @@ same_joined a b x y e h = (
 
 packed_tells : (t : SszType) (z : ℕ) → Agrees t → fixed_size t ≡ Some z → z ≤ 32
     → (vs ws : List SszValue) → AllByRecursion (Fits t) vs → AllByRecursion (Fits t) ws
-    → length vs ≡ length ws → concat (map (enc t) vs) ≡ concat (map (enc t) ws) → vs ≡ ws
+    → length vs ≡ length ws → concat (map (serialize t) vs) ≡ concat (map (serialize t) ws)
+    → vs ≡ ws
 packed_tells t z law size few [] [] fit fits e h = refl
 packed_tells t z law size few [] (w ∷ ws) fit fits e h = cc
 packed_tells t z law size few (v ∷ vs) [] fit fits e h = cc
 packed_tells t z law size few (v ∷ vs) (w ∷ ws) fit fits e h =
-    let long : length (enc t v) ≡ z = law.sized z v size fit.0 in
-    let other : length (enc t w) ≡ z = law.sized z w size fits.0 in
-    let both = same_joined (enc t v) (enc t w) (concat (map (enc t) vs)) (concat (map (enc t) ws))
+    let long : length (serialize t v) ≡ z = law.sized z v size fit.0 in
+    let other : length (serialize t w) ≡ z = law.sized z w size fits.0 in
+    let both = same_joined (serialize t v) (serialize t w) (concat (map (serialize t) vs))
+    (concat (map (serialize t) ws))
     (long ∙ sym other) h in
     ap₂ ◌∷◌ (enc_tells t law v w fit.0 fits.0 (omega (arith, long)) both.0)
     (packed_tells t z law size few vs ws fit.1 fits.1 (omega arith) both.1)
@@ -97,27 +100,28 @@ length-pack a = length-map (pack a) leaf ∙ length-chunks ((length a + 31) / 32
 
 -- the leaves below elements, by whether they are basic
 leaves_of : Option ℕ → SszType → List SszValue → List Tree
-leaves_of size t vs = element_leaves size (map (enc t) vs) (map (tree t) vs)
+leaves_of size t vs = element_leaves size (map (serialize t) vs) (map (tree t) vs)
 
 elements_tell : (t : SszType) (size : Option ℕ) → basic_size t ≡ size → Agrees t → TellsApart t
     → (d : ℕ) (vs ws : List SszValue) → AllByRecursion (Fits t) vs → AllByRecursion (Fits t) ws
     → length vs ≡ length ws → element_chunks size (length vs) ≤ 2 ^ d
-    → full d (leaves_of size t vs) ≡ full d (leaves_of size t ws) → vs ≡ ws
+    → merkle_tree d (leaves_of size t vs) ≡ merkle_tree d (leaves_of size t ws) → vs ≡ ws
 unfolding leaves_of
 elements_tell t (Some z) e law laws d vs ws fit fits same few h =
     let basic = basic_is t z e in
     let long = all_long t z law basic.0 vs fit in
     let other = all_long t z law basic.0 ws fits in
-    let equal : length (concat (map (enc t) vs)) ≡ length (concat (map (enc t) ws)) =
+    let equal : length (concat (map (serialize t) vs)) ≡ length (concat (map (serialize t) ws)) =
     long ∙ ap (λ n. n * z) same ∙ sym other in
-    let leaves = same_full d (map leaf (pack (concat (map (enc t) vs))))
-    (map leaf (pack (concat (map (enc t) ws))))
-    (length-pack (concat (map (enc t) vs)) ∙ ap (λ n. (n + 31) / 32) equal
-    ∙ sym (length-pack (concat (map (enc t) ws))))
+    let leaves = same_full d (map leaf (pack (concat (map (serialize t) vs))))
+    (map leaf (pack (concat (map (serialize t) ws))))
+    (length-pack (concat (map (serialize t) vs)) ∙ ap (λ n. (n + 31) / 32) equal
+    ∙ sym (length-pack (concat (map (serialize t) ws))))
     (subst (λ (n : ℕ). n ≤ 2 ^ d)
-    (sym (length-pack (concat (map (enc t) vs)) ∙ ap (λ n. (n + 31) / 32) long)) few) h in
+    (sym (length-pack (concat (map (serialize t) vs)) ∙ ap (λ n. (n + 31) / 32) long)) few) h in
     packed_tells t z law basic.0 basic.1 vs ws fit fits same
-    (same_pack (concat (map (enc t) vs)) (concat (map (enc t) ws)) equal (same_leaves _ _ leaves))
+    (same_pack (concat (map (serialize t) vs)) (concat (map (serialize t) ws)) equal
+    (same_leaves _ _ leaves))
 elements_tell t None e law laws d vs ws fit fits same few h =
     trees_tell t laws vs ws fit fits
     (same_full d (map (tree t) vs) (map (tree t) ws) (length-map vs (tree t) ∙ same
@@ -177,7 +181,7 @@ same_bits xs bs e h =
 
 packed_bits_tell : (d : ℕ) (xs bs : List Bool) → length xs ≡ length bs
     → (length xs + 255) / 256 ≤ 2 ^ d
-    → full d (map leaf (pack_bits xs)) ≡ full d (map leaf (pack_bits bs)) → xs ≡ bs
+    → merkle_tree d (map leaf (pack_bits xs)) ≡ merkle_tree d (map leaf (pack_bits bs)) → xs ≡ bs
 packed_bits_tell d xs bs e few h =
     let long : (xs : List Bool)
     → length (map leaf (pack_bits xs)) ≡ ((length xs + 7) / 8 + 31) / 32 =

@@ -37,28 +37,31 @@ joined_alike size parts = joined (replicate (length parts) size) parts
 
 abbrev mutual
   -- the encoding of a value that fits
-  pub enc : SszType → SszValue → List ℕ
-  enc (uint w) (number n) = le_bytes (byte_count w) n
-  enc (uint w) (wide bytes) = bytes
-  enc boolean (truth b) = bit_value b ∷ []
-  enc (container fs) (sequence vs) = joined (part_sizes fs) (field_encodings fs (items vs))
-  enc (vector elem n) (sequence vs) = joined_alike (fixed_size elem) (map (enc elem) (items vs))
-  enc (list elem limit) (sequence vs) = joined_alike (fixed_size elem) (map (enc elem) (items vs))
-  enc (bitvector n) (bits bs) = le_bytes ((n + 7) / 8) (number_of_bits bs)
-  enc (bitlist limit) (bits bs) = le_bytes (length bs / 8 + 1) (number_of_bits (bs ++ true ∷ []))
-  enc (union os) (chosen k v) = k ∷ option_encoding os k v
-  enc (union os) (chosen_none k) = k ∷ []
+  pub serialize : SszType → SszValue → List ℕ
+  serialize (uint w) (number n) = le_bytes (byte_count w) n
+  serialize (uint w) (wide bytes) = bytes
+  serialize boolean (truth b) = bit_value b ∷ []
+  serialize (container fs) (sequence vs) = joined (part_sizes fs) (field_encodings fs (items vs))
+  serialize (vector elem n) (sequence vs) =
+      joined_alike (fixed_size elem) (map (serialize elem) (items vs))
+  serialize (list elem limit) (sequence vs) =
+      joined_alike (fixed_size elem) (map (serialize elem) (items vs))
+  serialize (bitvector n) (bits bs) = le_bytes ((n + 7) / 8) (number_of_bits bs)
+  serialize (bitlist limit) (bits bs) =
+      le_bytes (length bs / 8 + 1) (number_of_bits (bs ++ true ∷ []))
+  serialize (union os) (chosen k v) = k ∷ option_encoding os k v
+  serialize (union os) (chosen_none k) = k ∷ []
   -- no other value fits
-  enc _ _ = []
+  serialize _ _ = []
 
   -- the encodings of the fields
   pub field_encodings : Fields → List SszValue → List (List ℕ)
-  field_encodings (field name t fs) (v ∷ vs) = enc t v ∷ field_encodings fs vs
+  field_encodings (field name t fs) (v ∷ vs) = serialize t v ∷ field_encodings fs vs
   field_encodings _ _ = []
 
   -- the encoding of a value of the option of this number
   pub option_encoding : Options → ℕ → SszValue → List ℕ
-  option_encoding (option t os) zero v = enc t v
+  option_encoding (option t os) zero v = serialize t v
   option_encoding (option t os) (suc k) v = option_encoding os k v
   option_encoding (none_option os) (suc k) v = option_encoding os k v
   option_encoding _ _ v = []

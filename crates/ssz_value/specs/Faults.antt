@@ -44,10 +44,10 @@ later_fault (None ∷ sizes) place before s b =
     else later_fault sizes (place + offset_size) (offset_at b place) s b
 
 -- the first offset is where the fixed parts end; with no offset nothing follows them
-abbrev pub first_fault : List (Option ℕ) → ℕ → ℕ → ℕ → List ℕ → Option Fault
-first_fault [] place end s b = if nat_lt end (length b) then extra (s + end) else None
-first_fault (Some z ∷ sizes) place end s b = first_fault sizes (place + z) end s b
-first_fault (None ∷ sizes) place end s b =
+abbrev pub first_offset_fault : List (Option ℕ) → ℕ → ℕ → ℕ → List ℕ → Option Fault
+first_offset_fault [] place end s b = if nat_lt end (length b) then extra (s + end) else None
+first_offset_fault (Some z ∷ sizes) place end s b = first_offset_fault sizes (place + z) end s b
+first_offset_fault (None ∷ sizes) place end s b =
     if offset_at b place == end then later_fault sizes (place + offset_size) end s b
     else first_offset (s + place)
 
@@ -55,7 +55,7 @@ first_fault (None ∷ sizes) place end s b =
 abbrev pub head_fault : List (Option ℕ) → ℕ → List ℕ → Option Fault
 head_fault sizes s b =
     if nat_lt (length b) (heads_length sizes) then short s
-    else first_fault sizes 0 (heads_length sizes) s b
+    else first_offset_fault sizes 0 (heads_length sizes) s b
 
 -- A part of the bytes: where it begins, and its bytes.
 abbrev pub Scope : Type 0
@@ -74,9 +74,9 @@ scopes (None ∷ sizes) place b = (
     ∷ scopes sizes (place + offset_size) b
 
 -- the bytes of each part
-abbrev pub bytes_of : List Scope → List (List ℕ)
-bytes_of [] = []
-bytes_of (part ∷ parts) = part.1 ∷ bytes_of parts
+abbrev pub scope_bytes : List Scope → List (List ℕ)
+scope_bytes [] = []
+scope_bytes (part ∷ parts) = part.1 ∷ scope_bytes parts
 
 -- the first fault of parts of one type, whose faults are child's
 abbrev pub alike_fault : (ℕ → List ℕ → Option Fault) → ℕ → List Scope → Option Fault
@@ -110,31 +110,32 @@ count_fault None limit s b =
 
 abbrev mutual
   -- the first fault of a scope that begins at s: of its head, then of its children in order
-  pub why : SszType → ℕ → List ℕ → Option Fault
-  why (uint w) s b = length_fault (byte_count w) s b
-  why boolean s b = length_fault 1 s b otherwise bool_fault s b
-  why (container fs) s b =
+  pub first_fault : SszType → ℕ → List ℕ → Option Fault
+  first_fault (uint w) s b = length_fault (byte_count w) s b
+  first_fault boolean s b = length_fault 1 s b otherwise bool_fault s b
+  first_fault (container fs) s b =
       head_fault (part_sizes fs) s b otherwise fields_fault fs s (scopes (part_sizes fs) 0 b)
-  why (vector elem n) s b = elements_fault (why elem) (fixed_size elem) n s b
-  why (list elem limit) s b =
+  first_fault (vector elem n) s b = elements_fault (first_fault elem) (fixed_size elem) n s b
+  first_fault (list elem limit) s b =
       count_fault (fixed_size elem) limit s b
-      otherwise elements_fault (why elem) (fixed_size elem) (element_count (fixed_size elem) b) s b
-  why (bitvector n) s b = length_fault ((n + 7) / 8) s b otherwise bitvector_fault n s b
-  why (bitlist limit) s b = bitlist_fault limit s b
-  why (union os) s [] = short s
-  why (union os) s (k ∷ b) =
+      otherwise elements_fault (first_fault elem) (fixed_size elem)
+      (element_count (fixed_size elem) b) s b
+  first_fault (bitvector n) s b = length_fault ((n + 7) / 8) s b otherwise bitvector_fault n s b
+  first_fault (bitlist limit) s b = bitlist_fault limit s b
+  first_fault (union os) s [] = short s
+  first_fault (union os) s (k ∷ b) =
       if nat_lt k (option_count os) then option_fault os k (s + 1) b else bad_selector s
 
   -- of the fields, whose scopes are parts
   pub fields_fault : Fields → ℕ → List Scope → Option Fault
   fields_fault (field name t fs) s (part ∷ parts) =
-      why t (s + part.0) part.1 otherwise fields_fault fs s parts
+      first_fault t (s + part.0) part.1 otherwise fields_fault fs s parts
   fields_fault _ s _ = None
 
   -- of the option of this number, whose bytes begin at s; None has none
   pub option_fault : Options → ℕ → ℕ → List ℕ → Option Fault
   option_fault no_options k s b = None
   option_fault (none_option os) zero s b = if nat_lt 0 (length b) then extra s else None
-  option_fault (option t os) zero s b = why t s b
+  option_fault (option t os) zero s b = first_fault t s b
   option_fault (none_option os) (suc k) s b = option_fault os k s b
   option_fault (option t os) (suc k) s b = option_fault os k s b

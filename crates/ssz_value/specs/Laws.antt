@@ -7,22 +7,22 @@ use Rattle.ssz_schema.specs.Legal.{IsLegal}
 use Rattle.ssz_bytes.specs.Bytes.{IsBytes}
 use Rattle.ssz_value.specs.Values.{SszValue, Fits}
 use Rattle.ssz_value.specs.Defaults.{default_of}
-use Rattle.ssz_value.specs.Encoding.{enc}
+use Rattle.ssz_value.specs.Encoding.{serialize}
 use Rattle.ssz_value.specs.Sizes.{size}
-use Rattle.ssz_value.specs.Faults.{why}
+use Rattle.ssz_value.specs.Faults.{first_fault}
 use Rattle.ssz_value.specs.Reading.{value_in}
 use Rattle.ssz_value.specs.Trees.{tree}
 
 -- the value is one of the type, and the bytes are its encoding
 pub record Encodes (t : SszType) (v : SszValue) (b : List ℕ) : Type 0 where
   pub fits : Fits t v
-  pub bytes : enc t v ≡ b
+  pub bytes : serialize t v ≡ b
 
 -- One encoding: bytes have no fault exactly where they are the encoding of a value of the type ..
 abbrev pub FaultlessWhereEncoded : Type 0
 FaultlessWhereEncoded =
     (format : Format) (t : SszType) (b : List ℕ) → IsLegal format t → IsBytes b → length b < 2 ^ 32
-    → (why t 0 b ≡ None) ↔ ((v : SszValue) × Encodes t v b)
+    → (first_fault t 0 b ≡ None) ↔ ((v : SszValue) × Encodes t v b)
 
 -- .. of no two values of the type ..
 abbrev pub OneValue : Type 0
@@ -35,7 +35,7 @@ OneValue =
 abbrev pub FaultlessIsRead : Type 0
 FaultlessIsRead =
     (format : Format) (t : SszType) (b : List ℕ) → IsLegal format t → IsBytes b → length b < 2 ^ 32
-    → why t 0 b ≡ None → Encodes t (value_in t b) b
+    → first_fault t 0 b ≡ None → Encodes t (value_in t b) b
 
 -- no tree is that of two values of one type
 abbrev pub TreesTellValues : Type 0
@@ -45,7 +45,7 @@ TreesTellValues =
 
 -- the size is the length of the encoding
 abbrev pub SizesAreLengths : Type 0
-SizesAreLengths = (t : SszType) (v : SszValue) → Fits t v → length (enc t v) ≡ size t v
+SizesAreLengths = (t : SszType) (v : SszValue) → Fits t v → length (serialize t v) ≡ size t v
 
 -- the default is a value of the type
 abbrev pub DefaultsFit : Type 0
@@ -55,4 +55,4 @@ DefaultsFit = (format : Format) (t : SszType) → IsLegal format t → Fits t (d
 abbrev pub DefaultsHaveLength : Type 0
 DefaultsHaveLength =
     (format : Format) (t : SszType) → IsLegal format t
-    → length (enc t (default_of t)) ≡ default_length t
+    → length (serialize t (default_of t)) ≡ default_length t

@@ -1,6 +1,6 @@
 -- How many pairs are hashed for the root of a value, zero subtrees aside (this project's measure).
 use Rattle.std.specs.Prelude.{ℕ, zero, suc, ◌+◌, ◌/◌, List, ◌∷◌, length, sum_by}
-use Rattle.ssz_chunk.specs.Tree.{grow}
+use Rattle.ssz_chunk.specs.Tree.{merkle_pairs}
 use Rattle.ssz_schema.specs.Types.{SszType, Fields, Options, uint, boolean, container, vector, list, bitvector, bitlist, union, field, none_option, option}
 use Rattle.ssz_schema.specs.Sizes.{depth, basic_size, element_chunks}
 use Rattle.ssz_value.specs.Values.{SszValue, sequence, bits, chosen, chosen_none, items}
@@ -12,15 +12,16 @@ abbrev mutual
   pairs (uint w) v = 0
   pairs boolean v = 0
   pairs (container fs) (sequence vs) =
-      grow (depth (container fs)) (length (items vs)) + field_pairs fs (items vs)
+      merkle_pairs (depth (container fs)) (length (items vs)) + field_pairs fs (items vs)
   pairs (vector elem n) (sequence vs) =
-      grow (depth (vector elem n)) (element_chunks (basic_size elem) (length (items vs)))
+      merkle_pairs (depth (vector elem n)) (element_chunks (basic_size elem) (length (items vs)))
       + sum_by (pairs elem) (items vs)
   pairs (list elem limit) (sequence vs) =
-      grow (depth (list elem limit)) (element_chunks (basic_size elem) (length (items vs)))
+      merkle_pairs (depth (list elem limit)) (element_chunks (basic_size elem) (length (items vs)))
       + sum_by (pairs elem) (items vs) + 1
-  pairs (bitvector n) (bits bs) = grow (depth (bitvector n)) ((length bs + 255) / 256)
-  pairs (bitlist limit) (bits bs) = grow (depth (bitlist limit)) ((length bs + 255) / 256) + 1
+  pairs (bitvector n) (bits bs) = merkle_pairs (depth (bitvector n)) ((length bs + 255) / 256)
+  pairs (bitlist limit) (bits bs) =
+      merkle_pairs (depth (bitlist limit)) ((length bs + 255) / 256) + 1
   pairs (union os) (chosen k v) = option_pairs os k v + 1
   pairs (union os) (chosen_none k) = 1
   -- no other value fits

@@ -7,7 +7,7 @@ use Rattle.ssz_schema.specs.Sizes.{fixed_size, part_sizes}
 use Rattle.ssz_bytes.specs.Bytes.{le_number, bits_of_number}
 use Rattle.ssz_bytes.specs.Faults.{bitlist_length}
 use Rattle.ssz_value.specs.Values.{SszValue, number, wide, truth, sequence, bits, chosen, chosen_none, values}
-use Rattle.ssz_value.specs.Faults.{scopes, bytes_of, element_count}
+use Rattle.ssz_value.specs.Faults.{scopes, scope_bytes, element_count}
 
 abbrev pub number_in : Width → List ℕ → SszValue
 number_in W256 b = wide b
@@ -15,7 +15,7 @@ number_in _ b = number (le_number b)
 
 -- the bytes of count elements
 abbrev pub elements_in : Option ℕ → ℕ → List ℕ → List (List ℕ)
-elements_in size count b = bytes_of (scopes (replicate count size) 0 b)
+elements_in size count b = scope_bytes (scopes (replicate count size) 0 b)
 
 abbrev mutual
   -- the value whose encoding the bytes are
@@ -23,7 +23,7 @@ abbrev mutual
   value_in (uint w) b = number_in w b
   value_in boolean b = truth (slice_index b 0 == 1)
   value_in (container fs) b =
-      sequence (values (fields_in fs (bytes_of (scopes (part_sizes fs) 0 b))))
+      sequence (values (fields_in fs (scope_bytes (scopes (part_sizes fs) 0 b))))
   value_in (vector elem n) b =
       sequence (values (map (value_in elem) (elements_in (fixed_size elem) n b)))
   value_in (list elem limit) b =

@@ -2,12 +2,12 @@
 use Rattle.std.specs.Prelude.{ℕ, zero, suc, ◌+◌, ◌/◌, List, [], ◌∷◌, ◌++◌, length, map, take, drop, Option, Some, None, Bool}
 use Rattle.std.specs.List.{concat}
 use Rattle.ssz_chunk.specs.Chunk.{zero_chunk}
-use Rattle.ssz_chunk.specs.Tree.{Tree, leaf, pair, full, root}
+use Rattle.ssz_chunk.specs.Tree.{Tree, leaf, pair, merkle_tree, root}
 use Rattle.ssz_schema.specs.Types.{SszType, Fields, Options, uint, boolean, container, vector, list, bitvector, bitlist, union, field, none_option, option}
 use Rattle.ssz_schema.specs.Sizes.{depth, basic_size}
 use Rattle.ssz_bytes.specs.Bytes.{le_bytes, number_of_bits}
 use Rattle.ssz_value.specs.Values.{SszValue, sequence, bits, chosen, chosen_none, items}
-use Rattle.ssz_value.specs.Encoding.{enc}
+use Rattle.ssz_value.specs.Encoding.{serialize}
 
 -- the number as 32 bytes
 abbrev pub number_chunk : ℕ → List ℕ
@@ -39,21 +39,23 @@ element_leaves (Some z) encodings trees = map leaf (pack (concat encodings))
 element_leaves None encodings trees = trees
 
 abbrev mutual
-  -- the tree of a value that fits: merkleize is `full`, padded to the depth of chunk_count
+  -- the tree of a value that fits: merkleize is `merkle_tree`, padded to the depth of chunk_count
   pub tree : SszType → SszValue → Tree
-  tree (uint w) v = leaf (padded (enc (uint w) v))
-  tree boolean v = leaf (padded (enc boolean v))
-  tree (container fs) (sequence vs) = full (depth (container fs)) (field_trees fs (items vs))
+  tree (uint w) v = leaf (padded (serialize (uint w) v))
+  tree boolean v = leaf (padded (serialize boolean v))
+  tree (container fs) (sequence vs) = merkle_tree (depth (container fs)) (field_trees fs (items vs))
   tree (vector elem n) (sequence vs) =
-      full (depth (vector elem n))
-      (element_leaves (basic_size elem) (map (enc elem) (items vs)) (map (tree elem) (items vs)))
+      merkle_tree (depth (vector elem n))
+      (element_leaves (basic_size elem) (map (serialize elem) (items vs))
+      (map (tree elem) (items vs)))
   tree (list elem limit) (sequence vs) =
       mixed_in (length (items vs))
-      (full (depth (list elem limit))
-      (element_leaves (basic_size elem) (map (enc elem) (items vs)) (map (tree elem) (items vs))))
-  tree (bitvector n) (bits bs) = full (depth (bitvector n)) (map leaf (pack_bits bs))
+      (merkle_tree (depth (list elem limit))
+      (element_leaves (basic_size elem) (map (serialize elem) (items vs))
+      (map (tree elem) (items vs))))
+  tree (bitvector n) (bits bs) = merkle_tree (depth (bitvector n)) (map leaf (pack_bits bs))
   tree (bitlist limit) (bits bs) =
-      mixed_in (length bs) (full (depth (bitlist limit)) (map leaf (pack_bits bs)))
+      mixed_in (length bs) (merkle_tree (depth (bitlist limit)) (map leaf (pack_bits bs)))
   tree (union os) (chosen k v) = mixed_in k (option_tree os k v)
   tree (union os) (chosen_none k) = mixed_in k (leaf zero_chunk)
   -- no other value fits

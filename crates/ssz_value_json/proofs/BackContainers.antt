@@ -18,7 +18,7 @@ use Rattle.ssz_value.specs.Values.{SszValue, sequence, values, items, Fits, FitF
 use Rattle.ssz_value.proofs.Sequences.{values-items}
 use Rattle.ssz_json_text.specs.Text.{json_of, members_json}
 use Rattle.ssz_value_json.specs.Steps.{◌>>=◌, where_holds, next, bad_member}
-use Rattle.ssz_value_json.specs.Walk.{walk, fields_at, field_walked}
+use Rattle.ssz_value_json.specs.Walk.{json_walk, fields_at, field_walked}
 use Rattle.ssz_value_json.proofs.Ascii.{name_utf8}
 use Rattle.ssz_json_text.proofs.Lengths.{IsNoField, unlike, distinct_fields, absent, rest_absent}
 use Rattle.ssz_value_json.proofs.ReadBack.{ReadsBack, MembersReadBack, AreInOrder, object_back, in_order_put, back_put}
@@ -103,7 +103,7 @@ count_is (field name t fs) (v ∷ vs) fit all =
 container_law : (fs : Fields) → FieldsBack fs → IsDistinct bytes_eq (field_names fs)
     → (v : SszValue) → Fits (container fs) v
     → ReadsBack (field_nesting fs + 1) (json_of (container fs) v)
-    × WalksTo (λ n. walk (container fs) n (json_of (container fs) v)) v
+    × WalksTo (λ n. json_walk (container fs) n (json_of (container fs) v)) v
 container_law fs law all (sequence ws) fit =
     let vs = items ws in
     let ms = members_json fs vs in
@@ -171,7 +171,7 @@ field_walk_at name t fs law rest (v ∷ vs) fit ms has n =
     let others = rest.walked vs fit.1 ms has.1 first.0 in (
       others.0,
       ap (λ r. r >>= λ p. fields_at fs p.1 ms >>= λ q. Ok (p.0 ∷ q.0, q.1))
-          (ap (field_walked (walk t) n) has.0 ∙ first.1)
+          (ap (field_walked (json_walk t) n) has.0 ∙ first.1)
           ∙ ap (λ r. r >>= λ q. Ok (v ∷ q.0, q.1)) others.1,
     )
 

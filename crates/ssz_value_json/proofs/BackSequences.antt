@@ -20,7 +20,7 @@ use Rattle.ssz_value_json.specs.declared.count.Count.TheVariants.{Exactly, AtMos
 use Rattle.ssz_json_text.specs.Strings.{hex_text}
 use Rattle.ssz_json_text.specs.Text.{json_of, sequence_json, byte_of}
 use Rattle.ssz_value_json.specs.Steps.{◌>>=◌, where_holds, leaf, next, allows, bad_text, bad_count}
-use Rattle.ssz_value_json.specs.Walk.{walk, bytes_at, sequence_at, elements_at, array_at}
+use Rattle.ssz_value_json.specs.Walk.{json_walk, json_bytes_at, sequence_at, elements_at, array_at}
 use Rattle.ssz_value_json.proofs.Ascii.{hex_utf8}
 use Rattle.ssz_value_json.proofs.ReadBack.{ReadsBack, ItemsReadBack, array_back}
 use Rattle.ssz_value_json.proofs.RoundTrip.{hex_read}
@@ -33,13 +33,13 @@ elements_back t law [] all = tt
 elements_back t law (v ∷ vs) all = (law.back v all.0, elements_back t law vs all.1)
 
 elements_walk : (t : SszType) → BackLaw t → (vs : List SszValue) → AllByRecursion (Fits t) vs
-    → WalksTo (λ n. elements_at (walk t) n (items_of (map (json_of t) vs))) vs
+    → WalksTo (λ n. elements_at (json_walk t) n (items_of (map (json_of t) vs))) vs
 elements_walk t law [] all n = (n, refl)
 elements_walk t law (v ∷ vs) all n =
     let first = law.walked v all.0 n in
     let rest = elements_walk t law vs all.1 first.0 in (
       rest.0,
-      ap (λ r. r >>= λ p. elements_at (walk t) p.1 (items_of (map (json_of t) vs)) >>= λ q.
+      ap (λ r. r >>= λ p. elements_at (json_walk t) p.1 (items_of (map (json_of t) vs)) >>= λ q.
           Ok (p.0 ∷ q.0, q.1)) first.1
           ∙ ap (λ r. r >>= λ q. Ok (v ∷ q.0, q.1)) rest.1,
     )
@@ -51,13 +51,13 @@ length-items t (v ∷ vs) = ap suc (length-items t vs)
 
 array_walk : (t : SszType) → BackLaw t → (many : Count) (vs : List SszValue)
     → AllByRecursion (Fits t) vs → allows many (length vs) ≡ true
-    → WalksTo (λ n. array_at (walk t) many n (array (items_of (map (json_of t) vs))))
+    → WalksTo (λ n. array_at (json_walk t) many n (array (items_of (map (json_of t) vs))))
     (sequence (values vs))
 array_walk t law many vs all few n =
     let ds = items_of (map (json_of t) vs) in
     let parts = elements_walk t law vs all (next n) in (
       parts.0,
-      ap (λ b. where_holds b ds (bad_count n) >>= λ some. elements_at (walk t) (next n) some
+      ap (λ b. where_holds b ds (bad_count n) >>= λ some. elements_at (json_walk t) (next n) some
           >>= λ p. Ok (sequence (values p.0), p.1))
           (ap (allows many) (length-items t vs) ∙ few)
           ∙ ap (λ r. r >>= λ p. Ok (sequence (values p.0), p.1)) parts.1,
@@ -81,7 +81,7 @@ bytes_same (v ∷ vs) all =
 
 bytes_walk : (many : Count) (vs : List SszValue) (n : ℕ) → AllByRecursion (Fits (uint W8)) vs
     → allows many (length vs) ≡ true
-    → bytes_at many n (string (hex_text (map byte_of vs))) ≡ Ok (sequence (values vs))
+    → json_bytes_at many n (string (hex_text (map byte_of vs))) ≡ Ok (sequence (values vs))
 bytes_walk many vs n all few =
     let bytes = map byte_of vs in
     ap (λ o. ok_or o (bad_text n) >>= λ bs. where_holds (allows many (length bs))
@@ -93,7 +93,7 @@ bytes_walk many vs n all few =
 sequence_law : (b : Bool) (t : SszType) → is_byte t ≡ b → BackLaw t → (many : Count)
     (vs : List SszValue) → AllByRecursion (Fits t) vs → allows many (length vs) ≡ true
     → ReadsBack (nesting t + 1) (sequence_json b (json_of t) vs)
-    × WalksTo (λ n. sequence_at b (walk t) many n (sequence_json b (json_of t) vs))
+    × WalksTo (λ n. sequence_at b (json_walk t) many n (sequence_json b (json_of t) vs))
     (sequence (values vs))
 sequence_law true t byte law many vs all few =
     let bytes = subst (λ (u : SszType). AllByRecursion (Fits u) vs) (byte_type t byte) all in (
@@ -111,7 +111,7 @@ sequence_law false t byte law many vs all few = (
 -- a sequence under a vector or list, whose parts stand as the items of its values
 vector_law : (t : SszType) (count : ℕ) → BackLaw t → (v : SszValue) → Fits (vector t count) v
     → ReadsBack (nesting t + 1) (json_of (vector t count) v)
-    × WalksTo (λ n. walk (vector t count) n (json_of (vector t count) v)) v
+    × WalksTo (λ n. json_walk (vector t count) n (json_of (vector t count) v)) v
 vector_law t count law (sequence ws) h =
     let pair = sequence_law (is_byte t) t refl law (Exactly count) (items ws) h.1
     (eq-eqb (length (items ws)) count h.0) in (
@@ -126,7 +126,7 @@ vector_law t count law _ h = absurd h
 
 list_law : (t : SszType) (limit : ℕ) → BackLaw t → (v : SszValue) → Fits (list t limit) v
     → ReadsBack (nesting t + 1) (json_of (list t limit) v)
-    × WalksTo (λ n. walk (list t limit) n (json_of (list t limit) v)) v
+    × WalksTo (λ n. json_walk (list t limit) n (json_of (list t limit) v)) v
 list_law t limit law (sequence ws) h =
     let pair = sequence_law (is_byte t) t refl law (AtMost limit) (items ws) h.1
     (le-leb (length (items ws)) limit h.0) in (

@@ -19,7 +19,7 @@ use Rattle.ssz_json_text.specs.Strings.{hex_text, bit_digit, bits_text}
 use Rattle.ssz_value_json.specs.Strings.{text_bits}
 use Rattle.ssz_json_text.specs.Text.{json_of}
 use Rattle.ssz_value_json.specs.Steps.{◌>>=◌, where_holds, leaf, next, allows, bad_text, bad_range, bad_count}
-use Rattle.ssz_value_json.specs.Walk.{walk, number_at, decimal_at, bits_at}
+use Rattle.ssz_value_json.specs.Walk.{json_walk, json_number_at, decimal_at, bits_at}
 use Rattle.ssz_value_json.proofs.Ascii.{decimal_utf8, hex_utf8, bits_utf8}
 use Rattle.ssz_value_json.proofs.ReadBack.{ReadsBack}
 use Rattle.ssz_value_json.proofs.RoundTrip.{decimal_read, hex_read, bits_are_digits, bits_read}
@@ -46,21 +46,21 @@ decimal_walks w k n fits small =
     ∙ ap (λ o. ok_or o (bad_range n) >>= λ j. Ok (number j)) read.1
 
 narrow_law : (w : Width) (v : SszValue)
-    → ((n : ℕ) (s : List ℕ) → number_at w n s ≡ decimal_at w n s)
+    → ((n : ℕ) (s : List ℕ) → json_number_at w n s ≡ decimal_at w n s)
     → 256 ^ byte_count w ≤ 2 ^ 128
     → (k : ℕ) → number k ≡ v → k < 256 ^ byte_count w
-    → ReadsBack 1 (json_of (uint w) v) × WalksTo (λ n. walk (uint w) n (json_of (uint w) v)) v
+    → ReadsBack 1 (json_of (uint w) v) × WalksTo (λ n. json_walk (uint w) n (json_of (uint w) v)) v
 narrow_law w v narrow few k is fits =
     let small : k < 2 ^ 128 = omega arith in
     subst (λ (u : SszValue). ReadsBack 1 (json_of (uint w) u)
-    × WalksTo (λ n. walk (uint w) n (json_of (uint w) u)) u) is (
+    × WalksTo (λ n. json_walk (uint w) n (json_of (uint w) u)) u) is (
       string_back (decimal k) (decimal_utf8 k small),
       λ n. (next n, ap (leaf n) (narrow n (decimal k) ∙ decimal_walks w k n fits small)),
     )
 
 wide_law : (bytes : List ℕ) → length bytes ≡ 32 → IsBytes bytes
     → ReadsBack 1 (json_of (uint W256) (wide bytes))
-    × WalksTo (λ n. walk (uint W256) n (json_of (uint W256) (wide bytes))) (wide bytes)
+    × WalksTo (λ n. json_walk (uint W256) n (json_of (uint W256) (wide bytes))) (wide bytes)
 wide_law bytes count small = (
   string_back (hex_text bytes) (hex_utf8 bytes small),
   λ n. (
@@ -73,7 +73,7 @@ wide_law bytes count small = (
 )
 
 width_law : (w : Width) (v : SszValue) → FitsWidth w v
-    → ReadsBack 1 (json_of (uint w) v) × WalksTo (λ n. walk (uint w) n (json_of (uint w) v)) v
+    → ReadsBack 1 (json_of (uint w) v) × WalksTo (λ n. json_walk (uint w) n (json_of (uint w) v)) v
 width_law W8 (number k) h = narrow_law W8 (number k) (λ n s. refl) (lit≤ tt) k refl h
 width_law W16 (number k) h = narrow_law W16 (number k) (λ n s. refl) (lit≤ tt) k refl h
 width_law W32 (number k) h = narrow_law W32 (number k) (λ n s. refl) (lit≤ tt) k refl h
@@ -97,7 +97,7 @@ flag_back : (b : Bool) → ReadsBack 1 (json_boolean b)
 flag_back b = record { back = refl; numbers = tt; shallow = omega arith; utf8 = IsUtf8-boolean b }
 
 flag_law : (v : SszValue) → Fits boolean v
-    → ReadsBack 1 (json_of boolean v) × WalksTo (λ n. walk boolean n (json_of boolean v)) v
+    → ReadsBack 1 (json_of boolean v) × WalksTo (λ n. json_walk boolean n (json_of boolean v)) v
 flag_law (truth b) h = (flag_back b, λ n. (next n, refl))
 flag_law _ h = absurd h
 
@@ -126,13 +126,13 @@ bits_law many bs few = (
 
 bitvector_law : (count : ℕ) (v : SszValue) → Fits (bitvector count) v
     → ReadsBack 1 (json_of (bitvector count) v)
-    × WalksTo (λ n. walk (bitvector count) n (json_of (bitvector count) v)) v
+    × WalksTo (λ n. json_walk (bitvector count) n (json_of (bitvector count) v)) v
 bitvector_law count (bits bs) h = bits_law (Exactly count) bs (eq-eqb (length bs) count h)
 bitvector_law count _ h = absurd h
 
 bitlist_law : (limit : ℕ) (v : SszValue) → Fits (bitlist limit) v
     → ReadsBack 1 (json_of (bitlist limit) v)
-    × WalksTo (λ n. walk (bitlist limit) n (json_of (bitlist limit) v)) v
+    × WalksTo (λ n. json_walk (bitlist limit) n (json_of (bitlist limit) v)) v
 bitlist_law limit (bits bs) h = bits_law (AtMost limit) bs (le-leb (length bs) limit h)
 bitlist_law limit _ h = absurd h
 

@@ -12,7 +12,7 @@ use Rattle.ssz_schema.specs.Types.{SszType, Options, union, no_options, none_opt
 use Rattle.ssz_value.specs.Values.{SszValue, chosen, chosen_none, Fits, FitsOption, IsNoneOption}
 use Rattle.ssz_json_text.specs.Text.{json_of, option_json}
 use Rattle.ssz_value_json.specs.Steps.{◌>>=◌, next, bad_kind}
-use Rattle.ssz_value_json.specs.Walk.{walk, option_at, selected}
+use Rattle.ssz_value_json.specs.Walk.{json_walk, option_at, selected}
 use Rattle.ssz_value_json.proofs.Ascii.{decimal_utf8}
 use Rattle.ssz_value_json.proofs.ReadBack.{ReadsBack, array_back}
 use Rattle.ssz_value_json.proofs.BackWords.{BackLaw, WalksTo, deeper}
@@ -66,7 +66,7 @@ selected_is k d small =
 union_law : (os : Options) → OptionsBack os → option_count os ≤ most_options → (v : SszValue)
     → Fits (union os) v
     → ReadsBack (option_nesting os + 1) (json_of (union os) v)
-    × WalksTo (λ n. walk (union os) n (json_of (union os) v)) v
+    × WalksTo (λ n. json_walk (union os) n (json_of (union os) v)) v
 union_law os law few (chosen k v) h =
     let below = law.some k v h in
     let d = option_json os k v in (

@@ -6,7 +6,7 @@ use Rattle.ssz_schema.specs.Types.{SszType}
 use Rattle.ssz_value.specs.Values.{SszValue, Fits}
 use Rattle.ssz_json_text.specs.Text.{json_of}
 use Rattle.ssz_value_json.specs.Steps.{Walked}
-use Rattle.ssz_value_json.specs.Walk.{walk}
+use Rattle.ssz_value_json.specs.Walk.{json_walk}
 use Rattle.ssz_value_json.proofs.ReadBack.{ReadsBack}
 
 -- the walk over these parts gives this
@@ -15,7 +15,7 @@ WalksTo walked x = (n : ℕ) → (m : ℕ) × (walked n ≡ Ok (x, m))
 
 pub record BackLaw (t : SszType) : Type 0 where
   pub back : (v : SszValue) → Fits t v → ReadsBack (nesting t) (json_of t v)
-  pub walked : (v : SszValue) → Fits t v → WalksTo (λ n. walk t n (json_of t v)) v
+  pub walked : (v : SszValue) → Fits t v → WalksTo (λ n. json_walk t n (json_of t v)) v
 
 pub deeper : (n m : ℕ) (d : Data) → n ≤ m → ReadsBack n d → ReadsBack m d
 deeper n m d more h = record {

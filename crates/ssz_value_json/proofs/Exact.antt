@@ -6,14 +6,14 @@ use Rattle.serde_json.specs.Data.{Data}
 use Rattle.ssz_schema.specs.declared.format.Format.{Format}
 use Rattle.ssz_schema.specs.Types.{SszType}
 use Rattle.ssz_schema.specs.Legal.{IsLegal}
-use Rattle.ssz_schema_json.specs.Schema.{json_of as json_read}
+use Rattle.ssz_schema_json.specs.Schema.{json_read}
 use Rattle.ssz_schema_json.proofs.Json.{json_of-text}
 use Rattle.ssz_value.specs.Values.{SszValue, Fits}
 use Rattle.ssz_value_json.specs.declared.fault.JsonFault.{JsonFault}
 use Rattle.ssz_json_text.specs.Text.{json, json_of}
 use Rattle.ssz_value_json.specs.Steps.{Walked, bad_spelling}
-use Rattle.ssz_value_json.specs.Walk.{walk}
-use Rattle.ssz_value_json.specs.Faults.{walked_fault, read_fault, why_json, value_read, value_spelled, walked_value}
+use Rattle.ssz_value_json.specs.Walk.{json_walk}
+use Rattle.ssz_value_json.specs.Faults.{walked_fault, read_fault, first_json_fault, value_read, value_spelled, walked_value}
 use Rattle.ssz_value_json.specs.Laws.{Spells}
 use Rattle.ssz_value_json.proofs.FoundLemmas.{first_ok}
 use Rattle.ssz_value_json.proofs.ReadBack.{reads_back}
@@ -21,14 +21,14 @@ use Rattle.ssz_value_json.proofs.WalkFits.{fit_law}
 use Rattle.ssz_value_json.proofs.WalkBack.{back_law, shallow_back}
 
 pub read_same : (t : SszType) (b : List ℕ) (d : Data) (v : SszValue) (m : ℕ)
-    → json_read b ≡ Some d → walk t 0 d ≡ Ok (v, m) → bytes_eq (json t v) b ≡ true
-    → why_json t b ≡ None
+    → json_read b ≡ Some d → json_walk t 0 d ≡ Ok (v, m) → bytes_eq (json t v) b ≡ true
+    → first_json_fault t b ≡ None
 read_same t b d v m is walked same =
     ap (read_fault t b) is ∙ ap (walked_fault t b) walked
     ∙ ap (λ x. cond x None (Some bad_spelling)) same
 
 pub spelled : (t : SszType) (b : List ℕ) (d : Data) (v : SszValue) (m : ℕ)
-    → walk t 0 d ≡ Ok (v, m) → bytes_eq (json t v) b ≡ true → Spells t v b
+    → json_walk t 0 d ≡ Ok (v, m) → bytes_eq (json t v) b ≡ true → Spells t v b
 spelled t b d v m walked same = record {
   fits = (fit_law t).fits 0 m d v walked;
   text = (bytes_eq-Decides (json t v) b).0 same;
@@ -46,10 +46,10 @@ text_read format t v legal fit =
     json_of-text (json t v) (json_of t v) back.utf8 (reads_back (json_of t v) back)
 
 pub spelled_faultless : (format : Format) (t : SszType) (b : List ℕ) (v : SszValue)
-    → IsLegal format t → Spells t v b → why_json t b ≡ None
+    → IsLegal format t → Spells t v b → first_json_fault t b ≡ None
 spelled_faultless format t b v legal h =
     let walked = (back_law format t legal).walked v h.fits 0 in
-    subst (λ (c : List ℕ). why_json t c ≡ None) h.text
+    subst (λ (c : List ℕ). first_json_fault t c ≡ None) h.text
     (read_same t (json t v) (json_of t v) v walked.0 (text_read format t v legal h.fits) walked.1
     (same_text (json t v)))
 
@@ -57,7 +57,7 @@ if_same : (x : Bool) (f : JsonFault) → cond x None (Some f) ≡ None → x ≡
 if_same true f e = refl
 if_same false f e = absurd (cc)
 
-walked_spelled : (t : SszType) (b : List ℕ) (d : Data) (r : Walked SszValue) → walk t 0 d ≡ r
+walked_spelled : (t : SszType) (b : List ℕ) (d : Data) (r : Walked SszValue) → json_walk t 0 d ≡ r
     → walked_fault t b r ≡ None → Spells t (walked_value r) b
 walked_spelled t b d (Ok p) is e =
     spelled t b d p.0 p.1 is (if_same (bytes_eq (json t p.0) b) bad_spelling e)
@@ -66,10 +66,10 @@ walked_spelled t b d (Err f) is e = absurd (cc)
 read_spelled : (t : SszType) (b : List ℕ) (o : Option Data) → read_fault t b o ≡ None
     → Spells t (value_read t o) b
 read_spelled t b None e = absurd (cc)
-read_spelled t b (Some d) e = walked_spelled t b d (walk t 0 d) refl e
+read_spelled t b (Some d) e = walked_spelled t b d (json_walk t 0 d) refl e
 
 -- bytes without a fault are the text of the value that they are read as
-pub faultless_spelled : (t : SszType) (b : List ℕ) → why_json t b ≡ None
+pub faultless_spelled : (t : SszType) (b : List ℕ) → first_json_fault t b ≡ None
     → Spells t (value_spelled t b) b
 faultless_spelled t b e = read_spelled t b (json_read b) e
 
@@ -85,10 +85,10 @@ one_value format t b v w legal h k =
     let same = some_same (json_of t v) (json_of t w) (json_read (json t v)) first second in
     let one = law.walked v h.fits 0 in
     let two = law.walked w k.fits 0 in
-    first_ok v w one.0 two.0 (walk t 0 (json_of t v)) one.1 (ap (walk t 0) same ∙ two.1)
+    first_ok v w one.0 two.0 (json_walk t 0 (json_of t v)) one.1 (ap (json_walk t 0) same ∙ two.1)
 
 -- so a value whose text they are is that value
 pub spelled_is : (format : Format) (t : SszType) (b : List ℕ) (v : SszValue) → IsLegal format t
-    → why_json t b ≡ None → Spells t v b → value_spelled t b ≡ v
+    → first_json_fault t b ≡ None → Spells t v b → value_spelled t b ≡ v
 spelled_is format t b v legal none h =
     one_value format t b (value_spelled t b) v legal (faultless_spelled t b none) h

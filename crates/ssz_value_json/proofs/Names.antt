@@ -12,7 +12,7 @@ use Rattle.ssz_schema.specs.Legal.{field_names}
 use Rattle.ssz_schema.specs.Unfolding.{fields_over}
 use Rattle.ssz_schema.proofs.WalkFields.{drop_at}
 use Rattle.ssz_value.proofs.PartLemmas.{Part}
-use Rattle.ssz_value_json.specs.Walk.{two_items, selector_in, selected}
+use Rattle.ssz_value_json.specs.Walk.{two_items, json_selector, selected}
 
 abbrev pub names_of : List Part → List (List ℕ)
 names_of fields = map (λ part. part.0) fields
@@ -56,7 +56,7 @@ not_two (a ∷ b ∷ c ∷ vs) other = refl
 pub none_selected : (d : Data) (vs : List Json) → Some (items_view vs) ≡ as_array d
     → (length vs ≡ 2 → ⊥) → None ≡ selected d
 none_selected d vs is other =
-    sym (ap (λ o. option_and_then (λ pair. option_map (λ k. (k, pair.1)) (selector_in pair.0))
+    sym (ap (λ o. option_and_then (λ pair. option_map (λ k. (k, pair.1)) (json_selector pair.0))
     (option_and_then two_items o)) (sym is)
-    ∙ ap (option_and_then (λ pair. option_map (λ k. (k, pair.1)) (selector_in pair.0)))
+    ∙ ap (option_and_then (λ pair. option_map (λ k. (k, pair.1)) (json_selector pair.0)))
     (not_two vs other))

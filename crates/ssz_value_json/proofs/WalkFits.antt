@@ -28,11 +28,11 @@ use Rattle.ssz_value_json.specs.declared.count.Count.{Count}
 use Rattle.ssz_value_json.specs.declared.count.Count.TheVariants.{Exactly, AtMost}
 use Rattle.ssz_value_json.specs.Strings.{hex_bytes, is_decimal, is_bit_digit, text_bits}
 use Rattle.ssz_value_json.specs.Steps.{where_holds, leaf, next, allows, bad_kind, bad_text, bad_range, bad_count, bad_member}
-use Rattle.ssz_value_json.specs.Walk.{walk, uint_at, number_at, decimal_at, wide_at, boolean_at, bits_at, bytes_at, sequence_at, elements_at, array_at, fields_at, field_walked, option_at, none_at, selected, are_members}
+use Rattle.ssz_value_json.specs.Walk.{json_walk, uint_at, json_number_at, decimal_at, wide_at, boolean_at, bits_at, json_bytes_at, sequence_at, elements_at, array_at, fields_at, field_walked, option_at, none_at, selected, are_members}
 use Rattle.ssz_value_json.proofs.FoundLemmas.{bind_ok, or_ok, where_ok, leaf_ok, first_ok, ok_same}
 
 pub record FitLaw (t : SszType) : Type 0 where
-  pub fits : (n m : ℕ) (d : Data) (v : SszValue) → walk t n d ≡ Ok (v, m) → Fits t v
+  pub fits : (n m : ℕ) (d : Data) (v : SszValue) → json_walk t n d ≡ Ok (v, m) → Fits t v
 
 -- ---- numbers
 
@@ -101,7 +101,7 @@ narrow_fits w n s v fits e =
     let found = decimal_fits w n s v e in
     subst (FitsWidth w) found.2 (fits found.0 found.1)
 
-width_fits : (w : Width) (n : ℕ) (s : List ℕ) (v : SszValue) → number_at w n s ≡ Ok v
+width_fits : (w : Width) (n : ℕ) (s : List ℕ) (v : SszValue) → json_number_at w n s ≡ Ok v
     → FitsWidth w v
 width_fits W8 n s v e = narrow_fits W8 n s v (λ k h. h) e
 width_fits W16 n s v e = narrow_fits W16 n s v (λ k h. h) e
@@ -154,14 +154,14 @@ bitlist_law limit = record {
 -- ---- sequences
 
 elements_fit : (t : SszType) → FitLaw t → (ds : Items) (n m : ℕ) (vs : List SszValue)
-    → elements_at (walk t) n ds ≡ Ok (vs, m)
+    → elements_at (json_walk t) n ds ≡ Ok (vs, m)
     → (length vs ≡ items_len ds) × AllByRecursion (Fits t) vs
 elements_fit t law no_items n m vs e =
-    let same = first_ok [] vs n m (elements_at (walk t) n no_items) refl e in
+    let same = first_ok [] vs n m (elements_at (json_walk t) n no_items) refl e in
     (sym (ap length same), subst (AllByRecursion (Fits t)) same tt)
 elements_fit t law (item d ds) n m vs e =
-    let one = bind_ok (walk t n d) _ (vs, m) e in
-    let two = bind_ok (elements_at (walk t) one.0.1 ds) _ (vs, m) one.2 in
+    let one = bind_ok (json_walk t n d) _ (vs, m) e in
+    let two = bind_ok (elements_at (json_walk t) one.0.1 ds) _ (vs, m) one.2 in
     let rest = elements_fit t law ds one.0.1 two.0.1 two.0.0 two.1 in
     let same : one.0.0 ∷ two.0.0 ≡ vs =
     first_ok (one.0.0 ∷ two.0.0) vs two.0.1 m (Ok (one.0.0 ∷ two.0.0, two.0.1)) refl two.2 in (
@@ -179,10 +179,10 @@ IsSequenceOf t many v =
     × AllByRecursion (Fits t) vs
 
 bytes_fit : (many : Count) (n m : ℕ) (d : Data) (v : SszValue)
-    → leaf n (bytes_at many n d) ≡ Ok (v, m) → IsSequenceOf (uint W8) many v
+    → leaf n (json_bytes_at many n d) ≡ Ok (v, m) → IsSequenceOf (uint W8) many v
 bytes_fit many n m d v e =
     let one = bind_ok (ok_or (as_str d) (bad_kind n)) _ v
-    (leaf_ok n m (bytes_at many n d) v e) in
+    (leaf_ok n m (json_bytes_at many n d) v e) in
     let two = bind_ok (ok_or (hex_bytes one.0) (bad_text n)) _ v one.2 in
     let three = where_ok (allows many (length two.0)) (sequence (values (map number two.0))) v
     (bad_count n) two.2 in (
@@ -193,13 +193,13 @@ bytes_fit many n m d v e =
     )
 
 array_fits : (t : SszType) → FitLaw t → (many : Count) (n m : ℕ) (d : Data) (v : SszValue)
-    → array_at (walk t) many n d ≡ Ok (v, m) → IsSequenceOf t many v
+    → array_at (json_walk t) many n d ≡ Ok (v, m) → IsSequenceOf t many v
 array_fits t law many n m d v e =
     let one = bind_ok (ok_or (as_array d) (bad_kind n)) _ (v, m) e in
     let two = bind_ok (where_holds (allows many (items_len one.0)) one.0 (bad_count n)) _ (v, m)
     one.2 in
     let few = where_ok (allows many (items_len one.0)) one.0 two.0 (bad_count n) two.1 in
-    let three = bind_ok (elements_at (walk t) (next n) two.0) _ (v, m) two.2 in
+    let three = bind_ok (elements_at (json_walk t) (next n) two.0) _ (v, m) two.2 in
     let all = elements_fit t law two.0 (next n) three.0.1 three.0.0 three.1 in (
       three.0.0,
       first_ok (sequence (values three.0.0)) v three.0.1 m
@@ -209,7 +209,8 @@ array_fits t law many n m d v e =
     )
 
 sequence_fits : (b : Bool) (t : SszType) → is_byte t ≡ b → FitLaw t → (many : Count) (n m : ℕ)
-    (d : Data) (v : SszValue) → sequence_at b (walk t) many n d ≡ Ok (v, m) → IsSequenceOf t many v
+    (d : Data) (v : SszValue) → sequence_at b (json_walk t) many n d ≡ Ok (v, m)
+    → IsSequenceOf t many v
 sequence_fits true t byte law many n m d v e =
     subst (λ (u : SszType). IsSequenceOf u many v) (sym (byte_type t byte))
     (bytes_fit many n m d v e)
@@ -246,7 +247,7 @@ no_fields_law = record {
 }
 
 member_fits : (t : SszType) → FitLaw t → (o : Option Data) (n m : ℕ) (v : SszValue)
-    → field_walked (walk t) n o ≡ Ok (v, m) → Fits t v
+    → field_walked (json_walk t) n o ≡ Ok (v, m) → Fits t v
 member_fits t law (Some d) n m v e = law.fits n m d v e
 member_fits t law None n m v e = absurd (cc)
 
@@ -254,7 +255,7 @@ field_law : (name : List ℕ) (t : SszType) (fs : Fields) → FitLaw t → Field
     → FieldsLaw (field name t fs)
 field_law name t fs law rest = record {
   fits = λ n m ms vs e.
-      let one = bind_ok (field_walked (walk t) n (get_member name ms)) _ (vs, m) e in
+      let one = bind_ok (field_walked (json_walk t) n (get_member name ms)) _ (vs, m) e in
       let two = bind_ok (fields_at fs one.0.1 ms) _ (vs, m) one.2 in
       subst (FitFields (field name t fs))
       (first_ok (one.0.0 ∷ two.0.0) vs two.0.1 m (Ok (one.0.0 ∷ two.0.0, two.0.1)) refl two.2) (
@@ -307,7 +308,7 @@ option_fits : (t : SszType) (os : Options) → FitLaw t → OptionsLaw os → (l
     → ((w : SszValue) × (chosen k w ≡ v) × FitsOption (option t os) left w)
     ⊎ ((chosen_none k ≡ v) × IsNoneOption (option t os) left)
 option_fits t os law rest zero k n m d v e =
-    let one = bind_ok (walk t (next n) d) _ (v, m) e in
+    let one = bind_ok (json_walk t (next n) d) _ (v, m) e in
     inl (
       one.0.0,
       first_ok (chosen k one.0.0) v one.0.1 m (Ok (chosen k one.0.0, one.0.1)) refl one.2,

@@ -15,14 +15,14 @@ use Rattle.ssz_schema.proofs.WalkFields.{drop_at}
 use Rattle.ssz_value.proofs.PartLemmas.{Part}
 use Rattle.ssz_schema.specs.Types.{SszType, Fields, Options, container}
 use Rattle.ssz_schema.specs.Legal.{field_names}
-use Rattle.ssz_schema.specs.Unfolding.{tree_at, fields_over, options_over}
+use Rattle.ssz_schema.specs.Unfolding.{type_tree_at, fields_over, options_over}
 use Rattle.ssz_value_json.specs.declared.fault.JsonFault.{JsonFault}
 use Rattle.ssz_value_json.specs.declared.fault.JsonRead.{JsonRead}
 use Rattle.ssz_value_json.specs.declared.fault.JsonRead.TheVariants.{Bad, Memory}
-use Rattle.ssz_value_json.specs.Steps.{Found, Walked, ◌>>=◌, leaf, next, where_holds, allows, bad_kind, bad_count, bad_member, bad_selector}
-use Rattle.ssz_value_json.specs.Walk.{walk, sequence_at, elements_at, fields_at, option_at, none_at, are_members, members_in}
+use Rattle.ssz_value_json.specs.Steps.{Found, Walked, ◌>>=◌, leaf, next, where_holds, allows, bad_kind, bad_count, bad_member, json_bad_selector}
+use Rattle.ssz_value_json.specs.Walk.{json_walk, sequence_at, elements_at, fields_at, option_at, none_at, are_members, members_in}
 use Rattle.ssz_value_json.proofs.Names.{names_of, names_over}
-use Rattle.ssz_value_json.specs.Answers.{Finds, Walks}
+use Rattle.ssz_value_json.specs.Answers.{FindsJson, WalksJson}
 
 -- what is found stands behind these
 abbrev pub before : List SszValue → Walked (List SszValue) → Walked (List SszValue)
@@ -56,7 +56,7 @@ then_found whole xs first rest f h is = h ∙ ap (λ r. before xs (one_then r re
 
 pub leaf_walks : {X : Type 0} (seen : X → SszValue) (P Q : X → Type 0) (n : ℕ)
     (found : Found SszValue) (r : Result X JsonRead) → ((x : X) → P x → Q x)
-    → Finds seen P found r → Walks seen Q (leaf n found) (next n) r
+    → FindsJson seen P found r → WalksJson seen Q (leaf n found) (next n) r
 leaf_walks seen P Q n found (Ok x) f h = (ap (leaf n) h.0, f x h.1)
 leaf_walks seen P Q n found (Err (Bad g)) f h = ap (leaf n) h
 leaf_walks seen P Q n found (Err Memory) f h = tt
@@ -64,23 +64,26 @@ leaf_walks seen P Q n found (Err Memory) f h = tt
 -- the same at a type whose values have one form each
 pub leaf_of : (t form : SszType) (first here behind : ℕ) (d : Data)
     (found : ℕ → Found SszValue) (r : Result Value JsonRead) → t ≡ form
-    → ((n : ℕ) → walk form n d ≡ leaf n (found n)) → ((v : Value) → IsFormed form v)
-    → here ≡ first → behind ≡ next first → Finds value_of (λ _. Unit {0}) (found here) r
-    → Walks value_of (IsFormed t) (walk t first d) behind r
+    → ((n : ℕ) → json_walk form n d ≡ leaf n (found n)) → ((v : Value) → IsFormed form v)
+    → here ≡ first → behind ≡ next first → FindsJson value_of (λ _. Unit {0}) (found here) r
+    → WalksJson value_of (IsFormed t) (json_walk t first d) behind r
 leaf_of t form first here behind d found r same is formed at after finds =
-    let walked = subst (λ (w : Walked SszValue). Walks value_of (IsFormed form) w (next first) r)
+    let walked = subst (λ (w : Walked SszValue).
+    WalksJson value_of (IsFormed form) w (next first) r)
     (sym (is first))
     (leaf_walks value_of (λ _. Unit {0}) (IsFormed form) first (found first) r
     (λ v known. formed v)
-    (subst (λ (n : ℕ). Finds value_of (λ _. Unit {0}) (found n) r) at finds)) in
-    subst (λ (ty : SszType). Walks value_of (IsFormed ty) (walk ty first d) behind r) (sym same)
-    (subst (λ (n : ℕ). Walks value_of (IsFormed form) (walk form first d) n r) (sym after) walked)
+    (subst (λ (n : ℕ). FindsJson value_of (λ _. Unit {0}) (found n) r) at finds)) in
+    subst (λ (ty : SszType). WalksJson value_of (IsFormed ty) (json_walk ty first d) behind r)
+    (sym same)
+    (subst (λ (n : ℕ). WalksJson value_of (IsFormed form) (json_walk form first d) n r)
+    (sym after) walked)
 
 -- the fault of a part is that of the whole
 pub passed_on : {X Y A B : Type 0} (seen : X → A) (P : X → Type 0) (r : Walked A) (behind : ℕ)
     (e : JsonRead) (other : Y → B) (Q : Y → Type 0) (whole : Walked B) (end : ℕ)
-    → Walks seen P r behind (Err e) → ((f : JsonFault) → r ≡ Err f → whole ≡ Err f)
-    → Walks other Q whole end (Err e)
+    → WalksJson seen P r behind (Err e) → ((f : JsonFault) → r ≡ Err f → whole ≡ Err f)
+    → WalksJson other Q whole end (Err e)
 passed_on seen P r behind (Bad f) other Q whole end h next = next f h
 passed_on seen P r behind Memory other Q whole end h next = tt
 
@@ -117,7 +120,7 @@ array_is false part many n d ds other is few =
 
 -- a container
 pub members_refused : (fs : Fields) (n : ℕ) (d : Data) (ms : Members) → as_object d ≡ Some ms
-    → are_members (field_names fs) ms ≡ false → walk (container fs) n d ≡ Err (bad_member n)
+    → are_members (field_names fs) ms ≡ false → json_walk (container fs) n d ≡ Err (bad_member n)
 members_refused fs n d ms is few =
     ap (λ o. ok_or o (bad_kind n) >>= λ found.
     where_holds (are_members (field_names fs) found) found (bad_member n) >>= λ all.
@@ -127,7 +130,7 @@ members_refused fs n d ms is few =
 
 pub members_are_walked : (fs : Fields) (n : ℕ) (d : Data) (ms : Members) → as_object d ≡ Some ms
     → are_members (field_names fs) ms ≡ true
-    → walk (container fs) n d
+    → json_walk (container fs) n d
     ≡ (fields_at fs (next n) ms >>= λ parts. Ok (sequence (values parts.0), parts.1))
 members_are_walked fs n d ms is few =
     ap (λ o. ok_or o (bad_kind n) >>= λ found.
@@ -154,7 +157,7 @@ chosen_of k r = r >>= λ inner. Ok (chosen k inner.0, inner.1)
 
 pub option_past : (trees : List SszType) (ids : List (Option ℕ)) (left k n : ℕ) (d : Data)
     → None ≡ slice_get ids left
-    → option_at (options_over trees ids) left k n d ≡ Err (bad_selector n)
+    → option_at (options_over trees ids) left k n d ≡ Err (json_bad_selector n)
 option_past trees [] left k n d e = refl
 option_past trees (None ∷ ids) zero k n d e = absurd (cc)
 option_past trees (Some id ∷ ids) zero k n d e = absurd (cc)
@@ -173,11 +176,12 @@ option_none trees (Some id ∷ ids) (suc left) k n d e = option_none trees ids l
 pub option_some : (trees : List SszType) (ids : List (Option ℕ)) (left k n id : ℕ) (d : Data)
     → Some (Some id) ≡ slice_get ids left
     → option_at (options_over trees ids) left k n d
-    ≡ (walk (tree_at trees id) (next n) d >>= λ inner. Ok (chosen k inner.0, inner.1))
+    ≡ (json_walk (type_tree_at trees id) (next n) d >>= λ inner. Ok (chosen k inner.0, inner.1))
 option_some trees [] left k n id d e = absurd (cc)
 option_some trees (None ∷ ids) zero k n id d e = absurd (let same : Some id ≡ None = cc in cc)
 option_some trees (Some other ∷ ids) zero k n id d e = let same : other ≡ id = cc in
-    ap (λ i. walk (tree_at trees i) (next n) d >>= λ inner. Ok (chosen k inner.0, inner.1)) same
+    ap (λ i. json_walk (type_tree_at trees i) (next n) d
+    >>= λ inner. Ok (chosen k inner.0, inner.1)) same
 option_some trees (None ∷ ids) (suc left) k n id d e = option_some trees ids left k n id d e
 option_some trees (Some other ∷ ids) (suc left) k n id d e =
     option_some trees ids left k n id d e
@@ -190,13 +194,13 @@ items_len_is (v ∷ vs) = ap suc (items_len_is vs)
 
 pub refused_walks : {X A : Type 0} (seen : X → A) (P : X → Type 0) (walked : Walked A)
     (behind : ℕ) (e : JsonRead) (f : JsonFault) → e ≡ Bad f → walked ≡ Err f
-    → Walks seen P walked behind (Err e)
+    → WalksJson seen P walked behind (Err e)
 refused_walks seen P walked behind (Bad g) f e h = let same : g ≡ f = cc in h ∙ ap Err (sym same)
 refused_walks seen P walked behind Memory f e h = absurd (cc)
 
 pub walks_as : {X A : Type 0} (seen : X → A) (P Q : X → Type 0) (walked other : Walked A)
     (behind : ℕ) (r : Result X JsonRead) → ((x : X) → P x → Q x) → other ≡ walked
-    → Walks seen P walked behind r → Walks seen Q other behind r
+    → WalksJson seen P walked behind r → WalksJson seen Q other behind r
 walks_as seen P Q walked other behind (Ok x) f is h = (is ∙ h.0, f x h.1)
 walks_as seen P Q walked other behind (Err (Bad g)) f is h = is ∙ h
 walks_as seen P Q walked other behind (Err Memory) f is h = tt
@@ -218,7 +222,7 @@ pub container_from : (trees : List SszType) (fields : List Part) (n m : ℕ) (d 
     (ms : Members) (b : Bool) → Some ms ≡ as_object d
     → b ≡ are_members (names_of fields) (members_in d)
     → b ≡ true → m ≡ next n
-    → walk (container (fields_over trees fields)) n d
+    → json_walk (container (fields_over trees fields)) n d
     ≡ whole_of (fields_at (fields_over trees fields) m (members_in d))
 container_from trees fields n m d ms b is all holds behind =
     let same = object_members d ms (sym is) in
@@ -229,7 +233,7 @@ container_from trees fields n m d ms b is all holds behind =
 pub container_refused : (trees : List SszType) (fields : List Part) (n : ℕ) (d : Data)
     (ms : Members) (b : Bool) → Some ms ≡ as_object d
     → b ≡ are_members (names_of fields) (members_in d)
-    → b ≡ false → walk (container (fields_over trees fields)) n d ≡ Err (bad_member n)
+    → b ≡ false → json_walk (container (fields_over trees fields)) n d ≡ Err (bad_member n)
 container_refused trees fields n d ms b is all fails =
     let same = object_members d ms (sym is) in
     members_refused (fields_over trees fields) n d ms (sym is)

@@ -4,12 +4,12 @@ use Rattle.std.specs.Prelude.{ℕ, false, if◌then◌else◌, List, Option, Som
 use Rattle.std.specs.Str.{bytes_eq}
 use Rattle.serde_json.specs.Data.{Data}
 use Rattle.ssz_schema.specs.Types.{SszType}
-use Rattle.ssz_schema_json.specs.Schema.{json_of as json_read}
+use Rattle.ssz_schema_json.specs.Schema.{json_read}
 use Rattle.ssz_value.specs.Values.{SszValue, truth}
 use Rattle.ssz_value_json.specs.declared.fault.JsonFault.{JsonFault}
 use Rattle.ssz_value_json.specs.Steps.{not_json, bad_spelling, Walked}
 use Rattle.ssz_json_text.specs.Text.{json}
-use Rattle.ssz_value_json.specs.Walk.{walk}
+use Rattle.ssz_value_json.specs.Walk.{json_walk}
 
 -- J8 where the value has another text
 abbrev pub walked_fault : SszType → List ℕ → Walked SszValue → Option JsonFault
@@ -19,11 +19,11 @@ walked_fault t b (Err f) = Some f
 -- J1 where nothing is read, then the first fault of what is read
 abbrev pub read_fault : SszType → List ℕ → Option Data → Option JsonFault
 read_fault t b None = Some not_json
-read_fault t b (Some d) = walked_fault t b (walk t 0 d)
+read_fault t b (Some d) = walked_fault t b (json_walk t 0 d)
 
 -- the first fault
-abbrev pub why_json : SszType → List ℕ → Option JsonFault
-why_json t b = read_fault t b (json_read b)
+abbrev pub first_json_fault : SszType → List ℕ → Option JsonFault
+first_json_fault t b = read_fault t b (json_read b)
 
 -- the value that a walk comes to; where it comes to a fault, any
 abbrev pub walked_value : Walked SszValue → SszValue
@@ -33,7 +33,7 @@ walked_value (Err f) = truth false
 -- of what is read
 abbrev pub value_read : SszType → Option Data → SszValue
 value_read t None = truth false
-value_read t (Some d) = walked_value (walk t 0 d)
+value_read t (Some d) = walked_value (json_walk t 0 d)
 
 -- the value whose text the bytes are, where they have no fault
 abbrev pub value_spelled : SszType → List ℕ → SszValue

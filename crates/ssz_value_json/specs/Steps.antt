@@ -7,40 +7,40 @@ use Rattle.ssz_value_json.specs.declared.count.Count.TheVariants.{Exactly, AtMos
 use Rattle.ssz_value_json.specs.declared.fault.JsonFault.{JsonFault}
 
 -- this fault of the part of this number
-abbrev pub fault : ℕ → ℕ → JsonFault
-fault code n = record { code = code; number = n }
+abbrev pub json_fault : ℕ → ℕ → JsonFault
+json_fault code n = record { code = code; number = n }
 
 -- J1 NotJson: `serde_json` reads nothing
 abbrev pub not_json : JsonFault
-not_json = fault 1 0
+not_json = json_fault 1 0
 
 -- J2 Kind: not the kind of JSON that the type has
 abbrev pub bad_kind : ℕ → JsonFault
-bad_kind n = fault 2 n
+bad_kind n = json_fault 2 n
 
 -- J3 Text: a string that is not written as the type has it
 abbrev pub bad_text : ℕ → JsonFault
-bad_text n = fault 3 n
+bad_text n = json_fault 3 n
 
 -- J4 Range: a number not below 2 to the width's bits
 abbrev pub bad_range : ℕ → JsonFault
-bad_range n = fault 4 n
+bad_range n = json_fault 4 n
 
 -- J5 Count: not 32 bytes, not a vector's length, or above a list's limit
 abbrev pub bad_count : ℕ → JsonFault
-bad_count n = fault 5 n
+bad_count n = json_fault 5 n
 
 -- J6 Member: a field is missing, or a member is no field
 abbrev pub bad_member : ℕ → JsonFault
-bad_member n = fault 6 n
+bad_member n = json_fault 6 n
 
 -- J7 Selector: no option's number
-abbrev pub bad_selector : ℕ → JsonFault
-bad_selector n = fault 7 n
+abbrev pub json_bad_selector : ℕ → JsonFault
+json_bad_selector n = json_fault 7 n
 
 -- J8 Spelling: another text than that of the value
 abbrev pub bad_spelling : JsonFault
-bad_spelling = fault 8 0
+bad_spelling = json_fault 8 0
 
 -- the number of the next part; the count stands still at the greatest u64
 abbrev pub next : ℕ → ℕ

@@ -17,7 +17,7 @@ use Rattle.ssz_value.specs.Standing.{is_byte}
 use Rattle.ssz_value_json.specs.declared.count.Count.{Count}
 use Rattle.ssz_value_json.specs.declared.count.Count.TheVariants.{Exactly, AtMost}
 use Rattle.ssz_value_json.specs.Strings.{hex_bytes, is_decimal, is_bit_digit, text_bits}
-use Rattle.ssz_value_json.specs.Steps.{bad_kind, bad_text, bad_range, bad_count, bad_member, bad_selector, next, Found, Walked, ◌>>=◌, where_holds, leaf, allows}
+use Rattle.ssz_value_json.specs.Steps.{bad_kind, bad_text, bad_range, bad_count, bad_member, json_bad_selector, next, Found, Walked, ◌>>=◌, where_holds, leaf, allows}
 
 -- a number in decimal digits
 abbrev pub decimal_at : Width → ℕ → List ℕ → Found SszValue
@@ -32,14 +32,14 @@ wide_at n s = do
   bytes ← ok_or (hex_bytes s) (bad_text n)
   where_holds (length bytes == 32) (wide bytes) (bad_count n)
 
-abbrev pub number_at : Width → ℕ → List ℕ → Found SszValue
-number_at W256 n s = wide_at n s
-number_at w n s = decimal_at w n s
+abbrev pub json_number_at : Width → ℕ → List ℕ → Found SszValue
+json_number_at W256 n s = wide_at n s
+json_number_at w n s = decimal_at w n s
 
 abbrev pub uint_at : Width → ℕ → Data → Found SszValue
 uint_at w n d = do
   s ← ok_or (as_str d) (bad_kind n)
-  number_at w n s
+  json_number_at w n s
 
 abbrev pub boolean_at : ℕ → Data → Found SszValue
 boolean_at n d = do
@@ -53,8 +53,8 @@ bits_at many n d = do
   where_holds (allows many (length digits)) (bits (text_bits digits)) (bad_count n)
 
 -- a vector or list of uint8
-abbrev pub bytes_at : Count → ℕ → Data → Found SszValue
-bytes_at many n d = do
+abbrev pub json_bytes_at : Count → ℕ → Data → Found SszValue
+json_bytes_at many n d = do
   s ← ok_or (as_str d) (bad_kind n)
   bytes ← ok_or (hex_bytes s) (bad_text n)
   where_holds (allows many (length bytes)) (sequence (values (map number bytes))) (bad_count n)
@@ -77,7 +77,7 @@ array_at part many n d = do
 
 -- a vector or list: of bytes, or of other elements
 abbrev pub sequence_at : Bool → (ℕ → Data → Walked SszValue) → Count → ℕ → Data → Walked SszValue
-sequence_at true part many n d = leaf n (bytes_at many n d)
+sequence_at true part many n d = leaf n (json_bytes_at many n d)
 sequence_at false part many n d = array_at part many n d
 
 -- the members of an object
@@ -101,13 +101,13 @@ abbrev pub byte_number : ℕ → Option ℕ
 byte_number k = if nat_lt k 256 then Some k else None
 
 -- a whole number of one byte, written without fraction and exponent
-abbrev pub selector_in : Data → Option ℕ
-selector_in d = option_and_then byte_number (option_and_then as_u64 (as_number d))
+abbrev pub json_selector : Data → Option ℕ
+json_selector d = option_and_then byte_number (option_and_then as_u64 (as_number d))
 
 -- the selector and the JSON of the value, of an array of two
 abbrev pub selected : Data → Option (ℕ × Data)
 selected d =
-    option_and_then (λ pair. option_map (λ k. (k, pair.1)) (selector_in pair.0))
+    option_and_then (λ pair. option_map (λ k. (k, pair.1)) (json_selector pair.0))
     (option_and_then two_items (as_array d))
 
 -- the option None
@@ -122,19 +122,20 @@ field_walked part n None = Err (bad_member n)
 
 abbrev mutual
   -- the part of this number
-  pub walk : SszType → ℕ → Data → Walked SszValue
-  walk (uint w) n d = leaf n (uint_at w n d)
-  walk boolean n d = leaf n (boolean_at n d)
-  walk (bitvector length) n d = leaf n (bits_at (Exactly length) n d)
-  walk (bitlist limit) n d = leaf n (bits_at (AtMost limit) n d)
-  walk (vector elem length) n d = sequence_at (is_byte elem) (walk elem) (Exactly length) n d
-  walk (list elem limit) n d = sequence_at (is_byte elem) (walk elem) (AtMost limit) n d
-  walk (container fs) n d = do
+  pub json_walk : SszType → ℕ → Data → Walked SszValue
+  json_walk (uint w) n d = leaf n (uint_at w n d)
+  json_walk boolean n d = leaf n (boolean_at n d)
+  json_walk (bitvector length) n d = leaf n (bits_at (Exactly length) n d)
+  json_walk (bitlist limit) n d = leaf n (bits_at (AtMost limit) n d)
+  json_walk (vector elem length) n d =
+      sequence_at (is_byte elem) (json_walk elem) (Exactly length) n d
+  json_walk (list elem limit) n d = sequence_at (is_byte elem) (json_walk elem) (AtMost limit) n d
+  json_walk (container fs) n d = do
     ms ← ok_or (as_object d) (bad_kind n)
     all ← where_holds (are_members (field_names fs) ms) ms (bad_member n)
     parts ← fields_at fs (next n) all
     Ok (sequence (values parts.0), parts.1)
-  walk (union os) n d = do
+  json_walk (union os) n d = do
     pair ← ok_or (selected d) (bad_kind n)
     option_at os pair.0 pair.0 n pair.1
 
@@ -142,16 +143,16 @@ abbrev mutual
   pub fields_at : Fields → ℕ → Members → Walked (List SszValue)
   fields_at no_fields n ms = Ok ([], n)
   fields_at (field name t fs) n ms = do
-    first ← field_walked (walk t) n (get_member name ms)
+    first ← field_walked (json_walk t) n (get_member name ms)
     rest ← fields_at fs first.1 ms
     Ok (first.0 ∷ rest.0, rest.1)
 
   -- the option that stands left places on, under its number k, in the part numbered n
   pub option_at : Options → ℕ → ℕ → ℕ → Data → Walked SszValue
-  option_at no_options left k n d = Err (bad_selector n)
+  option_at no_options left k n d = Err (json_bad_selector n)
   option_at (none_option os) zero k n d = none_at k (next n) d
   option_at (option t os) zero k n d = do
-    inner ← walk t (next n) d
+    inner ← json_walk t (next n) d
     Ok (chosen k inner.0, inner.1)
   option_at (none_option os) (suc left) k n d = option_at os left k n d
   option_at (option t os) (suc left) k n d = option_at os left k n d

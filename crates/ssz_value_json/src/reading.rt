@@ -12,9 +12,9 @@ ghost use Rattle.ssz_schema.specs.Unfolding.{type_of, fields_over, options_over,
 ghost use Rattle.ssz_value.specs.Standing.{value_of, is_byte, IsFormed, FieldsFormed, IsValue};
 ghost use Rattle.ssz_json_text.specs.Text.{json};
 ghost use Rattle.ssz_value_json.specs.Steps.{next};
-ghost use Rattle.ssz_value_json.specs.Walk.{walk, byte_number, field_walked, sequence_at, elements_at, fields_at, none_at, selected, members_in, are_members};
-ghost use Rattle.ssz_schema_json.specs.Schema.{json_of as json_read};
-ghost use Rattle.ssz_value_json.specs.Answers.{Walks, ReadsTo, ReadsJson, IsFaultOf, IsFormedSequence, IsFormedUnion};
+ghost use Rattle.ssz_value_json.specs.Walk.{json_walk, byte_number, field_walked, sequence_at, elements_at, fields_at, none_at, selected, members_in, are_members};
+ghost use Rattle.ssz_schema_json.specs.Schema.{json_read};
+ghost use Rattle.ssz_value_json.specs.Answers.{WalksJson, ReadsTo, ReadsJson, IsJsonFaultOf, IsFormedSequence, IsFormedUnion};
 
 use super::count::{Count, allows};
 use super::fault::{JsonFault, JsonRead};
@@ -100,7 +100,7 @@ fn json_of(alloc: Global, bytes: &[u8]) -> Result<Json, JsonRead>
 
 // Want of memory is told apart from every other error of `serde_json`.
 fn fault_of(error: &serde_json::Error) -> JsonRead
-    ensures { IsFaultOf error.now result }
+    ensures { IsJsonFaultOf error.now result }
 {
     if error.is_memory() {
         JsonRead::Memory
@@ -148,7 +148,7 @@ fn value_in(
 ) -> Result<Value, JsonRead>
     requires { id < length schema.now.trees }
     ensures { let t = type_of schema.now id in
-        Walks value_of (IsFormed t) (walk t number.old (view json.now)) number.new result }
+        WalksJson value_of (IsFormed t) (json_walk t number.old (view json.now)) number.new result }
 {
     match schema.ty(id) {
         Ty::Uint(width) => number_in(alloc, *width, json, take_number(number)),
@@ -180,8 +180,8 @@ fn sequence_in(
 ) -> Result<Value, JsonRead>
     requires { elem < length schema.now.trees }
     ensures { let t = type_of schema.now elem in
-        Walks value_of (IsFormedSequence t)
-        (sequence_at (is_byte t) (walk t) count number.old (view json.now)) number.new result }
+        WalksJson value_of (IsFormedSequence t)
+        (sequence_at (is_byte t) (json_walk t) count number.old (view json.now)) number.new result }
 {
     let here = take_number(number);
     if is_byte(schema, elem) {
@@ -207,8 +207,8 @@ fn elements_in(
 ) -> Result<Vec<Value>, JsonRead>
     requires { elem < length schema.now.trees }
     ensures { let t = type_of schema.now elem in
-        Walks (λ vs. map value_of vs.items) (λ vs. AllByRecursion (IsFormed t) vs.items)
-        (elements_at (walk t) number.old (items_view items.now)) number.new result }
+        WalksJson (λ vs. map value_of vs.items) (λ vs. AllByRecursion (IsFormed t) vs.items)
+        (elements_at (json_walk t) number.old (items_view items.now)) number.new result }
 {
     let mut parts = Vec::with_capacity(alloc, items.len())?;
     for item in items {
@@ -231,7 +231,7 @@ fn chosen_in(
     requires known { id < length schema.now.trees }
     requires before { AllByRecursion (IsBelow id) options.now }
     ensures { let t = union (options_over schema.now.trees options.now) in
-        Walks value_of (IsFormed t) (walk t number.old (view json.now)) number.new result }
+        WalksJson value_of (IsFormed t) (json_walk t number.old (view json.now)) number.new result }
 {
     let here = take_number(number);
     let Some((selector, inner)) = selector_in(json) else {
@@ -270,7 +270,7 @@ fn byte_of(number: u64) -> Option<u8>
 
 // The option None.
 fn none_in(selector: u8, inner: &Json, number: &mut u64) -> Result<Value, JsonRead>
-    ensures { Walks value_of IsFormedUnion (none_at selector number.old (view inner.now))
+    ensures { WalksJson value_of IsFormedUnion (none_at selector number.old (view inner.now))
         number.new result }
 {
     let here = take_number(number);
@@ -298,7 +298,7 @@ fn container_in(
     requires legal { let fs = fields_over schema.now.trees fields.now in
         IsLegal schema.now.format (container fs) }
     ensures { let t = container (fields_over schema.now.trees fields.now) in
-        Walks value_of (IsFormed t) (walk t number.old (view json.now)) number.new result }
+        WalksJson value_of (IsFormed t) (json_walk t number.old (view json.now)) number.new result }
 {
     let here = take_number(number);
     let Some(members) = json.as_object() else {
@@ -362,7 +362,7 @@ fn fields_in(
     requires before { AllByRecursion (λ part. part.1 < id) fields.now }
     requires names { AllByRecursion (λ part. IsName part.0) fields.now }
     ensures { let fs = fields_over schema.now.trees fields.now in
-        Walks (λ vs. map value_of vs.items) (λ vs. FieldsFormed fs vs.items)
+        WalksJson (λ vs. map value_of vs.items) (λ vs. FieldsFormed fs vs.items)
         (fields_at fs number.old (members_in (view json.now))) number.new result }
 {
     let mut parts = Vec::with_capacity(alloc, fields.len())?;
@@ -384,8 +384,8 @@ fn field_in(
 ) -> Result<Value, JsonRead>
     requires { id < length schema.now.trees }
     ensures { let t = type_of schema.now id in
-        Walks value_of (IsFormed t)
-        (field_walked (walk t) number.old (option_map (λ value. view value.now) json.entry))
+        WalksJson value_of (IsFormed t)
+        (field_walked (json_walk t) number.old (option_map (λ value. view value.now) json.entry))
         number.new result }
 {
     match json {

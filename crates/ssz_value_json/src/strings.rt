@@ -12,9 +12,9 @@ ghost use Rattle.ssz_value.specs.Values.{wide};
 ghost use Rattle.ssz_value.specs.Standing.{value_of};
 ghost use Rattle.ssz_value_json.specs.declared.fault.JsonRead.TheVariants.{Bad};
 ghost use Rattle.ssz_value_json.specs.Strings.{hex_bytes, is_decimal, is_bit_digit, text_bits};
-ghost use Rattle.ssz_value_json.specs.Steps.{fault, bad_text};
-ghost use Rattle.ssz_value_json.specs.Walk.{uint_at, decimal_at, wide_at, boolean_at, bits_at, bytes_at};
-ghost use Rattle.ssz_value_json.specs.Answers.{Finds, IsFormedSequence};
+ghost use Rattle.ssz_value_json.specs.Steps.{json_fault, bad_text};
+ghost use Rattle.ssz_value_json.specs.Walk.{uint_at, decimal_at, wide_at, boolean_at, bits_at, json_bytes_at};
+ghost use Rattle.ssz_value_json.specs.Answers.{FindsJson, IsFormedSequence};
 
 use super::count::{Count, allows};
 use super::fault::{JsonFault, JsonRead};
@@ -29,7 +29,7 @@ use std::alloc::{AllocError, Global};
 
 /// A fault in the part of this number.
 pub(crate) fn bad(code: u8, number: u64) -> JsonRead
-    ensures { result ≡ Bad (fault code number) }
+    ensures { result ≡ Bad (json_fault code number) }
 {
     JsonRead::Bad(JsonFault { code, number })
 }
@@ -41,7 +41,7 @@ pub(crate) fn number_in(
     json: &Json,
     here: u64,
 ) -> Result<Value, JsonRead>
-    ensures { Finds value_of (λ _. Unit {0}) (uint_at width here (view json.now)) result }
+    ensures { FindsJson value_of (λ _. Unit {0}) (uint_at width here (view json.now)) result }
 {
     let Some(text) = json.as_str() else {
         return Err(bad(JsonFault::KIND, here));
@@ -54,7 +54,7 @@ pub(crate) fn number_in(
 
 fn decimal_in(width: Width, text: &[u8], here: u64) -> Result<Value, JsonRead>
     requires { width ≢ W256 }
-    ensures { Finds value_of (λ _. Unit {0}) (decimal_at width here text.now) result }
+    ensures { FindsJson value_of (λ _. Unit {0}) (decimal_at width here text.now) result }
 {
     if !is_decimal(text) {
         return Err(bad(JsonFault::TEXT, here));
@@ -116,7 +116,7 @@ fn is_below(width: Width, number: u128) -> bool
 
 // The 32 bytes of a uint256.
 fn wide_in(alloc: Global, text: &[u8], here: u64) -> Result<Value, JsonRead>
-    ensures { Finds value_of (λ _. Unit {0}) (wide_at here text.now) result }
+    ensures { FindsJson value_of (λ _. Unit {0}) (wide_at here text.now) result }
 {
     let bytes = run_in(alloc, text, here)?;
     if bytes.len() != 32 {
@@ -141,7 +141,8 @@ pub(crate) fn bytes_in(
     json: &Json,
     here: u64,
 ) -> Result<Value, JsonRead>
-    ensures { Finds value_of (IsFormedSequence (uint W8)) (bytes_at count here (view json.now))
+    ensures { FindsJson value_of (IsFormedSequence (uint W8))
+        (json_bytes_at count here (view json.now))
         result }
 {
     let Some(text) = json.as_str() else {
@@ -157,7 +158,7 @@ pub(crate) fn bytes_in(
 // The bytes of `0x` and pairs of digits in lower case.
 #[tactic(auto, unfolding(crate::specs::Strings::hex_bytes))]
 fn run_in(alloc: Global, text: &[u8], here: u64) -> Result<Vec<u8>, JsonRead>
-    ensures { Finds (λ v. v.items) (λ _. Unit {0}) (ok_or (hex_bytes text.now) (bad_text here))
+    ensures { FindsJson (λ v. v.items) (λ _. Unit {0}) (ok_or (hex_bytes text.now) (bad_text here))
         result }
 {
     let [b'0', b'x', digits @ ..] = text else {
@@ -182,7 +183,7 @@ fn are_lower(digits: &[u8]) -> bool
 
 /// The boolean that the part of this number is.
 pub(crate) fn flag_in(json: &Json, here: u64) -> Result<Value, JsonRead>
-    ensures { Finds value_of (λ _. Unit {0}) (boolean_at here (view json.now)) result }
+    ensures { FindsJson value_of (λ _. Unit {0}) (boolean_at here (view json.now)) result }
 {
     match json.as_bool() {
         Some(flag) => Ok(Value::Bool(flag)),
@@ -197,7 +198,7 @@ pub(crate) fn bits_in(
     json: &Json,
     here: u64,
 ) -> Result<Value, JsonRead>
-    ensures { Finds value_of (λ _. Unit {0}) (bits_at count here (view json.now)) result }
+    ensures { FindsJson value_of (λ _. Unit {0}) (bits_at count here (view json.now)) result }
 {
     let Some(text) = json.as_str() else {
         return Err(bad(JsonFault::KIND, here));

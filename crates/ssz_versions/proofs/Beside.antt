@@ -12,7 +12,7 @@ use Rattle.std.specs.declared.cmp.Ordering.TheVariants.{Less, Equal}
 use Rattle.std.proofs.lemmas.Bool.Decides.{Decides-eqb}
 use Rattle.std.proofs.lemmas.Cmp.{tied_itself}
 use Rattle.std.proofs.lemmas.Map.Lookups.{btree_set_from_contains, exact_bytes}
-use Rattle.ssz_versions.specs.Content.{Held, Entries, held_at, with_held, without_held, names_of}
+use Rattle.ssz_versions.specs.Content.{Held, Entries, held_at, with_held, without_held, entry_names}
 use Rattle.ssz_versions.specs.Keys.{Key, key_cmp, key_cmp-total}
 use Rattle.ssz_versions.proofs.Inserting.{equal_parts}
 use Rattle.ssz_versions.proofs.Own.{own_keys, own_keys_ascend, own_contains, keys_ascend, same_writer}
@@ -95,11 +95,11 @@ pub names_beside : {X : Type 0} (m : Entries) (writer : ℕ) (state : List (List
     → T (finite.is_sorted name_cmp state)
     → ((name : List ℕ)
     → is_some (finite.find name_cmp name state) ≡ is_some (held_at m writer name))
-    → names_of m writer ≡ map (λ entry. entry.0) state
+    → entry_names m writer ≡ map (λ entry. entry.0) state
 names_beside m writer state sorted same =
     let own = all_own writer (finite.keys m) in
     btree_set_from_contains nat_list_cmp_total
-    (record { keys = names_of m writer }) (record { keys = map (λ entry. entry.0) state })
+    (record { keys = entry_names m writer }) (record { keys = map (λ entry. entry.0) state })
     (names_ascend writer (own_keys m writer) own (own_keys_ascend m writer))
     (keys_ascend name_cmp state sorted)
     (λ name.

@@ -7,12 +7,12 @@ use Rattle.std.specs.Ordering.{eq_by_cmp, is_eq, ordering_reverse}
 use Rattle.std.proofs.lemmas.Cmp.{tied_itself}
 use Rattle.std.proofs.lemmas.List.Elements.{All-cons, All-contains}
 use Rattle.ssz_arena.specs.declared.node.NodeId.{NodeId}
-use Rattle.ssz_arena.specs.Content.{Content, IsNodeOf}
+use Rattle.ssz_arena.specs.Content.{ArenaContent, IsNodeOf}
 use Rattle.ssz_arena.specs.Compacted.{IsSameNode, IsCompaction, IsReachable, at_root, to_left, to_right, PassesReachable}
 use Rattle.ssz_versions.specs.Content.{Held, Entries, held_at}
 use Rattle.ssz_versions.specs.Compacted.{HasNodes, IsMoved, PassesBelow, IsCompacted}
 use Rattle.ssz_versions.specs.Keys.{Key, key_cmp, key_cmp-total}
-use Rattle.ssz_versions.specs.Lists.{moved}
+use Rattle.ssz_versions.specs.Lists.{entries_moved}
 use Rattle.ssz_versions.proofs.Changes.{found_is}
 use Rattle.ssz_versions.proofs.Ordered.{Row, IsOrdered, first_of, rest_of, both, less_of}
 
@@ -56,7 +56,7 @@ each_root : (P : NodeId → Type 0) (es : Row) (m : Entries) → IsOrdered es
 each_root P es m ordered view h = each_of P es es (all_found es ordered)
     (λ key held there. h key.0 key.1 held (sym (found_is es m ordered view key) ∙ there))
 
-pub roots_are_nodes : (es : Row) (m : Entries) (arena : Content) → IsOrdered es
+pub roots_are_nodes : (es : Row) (m : Entries) (arena : ArenaContent) → IsOrdered es
     → finite.from_sorted {R = key_cmp} es ≡ m → HasNodes m arena
     → All (IsNodeOf arena) (roots_of es)
 roots_are_nodes es m arena = each_root (IsNodeOf arena) es m
@@ -74,21 +74,21 @@ same_length [] = refl
 same_length (e ∷ es) = let h : length (roots_of es) ≡ length es = same_length es in omega arith
 
 -- there is a new node for each entry
-pub as_many : (es : Row) (roots ids : List NodeId) (before after : Content)
+pub as_many : (es : Row) (roots ids : List NodeId) (before after : ArenaContent)
     → roots ≡ roots_of es → IsCompaction before after roots ids → length ids ≡ length es
 as_many es roots ids before after is made =
     zipped_length (IsSameNode before after) roots ids made.nodes ∙ ap length is ∙ same_length es
 
-moved_choice : (before after : Content) (b : Bool) (held : Held) (id : NodeId)
+moved_choice : (before after : ArenaContent) (b : Bool) (held : Held) (id : NodeId)
     (old new : Option Held)
     → IsSameNode before after held.1 id → IsMoved before after old new
     → IsMoved before after (cond b (Some held) old) (cond b (Some (held.0, id)) new)
 moved_choice before after true held id old new same rest = (refl, same)
 moved_choice before after false held id old new same rest = rest
 
-each_moved : (before after : Content) (es : Row) (ids : List NodeId) (q : Key)
+each_moved : (before after : ArenaContent) (es : Row) (ids : List NodeId) (q : Key)
     → AllZip (IsSameNode before after) (roots_of es) ids
-    → IsMoved before after (find key_cmp q es) (find key_cmp q (moved es ids))
+    → IsMoved before after (find key_cmp q es) (find key_cmp q (entries_moved es ids))
 each_moved before after [] [] q h = tt
 each_moved before after [] (id ∷ ids) q h = absurd h
 each_moved before after (e ∷ es) [] q h = absurd h
@@ -97,7 +97,7 @@ each_moved before after (e ∷ es) (id ∷ ids) q h =
     (each_moved before after es ids q h.1)
 
 -- what roots reach, one of them reaches
-from_one : (arena : Content) (roots : List NodeId) (i : ℕ) → IsReachable arena.nodes roots i
+from_one : (arena : ArenaContent) (roots : List NodeId) (i : ℕ) → IsReachable arena.nodes roots i
     → (root : NodeId) × Contains roots root × IsReachable arena.nodes (root ∷ []) i
 from_one arena roots i (at_root root inside) =
     (root, inside, at_root root (0, omega arith, refl))
@@ -108,36 +108,36 @@ from_one arena roots i (to_right j left right cached reached e) =
     let above = from_one arena roots j reached in
     (above.0, above.1, to_right j left right cached above.2 e)
 
-passes_all : (arena : Content) (roots : List NodeId) (test : ℕ → Bool)
+passes_all : (arena : ArenaContent) (roots : List NodeId) (test : ℕ → Bool)
     → All (λ root. PassesBelow arena root test) roots → PassesReachable arena.nodes roots test
 passes_all arena roots test h i reached =
     let one = from_one arena roots i reached in
     All-contains (λ root. PassesBelow arena root test) roots one.0 h one.1 i one.2
 
 moved_below : (k : Key) (es : Row) (ids : List NodeId) → T (below_all key_cmp k es)
-    → T (below_all key_cmp k (moved es ids))
+    → T (below_all key_cmp k (entries_moved es ids))
 moved_below k [] ids h = tt
 moved_below k (e ∷ es) [] h = tt
 moved_below k (e ∷ es) (id ∷ ids) h =
     both _ _ (first_of _ _ h) (moved_below k es ids (rest_of _ _ h))
 
 -- the keys stay
-pub moved_ordered : (es : Row) (ids : List NodeId) → IsOrdered es → IsOrdered (moved es ids)
+pub moved_ordered : (es : Row) (ids : List NodeId) → IsOrdered es → IsOrdered (entries_moved es ids)
 moved_ordered [] ids h = tt
 moved_ordered (e ∷ es) [] h = tt
 moved_ordered (e ∷ es) (id ∷ ids) h =
     both _ _ (moved_below e.0 es ids (first_of _ _ h)) (moved_ordered es ids (rest_of _ _ h))
 
 pub compacted : (es made : Row) (m : Entries) (roots ids : List NodeId)
-    (before after : Content) → IsOrdered es → finite.from_sorted {R = key_cmp} es ≡ m
-    → roots ≡ roots_of es → IsCompaction before after roots ids → made ≡ moved es ids
+    (before after : ArenaContent) → IsOrdered es → finite.from_sorted {R = key_cmp} es ≡ m
+    → roots ≡ roots_of es → IsCompaction before after roots ids → made ≡ entries_moved es ids
     → IsCompacted m (finite.from_sorted made) before after
 compacted es made m roots ids before after ordered view is compaction moves = record {
   entries = λ writer name.
       let q : Key = (writer, name) in
       let old : find key_cmp q es ≡ held_at m writer name = found_is es m ordered view q in
       let left : Entries = finite.from_sorted made in
-      let new : find key_cmp q (moved es ids) ≡ held_at left writer name =
+      let new : find key_cmp q (entries_moved es ids) ≡ held_at left writer name =
       ap (find key_cmp q) (sym moves)
       ∙ found_is made left (subst IsOrdered (sym moves) (moved_ordered es ids ordered)) refl q in
       let zipped = subst (λ xs. AllZip (IsSameNode before after) xs ids) is compaction.nodes in

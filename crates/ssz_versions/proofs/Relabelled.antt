@@ -8,7 +8,7 @@ use Rattle.std.specs.FinMap as finite
 use Rattle.std.specs.List.{filter, AllByRecursion}
 use Rattle.std.specs.Ordering.{nat_cmp, ordering_then, is_lt}
 use Rattle.std.specs.declared.cmp.Ordering.TheVariants.{Less, Equal, Greater}
-use Rattle.ssz_versions.specs.Content.{Held, Entries, names_of}
+use Rattle.ssz_versions.specs.Content.{Held, Entries, entry_names}
 use Rattle.ssz_versions.specs.Keys.{Key, key_cmp}
 use Rattle.ssz_versions.specs.Lists.{relabelled}
 use Rattle.ssz_versions.proofs.Ordered.{Row, IsOrdered, left_of, right_of}
@@ -104,9 +104,9 @@ names-relabelled writer (e ∷ row) =
 -- the names of a writer are those of its entries
 pub names_are : (row : Row) (m : Entries) (writer : ℕ) → IsOrdered row
     → finite.from_sorted {R = key_cmp} row ≡ m
-    → map (λ e. e.0.1) (relabelled writer writer row) ≡ names_of m writer
+    → map (λ e. e.0.1) (relabelled writer writer row) ≡ entry_names m writer
 names_are row m writer ordered view =
     names-relabelled writer row
     ∙ ap (λ es. map (λ key. key.1) (filter (λ key. key.0 == writer) (map (λ e. e.0) es)))
     (sym (finite.entries-from_sorted key_cmp row ordered))
-    ∙ ap (λ n. names_of n writer) view
+    ∙ ap (λ n. entry_names n writer) view

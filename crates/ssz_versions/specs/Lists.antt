@@ -11,7 +11,7 @@ relabelled from to (entry ∷ entries) = cond (entry.0.0 == from)
     (((to, entry.0.1), entry.1) ∷ relabelled from to entries) (relabelled from to entries)
 
 -- the entries with these nodes
-abbrev pub moved : List (Key × Held) → List NodeId → List (Key × Held)
-moved [] ids = []
-moved (entry ∷ entries) [] = []
-moved (entry ∷ entries) (id ∷ ids) = (entry.0, (entry.1.0, id)) ∷ moved entries ids
+abbrev pub entries_moved : List (Key × Held) → List NodeId → List (Key × Held)
+entries_moved [] ids = []
+entries_moved (entry ∷ entries) [] = []
+entries_moved (entry ∷ entries) (id ∷ ids) = (entry.0, (entry.1.0, id)) ∷ entries_moved entries ids

@@ -2,9 +2,9 @@ ghost use Rattle.std.specs.Prelude.{◌≡◌, ◌+◌, ◌≤◌, ℕ, List, No
 ghost use Rattle.std.specs.Borrow.{sem};
 ghost use Rattle.std.specs.FinMap as finite;
 ghost use Rattle.ssz_schema.specs.Names.{IsName};
-ghost use Rattle.ssz_versions.specs.Content.{held_at, names_of, with_held};
+ghost use Rattle.ssz_versions.specs.Content.{held_at, entry_names, with_held};
 ghost use Rattle.ssz_versions.specs.Lending.{LendsNode};
-ghost use Rattle.ssz_versions.specs.Outcomes.{Adopts, Makes, Forks, Drops, IsUnchanged};
+ghost use Rattle.ssz_versions.specs.Outcomes.{Adopts, MakesEntry, ForksEntry, Drops, IsUnchanged};
 
 use super::adding::with_all;
 use super::fault::VersionFault;
@@ -31,10 +31,10 @@ impl Model for Versions {
     ghost use Rattle.std.specs.Prelude.{T};
     ghost use Rattle.std.specs.FinMap as finite;
     ghost use Rattle.std.specs.FinMap.Entries.{is_sorted};
-    ghost use Rattle.ssz_versions.specs.Content.{Content, content_code};
+    ghost use Rattle.ssz_versions.specs.Content.{VersionsContent, content_code};
     ghost use Rattle.ssz_versions.specs.Keys.{key_cmp};
 
-    ghost Value = { Content };
+    ghost Value = { VersionsContent };
 
     ghost coded = { content_code };
 
@@ -92,7 +92,7 @@ impl Versions {
         node: NodeId,
     ) -> Result<(), VersionFault>
         requires { IsName name.now }
-        ensures made { Makes result self.old self.new writer.0 name.now (id, node) }
+        ensures made { MakesEntry result self.old self.new writer.0 name.now (id, node) }
         ensures spare { self.old.spare ≤ self.new.spare + 1 }
     {
         let key = VersionKey::new(writer.0, name.as_bytes());
@@ -126,7 +126,7 @@ impl Versions {
     pub fn fork(&mut self, writer: Writer, from: &Name, to: &Name) -> Result<(), VersionFault>
         requires from { IsName from.now }
         requires to { IsName to.now }
-        ensures forked { Forks result self.old self.new writer.0 from.now to.now }
+        ensures forked { ForksEntry result self.old self.new writer.0 from.now to.now }
         ensures spare { self.old.spare ≤ self.new.spare + 1 }
     {
         let Some(held) = self.get(writer, from) else {
@@ -164,7 +164,7 @@ impl Versions {
 
     /// The names of a writer, in the order of their bytes.
     pub fn names(&self, alloc: Global, writer: Writer) -> Result<Names, AllocError>
-        ensures { IfOk result (λ names. names ≡ names_of self.now.entries writer.0) }
+        ensures { IfOk result (λ names. names ≡ entry_names self.now.entries writer.0) }
     {
         let mut own = Vec::new(alloc);
         self.held.relabelled(writer.0, writer.0, &mut own)?;

@@ -1,7 +1,7 @@
 ghost use Rattle.std.specs.Prelude.{◌≡◌, ◌+◌, ◌≤◌, ◌++◌, T, map, length, drop, vec_len, vec_capacity, IfOk, OnOk};
 ghost use Rattle.std.specs.FinMap.Entries.{is_sorted};
 ghost use Rattle.ssz_versions.specs.Keys.{key_cmp};
-ghost use Rattle.ssz_versions.specs.Lists.{moved, relabelled};
+ghost use Rattle.ssz_versions.specs.Lists.{entries_moved, relabelled};
 
 use super::balance::fork;
 use super::tree::{Branch, Cell, Entry, Top, Tree};
@@ -75,7 +75,7 @@ impl Tree {
     /// The same entries with other nodes, those from a place on, and the place behind them.
     pub(crate) fn with_nodes(self, nodes: &[NodeId], at: usize) -> (Tree, usize)
         requires { at + length self ≤ length nodes.now }
-        ensures tree { result.0 ≡ moved self (drop at nodes.now) }
+        ensures tree { result.0 ≡ entries_moved self (drop at nodes.now) }
         ensures place { result.1 ≡ at + length self }
     {
         let Some(branch) = self.open() else {

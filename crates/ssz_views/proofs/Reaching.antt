@@ -27,7 +27,7 @@ use Rattle.ssz_walk.specs.declared.place.Place.{Place}
 use Rattle.ssz_value.specs.declared.path_fault.PathFault.{PathFault}
 use Rattle.ssz_value.specs.declared.path_fault.PathFault.TheVariants.{BadPath, Absent}
 use Rattle.ssz_walk.specs.Found.{spot_of, IsFound, IsLost}
-use Rattle.ssz_views.specs.Looking.{Looking, IsView, StandsFor, CanLie, type_seen, Reaches, Misses}
+use Rattle.ssz_views.specs.Looking.{Looking, IsView, ViewStandsFor, CanLie, type_seen, ViewReaches, Misses}
 use Rattle.ssz_views.proofs.Seeing.{whole_value}
 
 -- where a part can lie
@@ -97,7 +97,7 @@ composite_path t (step ∷ path) u some typed =
 
 -- the tree of a value with parts is the node's
 tree_there : (view : Looking) (path : Path) (u : SszType) (v : SszValue) → IsView view
-    → 0 < length path → path_type (type_seen view) path ≡ Some u → StandsFor view v
+    → 0 < length path → path_type (type_seen view) path ≡ Some u → ViewStandsFor view v
     → IsTreeOf (type_seen view) v (tree_of view.arena view.node)
 tree_there view path u v is some typed stands =
     whole_value view (type_seen view) v is refl
@@ -116,8 +116,8 @@ view_of view place =
 
 -- the view itself, where no step leads on
 pub Reaches-none : (view new : Looking) (path : Path) {b : Bool} → b ≡ eqb (length path) 0
-    → b ≡ true → new ≡ view → Reaches view path new
-Reaches-none view new [] is none same = subst (Reaches view []) (sym same) (record {
+    → b ≡ true → new ≡ view → ViewReaches view path new
+Reaches-none view new [] is none same = subst (ViewReaches view []) (sym same) (record {
   arena = refl;
   types = refl;
   type_at = refl;
@@ -144,7 +144,7 @@ module _ (view : Looking) (path : Path) (is : IsView view) (some : 0 < length pa
 
   pub Reaches-found : (place : Place) (format : Format) → IsLegal format (type_seen view)
       → IsFound view.types view.arena view.id view.node path place
-      → Reaches view path (view_of view place)
+      → ViewReaches view path (view_of view place)
   Reaches-found place format legal found = record {
     arena = refl;
     types = refl;

@@ -13,7 +13,7 @@ use Rattle.ssz_schema.specs.Unfolding.{options_over}
 use Rattle.ssz_bytes.specs.Bytes.{le_number, bit_value}
 use Rattle.ssz_schema.specs.Indices.{Spot, whole, byte, bit}
 use Rattle.ssz_value.specs.Values.{SszValue, number, wide, truth, sequence, bits, chosen, chosen_none, Fits, FitsWidth}
-use Rattle.ssz_value.specs.Encoding.{enc}
+use Rattle.ssz_value.specs.Encoding.{serialize}
 use Rattle.ssz_value.specs.Trees.{mixed_in}
 use Rattle.ssz_places.proofs.Elements.{is_basic}
 use Rattle.ssz_arena.specs.Content.{tree_of}
@@ -22,11 +22,11 @@ use Rattle.ssz_places.specs.PlaceLaws.{IsTreeOf, HasBasicPart}
 use Rattle.ssz_places.proofs.BasicParts.{basic_part}
 use Rattle.ssz_nodes.proofs.Formed.{IsVector, vector_elements, IsList, list_elements, IsBitvector, bitvector_bits, IsBitlist, bitlist_bits, IsUnion, union_option}
 use Rattle.ssz_nodes.proofs.LeafParts.{number_there, flag_byte}
-use Rattle.ssz_views.specs.Looking.{Looking, IsView, StandsFor, ForPart, type_seen, bit_offset, length_in, selector_in, number_in, wide_in, truth_in}
+use Rattle.ssz_views.specs.Looking.{Looking, IsView, ViewStandsFor, ForPart, type_seen, bit_offset, length_in, selector_in, number_of_value, wide_in, truth_in}
 
 -- a composite part is a whole node
 pub whole_value : (view : Looking) (t : SszType) (v : SszValue) → IsView view
-    → t ≡ type_seen view → basic_size t ≡ None → StandsFor view v
+    → t ≡ type_seen view → basic_size t ≡ None → ViewStandsFor view v
     → IsTreeOf t v (tree_of view.arena view.node)
 whole_value view t v is form composite stands =
     let here : view.lies ≡ whole = is.lies.composite (ap basic_size (sym form) ∙ composite) in
@@ -130,7 +130,7 @@ no_selector (union os) v fit other = absurd (other os refl)
 no_selector _ _ fit other = absurd fit
 
 pub no_number : (t : SszType) (v : SszValue) → Fits t v
-    → ((w : Width) → uint w ≡ t → ⊥) → (None ≡ number_in v) × (None ≡ wide_in v)
+    → ((w : Width) → uint w ≡ t → ⊥) → (None ≡ number_of_value v) × (None ≡ wide_in v)
 no_number (uint w) v fit other = absurd (other w refl)
 no_number boolean (truth b) fit other = (refl, refl)
 no_number (container fs) (sequence vs) fit other = (refl, refl)
@@ -142,7 +142,7 @@ no_number (union os) (chosen k v) fit other = (refl, refl)
 no_number (union os) (chosen_none k) fit other = (refl, refl)
 no_number _ _ fit other = absurd fit
 
-pub wide_no_number : (v : SszValue) → Fits (uint W256) v → None ≡ number_in v
+pub wide_no_number : (v : SszValue) → Fits (uint W256) v → None ≡ number_of_value v
 wide_no_number (wide bytes) fit = refl
 wide_no_number _ fit = absurd fit
 
@@ -203,7 +203,7 @@ number_bytes w (chosen_none k) (bit at) node fit has = absurd has
 
 -- the leaf of a number
 pub number_leaf : (view : Looking) (w : Width) (v : SszValue) → uint w ≡ type_seen view
-    → StandsFor view v
+    → ViewStandsFor view v
     → HasBasicPart view.lies (uint w) v (tree_of view.arena view.node) (byte_count w)
 number_leaf view w v form stands =
     let fit : Fits (uint w) v = subst (λ t. Fits t v) (sym form) stands.fits in
@@ -216,7 +216,7 @@ pub number_seen : (view : Looking) (w : Width) (chunk : List ℕ) (n from : ℕ)
     → uint w ≡ type_seen view → w ≢ W256
     → ((c : List ℕ) → tree_of view.arena view.node ≡ leaf c → chunk ≡ c)
     → from ≡ offset_of view.lies → n ≡ le_number (slice_range chunk from (from + byte_count w))
-    → ForPart view (λ v. Some n ≡ number_in v)
+    → ForPart view (λ v. Some n ≡ number_of_value v)
 number_seen view w chunk n from form narrow shows begins is = λ v stands.
     let at = number_leaf view w v form stands in
     let fit : Fits (uint w) v = subst (λ t. Fits t v) (sym form) stands.fits in
@@ -225,14 +225,14 @@ number_seen view w chunk n from form narrow shows begins is = λ v stands.
     ap (λ k. slice_range chunk k (k + byte_count w)) begins
     ∙ ap (λ c. slice_range c (offset_of view.lies) (offset_of view.lies + byte_count w))
     (shows at.chunk at.is) in
-    let long : length (enc (uint w) v) ≡ byte_count w =
+    let long : length (serialize (uint w) v) ≡ byte_count w =
     (is_basic (uint w) (byte_count w) refl).sized v fit in
     let there : slice_range at.chunk (offset_of view.lies)
-    (offset_of view.lies + length (enc (uint w) v)) ≡ enc (uint w) v =
+    (offset_of view.lies + length (serialize (uint w) v)) ≡ serialize (uint w) v =
     ap (λ k. slice_range at.chunk (offset_of view.lies) (offset_of view.lies + k)) long
     ∙ at.bytes in
     ap Some (is ∙ ap le_number bytes)
-    ∙ ap number_in (sym (number_there w v at.chunk (offset_of view.lies) narrow fit there))
+    ∙ ap number_of_value (sym (number_there w v at.chunk (offset_of view.lies) narrow fit there))
 
 -- the bytes of a uint256 are the whole leaf
 pub wide_seen : (view : Looking) (chunk : List ℕ) → IsView view → uint W256 ≡ type_seen view
@@ -244,12 +244,12 @@ wide_seen view chunk is form long shows = λ v stands.
     let fit : Fits (uint W256) v = subst (λ t. Fits t v) (sym form) stands.fits in
     let start : offset_of view.lies ≡ 0 =
     omega (arith, is.lies.basic 32 (ap basic_size (sym form))) in
-    let bytes : take 32 chunk ≡ enc (uint W256) v =
+    let bytes : take 32 chunk ≡ serialize (uint W256) v =
     ap (take 32) (shows at.chunk at.is)
     ∙ ap (λ k. slice_range at.chunk k (k + 32)) (sym start) ∙ at.bytes in
     ap Some (sym (take_all 32 chunk (omega (arith, long))) ∙ bytes) ∙ own v fit
   where
-    own : (v : SszValue) → Fits (uint W256) v → Some (enc (uint W256) v) ≡ wide_in v
+    own : (v : SszValue) → Fits (uint W256) v → Some (serialize (uint W256) v) ≡ wide_in v
     own (wide bytes) fit = refl
     own _ fit = absurd fit
 
@@ -290,7 +290,7 @@ has_flag (bit at) (truth b) (leaf chunk) fit has =
 has_flag (bit at) (truth b) (pair left right) fit has = absurd has
 has_flag _ _ node fit has = absurd fit
 
-pub flag_leaf : (view : Looking) (v : SszValue) → boolean ≡ type_seen view → StandsFor view v
+pub flag_leaf : (view : Looking) (v : SszValue) → boolean ≡ type_seen view → ViewStandsFor view v
     → HasFlag view.lies v (tree_of view.arena view.node)
 flag_leaf view v form stands =
     has_flag view.lies v (tree_of view.arena view.node)

@@ -9,14 +9,14 @@ use Rattle.ssz_schema.specs.Paths.{Path, path_type}
 use Rattle.ssz_value.specs.Values.{SszValue, number, wide, truth, sequence, bits, chosen, chosen_none, items, Fits}
 use Rattle.ssz_value.specs.Parts.{part}
 use Rattle.ssz_arena.specs.declared.node.NodeId.{NodeId}
-use Rattle.ssz_arena.specs.Content.{Content, tree_of, IsNodeOf}
+use Rattle.ssz_arena.specs.Content.{ArenaContent, tree_of, IsNodeOf}
 use Rattle.ssz_places.specs.Spots.{HasPart, offset_of}
 use Rattle.ssz_value.specs.declared.path_fault.PathFault.{PathFault}
 use Rattle.ssz_value.specs.declared.path_fault.PathFault.TheVariants.{BadPath, Absent}
 
 -- an arena and a schema, the type of a part, its node, and where in the node it lies
 pub record Looking : Type 0 where
-  pub arena : Content
+  pub arena : ArenaContent
   pub types : Types
   pub id : ℕ
   pub node : NodeId
@@ -44,23 +44,23 @@ pub record IsView (view : Looking) : Type 0 where
   pub lies : CanLie (type_seen view) view.lies
 
 -- the view stands for this value
-pub record StandsFor (view : Looking) (v : SszValue) : Type 0 where
+pub record ViewStandsFor (view : Looking) (v : SszValue) : Type 0 where
   pub fits : Fits (type_seen view) v
   pub has : HasPart view.lies (type_seen view) v (tree_of view.arena view.node)
 
 -- of the value that the view stands for
 abbrev pub ForPart : Looking → (SszValue → Type 0) → Type 0
-ForPart view P = (v : SszValue) → StandsFor view v → P v
+ForPart view P = (v : SszValue) → ViewStandsFor view v → P v
 
 -- the part of a value, for which another view stands
 pub record IsPartSeen (old : Looking) (path : Path) (new : Looking) (v : SszValue) : Type 0 where
   pub value : SszValue
   pub is : part (type_seen old) v path ≡ Some value
-  pub stands : StandsFor new value
+  pub stands : ViewStandsFor new value
 
 -- the new view stands for the part at the path of what the old one stands for: at the path's index
 -- below the old node, so in the very leaf in which the part lies, and at the spot that the path has
-pub record Reaches (old : Looking) (path : Path) (new : Looking) : Type 0 where
+pub record ViewReaches (old : Looking) (path : Path) (new : Looking) : Type 0 where
   pub arena : new.arena ≡ old.arena
   pub types : new.types ≡ old.types
   pub type_at : path_type (type_seen old) path ≡ Some (type_seen new)
@@ -91,9 +91,9 @@ selector_in (chosen_none k) = Some k
 selector_in _ = None
 
 -- a number of at most 128 bits
-abbrev pub number_in : SszValue → Option ℕ
-number_in (number n) = Some n
-number_in _ = None
+abbrev pub number_of_value : SszValue → Option ℕ
+number_of_value (number n) = Some n
+number_of_value _ = None
 
 -- the bytes of a uint256
 abbrev pub wide_in : SszValue → Option (List ℕ)

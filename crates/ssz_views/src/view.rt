@@ -9,7 +9,7 @@ ghost use Rattle.ssz_value.specs.Trees.{mixed_in};
 ghost use Rattle.ssz_arena.specs.Content.{IsNodeOf, tree_of};
 ghost use Rattle.ssz_places.specs.Spots.{offset_of};
 ghost use Rattle.ssz_walk.specs.Found.{spot_of};
-ghost use Rattle.ssz_views.specs.Looking.{CanLie, bit_offset, ForPart, IsView, Misses, Reaches, type_seen, length_in, selector_in, number_in, wide_in, truth_in};
+ghost use Rattle.ssz_views.specs.Looking.{CanLie, bit_offset, ForPart, IsView, Misses, ViewReaches, type_seen, length_in, selector_in, number_of_value, wide_in, truth_in};
 
 use ssz_arena::{Arena, NodeId};
 use ssz_chunk::{Chunk, PairHash};
@@ -114,7 +114,7 @@ impl<'a, H: PairHash> View<'a, H> {
     /// The part at the path. `BadPath` exactly where the path does not fit the type, and then
     /// `Absent` exactly where the part is not there.
     pub fn at(&self, path: &[PathStep]) -> Result<View<'a, H>, PathFault>
-        ensures reached { IfOk result (Reaches self.now path.now) }
+        ensures reached { IfOk result (ViewReaches self.now path.now) }
         ensures missed { IfErr result (Misses self.now path.now) }
     {
         if path.is_empty() {
@@ -130,7 +130,7 @@ impl<'a, H: PairHash> View<'a, H> {
 
     /// The field of this name of a container.
     pub fn field(&self, name: &str) -> Result<View<'a, H>, PathFault>
-        ensures reached { IfOk result (Reaches self.now (Field name.now ∷ [])) }
+        ensures reached { IfOk result (ViewReaches self.now (Field name.now ∷ [])) }
         ensures missed { IfErr result (Misses self.now (Field name.now ∷ [])) }
     {
         // Every type of a schema is legal.
@@ -143,7 +143,7 @@ impl<'a, H: PairHash> View<'a, H> {
 
     /// The element or bit of this number of a sequence or of bits.
     pub fn item(&self, i: u64) -> Result<View<'a, H>, PathFault>
-        ensures reached { IfOk result (Reaches self.now (Index i ∷ [])) }
+        ensures reached { IfOk result (ViewReaches self.now (Index i ∷ [])) }
         ensures missed { IfErr result (Misses self.now (Index i ∷ [])) }
     {
         self.at(&[PathStep::Index(i)])
@@ -151,7 +151,7 @@ impl<'a, H: PairHash> View<'a, H> {
 
     /// The value of a union, where this is its selector.
     pub fn option(&self, selector: u8) -> Result<View<'a, H>, PathFault>
-        ensures reached { IfOk result (Reaches self.now (Chosen selector ∷ [])) }
+        ensures reached { IfOk result (ViewReaches self.now (Chosen selector ∷ [])) }
         ensures missed { IfErr result (Misses self.now (Chosen selector ∷ [])) }
     {
         self.at(&[PathStep::Option(selector)])
@@ -198,7 +198,7 @@ impl<'a, H: PairHash> View<'a, H> {
 
     /// A number of at most 128 bits. None exactly where the type is another one.
     pub fn uint(&self) -> Option<u128>
-        ensures { ForPart self.now (λ v. result ≡ number_in v) }
+        ensures { ForPart self.now (λ v. result ≡ number_of_value v) }
     {
         match self.schema.ty(self.id) {
             Ty::Uint(width) => self.number(*width),
@@ -209,7 +209,7 @@ impl<'a, H: PairHash> View<'a, H> {
     // The number of this width, up to 128 bits.
     fn number(&self, width: Width) -> Option<u128>
         requires { uint width ≡ type_seen self.now }
-        ensures { ForPart self.now (λ v. result ≡ number_in v) }
+        ensures { ForPart self.now (λ v. result ≡ number_of_value v) }
     {
         match width {
             Width::W256 => None,

@@ -16,7 +16,7 @@ use Rattle.ssz_schema.proofs.StepLemmas.{Part, IsFieldAt, found_field, missing_f
 use Rattle.ssz_value.specs.Values.{SszValue}
 use Rattle.ssz_value.specs.Parts.{step_part}
 use Rattle.ssz_arena.specs.declared.node.NodeId.{NodeId}
-use Rattle.ssz_arena.specs.Content.{Content, tree_of, node_at, IsNodeOf}
+use Rattle.ssz_arena.specs.Content.{ArenaContent, tree_of, node_at, IsNodeOf}
 use Rattle.ssz_places.specs.PlaceLaws.{IsTreeOf}
 use Rattle.ssz_walk.specs.declared.place.Spot.TheVariants.{Whole}
 use Rattle.ssz_walk.specs.Found.{IsFound, IsAbsent}
@@ -33,7 +33,7 @@ no_field types id parts name form missing =
     ∙ ap (option_and_then (λ (part : SszType). path_type part []))
     (missing_field types.trees parts name missing)
 
-module _ (types : Types) (arena : Content) (id : ℕ) (node : NodeId) (parts : List Part)
+module _ (types : Types) (arena : ArenaContent) (id : ℕ) (node : NodeId) (parts : List Part)
     (name : List ℕ) (k : ℕ) (form : container (fields_over types.trees parts) ≡ type_of types id)
     (found : position_from (λ (part : Part). bytes_eq part.0 name) 0 parts ≡ Some k) where
   here : IsFieldAt types.trees parts name k

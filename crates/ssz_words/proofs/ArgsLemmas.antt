@@ -10,7 +10,7 @@ use Rattle.clap.specs.Walk.{Row, Text, all_of, first_of}
 use Rattle.hex.specs.Hex.{decode_sized}
 use Rattle.hex.proofs.HexLemmas.{IsOk-decode_sized}
 use Rattle.ssz_words.specs.Laws.{IsOrder, IsRoot}
-use Rattle.ssz_words.specs.Reading.{◌>>=◌, Reads, some_if}
+use Rattle.ssz_words.specs.Reading.{◌>>=◌, ReadsWords, some_if}
 use Rattle.ssz_words.specs.Values.{is_digit_below, number_at, order_value, root_value, without_mark}
 use Rattle.ssz_words.specs.Words.{named_args}
 use Rattle.ssz_words.specs.declared.commands.Command.{Command}
@@ -24,7 +24,7 @@ failed fault = Err fault
 
 -- what is missing for a part of the arguments is missing for all
 pub missing_reads : {A B : Type 0} (fault : WordsFault) (read : Option B)
-    → (failed {A = A} fault ≡ failed NotTaken → read ≡ None) → Reads (failed fault) read
+    → (failed {A = A} fault ≡ failed NotTaken → read ≡ None) → ReadsWords (failed fault) read
 missing_reads NotTaken read missing = missing refl
 missing_reads Memory read missing = tt
 

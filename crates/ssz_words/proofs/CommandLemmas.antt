@@ -19,8 +19,8 @@ use Rattle.ssz_words.specs.CommandSet.{max_bytes_option, program_shape, root_com
 use Rattle.ssz_words.specs.CommandSet.{verify_command, weave_command, work_command, part_command}
 use Rattle.ssz_words.specs.CommandSet.{partial_command, clash_command}
 use Rattle.ssz_words.specs.Laws.{KeepsRules}
-use Rattle.ssz_words.specs.Limits.{IsWithinLimits}
-use Rattle.ssz_words.specs.Values.{number_at, number_below, order_value, root_value}
+use Rattle.ssz_words.specs.Limits.{CommandIsWithinLimits}
+use Rattle.ssz_words.specs.Values.{number_at, text_number_below, order_value, root_value}
 use Rattle.ssz_words.specs.Words.{named_args}
 use Rattle.ssz_words.specs.declared.commands.Command.{Command}
 use Rattle.ssz_words.specs.declared.commands.Command.TheVariants.{Verify, Weave}
@@ -39,16 +39,16 @@ built_command s = built_leaf (inherited program_shape s)
 -- a text that a parser of numbers from 0 takes writes a number of k bits, at most the highest one
 signed_number : (k high : ℕ) (v : Text) → IsWidth k → high < 2 ^ k
     → accepts false (Signed (pos 0) (pos high)) v ≡ true
-    → (n : ℕ) × (number_below k (without_minus v) ≡ Some n) × (n ≤ high)
+    → (n : ℕ) × (text_number_below k (without_minus v) ≡ Some n) × (n ≤ high)
 signed_number k high v width fits passes =
     let got = signed_reads ⊤ (λ u x. ParsesUnsigned k 10 u x) k 0 high v
-    (number_below k (without_minus v)) (number_reads k (without_minus v) width)
+    (text_number_below k (without_minus v)) (number_reads k (without_minus v) width)
     (λ u x g. g) fits (accepts-Accepts false (Signed (pos 0) (pos high)) v passes) in
     (got.0, got.1, got.3)
 
 -- a text that a parser of numbers of k bits takes writes one
 unsigned_number : (k : ℕ) (v : Text) → accepts false (Unsigned 0 (2 ^ k - 1)) v ≡ true
-    → (n : ℕ) × (number_below k v ≡ Some n)
+    → (n : ℕ) × (text_number_below k v ≡ Some n)
 unsigned_number k v passes = (digits_value 10 (without_leading_plus v), rw passes refl)
 
 -- `--max-bytes` has a number, which may be its default
@@ -68,13 +68,13 @@ differ a b e is = true≢false (sym ((bytes_eq-Decides a b).1 is) ∙ e)
 -- within its limits
 pub record HasAnswer (name : Text) (rows : List Row) : Type 0 where
   pub exact : IsSome (named_args name rows) ↔ KeepsRules name rows
-  pub limits : IfSome (named_args name rows) IsWithinLimits
+  pub limits : IfSome (named_args name rows) CommandIsWithinLimits
 
 -- a command that has no rules
 always_asks : (name : Text) (rows : List Row) (command : Command)
     → named_args name rows ≡ Some command
     → bytes_eq name (codes "weave") ≡ false → bytes_eq name (codes "verify") ≡ false
-    → IsWithinLimits command → HasAnswer name rows
+    → CommandIsWithinLimits command → HasAnswer name rows
 always_asks name rows command is weave verify within = record {
   exact = (
     λ _. (
@@ -169,7 +169,7 @@ verify_asks_by rows text file a b =
         ),
         λ keeps. rw is (made.1 (root.1 (rw a at (keeps.1 refl)), refl)),
       );
-      limits = rw is (made_keeps IsWithinLimits (root_value text) true
+      limits = rw is (made_keeps CommandIsWithinLimits (root_value text) true
           (λ r. Verify (record { root = r; file = file })) (λ x _ _. tt));
     }
 
@@ -207,7 +207,7 @@ weave_asks_by rows schema base digits scripts n a b c d e =
             let kept = rw (d, c) at (keeps.0 refl) in
             rw is (made.1 (order.1 kept.1, le-leb _ _ kept.0)),
       );
-      limits = rw is (made_keeps IsWithinLimits (order_value (length scripts) digits)
+      limits = rw is (made_keeps CommandIsWithinLimits (order_value (length scripts) digits)
           (nat_le (length scripts) 10) make (λ o read few.
           let turns = order_value-below (length scripts) digits o read in
           (omega (arith, turns.1 0 0 turns.0), leb-true _ _ few, turns.0, turns.1)));

@@ -13,8 +13,8 @@ use Rattle.clap.specs.ValueTests.{accepts}
 use Rattle.clap.specs.Walk.{Text}
 use Rattle.clap.specs.declared.builder.value_parser.ValueParser.TheVariants.{Signed, Unsigned}
 use Rattle.clap.proofs.ValueTestLemmas.{Accepts-accepts}
-use Rattle.ssz_words.specs.Laws.{IsDigits, IsOrder, is_plain}
-use Rattle.ssz_words.specs.Values.{is_digit_below, number_below, order_value}
+use Rattle.ssz_words.specs.Laws.{IsDigits, IsOrder, is_plain_text}
+use Rattle.ssz_words.specs.Values.{is_digit_below, text_number_below, order_value}
 
 -- a digit is neither a hyphen (45) nor a plus (43)
 no_hyphen_below : (n byte : ℕ) → is_digit_below n byte ≡ true → (byte == 45) ≡ false
@@ -30,7 +30,7 @@ digit_of : (byte : ℕ) → is_digit_below 10 byte ≡ true → digit_value byte
 digit_of byte is = grind arith
 
 -- an order does not begin with a hyphen, and is read as it stands
-pub order_plain : (n : ℕ) (text : Text) → IsOrder n text → is_plain text ≡ true
+pub order_plain : (n : ℕ) (text : Text) → IsOrder n text → is_plain_text text ≡ true
 order_plain n [] is = refl
 order_plain n (byte ∷ text) is = rw (no_hyphen_below n byte (is.1 0 byte (omega arith))) refl
 
@@ -84,13 +84,13 @@ takes_edits text is most =
 
 -- and their numbers are those that the digits write
 pub seed_read : (text : Text) → IsDigits text → digits_value 10 text < 2 ^ 64
-    → number_below 64 text ≡ Some (digits_value 10 text)
+    → text_number_below 64 text ≡ Some (digits_value 10 text)
 seed_read text is below =
     let sign = no_sign text is in
     rw (takes_seed text is below, sign.1) refl
 
 pub edits_read : (text : Text) → IsDigits text → digits_value 10 text ≤ 1000000
-    → number_below 32 (without_minus text) ≡ Some (digits_value 10 text)
+    → text_number_below 32 (without_minus text) ≡ Some (digits_value 10 text)
 edits_read text is most =
     let sign = no_sign text is in
     let takes : accepts false (Unsigned 0 (2 ^ 32 - 1)) text ≡ true =

@@ -6,7 +6,7 @@ use Rattle.clap.specs.Words.{Kinds, Row, Text, fault_of, subcommand_name_of, sub
 use Rattle.clap.specs.Words.{subcommand_rows_of}
 use Rattle.clap.specs.declared.parser.matches.ArgMatches.{ArgMatches}
 use Rattle.ssz_words.specs.CommandSet.{program}
-use Rattle.ssz_words.specs.Reading.{Reads}
+use Rattle.ssz_words.specs.Reading.{ReadsWords}
 use Rattle.ssz_words.specs.declared.faults.WordsFault.{WordsFault}
 use Rattle.ssz_words.specs.declared.faults.WordsFault.TheVariants.{NotTaken, Memory}
 use Rattle.ssz_words.specs.Words.{command_of, found_in, named_args}
@@ -58,6 +58,6 @@ subcommand_name-rows m = name_of_rows _ _
 
 -- an error is read right where NotTaken comes only where there is nothing to read
 pub refused_reads : {A : Type 0} (fault : WordsFault) (read : Option A)
-    → (fault ≡ NotTaken → read ≡ None) → Reads (Err fault) read
+    → (fault ≡ NotTaken → read ≡ None) → ReadsWords (Err fault) read
 refused_reads NotTaken read none = none refl
 refused_reads Memory read none = tt

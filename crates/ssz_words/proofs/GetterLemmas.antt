@@ -10,8 +10,8 @@ use Rattle.clap.specs.ValueTests.{accepts}
 use Rattle.clap.specs.declared.builder.value_parser.ValueParser.TheVariants as parser
 use Rattle.clap.proofs.ValueTestLemmas.{Accepts-accepts, accepts-Accepts}
 use Rattle.clap.specs.Words.{Text}
-use Rattle.ssz_words.specs.Reading.{◌>>=◌, Reads, ReadsBy}
-use Rattle.ssz_words.specs.Values.{number_below}
+use Rattle.ssz_words.specs.Reading.{◌>>=◌, ReadsWords, ReadsBy}
+use Rattle.ssz_words.specs.Values.{text_number_below}
 use Rattle.ssz_words.specs.declared.faults.WordsFault.TheVariants.{NotTaken}
 
 -- a value that may be missing, read as NotTaken where it is
@@ -20,11 +20,11 @@ pub ok_or_reads : {A B : Type 0} (view : A → B) (o : Option A) (t : Option B)
 ok_or_reads view None t e = sym e
 ok_or_reads view (Some x) t e = sym e
 
-pub ok_or_same : {A : Type 0} (o t : Option A) → o ≡ t → Reads (ok_or o NotTaken) t
+pub ok_or_same : {A : Type 0} (o t : Option A) → o ≡ t → ReadsWords (ok_or o NotTaken) t
 ok_or_same None t e = sym e
 ok_or_same (Some x) t e = sym e
 
--- the test of `number_below`
+-- the test of `text_number_below`
 abbrev is_below : ℕ → Text → Bool
 is_below k text = accepts false (parser.Unsigned 0 (2 ^ k - 1)) text
 
@@ -46,7 +46,7 @@ below_back k text width n lt = Accepts-accepts false (parser.Unsigned 0 (2 ^ k -
     (n, omega (arith, lt, width.1), omega arith, omega (arith, lt))
 
 parsed_number : (E : Type 0) (k : ℕ) (text : Text) (r : Option ℕ) → IsWidth k
-    → ReadsOne (λ t (x : Result ℕ E). ParsesUnsigned k 10 t x) text r → r ≡ number_below k text
+    → ReadsOne (λ t (x : Result ℕ E). ParsesUnsigned k 10 t x) text r → r ≡ text_number_below k text
 parsed_number E k text (Some n) width h =
     let yes = below_back k text width h.0.0 h.0.1 in
     rw yes (ap Some h.1)
@@ -67,14 +67,14 @@ only_parsed E G k t None only h = (h.0, only t (Err h.0) h.1)
 pub number_read : (E : Type 0) (G : List ℕ → Result ℕ E
     → Type 0) (k : ℕ) (o : Option Text) (r : Option ℕ) → IsWidth k
     → ((u : Text) (x : Result ℕ E) → G u x → ParsesUnsigned k 10 u x) → (o ≡ None → r ≡ None)
-    → ((t : Text) → o ≡ Some t → ReadsOne G t r) → r ≡ o >>= number_below k
+    → ((t : Text) → o ≡ Some t → ReadsOne G t r) → r ≡ o >>= text_number_below k
 number_read E G k None r width only none some = none refl
 number_read E G k (Some t) r width only none some = parsed_number E k t r width
     (only_parsed E G k t r only (some t refl))
 
--- `number_below` is what `get_one` gives
+-- `text_number_below` is what `get_one` gives
 pub number_reads : (k : ℕ) (text : Text) → IsWidth k
-    → ReadsOne (λ t (x : Result ℕ ⊤). ParsesUnsigned k 10 t x) text (number_below k text)
+    → ReadsOne (λ t (x : Result ℕ ⊤). ParsesUnsigned k 10 t x) text (text_number_below k text)
 number_reads k text width = go (is_below k text) refl
   where
     impossible : is_below k text ≡ false → IsNumeral 10 (without_leading_plus text)

@@ -12,7 +12,7 @@ use Rattle.clap.specs.Walk.{Text, walked}
 use Rattle.clap.specs.declared.builder.value_parser.ValueParser.TheVariants.{String}
 use Rattle.ssz_words.specs.CommandSet.{root_command, run_command, weave_command, verify_command}
 use Rattle.ssz_words.specs.CommandSet.{work_command, part_command, partial_command, clash_command}
-use Rattle.ssz_words.specs.Laws.{IsDigits, IsOrder, TakesPlainWords, is_plain}
+use Rattle.ssz_words.specs.Laws.{IsDigits, IsOrder, TakesPlainWords, is_plain_text}
 use Rattle.ssz_words.specs.Values.{root_value}
 use Rattle.ssz_words.specs.Words.{command_of, named_args}
 use Rattle.ssz_words.specs.declared.commands.Command.TheVariants.{Root, Run, Weave, Verify, Work}
@@ -29,7 +29,7 @@ unfolding walked
 root_entered = record { met = refl; none = refl; found = refl }
 
 takes_root : (program schema type_name file : Text)
-    → is_plain schema ≡ true → is_plain type_name ≡ true → is_plain file ≡ true
+    → is_plain_text schema ≡ true → is_plain_text type_name ≡ true → is_plain_text file ≡ true
     → command_of (program ∷ codes "root" ∷ schema ∷ type_name ∷ file ∷ [])
     ≡ Some (Root (record {
       schema = schema;
@@ -55,7 +55,8 @@ run_entered : IsEntered (built_command run_command)
 unfolding walked
 run_entered = record { met = refl; none = refl; found = refl }
 
-takes_run : (program schema script : Text) → is_plain schema ≡ true → is_plain script ≡ true
+takes_run : (program schema script : Text) → is_plain_text schema ≡ true
+    → is_plain_text script ≡ true
     → command_of (program ∷ codes "run" ∷ schema ∷ script ∷ [])
     ≡ Some (Run (record { schema = schema; script = script; max_bytes = 2 ^ 28 }))
 unfolding defaults_fault
@@ -84,8 +85,8 @@ one_or_more n some few = grind arith
 
 -- a weave that has a script
 takes_scripts : (program schema base order first : Text) (others : List Text)
-    → is_plain schema ≡ true → is_plain base ≡ true
-    → IsOrder (length (first ∷ others)) order → AllPass is_plain (first ∷ others)
+    → is_plain_text schema ≡ true → is_plain_text base ≡ true
+    → IsOrder (length (first ∷ others)) order → AllPass is_plain_text (first ∷ others)
     → length (first ∷ others) ≤ 10
     → command_of (program ∷ codes "weave" ∷ schema ∷ base ∷ order ∷ first ∷ others)
     ≡ Some (Weave (record {
@@ -106,7 +107,7 @@ takes_scripts program schema base order first others a b c d few =
     (leads_on s _ 3 order scripts _
     (takes_next s _ 3 order _ (order_plain (length scripts) order c) refl refl refl refl)
     (leads_rest s _ 4 first others (takes_rest s _ 4 _ refl refl refl refl refl)
-    (list_all-from_AllPass is_plain scripts d)))) in
+    (list_all-from_AllPass is_plain_text scripts d)))) in
     let ends = leads_none s (schema ∷ base ∷ order ∷ scripts) _ leads
     (rw (one_or_more (length scripts) (omega arith) few) (any_texts scripts)) refl refl in
     enter s weave_entered program (schema ∷ base ∷ order ∷ scripts) ends.0
@@ -114,8 +115,8 @@ takes_scripts program schema base order first others a b c d few =
     ∙ rw (order_read (length scripts) order c, le-leb (length scripts) 10 few) refl
 
 takes_weave : (program schema base order : Text) (scripts : List Text)
-    → is_plain schema ≡ true → is_plain base ≡ true → IsOrder (length scripts) order
-    → AllPass is_plain scripts → length scripts ≤ 10
+    → is_plain_text schema ≡ true → is_plain_text base ≡ true → IsOrder (length scripts) order
+    → AllPass is_plain_text scripts → length scripts ≤ 10
     → command_of (program ∷ codes "weave" ∷ schema ∷ base ∷ order ∷ scripts)
     ≡ Some (Weave (record {
       schema = schema;
@@ -133,7 +134,7 @@ unfolding walked
 verify_entered = record { met = refl; none = refl; found = refl }
 
 takes_verify : (program text file : Text) (bytes : List ℕ)
-    → is_plain text ≡ true → is_plain file ≡ true → root_value text ≡ Some bytes
+    → is_plain_text text ≡ true → is_plain_text file ≡ true → root_value text ≡ Some bytes
     → command_of (program ∷ codes "verify" ∷ text ∷ file ∷ [])
     ≡ Some (Verify (record { root = bytes; file = file }))
 unfolding defaults_fault
@@ -153,7 +154,7 @@ unfolding walked
 work_entered = record { met = refl; none = refl; found = refl }
 
 takes_work : (program schema type_name seed edits : Text)
-    → is_plain schema ≡ true → is_plain type_name ≡ true → IsDigits seed → IsDigits edits
+    → is_plain_text schema ≡ true → is_plain_text type_name ≡ true → IsDigits seed → IsDigits edits
     → digits_value 10 seed < 2 ^ 64 → digits_value 10 edits ≤ 1000000
     → command_of (program ∷ codes "work" ∷ schema ∷ type_name ∷ seed ∷ edits ∷ [])
     ≡ Some (Work (record {
@@ -186,8 +187,8 @@ unfolding walked
 part_entered = record { met = refl; none = refl; found = refl }
 
 takes_part : (program schema type_name file path : Text)
-    → is_plain schema ≡ true → is_plain type_name ≡ true → is_plain file ≡ true
-    → is_plain path ≡ true
+    → is_plain_text schema ≡ true → is_plain_text type_name ≡ true → is_plain_text file ≡ true
+    → is_plain_text path ≡ true
     → command_of (program ∷ codes "part" ∷ schema ∷ type_name ∷ file ∷ path ∷ [])
     ≡ Some (Part (record {
       schema = schema;
@@ -217,8 +218,8 @@ unfolding walked
 partial_entered = record { met = refl; none = refl; found = refl }
 
 takes_partial : (program schema type_name proof script : Text)
-    → is_plain schema ≡ true → is_plain type_name ≡ true → is_plain proof ≡ true
-    → is_plain script ≡ true
+    → is_plain_text schema ≡ true → is_plain_text type_name ≡ true → is_plain_text proof ≡ true
+    → is_plain_text script ≡ true
     → command_of (program ∷ codes "partial" ∷ schema ∷ type_name ∷ proof ∷ script ∷ [])
     ≡ Some (Partial (record {
       schema = schema;
@@ -246,7 +247,8 @@ clash_entered : IsEntered (built_command clash_command)
 unfolding walked
 clash_entered = record { met = refl; none = refl; found = refl }
 
-takes_clash : (program first second : Text) → is_plain first ≡ true → is_plain second ≡ true
+takes_clash : (program first second : Text) → is_plain_text first ≡ true
+    → is_plain_text second ≡ true
     → command_of (program ∷ codes "clash" ∷ first ∷ second ∷ [])
     ≡ Some (Clash (record { first = first; second = second }))
 unfolding defaults_fault

@@ -13,9 +13,9 @@ use Rattle.clap.specs.Walk.{action_of, is_append, is_pending, Held, Rule, Text, 
 use Rattle.clap.specs.Walk.{arg_by_index, finished, idle, is_multiple, nothing_held, positional}
 use Rattle.clap.specs.Walk.{pushed, rows_after, settled, takes_several}
 use Rattle.clap.specs.Walk.{walked}
-use Rattle.ssz_words.specs.Laws.{is_plain}
+use Rattle.ssz_words.specs.Laws.{is_plain_text}
 
-no_dashes : (s : Text) → is_plain s ≡ true → bytes_eq s (45 ∷ 45 ∷ []) ≡ false
+no_dashes : (s : Text) → is_plain_text s ≡ true → bytes_eq s (45 ∷ 45 ∷ []) ≡ false
 no_dashes [] e = refl
 no_dashes (x ∷ xs) e = go (x == 45) refl e
   where
@@ -24,7 +24,7 @@ no_dashes (x ∷ xs) e = go (x == 45) refl e
     go true is e = cc
     go false is e = rw is refl
 
-no_hyphen : (s : Text) → is_plain s ≡ true → strip_byte 45 s ≡ None
+no_hyphen : (s : Text) → is_plain_text s ≡ true → strip_byte 45 s ≡ None
 no_hyphen [] e = refl
 no_hyphen (x ∷ xs) e = go (x == 45) refl e
   where
@@ -32,10 +32,10 @@ no_hyphen (x ∷ xs) e = go (x == 45) refl e
     go true is e = cc
     go false is e = rw is refl
 
-no_long : (s : Text) → is_plain s ≡ true → long_of s ≡ None
+no_long : (s : Text) → is_plain_text s ≡ true → long_of s ≡ None
 no_long s e = rw (no_hyphen s e) refl
 
-no_short : (s : Text) → is_plain s ≡ true → short_of s ≡ None
+no_short : (s : Text) → is_plain_text s ≡ true → short_of s ≡ None
 no_short s e = rw (no_hyphen s e) refl
 
 neither : (a b : Bool) → (a || b) ≡ false → (a ≡ false) × (b ≡ false)
@@ -64,14 +64,14 @@ module _ (s : Shape) where
   -- the positional of this place has one value, and takes the word
   pub record TakesNext (h : Held) (position : ℕ) (word : Text) : Type 0 where
     pub rule : Rule
-    pub plain : is_plain word ≡ true
+    pub plain : is_plain_text word ≡ true
     pub found : arg_by_index s.rules position ≡ Some rule
     pub single : is_multiple rule ≡ false
     pub not_trailing : rule.trailing_var_arg ≡ false
     pub settles : settle_fault s.rules s.args_override_self h ≡ []
 
   abbrev pub takes_next : (h : Held) (position : ℕ) (word : Text) (rule : Rule)
-      → is_plain word ≡ true
+      → is_plain_text word ≡ true
       → arg_by_index s.rules position ≡ Some rule → is_multiple rule ≡ false
       → rule.trailing_var_arg ≡ false → settle_fault s.rules s.args_override_self h ≡ []
       → TakesNext h position word
@@ -155,7 +155,7 @@ module _ (s : Shape) where
   }
 
   first_goes : (h : Held) (position : ℕ) (word : Text) (t : TakesRest h position)
-      → is_plain word ≡ true
+      → is_plain_text word ≡ true
       → walked s.rules [] (at h position) word
       ≡ taking (settled s.rules h) t.rule.id (word ∷ []) position
   unfolding walked
@@ -164,13 +164,13 @@ module _ (s : Shape) where
       (rw (t.found, t.several, t.not_trailing, t.first) refl)
 
   first_none : (h : Held) (position : ℕ) (word : Text) (t : TakesRest h position)
-      → is_plain word ≡ true → turn_fault s [] (at h position) word ≡ []
+      → is_plain_text word ≡ true → turn_fault s [] (at h position) word ≡ []
   first_none h position word t plain =
       rw (no_dashes word plain, no_long word plain, no_short word plain)
       (rw (t.found, t.first) t.settles)
 
   later_goes : (h now : Held) (position : ℕ) (values : List Text) (word : Text)
-      (t : TakesRest h position) → is_plain word ≡ true
+      (t : TakesRest h position) → is_plain_text word ≡ true
       → walked s.rules [] (taking now t.rule.id values position) word
       ≡ taking now t.rule.id (values ++ word ∷ []) position
   unfolding walked
@@ -180,7 +180,7 @@ module _ (s : Shape) where
       (rw (t.found, same, t.several, t.not_trailing) refl)
 
   later_none : (h now : Held) (position : ℕ) (values : List Text) (word : Text)
-      (t : TakesRest h position) → is_plain word ≡ true
+      (t : TakesRest h position) → is_plain_text word ≡ true
       → turn_fault s [] (taking now t.rule.id values position) word ≡ []
   later_none h now position values word t plain =
       let same = (bytes_eq-Decides t.rule.id t.rule.id).1 refl in
@@ -188,37 +188,37 @@ module _ (s : Shape) where
       (rw (t.found, same, t.several) refl)
 
   rest_goes : (h now : Held) (position : ℕ) (values words : List Text) (t : TakesRest h position)
-      → list_all is_plain words ≡ true
+      → list_all is_plain_text words ≡ true
       → fold (walked s.rules []) (taking now t.rule.id values position) words
       ≡ taking now t.rule.id (values ++ words) position
   rest_goes h now position values [] t plain =
       ap (λ vs. taking now t.rule.id vs position) (sym (append-nil values))
   rest_goes h now position values (word ∷ words) t plain =
-      let parts = both_true (is_plain word) (list_all is_plain words) plain in
+      let parts = both_true (is_plain_text word) (list_all is_plain_text words) plain in
       ap (λ w. fold (walked s.rules []) w words)
       (later_goes h now position values word t parts.0)
       ∙ rest_goes h now position (values ++ word ∷ []) words t parts.1
       ∙ ap (λ vs. taking now t.rule.id vs position) (append_assoc values (word ∷ []) words)
 
   rest_none : (h now : Held) (position : ℕ) (values words : List Text) (t : TakesRest h position)
-      → list_all is_plain words ≡ true
+      → list_all is_plain_text words ≡ true
       → walk_fault s [] (taking now t.rule.id values position) words ≡ []
   unfolding walk_fault
   rest_none h now position values [] t plain = refl
   rest_none h now position values (word ∷ words) t plain =
-      let parts = both_true (is_plain word) (list_all is_plain words) plain in
+      let parts = both_true (is_plain_text word) (list_all is_plain_text words) plain in
       rw (later_none h now position values word t parts.0)
       (rw (later_goes h now position values word t parts.0)
       (rest_none h now position (values ++ word ∷ []) words t parts.1))
 
   -- all words that are left
   pub leads_rest : (h : Held) (position : ℕ) (word : Text) (words : List Text)
-      (t : TakesRest h position) → list_all is_plain (word ∷ words) ≡ true
+      (t : TakesRest h position) → list_all is_plain_text (word ∷ words) ≡ true
       → Leads h position (word ∷ words)
       (taking (settled s.rules h) t.rule.id (word ∷ words) position)
   unfolding walk_fault
   leads_rest h position word words t plain =
-      let parts = both_true (is_plain word) (list_all is_plain words) plain in
+      let parts = both_true (is_plain_text word) (list_all is_plain_text words) plain in
       let goes = first_goes h position word t parts.0 in
       let held = settled s.rules h in
       record {

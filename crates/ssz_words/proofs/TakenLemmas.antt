@@ -14,8 +14,8 @@ use Rattle.clap.specs.Walk.{Row, Text, answers_to, finished, nothing_held, settl
 use Rattle.clap.specs.Walk.{walk, walk_from}
 use Rattle.ssz_words.specs.CommandSet.{commands, program, program_shape}
 use Rattle.ssz_words.specs.Laws.{TakesExactly}
-use Rattle.ssz_words.specs.Limits.{IsWithinLimits}
-use Rattle.ssz_words.specs.Reading.{Reads}
+use Rattle.ssz_words.specs.Limits.{CommandIsWithinLimits}
+use Rattle.ssz_words.specs.Reading.{ReadsWords}
 use Rattle.ssz_words.specs.declared.faults.WordsFault.{WordsFault}
 use Rattle.ssz_words.specs.Words.{command_of, named_args}
 use Rattle.ssz_words.specs.declared.commands.Command.{Command}
@@ -128,7 +128,7 @@ takes_exactly words = (
 
 -- what is taken is within its limits
 within_limits : (words : List Text) (command : Command) → command_of words ≡ Some command
-    → IsWithinLimits command
+    → CommandIsWithinLimits command
 within_limits words command is =
     let none = no_fault words (rw is refl) in
     let entered = answered words none in
@@ -137,6 +137,6 @@ within_limits words command is =
     rw same at entered.2.limits
 
 pub reads_within : (words : List Text) (result : Result Command WordsFault)
-    → Reads result (command_of words) → IfOk result IsWithinLimits
+    → ReadsWords result (command_of words) → IfOk result CommandIsWithinLimits
 reads_within words (Ok command) is = within_limits words command is
 reads_within words (Err fault) is = tt

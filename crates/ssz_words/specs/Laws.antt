@@ -41,9 +41,9 @@ TakesExactly = (words : List Text) → IsSome (command_of words)
     × IfSome (subcommand_of program words) (λ entered. KeepsRules entered.0 entered.1))
 
 -- the word does not begin with a hyphen (45)
-abbrev pub is_plain : Text → Bool
-is_plain [] = true
-is_plain (x ∷ xs) = if x == 45 then false else true
+abbrev pub is_plain_text : Text → Bool
+is_plain_text [] = true
+is_plain_text (x ∷ xs) = if x == 45 then false else true
 
 -- one or more decimal digits
 abbrev pub IsDigits : Text → Type 0
@@ -52,7 +52,7 @@ IsDigits text = (0 < length text) × AllPass (is_digit_below 10) text
 -- Plain words after the name of a command are its arguments, in order, and max-bytes is 2 ^ 28.
 pub record TakesPlainWords : Type 0 where
   pub root : (program schema type_name file : Text)
-      → is_plain schema ≡ true → is_plain type_name ≡ true → is_plain file ≡ true
+      → is_plain_text schema ≡ true → is_plain_text type_name ≡ true → is_plain_text file ≡ true
       → command_of (program ∷ codes "root" ∷ schema ∷ type_name ∷ file ∷ [])
       ≡ Some (Root (record {
         schema = schema;
@@ -60,12 +60,13 @@ pub record TakesPlainWords : Type 0 where
         file = file;
         max_bytes = 2 ^ 28;
       }))
-  pub run : (program schema script : Text) → is_plain schema ≡ true → is_plain script ≡ true
+  pub run : (program schema script : Text) → is_plain_text schema ≡ true
+      → is_plain_text script ≡ true
       → command_of (program ∷ codes "run" ∷ schema ∷ script ∷ [])
       ≡ Some (Run (record { schema = schema; script = script; max_bytes = 2 ^ 28 }))
   pub weave : (program schema base order : Text) (scripts : List Text)
-      → is_plain schema ≡ true → is_plain base ≡ true → IsOrder (length scripts) order
-      → AllPass is_plain scripts → length scripts ≤ 10
+      → is_plain_text schema ≡ true → is_plain_text base ≡ true → IsOrder (length scripts) order
+      → AllPass is_plain_text scripts → length scripts ≤ 10
       → command_of (program ∷ codes "weave" ∷ schema ∷ base ∷ order ∷ scripts)
       ≡ Some (Weave (record {
         schema = schema;
@@ -75,11 +76,12 @@ pub record TakesPlainWords : Type 0 where
         max_bytes = 2 ^ 28;
       }))
   pub verify : (program text file : Text) (bytes : List ℕ)
-      → is_plain text ≡ true → is_plain file ≡ true → root_value text ≡ Some bytes
+      → is_plain_text text ≡ true → is_plain_text file ≡ true → root_value text ≡ Some bytes
       → command_of (program ∷ codes "verify" ∷ text ∷ file ∷ [])
       ≡ Some (Verify (record { root = bytes; file = file }))
   pub work : (program schema type_name seed edits : Text)
-      → is_plain schema ≡ true → is_plain type_name ≡ true → IsDigits seed → IsDigits edits
+      → is_plain_text schema ≡ true → is_plain_text type_name ≡ true → IsDigits seed
+      → IsDigits edits
       → digits_value 10 seed < 2 ^ 64 → digits_value 10 edits ≤ 1000000
       → command_of (program ∷ codes "work" ∷ schema ∷ type_name ∷ seed ∷ edits ∷ [])
       ≡ Some (Work (record {
@@ -89,8 +91,8 @@ pub record TakesPlainWords : Type 0 where
         edits = digits_value 10 edits;
       }))
   pub part : (program schema type_name file path : Text)
-      → is_plain schema ≡ true → is_plain type_name ≡ true → is_plain file ≡ true
-      → is_plain path ≡ true
+      → is_plain_text schema ≡ true → is_plain_text type_name ≡ true → is_plain_text file ≡ true
+      → is_plain_text path ≡ true
       → command_of (program ∷ codes "part" ∷ schema ∷ type_name ∷ file ∷ path ∷ [])
       ≡ Some (Part (record {
         schema = schema;
@@ -100,8 +102,8 @@ pub record TakesPlainWords : Type 0 where
         max_bytes = 2 ^ 28;
       }))
   pub partial : (program schema type_name proof script : Text)
-      → is_plain schema ≡ true → is_plain type_name ≡ true → is_plain proof ≡ true
-      → is_plain script ≡ true
+      → is_plain_text schema ≡ true → is_plain_text type_name ≡ true → is_plain_text proof ≡ true
+      → is_plain_text script ≡ true
       → command_of (program ∷ codes "partial" ∷ schema ∷ type_name ∷ proof ∷ script ∷ [])
       ≡ Some (Partial (record {
         schema = schema;
@@ -109,6 +111,7 @@ pub record TakesPlainWords : Type 0 where
         proof = proof;
         script = script;
       }))
-  pub clash : (program first second : Text) → is_plain first ≡ true → is_plain second ≡ true
+  pub clash : (program first second : Text) → is_plain_text first ≡ true
+      → is_plain_text second ≡ true
       → command_of (program ∷ codes "clash" ∷ first ∷ second ∷ [])
       ≡ Some (Clash (record { first = first; second = second }))

@@ -10,12 +10,12 @@ IsWeaveOf scripts order = (0 < length scripts) × (length scripts ≤ 10) × (0 
     × All (λ writer. writer < length scripts) order
 
 -- what no type of a field says: the turns of a weave, and the number of edits
-abbrev pub IsWithinLimits : Command → Type 0
-IsWithinLimits (Root args) = ⊤
-IsWithinLimits (Run args) = ⊤
-IsWithinLimits (Weave args) = IsWeaveOf args.scripts args.order
-IsWithinLimits (Verify args) = ⊤
-IsWithinLimits (Work args) = args.edits ≤ 1000000
-IsWithinLimits (Part args) = ⊤
-IsWithinLimits (Partial args) = ⊤
-IsWithinLimits (Clash args) = ⊤
+abbrev pub CommandIsWithinLimits : Command → Type 0
+CommandIsWithinLimits (Root args) = ⊤
+CommandIsWithinLimits (Run args) = ⊤
+CommandIsWithinLimits (Weave args) = IsWeaveOf args.scripts args.order
+CommandIsWithinLimits (Verify args) = ⊤
+CommandIsWithinLimits (Work args) = args.edits ≤ 1000000
+CommandIsWithinLimits (Part args) = ⊤
+CommandIsWithinLimits (Partial args) = ⊤
+CommandIsWithinLimits (Clash args) = ⊤

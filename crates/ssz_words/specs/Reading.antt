@@ -16,5 +16,5 @@ ReadsBy view (Err NotTaken) read = read ≡ None
 ReadsBy view (Err Memory) read = ⊤
 
 -- the same of an answer that is seen as it is
-abbrev pub Reads : {A : Type 0} → Result A WordsFault → Option A → Type 0
-Reads result read = ReadsBy (λ x. x) result read
+abbrev pub ReadsWords : {A : Type 0} → Result A WordsFault → Option A → Type 0
+ReadsWords result read = ReadsBy (λ x. x) result read

@@ -16,15 +16,15 @@ abbrev pub rows_in : ArgMatches → List Row
 rows_in matches = rows_of (found_of matches)
 
 -- the number below 2 ^ k that a text writes, where `clap` takes it for one
-abbrev pub number_below : ℕ → Text → Option ℕ
-number_below k text = some_if (accepts false (Unsigned 0 (2 ^ k - 1)) text)
+abbrev pub text_number_below : ℕ → Text → Option ℕ
+text_number_below k text = some_if (accepts false (Unsigned 0 (2 ^ k - 1)) text)
     (digits_value 10 (without_leading_plus text))
 
 -- the number of an argument
 abbrev pub number_at : ℕ → Text → List Row → Option ℕ
 number_at k id rows = do
   text ← one_of id rows
-  number_below k text
+  text_number_below k text
 
 -- a text without a `0x` that it begins with
 abbrev pub without_mark : Text → Text

@@ -1,8 +1,8 @@
 //! What the words of a command line ask for.
 ghost use Rattle.std.specs.Prelude.{◌≡◌, ◌≢◌, IfOk, Option, codes, map, string_bytes};
 ghost use Rattle.clap.specs.Words.{Text, first_of, subcommand_rows_of};
-ghost use Rattle.ssz_words.specs.Limits.{IsWithinLimits};
-ghost use Rattle.ssz_words.specs.Reading.{Reads};
+ghost use Rattle.ssz_words.specs.Limits.{CommandIsWithinLimits};
+ghost use Rattle.ssz_words.specs.Reading.{ReadsWords};
 ghost use Rattle.ssz_words.specs.Values.{rows_in};
 ghost use Rattle.ssz_words.specs.Words.{after_schema_and_type, clash_args, command_of, found_in};
 ghost use Rattle.ssz_words.specs.Words.{named_args, part_args};
@@ -31,8 +31,8 @@ const MOST_SCRIPTS: usize = 10;
 /// `NotTaken` comes exactly where the words ask for no command, a request for help among them, and
 /// `Memory` only where memory ran out.
 pub fn read_words(alloc: Global, words: &[String]) -> Result<Command, WordsFault>
-    ensures exact { Reads result (command_of (map string_bytes words.now)) }
-    ensures limits { IfOk result IsWithinLimits }
+    ensures exact { ReadsWords result (command_of (map string_bytes words.now)) }
+    ensures limits { IfOk result CommandIsWithinLimits }
 {
     let matches = matches_of(alloc, words)?;
     match matches.subcommand() {
@@ -66,7 +66,7 @@ fn fault_for(kind: ErrorKind) -> WordsFault
 }
 
 fn named_command(alloc: Global, name: &str, found: &ArgMatches<'_>) -> Result<Command, WordsFault>
-    ensures { Reads result (named_args name.now (rows_in found.now)) }
+    ensures { ReadsWords result (named_args name.now (rows_in found.now)) }
 {
     match name {
         "root" => root_command(alloc, found),
@@ -96,7 +96,7 @@ fn schema_and_type(
 }
 
 fn root_command(alloc: Global, found: &ArgMatches<'_>) -> Result<Command, WordsFault>
-    ensures { Reads result (root_args (rows_in found.now)) }
+    ensures { ReadsWords result (root_args (rows_in found.now)) }
 {
     let (schema, type_name) = schema_and_type(alloc, found)?;
     Ok(Command::Root(RootArgs {
@@ -108,7 +108,7 @@ fn root_command(alloc: Global, found: &ArgMatches<'_>) -> Result<Command, WordsF
 }
 
 fn run_command(alloc: Global, found: &ArgMatches<'_>) -> Result<Command, WordsFault>
-    ensures { Reads result (run_args (rows_in found.now)) }
+    ensures { ReadsWords result (run_args (rows_in found.now)) }
 {
     Ok(Command::Run(RunArgs {
         schema: file_at(alloc, found, "schema")?,
@@ -118,7 +118,7 @@ fn run_command(alloc: Global, found: &ArgMatches<'_>) -> Result<Command, WordsFa
 }
 
 fn weave_command(alloc: Global, found: &ArgMatches<'_>) -> Result<Command, WordsFault>
-    ensures { Reads result (weave_args (rows_in found.now)) }
+    ensures { ReadsWords result (weave_args (rows_in found.now)) }
 {
     let schema = file_at(alloc, found, "schema")?;
     let base = file_at(alloc, found, "base")?;
@@ -139,7 +139,7 @@ fn weave_command(alloc: Global, found: &ArgMatches<'_>) -> Result<Command, Words
 }
 
 fn verify_command(alloc: Global, found: &ArgMatches<'_>) -> Result<Command, WordsFault>
-    ensures { Reads result (verify_args (rows_in found.now)) }
+    ensures { ReadsWords result (verify_args (rows_in found.now)) }
 {
     let digits = word_at(found, "root")?;
     let file = file_at(alloc, found, "file")?;
@@ -148,7 +148,7 @@ fn verify_command(alloc: Global, found: &ArgMatches<'_>) -> Result<Command, Word
 }
 
 fn work_command(alloc: Global, found: &ArgMatches<'_>) -> Result<Command, WordsFault>
-    ensures { Reads result (work_args (rows_in found.now)) }
+    ensures { ReadsWords result (work_args (rows_in found.now)) }
 {
     let (schema, type_name) = schema_and_type(alloc, found)?;
     Ok(Command::Work(WorkArgs {
@@ -160,7 +160,7 @@ fn work_command(alloc: Global, found: &ArgMatches<'_>) -> Result<Command, WordsF
 }
 
 fn part_command(alloc: Global, found: &ArgMatches<'_>) -> Result<Command, WordsFault>
-    ensures { Reads result (part_args (rows_in found.now)) }
+    ensures { ReadsWords result (part_args (rows_in found.now)) }
 {
     let (schema, type_name) = schema_and_type(alloc, found)?;
     Ok(Command::Part(PartArgs {
@@ -173,7 +173,7 @@ fn part_command(alloc: Global, found: &ArgMatches<'_>) -> Result<Command, WordsF
 }
 
 fn partial_command(alloc: Global, found: &ArgMatches<'_>) -> Result<Command, WordsFault>
-    ensures { Reads result (partial_args (rows_in found.now)) }
+    ensures { ReadsWords result (partial_args (rows_in found.now)) }
 {
     let (schema, type_name) = schema_and_type(alloc, found)?;
     Ok(Command::Partial(PartialArgs {
@@ -185,7 +185,7 @@ fn partial_command(alloc: Global, found: &ArgMatches<'_>) -> Result<Command, Wor
 }
 
 fn clash_command(alloc: Global, found: &ArgMatches<'_>) -> Result<Command, WordsFault>
-    ensures { Reads result (clash_args (rows_in found.now)) }
+    ensures { ReadsWords result (clash_args (rows_in found.now)) }
 {
     Ok(Command::Clash(ClashArgs {
         first: file_at(alloc, found, "first")?,

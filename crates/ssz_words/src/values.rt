@@ -1,7 +1,7 @@
 //! The values of arguments, and what single words write.
 ghost use Rattle.std.specs.Prelude.{◌≡◌, IfOk, map};
 ghost use Rattle.clap.specs.Words.{all_of, first_of};
-ghost use Rattle.ssz_words.specs.Reading.{Reads, ReadsBy};
+ghost use Rattle.ssz_words.specs.Reading.{ReadsWords, ReadsBy};
 ghost use Rattle.ssz_words.specs.Values.{is_digit_below, number_at, order_value, root_value, rows_in};
 
 use crate::faults::WordsFault;
@@ -16,7 +16,7 @@ pub(crate) fn file_at(
     found: &ArgMatches<'_>,
     id: &str,
 ) -> Result<FileName, WordsFault>
-    ensures { Reads result (first_of id.now (rows_in found.now)) }
+    ensures { ReadsWords result (first_of id.now (rows_in found.now)) }
 {
     let word = word_at(found, id)?;
     Ok(FileName::new(String::from_str(alloc, word)?))
@@ -28,7 +28,7 @@ pub(crate) fn type_at(
     found: &ArgMatches<'_>,
     id: &str,
 ) -> Result<TypeName, WordsFault>
-    ensures { Reads result (first_of id.now (rows_in found.now)) }
+    ensures { ReadsWords result (first_of id.now (rows_in found.now)) }
 {
     let word = word_at(found, id)?;
     Ok(TypeName::new(String::from_str(alloc, word)?))
@@ -40,7 +40,7 @@ pub(crate) fn path_at(
     found: &ArgMatches<'_>,
     id: &str,
 ) -> Result<PathText, WordsFault>
-    ensures { Reads result (first_of id.now (rows_in found.now)) }
+    ensures { ReadsWords result (first_of id.now (rows_in found.now)) }
 {
     let word = word_at(found, id)?;
     Ok(PathText::new(String::from_str(alloc, word)?))
@@ -48,14 +48,14 @@ pub(crate) fn path_at(
 
 /// The number of 32 bits that an argument has.
 pub(crate) fn number_at(found: &ArgMatches<'_>, id: &str) -> Result<u32, WordsFault>
-    ensures { Reads result (number_at 32 id.now (rows_in found.now)) }
+    ensures { ReadsWords result (number_at 32 id.now (rows_in found.now)) }
 {
     found.get_one::<u32>(id).ok_or(WordsFault::NotTaken)
 }
 
 /// The number of 64 bits that an argument has.
 pub(crate) fn seed_at(found: &ArgMatches<'_>, id: &str) -> Result<u64, WordsFault>
-    ensures { Reads result (number_at 64 id.now (rows_in found.now)) }
+    ensures { ReadsWords result (number_at 64 id.now (rows_in found.now)) }
 {
     found.get_one::<u64>(id).ok_or(WordsFault::NotTaken)
 }
@@ -90,7 +90,7 @@ pub(crate) fn file_names(alloc: Global, words: &[&str]) -> Result<FileNames, All
 
 /// The writers that a word names by digits, each below the count.
 pub(crate) fn read_order(alloc: Global, word: &str, count: usize) -> Result<Order, WordsFault>
-    ensures { Reads result (order_value count word.now) }
+    ensures { ReadsWords result (order_value count word.now) }
 {
     if word.is_empty() {
         return Err(WordsFault::NotTaken);

@@ -8,9 +8,9 @@ use Rattle.ssz_schema.specs.Types.{SszType, uint, boolean, vector}
 use Rattle.ssz_schema.specs.Sizes.{basic_size, fixed_size, depth}
 use Rattle.ssz_schema.specs.Indices.{whole}
 use Rattle.ssz_value.specs.Values.{items}
-use Rattle.ssz_value.specs.Encoding.{enc, joined_alike}
+use Rattle.ssz_value.specs.Encoding.{serialize, joined_alike}
 use Rattle.ssz_value.proofs.PartLemmas.{Part}
-use Rattle.ssz_schema.specs.Unfolding.{tree_at}
+use Rattle.ssz_schema.specs.Unfolding.{type_tree_at}
 use Rattle.ssz_packing.proofs.BasicTrees.{joined_alike-concat}
 use Rattle.ssz_places.specs.PlaceLaws.{HasBasicPart}
 use Rattle.ssz_places.proofs.BasicParts.{basic_part}
@@ -61,16 +61,17 @@ vector_leaf elem z n d len e deep flat few is = record {
   leaf = λ some node v h.
       let of : IsVector elem n v node = vector_elements elem n v node h in
       let zero_depth : depth (vector elem n) ≡ 0 = omega (arith, deep, flat) in
-      let packed : ArePacked 0 (n * z) (concat (map (enc elem) (items of.parts))) node =
-      subst (λ k. ArePacked k (n * z) (concat (map (enc elem) (items of.parts))) node) zero_depth
+      let packed : ArePacked 0 (n * z) (concat (map (serialize elem) (items of.parts))) node =
+      subst (λ k. ArePacked k (n * z) (concat (map (serialize elem) (items of.parts))) node)
+      zero_depth
       (packed_elements elem z (depth (vector elem n)) n (items of.parts) node e of.are) in
-      let last : LastChunk node (concat (map (enc elem) (items of.parts))) (n * z) =
-      only_chunk (concat (map (enc elem) (items of.parts))) (n * z) node packed
+      let last : LastChunk node (concat (map (serialize elem) (items of.parts))) (n * z) =
+      only_chunk (concat (map (serialize elem) (items of.parts))) (n * z) node packed
       (omega (arith, few, is some)) in
-      let bytes : enc (vector elem n) v ≡ concat (map (enc elem) (items of.parts)) =
-      ap (enc (vector elem n)) of.is
-      ∙ ap (λ s. joined_alike s (map (enc elem) (items of.parts))) (basic_fixed_size elem z e)
-      ∙ joined_alike-concat z (map (enc elem) (items of.parts)) in
+      let bytes : serialize (vector elem n) v ≡ concat (map (serialize elem) (items of.parts)) =
+      ap (serialize (vector elem n)) of.is
+      ∙ ap (λ s. joined_alike s (map (serialize elem) (items of.parts))) (basic_fixed_size elem z e)
+      ∙ joined_alike-concat z (map (serialize elem) (items of.parts)) in
       record {
         chunk = last.chunk;
         is = last.is;
@@ -82,20 +83,21 @@ vector_leaf elem z n d len e deep flat few is = record {
 pub more_lens : (trees : List SszType) (fields : List Part) (lens : List ℕ) (k len : ℕ)
     (field : Part) → k < length lens
     → ((i : ℕ) (part : Part) → i < k → part ≡ get_or fields i part
-    → IsLeafLen (tree_at trees part.1) (get_or lens i 0))
-    → field ≡ get_or fields k field → k < length fields → IsLeafLen (tree_at trees field.1) len
+    → IsLeafLen (type_tree_at trees part.1) (get_or lens i 0))
+    → field ≡ get_or fields k field → k < length fields → IsLeafLen (type_tree_at trees field.1) len
     → (i : ℕ) (part : Part) → i < k + 1 → part ≡ get_or fields i part
-    → IsLeafLen (tree_at trees part.1) (get_or (set lens k len) i 0)
+    → IsLeafLen (type_tree_at trees part.1) (get_or (set lens k len) i 0)
 more_lens trees fields lens k len field room all here inside one i part below at =
     elim (cases_lt i k) [
-      | inl before ↦ subst (IsLeafLen (tree_at trees part.1))
+      | inl before ↦ subst (IsLeafLen (type_tree_at trees part.1))
           (sym (get_or-set_other lens k i len 0 (λ e. omega arith))) (all i part before at)
       | inr from ↦
           (let same : i ≡ k = omega arith in
           let first : get_or fields i part ≡ get_or fields k field =
           ap (λ n. get_or fields n part) same ∙ get_or_default fields k part field inside in
           let field_is : field ≡ part = here ∙ sym first ∙ sym at in
-          subst (λ n. IsLeafLen (tree_at trees part.1) (get_or (set lens k len) n 0)) (sym same)
-          (subst (IsLeafLen (tree_at trees part.1)) (sym (get_or-set_same lens k len 0 room))
-          (subst (λ (p : Part). IsLeafLen (tree_at trees p.1) len) field_is one)))
+          subst (λ n. IsLeafLen (type_tree_at trees part.1) (get_or (set lens k len) n 0))
+          (sym same)
+          (subst (IsLeafLen (type_tree_at trees part.1)) (sym (get_or-set_same lens k len 0 room))
+          (subst (λ (p : Part). IsLeafLen (type_tree_at trees p.1) len) field_is one)))
     ]

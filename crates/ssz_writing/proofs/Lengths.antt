@@ -7,13 +7,13 @@ use Rattle.ssz_schema.specs.declared.format.Format.{Format}
 use Rattle.ssz_schema.specs.Types.{SszType, Fields, container, vector, list, bitlist, union}
 use Rattle.ssz_schema.specs.Sizes.{fixed_size, depth}
 use Rattle.ssz_schema.specs.Legal.{IsLegal}
-use Rattle.ssz_schema.specs.Unfolding.{tree_at, options_over}
+use Rattle.ssz_schema.specs.Unfolding.{type_tree_at, options_over}
 use Rattle.ssz_value.specs.Values.{SszValue, items, Fits}
 use Rattle.ssz_value.specs.Sizes.{size, fields_size, option_size}
 use Rattle.ssz_places.specs.PlaceLaws.{IsTreeOf}
 use Rattle.ssz_value.specs.Written.{capped}
 use Rattle.ssz_parts.proofs.PartSizes.{fixed_part}
-use Rattle.ssz_nodes.specs.Shown.{ForValue, AreElements, ForElements, AreFields, ForFields}
+use Rattle.ssz_nodes.specs.Shown.{ForValue, AreElements, ForElements, AreFieldsIn, ForFields}
 use Rattle.ssz_nodes.proofs.Walked.{added}
 use Rattle.ssz_nodes.proofs.Formed.{IsVector, vector_elements, IsList, list_elements, IsContainer, container_fields, IsBitlist, bitlist_bits, IsUnion, union_option, Unmixes}
 
@@ -57,7 +57,7 @@ pub container_len : (fs : Fields) (d len : ℕ) (node : Tree) → d ≡ depth (c
     → ForValue (container fs) node (λ v. len ≡ capped (size (container fs) v))
 container_len fs d len node deep is = λ v h.
     let of : IsContainer fs v node = container_fields fs v node h in
-    is (items of.parts) (subst (λ k. AreFields fs k (items of.parts) node) (sym deep) of.are)
+    is (items of.parts) (subst (λ k. AreFieldsIn fs k (items of.parts) node) (sym deep) of.are)
     ∙ ap (λ w. capped (size (container fs) w)) (sym of.is)
 
 pub bitlist_len : (format : Format) (limit count len : ℕ) (node content : Tree)
@@ -71,11 +71,11 @@ bitlist_len format limit count len node content legal mixed is = λ v h.
 
 option_size_at : (trees : List SszType) (ids : List (Option ℕ)) (k id : ℕ) (w : SszValue)
     → slice_get ids k ≡ Some (Some id)
-    → option_size (options_over trees ids) k w ≡ size (tree_at trees id) w
+    → option_size (options_over trees ids) k w ≡ size (type_tree_at trees id) w
 option_size_at trees [] k id w e = cc
 option_size_at trees (None ∷ ids) zero id w e = cc
 option_size_at trees (Some other ∷ ids) zero id w e = let same : other ≡ id =
-    cc in ap (λ n. size (tree_at trees n) w) same
+    cc in ap (λ n. size (type_tree_at trees n) w) same
 option_size_at trees (None ∷ ids) (suc k) id w e = option_size_at trees ids k id w e
 option_size_at trees (Some other ∷ ids) (suc k) id w e = option_size_at trees ids k id w e
 
@@ -83,7 +83,8 @@ option_size_at trees (Some other ∷ ids) (suc k) id w e = option_size_at trees 
 pub option_len : (trees : List SszType) (ids : List (Option ℕ)) (selector id inner len : ℕ)
     (node content : Tree) → length ids ≤ 128 → Unmixes node content selector
     → slice_get ids (selector % 256) ≡ Some (Some id)
-    → ForValue (tree_at trees id) content (λ w. inner ≡ capped (size (tree_at trees id) w))
+    → ForValue (type_tree_at trees id) content
+    (λ w. inner ≡ capped (size (type_tree_at trees id) w))
     → len ≡ min (inner + 1) (2 ^ 64 - 1)
     → ForValue (union (options_over trees ids)) node
     (λ v. len ≡ capped (size (union (options_over trees ids)) v))
@@ -101,7 +102,7 @@ option_len trees ids selector id inner len node content few mixed here is next =
           | inl some ↦
               (let same_id : some.id ≡ id = cc in
               let sum : size (union (options_over trees ids)) v
-              ≡ 1 + size (tree_at trees id) some.value =
+              ≡ 1 + size (type_tree_at trees id) some.value =
               ap (size (union (options_over trees ids))) some.is
               ∙ ap (λ n. 1 + n) (option_size_at trees ids of.k id some.value at) in
               omega (
@@ -109,9 +110,9 @@ option_len trees ids selector id inner len node content few mixed here is next =
                 next,
                 sum,
                 is some.value
-                    (subst (λ c. IsTreeOf (tree_at trees id) some.value c)
+                    (subst (λ c. IsTreeOf (type_tree_at trees id) some.value c)
                     (sym (mixed.tree _ _ of.tree))
-                    (subst (λ n. IsTreeOf (tree_at trees n) some.value of.content) same_id
+                    (subst (λ n. IsTreeOf (type_tree_at trees n) some.value of.content) same_id
                     some.tree)),
               ))
           | inr none ↦ absurd (let differ : Some None ≡ Some (Some id) =

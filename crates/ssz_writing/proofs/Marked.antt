@@ -6,7 +6,7 @@ use Rattle.ssz_bytes.specs.Bytes.{le_bytes, number_of_bits, bits_size}
 use Rattle.ssz_bytes.proofs.Bits.{number_of_bits_lt}
 use Rattle.ssz_places.proofs.BitPacking.{bit_bytes}
 use Rattle.ssz_packing.proofs.BitChunks.{number_of_bits-end}
-use Rattle.ssz_nodes.specs.Shown.{Extends}
+use Rattle.ssz_nodes.specs.Shown.{ExtendsBytes}
 use Rattle.ssz_writing.specs.Offsets.{delimited_bytes}
 
 swap : (a c : ℕ) → a * 256 * c ≡ 256 * (a * c)
@@ -98,7 +98,7 @@ same_last (x ∷ xs) (y ∷ ys) a b e =
     (ap₂ (λ z zs. z ∷ zs) first same.0, same.1)
 
 prefix : (old popped more : List ℕ) (l : ℕ) → old ++ more ≡ popped ++ l ∷ []
-    → length old ≤ length popped → Extends old popped
+    → length old ≤ length popped → ExtendsBytes old popped
 prefix [] popped more l e few = record { more = popped; is = refl }
 prefix (x ∷ old) [] more l e few = absurd (omega (arith, few))
 prefix (x ∷ old) (y ∷ popped) more l e few =
@@ -108,8 +108,8 @@ prefix (x ∷ old) (y ∷ popped) more l e few =
     record { more = rest.more; is = ap₂ (λ z zs. z ∷ zs) first rest.is }
 
 -- what was there stays, where the last byte of what was appended leaves
-pub popped_extends : (old mid popped : List ℕ) (l : ℕ) → Extends old mid
-    → length old < length mid → mid ≡ popped ++ l ∷ [] → Extends old popped
+pub popped_extends : (old mid popped : List ℕ) (l : ℕ) → ExtendsBytes old mid
+    → length old < length mid → mid ≡ popped ++ l ∷ [] → ExtendsBytes old popped
 popped_extends old mid popped l h longer is =
     prefix old popped h.more l (sym h.is ∙ is)
     (omega (arith, longer, ap (λ (xs : List ℕ). length xs) is, length-append popped (l ∷ [])))

@@ -10,7 +10,7 @@ use Rattle.ssz_value.proofs.Cut.{AreParts}
 use Rattle.ssz_value.proofs.Sequences.{fixed_rest}
 use Rattle.ssz_parts.specs.Encoded.{head_of, body_of}
 use Rattle.ssz_value.specs.Written.{capped}
-use Rattle.ssz_nodes.specs.Shown.{Extends}
+use Rattle.ssz_nodes.specs.Shown.{ExtendsBytes}
 use Rattle.ssz_writing.specs.Offsets.{room_of, rooms, offset_rooms}
 
 -- rooms are as long as what comes into them
@@ -213,7 +213,7 @@ joined_adds sizes parts start old mid new are at front end =
 
 -- what stands before it stays
 pub put_kept : (room : ℕ) (bytes new behind front : List ℕ) → new ≡ take room bytes ++ behind
-    → length front ≤ room → Extends front bytes → Extends front new
+    → length front ≤ room → ExtendsBytes front bytes → ExtendsBytes front new
 put_kept room bytes new behind front is within kept =
     let some : ℕ = room - length front in
     let at : length front + some ≡ room = omega (arith, within) in

@@ -1,7 +1,7 @@
 -- Containers that are written by rows of their fields.
 use Rattle.std.proofs.Common.{ℕ, zero, suc, get_or, ◌+◌, ◌-◌, ◌^◌, min, ◌<◌, ◌≤◌, ◌≡◌, true, false, List, [], ◌∷◌, ◌++◌, length, map, take, Option, Some, None, is_none, refl, sym, ap, ◌∙◌, subst, arith}
 use Rattle.std.specs.List.{AllByRecursion}
-use Rattle.ssz_chunk.specs.Tree.{Tree, leaf, full}
+use Rattle.ssz_chunk.specs.Tree.{Tree, leaf, merkle_tree}
 use Rattle.ssz_schema.specs.Types.{SszType, Fields, container}
 use Rattle.ssz_schema.specs.Sizes.{basic_size, depth, fixed_size, head_size, part_sizes}
 use Rattle.ssz_schema.specs.Unfolding.{fields_over}
@@ -9,15 +9,15 @@ use Rattle.ssz_value.specs.Values.{SszValue, Fits, items}
 use Rattle.ssz_value.proofs.PartLemmas.{Part}
 use Rattle.ssz_nodes.proofs.Formed.{IsContainer, container_fields}
 use Rattle.std.proofs.lemmas.List.{append-nil, drop_all}
-use Rattle.ssz_value.specs.Encoding.{enc, heads, bodies, joined, field_encodings}
+use Rattle.ssz_value.specs.Encoding.{serialize, heads, bodies, joined, field_encodings}
 use Rattle.ssz_value.specs.Trees.{tree}
 use Rattle.ssz_arena.specs.declared.node.NodeId.{NodeId}
-use Rattle.ssz_arena.specs.Content.{Content, tree_of}
+use Rattle.ssz_arena.specs.Content.{ArenaContent, tree_of}
 use Rattle.ssz_parts.specs.Encoded.{head_of, body_of}
 use Rattle.ssz_value.specs.Written.{capped}
 use Rattle.ssz_writing.specs.Rows.{RowsAhead, HoldsRows, IsRowOf}
 use Rattle.ssz_writing.specs.Leaves.{IsLeafLen, LeafOf}
-use Rattle.ssz_nodes.specs.Shown.{ForValue, AreElements, AreFields}
+use Rattle.ssz_nodes.specs.Shown.{ForValue, AreElements, AreFieldsIn}
 use Rattle.ssz_writing.specs.Offsets.{room_of, rooms}
 use Rattle.ssz_writing.proofs.Rooms.{Filled, Filled-start, Filled-more, rooms_step}
 use Rattle.ssz_nodes.proofs.Walked.{AreElements-trees, composite}
@@ -27,10 +27,10 @@ use Rattle.ssz_writing.proofs.FieldsWritten.{FieldHeads, fixed_fields_add}
 -- a leaf of which so many bytes were appended
 pub leaf_adds : (t : SszType) (len : ℕ) (node : Tree) (old new : List ℕ) → 0 < len
     → IsLeafLen t len → ((chunk : List ℕ) → node ≡ leaf chunk → new ≡ old ++ take len chunk)
-    → ForValue t node (λ v. new ≡ old ++ room_of (fixed_size t) (enc t v))
+    → ForValue t node (λ v. new ≡ old ++ room_of (fixed_size t) (serialize t v))
 leaf_adds t len node old new some is bytes = λ v h.
-    let at : LeafOf len (enc t v) node = is.leaf some node v h in
-    subst (λ size. new ≡ old ++ room_of size (enc t v)) (sym (is.size some))
+    let at : LeafOf len (serialize t v) node = is.leaf some node v h in
+    subst (λ size. new ≡ old ++ room_of size (serialize t v)) (sym (is.size some))
     (bytes at.chunk at.is ∙ ap (λ xs. old ++ xs) at.same)
 
 -- the fields of a container of fixed size, all written
@@ -66,35 +66,35 @@ FieldHeads-end trees fields i depth all out node h past =
 -- the container of these fields
 pub row_value : (t : SszType) (fs : Fields) (node : Tree) (old new : List ℕ) → t ≡ container fs
     → is_none (fixed_size t) ≡ false
-    → ((vs : List SszValue) → AreFields fs (depth t) vs node
+    → ((vs : List SszValue) → AreFieldsIn fs (depth t) vs node
     → new ≡ old ++ rooms (part_sizes fs) (field_encodings fs vs))
-    → ForValue t node (λ v. new ≡ old ++ enc t v)
+    → ForValue t node (λ v. new ≡ old ++ serialize t v)
 row_value t fs node old new form fixed adds = subst
     (λ (ty : SszType). is_none (fixed_size ty) ≡ false
-    → ((vs : List SszValue) → AreFields fs (depth ty) vs node
+    → ((vs : List SszValue) → AreFieldsIn fs (depth ty) vs node
     → new ≡ old ++ rooms (part_sizes fs) (field_encodings fs vs))
-    → ForValue ty node (λ v. new ≡ old ++ enc ty v)) (sym form)
+    → ForValue ty node (λ v. new ≡ old ++ serialize ty v)) (sym form)
     (λ fixed_is all v h.
     let of : IsContainer fs v node = container_fields fs v node h in
-    subst (λ (w : SszValue). new ≡ old ++ enc (container fs) w) (sym of.is)
+    subst (λ (w : SszValue). new ≡ old ++ serialize (container fs) w) (sym of.is)
     (row_adds fs (items of.parts) old new fixed_is (all (items of.parts) of.are)))
     fixed adds
 
 -- containers whose fixed parts are still to be written
-pub record RowsSoFar (arena : Content) (t : SszType) (vs : List SszValue) (i : ℕ)
+pub record RowsSoFar (arena : ArenaContent) (t : SszType) (vs : List SszValue) (i : ℕ)
     (all out : List ℕ) (ahead : RowsAhead) : Type 0 where
   pub rest : List SszValue
   pub fit : AllByRecursion (Fits t) rest
   pub holds : HoldsRows arena (map (tree t) rest) ahead
   pub count : i + length rest ≡ length vs
-  pub is : out ++ rooms (alike t rest) (map (enc t) rest) ≡ all
+  pub is : out ++ rooms (alike t rest) (map (serialize t) rest) ≡ all
 
-pub RowsSoFar-start : (arena : Content) (t : SszType) (depth count : ℕ) (vs : List SszValue)
+pub RowsSoFar-start : (arena : ArenaContent) (t : SszType) (depth count : ℕ) (vs : List SszValue)
     (out : List ℕ) (node : NodeId) (ahead : RowsAhead) → basic_size t ≡ None
     → AreElements t depth count vs (tree_of arena node)
-    → ((trees : List Tree) → length trees ≤ 2 ^ depth → tree_of arena node ≡ full depth trees
+    → ((trees : List Tree) → length trees ≤ 2 ^ depth → tree_of arena node ≡ merkle_tree depth trees
     → HoldsRows arena trees ahead)
-    → RowsSoFar arena t vs 0 (out ++ rooms (alike t vs) (map (enc t) vs)) out ahead
+    → RowsSoFar arena t vs 0 (out ++ rooms (alike t vs) (map (serialize t) vs)) out ahead
 RowsSoFar-start arena t depth count vs out node ahead none are holds =
     let trees = AreElements-trees t depth count vs (tree_of arena node) none are in
     record {
@@ -105,7 +105,7 @@ RowsSoFar-start arena t depth count vs out node ahead none are holds =
       is = refl;
     }
 
-pub RowsSoFar-more : (arena : Content) (t : SszType) (depth : ℕ) (vs : List SszValue) (i : ℕ)
+pub RowsSoFar-more : (arena : ArenaContent) (t : SszType) (depth : ℕ) (vs : List SszValue) (i : ℕ)
     (all out written : List ℕ) (old new : RowsAhead) (row : List NodeId)
     → RowsSoFar arena t vs i all out old → i < length vs
     → ((first : Tree) (trees : List Tree) → HoldsRows arena (first ∷ trees) old
@@ -113,14 +113,14 @@ pub RowsSoFar-more : (arena : Content) (t : SszType) (depth : ℕ) (vs : List Ss
     → ((first : Tree) (trees : List Tree) → HoldsRows arena (first ∷ trees) old
     → HoldsRows arena trees new)
     → ((node : Tree) → IsRowOf arena depth node row
-    → ForValue t node (λ v. written ≡ out ++ room_of (fixed_size t) (enc t v)))
+    → ForValue t node (λ v. written ≡ out ++ room_of (fixed_size t) (serialize t v)))
     → RowsSoFar arena t vs (i + 1) all written new
 RowsSoFar-more arena t depth vs i all out written old new row h below row_is rest_is head =
     go h.rest h.fit h.holds h.count h.is
   where
     go : (rest : List SszValue) → AllByRecursion (Fits t) rest
         → HoldsRows arena (map (tree t) rest) old → i + length rest ≡ length vs
-        → out ++ rooms (alike t rest) (map (enc t) rest) ≡ all
+        → out ++ rooms (alike t rest) (map (serialize t) rest) ≡ all
         → RowsSoFar arena t vs (i + 1) all written new
     go [] fit holds count is = absurd (omega (arith, count, below))
     go (v ∷ others) fit holds count is = record {
@@ -128,29 +128,30 @@ RowsSoFar-more arena t depth vs i all out written old new row h below row_is res
       fit = fit.1;
       holds = rest_is _ _ holds;
       count = omega (arith, count);
-      is = rooms_step (fixed_size t) (alike t others) (enc t v) (map (enc t) others) out written
+      is = rooms_step (fixed_size t) (alike t others) (serialize t v)
+          (map (serialize t) others) out written
           all is (head (tree t v) (row_is _ _ holds) v (record { fits = fit.0; is = refl }));
     }
 
 -- containers of variable size whose offsets and variable parts are still to be written
-pub record RowBodiesSoFar (arena : Content) (t : SszType) (vs : List SszValue)
+pub record RowBodiesSoFar (arena : ArenaContent) (t : SszType) (vs : List SszValue)
     (i start room : ℕ) (all out : List ℕ) (ahead : RowsAhead) : Type 0 where
   pub rest : List SszValue
   pub fit : AllByRecursion (Fits t) rest
   pub holds : HoldsRows arena (map (tree t) rest) ahead
   pub count : i + length rest ≡ length vs
-  pub filled : Filled (alike t rest) (map (enc t) rest) start room all out
+  pub filled : Filled (alike t rest) (map (serialize t) rest) start room all out
 
-pub RowBodiesSoFar-start : (arena : Content) (t : SszType) (depth count start : ℕ)
+pub RowBodiesSoFar-start : (arena : ArenaContent) (t : SszType) (depth count start : ℕ)
     (vs : List SszValue) (front out : List ℕ) (node : NodeId) (ahead : RowsAhead)
     → fixed_size t ≡ None → AreElements t depth count vs (tree_of arena node)
-    → ((trees : List Tree) → length trees ≤ 2 ^ depth → tree_of arena node ≡ full depth trees
+    → ((trees : List Tree) → length trees ≤ 2 ^ depth → tree_of arena node ≡ merkle_tree depth trees
     → HoldsRows arena trees ahead)
     → start < 2 ^ 64 → length front ≡ start
-    → out ≡ front ++ rooms (alike t vs) (map (enc t) vs)
+    → out ≡ front ++ rooms (alike t vs) (map (serialize t) vs)
     → RowBodiesSoFar arena t vs 0 start start
-    (front ++ heads (alike t vs) (map (enc t) vs) (length out - start)
-    ++ bodies (alike t vs) (map (enc t) vs)) out ahead
+    (front ++ heads (alike t vs) (map (serialize t) vs) (length out - start)
+    ++ bodies (alike t vs) (map (serialize t) vs)) out ahead
 RowBodiesSoFar-start arena t depth count start vs front out node ahead none are holds small at is =
     let trees = AreElements-trees t depth count vs (tree_of arena node) (composite t none) are in
     record {
@@ -158,11 +159,11 @@ RowBodiesSoFar-start arena t depth count start vs front out node ahead none are 
       fit = are.fit;
       holds = holds (map (tree t) vs) trees.0 trees.1;
       count = omega arith;
-      filled = Filled-start (alike t vs) (map (enc t) vs) start front out
+      filled = Filled-start (alike t vs) (map (serialize t) vs) start front out
           (variable_parts t vs none) small at is;
     }
 
-pub RowBodiesSoFar-more : (arena : Content) (t : SszType) (depth : ℕ) (vs : List SszValue)
+pub RowBodiesSoFar-more : (arena : ArenaContent) (t : SszType) (depth : ℕ) (vs : List SszValue)
     (i start room next : ℕ) (all out written : List ℕ) (old new : RowsAhead)
     (row : List NodeId) → RowBodiesSoFar arena t vs i start room all out old → i < length vs
     → fixed_size t ≡ None
@@ -173,16 +174,16 @@ pub RowBodiesSoFar-more : (arena : Content) (t : SszType) (depth : ℕ) (vs : Li
     → next ≡ min (room + 4) (2 ^ 64 - 1)
     → ((node : Tree) → IsRowOf arena depth node row
     → ForValue t node (λ v. (front back : List ℕ) → room ≡ capped (length front)
-    → out ≡ front ++ room_of None (enc t v) ++ back
-    → written ≡ front ++ head_of None (enc t v) (length out - start) ++ back
-    ++ body_of None (enc t v)))
+    → out ≡ front ++ room_of None (serialize t v) ++ back
+    → written ≡ front ++ head_of None (serialize t v) (length out - start) ++ back
+    ++ body_of None (serialize t v)))
     → RowBodiesSoFar arena t vs (i + 1) start next all written new
 RowBodiesSoFar-more arena t depth vs i start room next all out written old new row h below none
     row_is rest_is next_is body = go h.rest h.fit h.holds h.count h.filled
   where
     go : (rest : List SszValue) → AllByRecursion (Fits t) rest
         → HoldsRows arena (map (tree t) rest) old → i + length rest ≡ length vs
-        → Filled (alike t rest) (map (enc t) rest) start room all out
+        → Filled (alike t rest) (map (serialize t) rest) start room all out
         → RowBodiesSoFar arena t vs (i + 1) start next all written new
     go [] fit holds count filled = absurd (omega (arith, count, below))
     go (v ∷ others) fit holds count filled = record {
@@ -190,12 +191,13 @@ RowBodiesSoFar-more arena t depth vs i start room next all out written old new r
       fit = fit.1;
       holds = rest_is _ _ holds;
       count = omega (arith, count);
-      filled = Filled-more (fixed_size t) (alike t others) (enc t v) (map (enc t) others) start
+      filled = Filled-more (fixed_size t) (alike t others) (serialize t v)
+          (map (serialize t) others) start
           room next all out written filled
           (next_is ∙ ap (λ size. min (room + head_size size) (2 ^ 64 - 1)) (sym none))
           (subst (λ (size : Option ℕ). (front back : List ℕ) → room ≡ capped (length front)
-          → out ≡ front ++ room_of size (enc t v) ++ back
-          → written ≡ front ++ head_of size (enc t v) (length out - start) ++ back
-          ++ body_of size (enc t v)) (sym none)
+          → out ≡ front ++ room_of size (serialize t v) ++ back
+          → written ≡ front ++ head_of size (serialize t v) (length out - start) ++ back
+          ++ body_of size (serialize t v)) (sym none)
           (body (tree t v) (row_is _ _ holds) v (record { fits = fit.0; is = refl })));
     }

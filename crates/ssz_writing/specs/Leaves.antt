@@ -4,8 +4,8 @@ use Rattle.std.specs.List.{AllByRecursion}
 use Rattle.ssz_chunk.specs.Tree.{Tree, leaf}
 use Rattle.ssz_schema.specs.Types.{SszType, container}
 use Rattle.ssz_schema.specs.Sizes.{depth, fixed_size}
-use Rattle.ssz_schema.specs.Unfolding.{Types, type_of, tree_at, fields_over}
-use Rattle.ssz_value.specs.Encoding.{enc}
+use Rattle.ssz_schema.specs.Unfolding.{Types, type_of, type_tree_at, fields_over}
+use Rattle.ssz_value.specs.Encoding.{serialize}
 use Rattle.ssz_nodes.specs.Shown.{ForValue}
 
 -- the bytes are the first so many of a leaf
@@ -18,7 +18,7 @@ pub record LeafOf (len : ℕ) (bytes : List ℕ) (node : Tree) : Type 0 where
 pub record IsLeafLen (t : SszType) (len : ℕ) : Type 0 where
   pub few : len ≤ 32
   pub size : 0 < len → fixed_size t ≡ Some len
-  pub leaf : 0 < len → (node : Tree) → ForValue t node (λ v. LeafOf len (enc t v) node)
+  pub leaf : 0 < len → (node : Tree) → ForValue t node (λ v. LeafOf len (serialize t v) node)
 
 -- a container of these fields, at most eight, whose types stand before it
 pub record AreFewFields (schema : Types) (id : ℕ) (fields : List (List ℕ × ℕ)) : Type 0 where
@@ -31,4 +31,4 @@ pub record AreFewFields (schema : Types) (id : ℕ) (fields : List (List ℕ × 
 abbrev pub AreLeafLens : Types → List (List ℕ × ℕ) → List ℕ → Type 0
 AreLeafLens schema fields lens = (i : ℕ) (part : List ℕ × ℕ) → i < length fields
     → part ≡ slice_index_or fields i part
-    → IsLeafLen (tree_at schema.trees part.1) (slice_index_or lens i 0)
+    → IsLeafLen (type_tree_at schema.trees part.1) (slice_index_or lens i 0)

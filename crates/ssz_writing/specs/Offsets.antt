@@ -6,7 +6,7 @@ use Rattle.ssz_value.specs.Encoding.{heads, bodies}
 use Rattle.ssz_value.specs.Written.{capped}
 use Rattle.ssz_value.specs.Trees.{mixed_in}
 use Rattle.ssz_parts.specs.Encoded.{head_of, body_of}
-use Rattle.ssz_nodes.specs.Shown.{AreBits, Extends}
+use Rattle.ssz_nodes.specs.Shown.{AreBits, ExtendsBytes}
 
 -- some bits in a full tree of this depth, with their number mixed in
 pub record AreCountedBits (depth : ℕ) (bs : List Bool) (node : Tree) : Type 0 where
@@ -20,8 +20,8 @@ abbrev pub delimited_bytes : List Bool → List ℕ
 delimited_bytes bs = le_bytes (bits_size true (length bs)) (number_of_bits (delimited true bs))
 
 -- the bytes are appended
-abbrev pub Adds : {E : Type 0} → List ℕ → List ℕ → List ℕ → Result Unit E → Type 0
-Adds bytes old new result = OnOk result (new ≡ old ++ bytes)
+abbrev pub AddsBytes : {E : Type 0} → List ℕ → List ℕ → List ℕ → Result Unit E → Type 0
+AddsBytes bytes old new result = OnOk result (new ≡ old ++ bytes)
 
 -- what is kept for a part among the fixed parts: itself, or room for its offset
 abbrev pub room_of : Option ℕ → List ℕ → List ℕ
@@ -39,8 +39,8 @@ offset_rooms n = rooms (replicate n None) (replicate n [])
 
 -- what began both goes on beginning them, as far as this place
 abbrev pub KeepsUpTo : ℕ → List ℕ → List ℕ → Type 0
-KeepsUpTo place old new = (front : List ℕ) → length front ≤ place → Extends front old
-    → Extends front new
+KeepsUpTo place old new = (front : List ℕ) → length front ≤ place → ExtendsBytes front old
+    → ExtendsBytes front new
 
 -- the offset of a part, counted from start, stands in its room, and the variable part at the end
 abbrev pub Fills : {E : Type 0} → Option ℕ → List ℕ → ℕ → ℕ → List ℕ → List ℕ → Result Unit E

@@ -1,16 +1,16 @@
 -- Rows of the fields of containers that are still to come.
 use Rattle.std.specs.Prelude.{◌≡◌, ℕ, ◌+◌, ◌-◌, ◌^◌, ◌<◌, ◌≤◌, List, [], length, drop, slice_index_or}
 use Rattle.std.specs.List.{All}
-use Rattle.ssz_chunk.specs.Tree.{Tree, full, place}
+use Rattle.ssz_chunk.specs.Tree.{Tree, merkle_tree, place}
 use Rattle.ssz_arena.specs.declared.node.NodeId.{NodeId}
-use Rattle.ssz_arena.specs.Content.{Content, IsNodeOf, tree_of}
-use Rattle.ssz_nodes.specs.Ahead.{Ahead, AreNodes, Holds, node_of}
+use Rattle.ssz_arena.specs.Content.{ArenaContent, IsNodeOf, tree_of}
+use Rattle.ssz_nodes.specs.Ahead.{Ahead, AheadAreNodes, AheadHolds, ahead_node}
 use Rattle.ssz_writing.specs.declared.fields.Row.{Row}
 
 -- the places of a full tree of this depth stand at the front of a row
-abbrev pub IsRowOf : Content → ℕ → Tree → List NodeId → Type 0
-IsRowOf arena depth node row = (trees : List Tree) → node ≡ full depth trees
-    → (i : ℕ) → i < 2 ^ depth → tree_of arena (node_of row i) ≡ place trees i
+abbrev pub IsRowOf : ArenaContent → ℕ → Tree → List NodeId → Type 0
+IsRowOf arena depth node row = (trees : List Tree) → node ≡ merkle_tree depth trees
+    → (i : ℕ) → i < 2 ^ depth → tree_of arena (ahead_node row i) ≡ place trees i
 
 -- rows of containers' fields, of which those from one place up to another are next, and what is
 -- left behind these
@@ -26,13 +26,13 @@ abbrev pub row_at : List Row → ℕ → List NodeId
 row_at rows k = (slice_index_or rows k (record { nodes = [] })).nodes
 
 -- they are nodes of the arena
-pub record AreRows (arena : Content) (ahead : RowsAhead) : Type 0 where
+pub record AreRows (arena : ArenaContent) (ahead : RowsAhead) : Type 0 where
   pub rows : (k : ℕ) → k < length ahead.rows → All (IsNodeOf arena) (row_at ahead.rows k)
-  pub places : AreNodes arena ahead.places
+  pub places : AheadAreNodes arena ahead.places
 
 -- these are the trees of the next containers: of the first of them the rows are those of the fields
-pub record HoldsRows (arena : Content) (trees : List Tree) (ahead : RowsAhead) : Type 0 where
+pub record HoldsRows (arena : ArenaContent) (trees : List Tree) (ahead : RowsAhead) : Type 0 where
   pub rows : (i : ℕ) → i < ahead.to - ahead.from → i < length trees
       → IsRowOf arena ahead.depth (place trees i) (row_at ahead.rows (ahead.from + i))
   pub behind : ahead.to - ahead.from ≤ length trees
-      → Holds arena (drop (ahead.to - ahead.from) trees) ahead.places
+      → AheadHolds arena (drop (ahead.to - ahead.from) trees) ahead.places

@@ -1,8 +1,8 @@
 //! Numbers, flags and bits, whose bytes lie in leaves.
 ghost use Rattle.std.specs.Prelude.{ℕ, ◌≡◌, ◌+◌, ◌<◌, ◌++◌, ◌∷◌, [], Bool, List, length, OnOk};
-ghost use Rattle.ssz_value.specs.Encoding.{enc};
+ghost use Rattle.ssz_value.specs.Encoding.{serialize};
 ghost use Rattle.ssz_arena.specs.Content.{IsNodeOf, tree_of};
-ghost use Rattle.ssz_nodes.specs.Shown.{ForValue, ArePacked, Extends, basic_type};
+ghost use Rattle.ssz_nodes.specs.Shown.{ForValue, ArePacked, ExtendsBytes, basic_type};
 ghost use Rattle.ssz_writing.specs.Offsets.{AreCountedBits, delimited_bytes};
 
 use super::writer::Writer;
@@ -34,10 +34,10 @@ impl<'a, H: PairHash> Writer<'a, H> {
         out: &mut Vec<u8>,
     ) -> Result<(), EncodeFault>
         requires node { IsNodeOf self.now.arena.now node }
-        ensures kept { Extends out.old.items out.new.items }
+        ensures kept { ExtendsBytes out.old.items out.new.items }
         ensures value { let t = basic_type basic in
             ForValue t (tree_of self.now.arena.now node)
-            (λ v. OnOk result (out.new.items ≡ out.old.items ++ enc t v)) }
+            (λ v. OnOk result (out.new.items ≡ out.old.items ++ serialize t v)) }
     {
         let chunk = chunk_of(self.arena, node);
         out.extend_from_slice(&chunk.0[..basic.size()])?;
@@ -53,7 +53,7 @@ impl<'a, H: PairHash> Writer<'a, H> {
     ) -> Result<(), EncodeFault>
         requires depth { top.depth < 64 }
         requires node { IsNodeOf self.now.arena.now top.node }
-        ensures kept { Extends out.old.items out.new.items }
+        ensures kept { ExtendsBytes out.old.items out.new.items }
         ensures long { OnOk result (length out.new.items ≡ length out.old.items + len) }
         ensures bytes { (bytes : List ℕ)
             → ArePacked top.depth len bytes (tree_of self.now.arena.now top.node)
@@ -68,7 +68,7 @@ impl<'a, H: PairHash> Writer<'a, H> {
     pub(crate) fn append_bitlist(&self, top: Top, out: &mut Vec<u8>) -> Result<(), EncodeFault>
         requires depth { top.depth < 64 }
         requires node { IsNodeOf self.now.arena.now top.node }
-        ensures kept { Extends out.old.items out.new.items }
+        ensures kept { ExtendsBytes out.old.items out.new.items }
         ensures value { (bs : List Bool)
             → AreCountedBits top.depth bs (tree_of self.now.arena.now top.node)
             → OnOk result (out.new.items ≡ out.old.items ++ delimited_bytes bs) }
@@ -93,7 +93,7 @@ impl<'a, H: PairHash> Writer<'a, H> {
 
 /// One byte.
 pub fn append_byte(byte: u8, out: &mut Vec<u8>) -> Result<(), AllocError>
-    ensures kept { Extends out.old.items out.new.items }
+    ensures kept { ExtendsBytes out.old.items out.new.items }
     ensures items { OnOk result (out.new.items ≡ out.old.items ++ byte ∷ []) }
 {
     out.push(byte)?;

@@ -6,10 +6,10 @@ ghost use Rattle.ssz_schema.specs.Types.{container};
 ghost use Rattle.ssz_schema.specs.Sizes.{fixed_size, part_sizes};
 ghost use Rattle.ssz_schema.specs.Unfolding.{type_of, fields_over};
 ghost use Rattle.ssz_schema.specs.Legal.{AreLegalFields};
-ghost use Rattle.ssz_value.specs.Encoding.{enc, joined, field_encodings};
+ghost use Rattle.ssz_value.specs.Encoding.{serialize, joined, field_encodings};
 ghost use Rattle.ssz_arena.specs.Content.{IsNodeOf, tree_of};
-ghost use Rattle.ssz_nodes.specs.Shown.{ForPlace, ForFields, Extends};
-ghost use Rattle.ssz_writing.specs.Offsets.{Adds, Fills, FillsAll, KeepsUpTo, room_of, rooms};
+ghost use Rattle.ssz_nodes.specs.Shown.{ForPlace, ForFields, ExtendsBytes};
+ghost use Rattle.ssz_writing.specs.Offsets.{AddsBytes, Fills, FillsAll, KeepsUpTo, room_of, rooms};
 
 use super::offsets::Slot;
 use super::writer::Writer;
@@ -35,11 +35,11 @@ impl<'a, H: PairHash> Writer<'a, H> {
         requires before { AllByRecursion (λ part. part.1 < id) fields.now }
         requires depth { top.depth < 64 }
         requires node { IsNodeOf self.now.arena.now top.node }
-        ensures kept { Extends out.old.items out.new.items }
+        ensures kept { ExtendsBytes out.old.items out.new.items }
         ensures value { let fs = fields_over self.now.schema.now.trees fields.now in
             (format : Format) → AreLegalFields format fs
             → ForFields fs top.depth (tree_of self.now.arena.now top.node)
-            (λ vs. Adds (joined (part_sizes fs) (field_encodings fs vs)) out.old.items
+            (λ vs. AddsBytes (joined (part_sizes fs) (field_encodings fs vs)) out.old.items
             out.new.items result) }
     {
         let start = out.len();
@@ -63,10 +63,10 @@ impl<'a, H: PairHash> Writer<'a, H> {
         requires before { AllByRecursion (λ part. part.1 < id) fields.now }
         requires depth { top.depth < 64 }
         requires node { IsNodeOf self.now.arena.now top.node }
-        ensures kept { Extends out.old.items out.new.items }
+        ensures kept { ExtendsBytes out.old.items out.new.items }
         ensures value { let fs = fields_over self.now.schema.now.trees fields.now in
             ForFields fs top.depth (tree_of self.now.arena.now top.node)
-            (λ vs. Adds (rooms (part_sizes fs) (field_encodings fs vs)) out.old.items
+            (λ vs. AddsBytes (rooms (part_sizes fs) (field_encodings fs vs)) out.old.items
             out.new.items result) }
     {
         for (i, field) in fields.iter().enumerate() {
@@ -87,10 +87,11 @@ impl<'a, H: PairHash> Writer<'a, H> {
         requires known { id < length self.now.schema.now.trees }
         requires depth { top.depth < 64 }
         requires node { IsNodeOf self.now.arena.now top.node }
-        ensures kept { Extends out.old.items out.new.items }
+        ensures kept { ExtendsBytes out.old.items out.new.items }
         ensures value { let t = type_of self.now.schema.now id in
             ForPlace t top.depth i (tree_of self.now.arena.now top.node)
-            (λ v. Adds (room_of (fixed_size t) (enc t v)) out.old.items out.new.items result) }
+            (λ v. AddsBytes (room_of (fixed_size t) (serialize t v)) out.old.items out.new.items
+            result) }
     {
         match self.schema.fixed_size(id) {
             Some(_) => {
@@ -151,7 +152,8 @@ impl<'a, H: PairHash> Writer<'a, H> {
         ensures kept { KeepsUpTo slot.start out.old.items out.new.items }
         ensures value { let t = type_of self.now.schema.now id in
             ForPlace t top.depth i (tree_of self.now.arena.now top.node)
-            (λ v. Fills (fixed_size t) (enc t v) slot.start slot.room out.old.items out.new.items
+            (λ v. Fills (fixed_size t)
+            (serialize t v) slot.start slot.room out.old.items out.new.items
             result) }
     {
         match self.schema.fixed_size(id) {

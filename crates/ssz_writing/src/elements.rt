@@ -2,10 +2,10 @@
 ghost use Rattle.std.specs.Prelude.{◌≡◌, ◌<◌, ◌≤◌, length, map, replicate, None, OnOk, Option};
 ghost use Rattle.ssz_schema.specs.Sizes.{basic_size, fixed_size};
 ghost use Rattle.ssz_schema.specs.Unfolding.{type_of};
-ghost use Rattle.ssz_value.specs.Encoding.{enc, joined_alike};
+ghost use Rattle.ssz_value.specs.Encoding.{serialize, joined_alike};
 ghost use Rattle.ssz_arena.specs.Content.{IsNodeOf, tree_of};
-ghost use Rattle.ssz_nodes.specs.Shown.{ForElements, Extends};
-ghost use Rattle.ssz_writing.specs.Offsets.{Adds, FillsAll, KeepsUpTo, rooms};
+ghost use Rattle.ssz_nodes.specs.Shown.{ForElements, ExtendsBytes};
+ghost use Rattle.ssz_writing.specs.Offsets.{AddsBytes, FillsAll, KeepsUpTo, rooms};
 
 use super::leaves::Few;
 use super::offsets::{Slot, append_rooms};
@@ -29,10 +29,11 @@ impl<'a, H: PairHash> Writer<'a, H> {
         requires known { elem < length self.now.schema.now.trees }
         requires depth { top.depth < 64 }
         requires node { IsNodeOf self.now.arena.now top.node }
-        ensures kept { Extends out.old.items out.new.items }
+        ensures kept { ExtendsBytes out.old.items out.new.items }
         ensures value { let t = type_of self.now.schema.now elem in
             ForElements t top.depth count (tree_of self.now.arena.now top.node)
-            (λ vs. Adds (joined_alike (fixed_size t) (map (enc t) vs)) out.old.items out.new.items
+            (λ vs. AddsBytes (joined_alike (fixed_size t) (map (serialize t) vs)) out.old.items
+            out.new.items
             result) }
     {
         match Basic::of(self.schema, elem) {
@@ -65,10 +66,10 @@ impl<'a, H: PairHash> Writer<'a, H> {
         requires composite { basic_size (type_of self.now.schema.now elem) ≡ None }
         requires depth { top.depth < 64 }
         requires node { IsNodeOf self.now.arena.now top.node }
-        ensures kept { Extends out.old.items out.new.items }
+        ensures kept { ExtendsBytes out.old.items out.new.items }
         ensures value { let t = type_of self.now.schema.now elem in
             ForElements t top.depth count (tree_of self.now.arena.now top.node)
-            (λ vs. Adds (rooms (replicate (length vs) (fixed_size t)) (map (enc t) vs))
+            (λ vs. AddsBytes (rooms (replicate (length vs) (fixed_size t)) (map (serialize t) vs))
             out.old.items out.new.items result) }
     {
         if self.schema.is_variable(elem) {
@@ -103,7 +104,7 @@ impl<'a, H: PairHash> Writer<'a, H> {
         ensures kept { KeepsUpTo start out.old.items out.new.items }
         ensures value { let t = type_of self.now.schema.now elem in
             ForElements t top.depth count (tree_of self.now.arena.now top.node)
-            (λ vs. FillsAll (replicate (length vs) (fixed_size t)) (map (enc t) vs) start
+            (λ vs. FillsAll (replicate (length vs) (fixed_size t)) (map (serialize t) vs) start
             out.old.items out.new.items result) }
     {
         if let Some(_) = self.schema.fixed_size(elem) {

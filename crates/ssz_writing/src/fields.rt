@@ -1,7 +1,7 @@
 //! The fields of containers that stand beside one another, come down to together.
 ghost use Rattle.std.specs.Prelude.{ℕ, ◌≡◌, ◌<◌, ◌≤◌, ◌^◌, List, ◌∷◌, length, All};
-ghost use Rattle.ssz_chunk.specs.Tree.{Tree, full};
-ghost use Rattle.ssz_arena.specs.Content.{Content, IsNodeOf, tree_of};
+ghost use Rattle.ssz_chunk.specs.Tree.{Tree, merkle_tree};
+ghost use Rattle.ssz_arena.specs.Content.{ArenaContent, IsNodeOf, tree_of};
 ghost use Rattle.ssz_writing.specs.Rows.{AreRows, HoldsRows, IsRowOf};
 
 use ssz_arena::{Arena, NodeId};
@@ -70,9 +70,9 @@ impl Rows {
         requires depth { top.depth < 64 }
         requires fields { fields_depth ≤ 3 }
         ensures depth { result.depth ≡ fields_depth }
-        ensures nodes { (arena : Content) → IsNodeOf arena top.node → AreRows arena result }
-        ensures holds { (arena : Content) (trees : List Tree) → length trees ≤ 2 ^ top.depth
-            → tree_of arena top.node ≡ full top.depth trees → HoldsRows arena trees result }
+        ensures nodes { (arena : ArenaContent) → IsNodeOf arena top.node → AreRows arena result }
+        ensures holds { (arena : ArenaContent) (trees : List Tree) → length trees ≤ 2 ^ top.depth
+            → tree_of arena top.node ≡ merkle_tree top.depth trees → HoldsRows arena trees result }
     {
         Rows {
             depth: fields_depth,

@@ -4,7 +4,7 @@ ghost use Rattle.std.specs.List.{AllByRecursion, sum_by};
 ghost use Rattle.ssz_schema.specs.Types.{container, union};
 ghost use Rattle.ssz_schema.specs.Sizes.{fixed_size, part_length};
 ghost use Rattle.ssz_schema.specs.Unfolding.{type_of, fields_over, options_over, IsBelow};
-ghost use Rattle.ssz_value.specs.Encoding.{enc};
+ghost use Rattle.ssz_value.specs.Encoding.{serialize};
 ghost use Rattle.ssz_value.specs.Sizes.{size, fields_size};
 ghost use Rattle.ssz_arena.specs.Content.{IsNodeOf, tree_of};
 ghost use Rattle.ssz_value.specs.Written.{capped};
@@ -22,7 +22,7 @@ pub fn part_len<H: PairHash>(arena: &Arena<H>, schema: &Schema, id: TypeId, node
     requires known { id < length schema.now.trees }
     requires node { IsNodeOf arena.now node }
     ensures { let t = type_of schema.now id in
-        ForValue t (tree_of arena.now node) (λ v. result ≡ capped (length (enc t v))) }
+        ForValue t (tree_of arena.now node) (λ v. result ≡ capped (length (serialize t v))) }
 {
     node_len(arena, schema, id, node)
 }

@@ -2,11 +2,11 @@
 ghost use Rattle.std.specs.Prelude.{ℕ, ◌≡◌, ◌-◌, ◌<◌, ◌≤◌, ◌++◌, List, length, None, OnOk, Option};
 ghost use Rattle.ssz_schema.specs.Unfolding.{type_of};
 ghost use Rattle.ssz_bytes.specs.Bytes.{offset_bytes};
-ghost use Rattle.ssz_value.specs.Encoding.{enc};
+ghost use Rattle.ssz_value.specs.Encoding.{serialize};
 ghost use Rattle.ssz_value.specs.Written.{capped};
 ghost use Rattle.ssz_arena.specs.Content.{IsNodeOf, tree_of};
-ghost use Rattle.ssz_nodes.specs.Shown.{ForValue, Extends};
-ghost use Rattle.ssz_writing.specs.Offsets.{Adds, Fills, KeepsUpTo, offset_rooms};
+ghost use Rattle.ssz_nodes.specs.Shown.{ForValue, ExtendsBytes};
+ghost use Rattle.ssz_writing.specs.Offsets.{AddsBytes, Fills, KeepsUpTo, offset_rooms};
 
 use super::writer::Writer;
 use ssz_arena::NodeId;
@@ -24,8 +24,8 @@ pub struct Slot {
 
 /// Room for so many offsets.
 pub fn append_rooms(count: u64, out: &mut Vec<u8>) -> Result<(), EncodeFault>
-    ensures kept { Extends out.old.items out.new.items }
-    ensures rooms { Adds (offset_rooms count) out.old.items out.new.items result }
+    ensures kept { ExtendsBytes out.old.items out.new.items }
+    ensures rooms { AddsBytes (offset_rooms count) out.old.items out.new.items result }
 {
     for _i in 0..count {
         out.extend_from_slice(&[0; 4])?;
@@ -49,7 +49,8 @@ impl<'a, H: PairHash> Writer<'a, H> {
         ensures kept { KeepsUpTo slot.start out.old.items out.new.items }
         ensures value { let t = type_of self.now.schema.now id in
             ForValue t (tree_of self.now.arena.now node)
-            (λ v. Fills None (enc t v) slot.start slot.room out.old.items out.new.items result) }
+            (λ v. Fills None (serialize t v) slot.start slot.room out.old.items out.new.items
+            result) }
     {
         self.put_end(slot, out)?;
         self.append_value(id, node, out)

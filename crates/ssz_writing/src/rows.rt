@@ -5,11 +5,11 @@ ghost use Rattle.ssz_schema.specs.declared.format.Format.{Format};
 ghost use Rattle.ssz_schema.specs.Sizes.{depth, fixed_size, is_variable, part_sizes};
 ghost use Rattle.ssz_schema.specs.Unfolding.{type_of, fields_over};
 ghost use Rattle.ssz_schema.specs.Legal.{AreLegalFields};
-ghost use Rattle.ssz_value.specs.Encoding.{enc, field_encodings};
+ghost use Rattle.ssz_value.specs.Encoding.{serialize, field_encodings};
 ghost use Rattle.ssz_arena.specs.Content.{IsNodeOf, tree_of};
-ghost use Rattle.ssz_nodes.specs.Shown.{ForValue, ForElements, ForFields, Extends};
+ghost use Rattle.ssz_nodes.specs.Shown.{ForValue, ForElements, ForFields, ExtendsBytes};
 ghost use Rattle.ssz_writing.specs.Leaves.{AreFewFields, AreLeafLens, IsLeafLen};
-ghost use Rattle.ssz_writing.specs.Offsets.{Adds, Fills, FillsAll, KeepsUpTo, room_of, rooms};
+ghost use Rattle.ssz_writing.specs.Offsets.{AddsBytes, Fills, FillsAll, KeepsUpTo, room_of, rooms};
 ghost use Rattle.ssz_writing.specs.Rows.{IsRowOf};
 
 use super::fields::{Row, Rows};
@@ -39,10 +39,10 @@ impl<'a, H: PairHash> Writer<'a, H> {
         requires fixed { is_variable (type_of self.now.schema.now few.now.id) ≡ false }
         requires depth { top.depth < 64 }
         requires node { IsNodeOf self.now.arena.now top.node }
-        ensures kept { Extends out.old.items out.new.items }
+        ensures kept { ExtendsBytes out.old.items out.new.items }
         ensures value { let t = type_of self.now.schema.now few.now.id in
             ForElements t top.depth count (tree_of self.now.arena.now top.node)
-            (λ vs. Adds (rooms (replicate (length vs) (fixed_size t)) (map (enc t) vs))
+            (λ vs. AddsBytes (rooms (replicate (length vs) (fixed_size t)) (map (serialize t) vs))
             out.old.items out.new.items result) }
     {
         let mut rows = Rows::new(top, self.schema.depth(few.id));
@@ -73,7 +73,7 @@ impl<'a, H: PairHash> Writer<'a, H> {
         ensures kept { KeepsUpTo start out.old.items out.new.items }
         ensures value { let t = type_of self.now.schema.now few.now.id in
             ForElements t top.depth count (tree_of self.now.arena.now top.node)
-            (λ vs. FillsAll (replicate (length vs) (fixed_size t)) (map (enc t) vs) start
+            (λ vs. FillsAll (replicate (length vs) (fixed_size t)) (map (serialize t) vs) start
             out.old.items out.new.items result) }
     {
         let mut rows = Rows::new(top, self.schema.depth(few.id));
@@ -104,7 +104,8 @@ impl<'a, H: PairHash> Writer<'a, H> {
         ensures value { let t = type_of self.now.schema.now few.now.id in
             (node : Tree) → IsRowOf self.now.arena.now (depth t) node row.now.nodes
             → ForValue t node
-            (λ v. Fills None (enc t v) slot.start slot.room out.old.items out.new.items result) }
+            (λ v. Fills None (serialize t v) slot.start slot.room out.old.items out.new.items
+            result) }
     {
         self.put_end(slot, out)?;
         self.append_row(few, row, out)
@@ -117,10 +118,10 @@ impl<'a, H: PairHash> Writer<'a, H> {
         requires fields { AreFewFields self.now.schema.now few.now.id few.now.fields.now }
         requires lens { AreLeafLens self.now.schema.now few.now.fields.now few.now.lens }
         requires row { All (IsNodeOf self.now.arena.now) row.now.nodes }
-        ensures kept { Extends out.old.items out.new.items }
+        ensures kept { ExtendsBytes out.old.items out.new.items }
         ensures value { let t = type_of self.now.schema.now few.now.id in
             (node : Tree) → IsRowOf self.now.arena.now (depth t) node row.now.nodes
-            → ForValue t node (λ v. Adds (enc t v) out.old.items out.new.items result) }
+            → ForValue t node (λ v. AddsBytes (serialize t v) out.old.items out.new.items result) }
     {
         // Every type of a schema is legal.
         let _legal = self.schema.ty(few.id);
@@ -141,11 +142,11 @@ impl<'a, H: PairHash> Writer<'a, H> {
         requires fields { AreFewFields self.now.schema.now few.now.id few.now.fields.now }
         requires lens { AreLeafLens self.now.schema.now few.now.fields.now few.now.lens }
         requires row { All (IsNodeOf self.now.arena.now) row.now.nodes }
-        ensures kept { Extends out.old.items out.new.items }
+        ensures kept { ExtendsBytes out.old.items out.new.items }
         ensures value { let fs = fields_over self.now.schema.now.trees few.now.fields.now in
             let d = depth (type_of self.now.schema.now few.now.id) in
             (node : Tree) → IsRowOf self.now.arena.now d node row.now.nodes → ForFields fs d node
-            (λ vs. Adds (rooms (part_sizes fs) (field_encodings fs vs)) out.old.items
+            (λ vs. AddsBytes (rooms (part_sizes fs) (field_encodings fs vs)) out.old.items
             out.new.items result) }
     {
         for (i, field) in few.fields.iter().enumerate() {
@@ -197,10 +198,11 @@ impl<'a, H: PairHash> Writer<'a, H> {
         requires known { id < length self.now.schema.now.trees }
         requires node { IsNodeOf self.now.arena.now node }
         requires len { IsLeafLen (type_of self.now.schema.now id) len }
-        ensures kept { Extends out.old.items out.new.items }
+        ensures kept { ExtendsBytes out.old.items out.new.items }
         ensures value { let t = type_of self.now.schema.now id in
             ForValue t (tree_of self.now.arena.now node)
-            (λ v. Adds (room_of (fixed_size t) (enc t v)) out.old.items out.new.items result) }
+            (λ v. AddsBytes (room_of (fixed_size t) (serialize t v)) out.old.items out.new.items
+            result) }
     {
         if len > 0 {
             append_leaf(self.arena, len, node, out)?;
@@ -230,7 +232,8 @@ impl<'a, H: PairHash> Writer<'a, H> {
         ensures kept { KeepsUpTo slot.start out.old.items out.new.items }
         ensures value { let t = type_of self.now.schema.now id in
             ForValue t (tree_of self.now.arena.now node)
-            (λ v. Fills (fixed_size t) (enc t v) slot.start slot.room out.old.items out.new.items
+            (λ v. Fills (fixed_size t)
+            (serialize t v) slot.start slot.room out.old.items out.new.items
             result) }
     {
         match self.schema.fixed_size(id) {

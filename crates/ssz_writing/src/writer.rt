@@ -3,11 +3,11 @@ ghost use Rattle.std.specs.Prelude.{◌≡◌, ◌<◌, ◌≤◌, length, OnOk,
 ghost use Rattle.std.specs.List.{AllByRecursion};
 ghost use Rattle.ssz_schema.specs.Types.{union};
 ghost use Rattle.ssz_schema.specs.Unfolding.{type_of, options_over, IsBelow};
-ghost use Rattle.ssz_value.specs.Encoding.{enc};
+ghost use Rattle.ssz_value.specs.Encoding.{serialize};
 ghost use Rattle.ssz_value.specs.Written.{Appends};
 ghost use Rattle.ssz_arena.specs.Content.{IsNodeOf, tree_of};
-ghost use Rattle.ssz_nodes.specs.Shown.{ForValue, Extends};
-ghost use Rattle.ssz_writing.specs.Offsets.{Adds};
+ghost use Rattle.ssz_nodes.specs.Shown.{ForValue, ExtendsBytes};
+ghost use Rattle.ssz_writing.specs.Offsets.{AddsBytes};
 
 use super::bytes::append_byte;
 use super::measuring::part_len;
@@ -41,7 +41,7 @@ pub fn write_encoding<H: PairHash>(
     requires node { IsNodeOf arena.now node }
     ensures { let t = type_of schema.now id in
         ForValue t (tree_of arena.now node)
-        (λ v. Appends (enc t v) max out.old.items out.new.items result) }
+        (λ v. Appends (serialize t v) max out.old.items out.new.items result) }
 {
     let before = out.len();
     let end = before.saturating_add(max as usize);
@@ -69,10 +69,10 @@ impl<'a, H: PairHash> Writer<'a, H> {
     ) -> Result<(), EncodeFault>
         requires known { id < length self.now.schema.now.trees }
         requires node { IsNodeOf self.now.arena.now node }
-        ensures kept { Extends out.old.items out.new.items }
+        ensures kept { ExtendsBytes out.old.items out.new.items }
         ensures value { let t = type_of self.now.schema.now id in
             ForValue t (tree_of self.now.arena.now node)
-            (λ v. Adds (enc t v) out.old.items out.new.items result) }
+            (λ v. AddsBytes (serialize t v) out.old.items out.new.items result) }
     {
         let depth = self.schema.depth(id);
         let top = Top { node, depth };
@@ -108,10 +108,10 @@ impl<'a, H: PairHash> Writer<'a, H> {
         requires before { AllByRecursion (IsBelow id) options.now }
         requires few { length options.now ≤ 128 }
         requires node { IsNodeOf self.now.arena.now node }
-        ensures kept { Extends out.old.items out.new.items }
+        ensures kept { ExtendsBytes out.old.items out.new.items }
         ensures value { let t = union (options_over self.now.schema.now.trees options.now) in
             ForValue t (tree_of self.now.arena.now node)
-            (λ v. Adds (enc t v) out.old.items out.new.items result) }
+            (λ v. AddsBytes (serialize t v) out.old.items out.new.items result) }
     {
         let (content, number) = mixed_in(self.arena, node);
         let selector = (number % 256) as u8;

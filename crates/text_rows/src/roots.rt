@@ -5,7 +5,7 @@
 //! Python, over the definition of hash_tree_root in simple-serialize.md.
 ghost use Rattle.std.specs.Prelude.{◌≡◌, ◌<◌, ◌^◌, None, length};
 ghost use Rattle.ssz_schema.specs.Unfolding.{type_of};
-ghost use Rattle.ssz_value.specs.Faults.{why};
+ghost use Rattle.ssz_value.specs.Faults.{first_fault};
 
 use super::rows::{TypedBytes, read_table, typed_bytes};
 use super::values::value_in;

@@ -1,17 +1,17 @@
 use Rattle.std.proofs.Common.{◌≡◌, ℕ, ◌+◌, ◌*◌, ◌++◌, [], ◌∷◌, length, length-append, List, ◌<◌, slice_index, sym, ap, ◌∙◌, arith}
 use Rattle.sha2.specs.Sha256.{word_at}
-use Rattle.ssz_lanes.specs.Lanes.{bytes_at}
+use Rattle.ssz_lanes.specs.Lanes.{lane_bytes}
 use Rattle.ssz_lanes.proofs.Blocks.{window_of, word-left, word-right}
 use Rattle.ssz_lanes.proofs.load_words.Goals as goal
 
 pub returns : goal.returns
 returns c =
     let row = c.args.row.now in
-    let left : (j : ℕ) → List ℕ = λ j. bytes_at row (2 * j) in
-    let right : (j : ℕ) → List ℕ = λ j. bytes_at row (2 * j + 1) in
+    let left : (j : ℕ) → List ℕ = λ j. lane_bytes row (2 * j) in
+    let right : (j : ℕ) → List ℕ = λ j. lane_bytes row (2 * j + 1) in
     let first : (j : ℕ) → 2 * j + 0 ≡ 2 * j = λ j. omega arith in
     let long_left : (j : ℕ) → j < 8 → length (left j) ≡ 32 =
-    λ j lt. ap (λ n. length (bytes_at row n)) (sym (first j)) ∙ c.load.ensures.long j lt in
+    λ j lt. ap (λ n. length (lane_bytes row n)) (sym (first j)) ∙ c.load.ensures.long j lt in
     let long_right : (j : ℕ) → j < 8 → length (right j) ≡ 32 = c.load-9.ensures.long in
     record {
       words = λ j lt.
@@ -19,28 +19,28 @@ returns c =
           let r = right j in
           let word : (k : ℕ) → ℕ = λ k. word_at (l ++ r) (4 * k) in
           let w0 : slice_index c.load.result j ≡ word 0 =
-          c.load.ensures.value j lt ∙ ap (λ n. word_at (bytes_at row n) 0) (first j)
+          c.load.ensures.value j lt ∙ ap (λ n. word_at (lane_bytes row n) 0) (first j)
           ∙ word-left l r 0 (omega arith) (long_left j lt) in
           let w1 : slice_index c.load-2.result j ≡ word 1 =
-          c.load-2.ensures.value j lt ∙ ap (λ n. word_at (bytes_at row n) 4) (first j)
+          c.load-2.ensures.value j lt ∙ ap (λ n. word_at (lane_bytes row n) 4) (first j)
           ∙ word-left l r 1 (omega arith) (long_left j lt) in
           let w2 : slice_index c.load-3.result j ≡ word 2 =
-          c.load-3.ensures.value j lt ∙ ap (λ n. word_at (bytes_at row n) 8) (first j)
+          c.load-3.ensures.value j lt ∙ ap (λ n. word_at (lane_bytes row n) 8) (first j)
           ∙ word-left l r 2 (omega arith) (long_left j lt) in
           let w3 : slice_index c.load-4.result j ≡ word 3 =
-          c.load-4.ensures.value j lt ∙ ap (λ n. word_at (bytes_at row n) 12) (first j)
+          c.load-4.ensures.value j lt ∙ ap (λ n. word_at (lane_bytes row n) 12) (first j)
           ∙ word-left l r 3 (omega arith) (long_left j lt) in
           let w4 : slice_index c.load-5.result j ≡ word 4 =
-          c.load-5.ensures.value j lt ∙ ap (λ n. word_at (bytes_at row n) 16) (first j)
+          c.load-5.ensures.value j lt ∙ ap (λ n. word_at (lane_bytes row n) 16) (first j)
           ∙ word-left l r 4 (omega arith) (long_left j lt) in
           let w5 : slice_index c.load-6.result j ≡ word 5 =
-          c.load-6.ensures.value j lt ∙ ap (λ n. word_at (bytes_at row n) 20) (first j)
+          c.load-6.ensures.value j lt ∙ ap (λ n. word_at (lane_bytes row n) 20) (first j)
           ∙ word-left l r 5 (omega arith) (long_left j lt) in
           let w6 : slice_index c.load-7.result j ≡ word 6 =
-          c.load-7.ensures.value j lt ∙ ap (λ n. word_at (bytes_at row n) 24) (first j)
+          c.load-7.ensures.value j lt ∙ ap (λ n. word_at (lane_bytes row n) 24) (first j)
           ∙ word-left l r 6 (omega arith) (long_left j lt) in
           let w7 : slice_index c.load-8.result j ≡ word 7 =
-          c.load-8.ensures.value j lt ∙ ap (λ n. word_at (bytes_at row n) 28) (first j)
+          c.load-8.ensures.value j lt ∙ ap (λ n. word_at (lane_bytes row n) 28) (first j)
           ∙ word-left l r 7 (omega arith) (long_left j lt) in
           let w8 : slice_index c.load-9.result j ≡ word 8 =
           c.load-9.ensures.value j lt ∙ word-right l r 0 (long_left j lt) in

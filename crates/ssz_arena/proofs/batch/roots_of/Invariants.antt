@@ -1,5 +1,5 @@
 use Rattle.std.proofs.Common.{◌≡◌, ℕ, ◌<◌, List, [], length, slice_index_or}
-use Rattle.ssz_chunk.specs.Rows.{chunk_at}
+use Rattle.ssz_chunk.specs.Rows.{chunk_in_row}
 use Rattle.ssz_chunk.specs.Tree.{leaf, root}
 use Rattle.ssz_arena.specs.Batches.{AreHashed, id_at}
 use Rattle.ssz_arena.specs.Content.{trees}
@@ -11,6 +11,6 @@ invariant-ids l = record {
   long : length l.row ≡ 16;
   roots : (pair_of : List ℕ → List ℕ → List ℕ) → IsArena pair_of l.nodes
       → AreHashed l.nodes l.ids → (j : ℕ) → j < l.i
-      → chunk_at l.row j
+      → chunk_in_row l.row j
       ≡ root pair_of (slice_index_or (trees l.nodes) (id_at l.ids j).0 (leaf []));
 }

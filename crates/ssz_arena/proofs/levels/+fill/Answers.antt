@@ -1,7 +1,7 @@
 use Rattle.std.proofs.Common.{true, rules, ◌<◌, ◌≡◌, ◌+◌, ◌-◌, ◌*◌, take, drop, length, ap, subst, arith, length-take}
 use Rattle.std.proofs.lemmas.List.Sums.{sum_by-take-drop}
 use Rattle.ssz_arena.specs.declared.node.NodeId.{NodeId}
-use Rattle.ssz_arena.specs.Batches.{AreBelow, AreDue, AreHashed, id_at, is_due, kids, todo_all}
+use Rattle.ssz_arena.specs.Batches.{NodesAreBelow, AreDue, AreHashed, id_at, is_due, kids, todo_all}
 use Rattle.ssz_arena.specs.Filled.{FillsUpTo}
 use Rattle.ssz_arena.proofs.Nodes.{due}
 use Rattle.ssz_arena.proofs.Together.{KidsParts, due_below, due_hashed, due_pass, due_sum, fills_then, hashed_join, kids_parts, kids_sum, ready_later, sum_less}
@@ -134,9 +134,9 @@ fill_all-fill_all-requires g t c κs within =
       c.due_of-count.ensures.few,
       c.requires.few,
     ) in
-    let below : AreBelow c.args.limit found =
+    let below : NodesAreBelow c.args.limit found =
     due_below nodes c.args.ids.now _ c.args.limit c.due_of-count.ensures.due c.requires.below in
-    let inside : AreBelow (length nodes) found =
+    let inside : NodesAreBelow (length nodes) found =
     λ j inner. omega (arith, below j inner, c.requires.inside) in
     let pairs : AreDue nodes found =
     due_pass nodes c.args.ids.now found c.due_of-count.ensures.due in
@@ -168,9 +168,9 @@ fill_all-fill_all-requires-2 g t c κs within =
       c.due_of-count.ensures.few,
       c.requires.few,
     ) in
-    let below : AreBelow c.args.limit found =
+    let below : NodesAreBelow c.args.limit found =
     due_below nodes c.args.ids.now _ c.args.limit c.due_of-count.ensures.due c.requires.below in
-    let inside : AreBelow (length nodes) found =
+    let inside : NodesAreBelow (length nodes) found =
     λ j inner. omega (arith, below j inner, c.requires.inside) in
     let pairs : AreDue nodes found =
     due_pass nodes c.args.ids.now found c.due_of-count.ensures.due in
@@ -210,9 +210,9 @@ fill_all-fill_level-requires-clause-ready g t c =
       c.due_of-count.ensures.few,
       c.requires.few,
     ) in
-    let below : AreBelow c.args.limit found =
+    let below : NodesAreBelow c.args.limit found =
     due_below nodes c.args.ids.now _ c.args.limit c.due_of-count.ensures.due c.requires.below in
-    let inside : AreBelow (length nodes) found =
+    let inside : NodesAreBelow (length nodes) found =
     λ j inner. omega (arith, below j inner, c.requires.inside) in
     let pairs : AreDue nodes found =
     due_pass nodes c.args.ids.now found c.due_of-count.ensures.due in
@@ -273,9 +273,9 @@ fill_all-returns-clause-todo g t c =
       c.due_of-count.ensures.few,
       c.requires.few,
     ) in
-    let below : AreBelow c.args.limit found =
+    let below : NodesAreBelow c.args.limit found =
     due_below nodes c.args.ids.now _ c.args.limit c.due_of-count.ensures.due c.requires.below in
-    let inside : AreBelow (length nodes) found =
+    let inside : NodesAreBelow (length nodes) found =
     λ j inner. omega (arith, below j inner, c.requires.inside) in
     let pairs : AreDue nodes found =
     due_pass nodes c.args.ids.now found c.due_of-count.ensures.due in

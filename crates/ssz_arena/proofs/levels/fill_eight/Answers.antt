@@ -4,7 +4,7 @@ use Rattle.std.proofs.lemmas.List.Elements.{All-filter}
 use Rattle.ssz_chunk.specs.Chunk.{CountsUp}
 use Rattle.ssz_arena.specs.declared.node.NodeId.{NodeId}
 use Rattle.ssz_arena.specs.Content.{is_unhashed}
-use Rattle.ssz_arena.specs.Batches.{AreHashed, IsReady, is_due}
+use Rattle.ssz_arena.specs.Batches.{AreHashed, IsNodeReady, is_due}
 use Rattle.ssz_arena.proofs.Together.{due_below, due_hashed, due_pass, ready_sum}
 use Rattle.ssz_arena.proofs.levels.fill_eight.Goals as goal
 
@@ -19,8 +19,9 @@ fill_batch-requires-clause-due g c =
 
 pub fill_batch-requires-clause-ready : goal.fill_batch-requires-clause-ready
 fill_batch-requires-clause-ready g c =
-    subst (λ (l : List NodeId). All (IsReady c.args.nodes.now) l) (sym c.due_of-count.ensures.due)
-    (All-filter (is_due c.args.nodes.now) (IsReady c.args.nodes.now) c.args.ids.now
+    subst (λ (l : List NodeId). All (IsNodeReady c.args.nodes.now) l)
+    (sym c.due_of-count.ensures.due)
+    (All-filter (is_due c.args.nodes.now) (IsNodeReady c.args.nodes.now) c.args.ids.now
     c.requires.ready)
 
 pub fill_batch-requires-clause-distinct : goal.fill_batch-requires-clause-distinct
@@ -65,8 +66,8 @@ returns-else-are_distinct-clause-todo g c =
     (due_below nodes c.args.ids.now found (length nodes) c.due_of-count.ensures.due
     (λ j within. omega (arith, c.requires.below j within, c.requires.inside)))
     (due_pass nodes c.args.ids.now found c.due_of-count.ensures.due)
-    (subst (λ (l : List NodeId). All (IsReady nodes) l) (sym c.due_of-count.ensures.due)
-    (All-filter (is_due nodes) (IsReady nodes) c.args.ids.now c.requires.ready)) in
+    (subst (λ (l : List NodeId). All (IsNodeReady nodes) l) (sym c.due_of-count.ensures.due)
+    (All-filter (is_due nodes) (IsNodeReady nodes) c.args.ids.now c.requires.ready)) in
     omega (
       arith,
       few,

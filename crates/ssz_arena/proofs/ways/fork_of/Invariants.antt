@@ -1,11 +1,11 @@
 use Rattle.std.proofs.Common.{◌<◌, length}
-use Rattle.ssz_arena.specs.Batches.{LeadsTo}
+use Rattle.ssz_arena.specs.Batches.{NodeLeadsTo}
 use Rattle.ssz_arena.proofs.ways.fork_of.Given as goal
 
 abbrev pub invariant-way : goal.invariant-way
 invariant-way g l = record {
   inside : l.fork.0 < length l.nodes;
-  leads : LeadsTo l.nodes l.fn.id l.fork;
+  leads : NodeLeadsTo l.nodes l.fn.id l.fork;
 }
 
 abbrev pub decreases-way : goal.decreases-way

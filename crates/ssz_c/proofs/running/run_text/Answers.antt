@@ -1,11 +1,11 @@
 use Rattle.std.proofs.Common.{Some, ap, ◌∙◌}
-use Rattle.ssz_c.specs.Session.{Scene}
+use Rattle.ssz_c.specs.Session.{LineScene}
 use Rattle.ssz_c.proofs.LineSteps.{said-does}
 use Rattle.ssz_c.proofs.running.run_text.Goals as goal
 
 pub returns-in-Ok-Some-clause-does : goal.returns-in-Ok-Some-clause-does
 returns-in-Ok-Some-clause-does c =
-    let scene : Scene = record {
+    let scene : LineScene = record {
       engine = c.args.engine.now;
       hashed = c.args.hasher.now;
       line = c.args.line;

@@ -2,23 +2,24 @@ use Rattle.std.proofs.Common.{◌≡◌, ◌∙◌, ap, None, Some, Option, ℕ,
 use Rattle.ssz_said.specs.declared.fault.SszFault.{SszFault}
 use Rattle.ssz_typed.specs.declared.library.Library.{Library}
 use Rattle.ssz_said.specs.declared.status.TheConstants.{NO_HANDLE}
-use Rattle.ssz_c.specs.Reading.{IsMade, MakesHeld}
-use Rattle.ssz_said.specs.Outcome.{IsCopied, Outcome, refused}
+use Rattle.ssz_c.specs.Reading.{IsEncodingMade, MakesHeld}
+use Rattle.ssz_said.specs.Outcome.{IsCopied, CallOutcome, refused}
 use Rattle.ssz_c.proofs.schemas.ssz_of_json.Goals as goal
 
 -- a handle that holds nothing
 made-none : (held : Option Library) (number : ℕ) (text old : List ℕ) (len : ℕ) (fault : SszFault)
-    → None ≡ held → fault ≡ refused NO_HANDLE → IsMade held number text old old len len fault
+    → None ≡ held → fault ≡ refused NO_HANDLE
+    → IsEncodingMade held number text old old len len fault
 made-none None number text old len fault h is =
     (Err (refused NO_HANDLE), refl, (refl, refl, is))
 made-none (Some library) number text old len fault h is = cc
 
 -- a handle that holds a library of which the answer is known
 made-some : (held : Option Library) (library : Library) (number : ℕ) (text old new : List ℕ)
-    (before len : ℕ) (fault : SszFault) (answer : Outcome (List ℕ))
+    (before len : ℕ) (fault : SszFault) (answer : CallOutcome (List ℕ))
     → Some library ≡ held → MakesHeld (Some library) number text answer
     → IsCopied old new before len fault answer
-    → IsMade held number text old new before len fault
+    → IsEncodingMade held number text old new before len fault
 made-some held library number text old new before len fault answer h makes copied =
     (answer, subst (λ held. MakesHeld held number text answer) h makes, copied)
 

@@ -2,7 +2,7 @@ use Rattle.std.proofs.Common.{◌≡◌, ◌∙◌, ℕ, None, sym, ap, subst, a
 use Rattle.std.proofs.lemmas.Bool.{false≢true, not-true}
 use Rattle.std.proofs.lemmas.Slice.Eq.{bytes_eq-Decides}
 use Rattle.ssz_chunk.specs.declared.Chunk.{Chunk}
-use Rattle.ssz_proof.specs.Calculation.{Known, calculated, chunk_at, indices_of}
+use Rattle.ssz_proof.specs.Calculation.{Known, calculate_root, chunk_at, indices_of}
 use Rattle.ssz_proof.specs.Multiproof.{known_of}
 use Rattle.ssz_proof.specs.Descent.{IsReached, levels_below}
 use Rattle.ssz_proof.proofs.Descending.{ascends, starts}
@@ -44,9 +44,9 @@ returns-then-ne-clause-comes g c =
     record {
       places = places-same first.leaves second.leaves is;
       root_of_one = c.walk-walked.ensures.first
-          ∙ ap (calculated pair_of (known_of first)) c.root.ensures;
+          ∙ ap (calculate_root pair_of (known_of first)) c.root.ensures;
       root_of_other = c.walk-walked.ensures.second
-          ∙ ap (calculated pair_of (known_of second)) c.root.ensures;
+          ∙ ap (calculate_root pair_of (known_of second)) c.root.ensures;
       unlike = λ same. false≢true
           (sym (not-true _ (sym c.ne.ensures ∙ c.if-ne.true))
           ∙ (bytes_eq-Decides c.walk-walked.result.first.0 c.walk-walked.result.second.0).1
@@ -65,12 +65,13 @@ returns-then-same_entries-clause-comes g c =
     let first = c.args.first.now in
     let second = c.args.second.now in
     let pair_of = g.H.PairHash.pair_of in
-    let roots : calculated pair_of (known_of first) 1 ≡ calculated pair_of (known_of second) 1 =
-    sym (c.walk-walked.ensures.first ∙ ap (calculated pair_of (known_of first)) c.root.ensures)
+    let roots : calculate_root pair_of (known_of first) 1
+    ≡ calculate_root pair_of (known_of second) 1 =
+    sym (c.walk-walked.ensures.first ∙ ap (calculate_root pair_of (known_of first)) c.root.ensures)
     ∙ (bytes_eq-Decides c.walk-walked.result.first.0 c.walk-walked.result.second.0).0
     (true-from_not _ (sym c.ne.ensures ∙ c.if-ne.false))
     ∙ c.walk-walked.ensures.second
-    ∙ ap (calculated pair_of (known_of second)) c.root.ensures in
+    ∙ ap (calculate_root pair_of (known_of second)) c.root.ensures in
     let same : first.leaves ≡ second.leaves =
     sym c.leaves-3.ensures.value ∙ c.same_entries.ensures.0 c.if-same_entries.true
     ∙ c.leaves-4.ensures.value in
@@ -98,12 +99,13 @@ unreachable-requires g c =
     let none : IsFirstWithin pair_of first second 1 None =
     subst (λ (k : ℕ). IsFirstWithin pair_of first second k None) c.root.ensures
     (rw c.in-None.is at c.walk-walked.ensures.clash) in
-    let roots : calculated pair_of (known_of first) 1 ≡ calculated pair_of (known_of second) 1 =
-    sym (c.walk-walked.ensures.first ∙ ap (calculated pair_of (known_of first)) c.root.ensures)
+    let roots : calculate_root pair_of (known_of first) 1
+    ≡ calculate_root pair_of (known_of second) 1 =
+    sym (c.walk-walked.ensures.first ∙ ap (calculate_root pair_of (known_of first)) c.root.ensures)
     ∙ (bytes_eq-Decides c.walk-walked.result.first.0 c.walk-walked.result.second.0).0
     (true-from_not _ (sym c.ne.ensures ∙ c.if-ne.false))
     ∙ c.walk-walked.ensures.second
-    ∙ ap (calculated pair_of (known_of second)) c.root.ensures in
+    ∙ ap (calculate_root pair_of (known_of second)) c.root.ensures in
     let leaves = leaves-alike pair_of first second c.leaves.ensures.ordered
     c.leaves-2.ensures.ordered places
     (none-below-root pair_of first second c.leaves.ensures.ordered c.leaves-2.ensures.ordered places
@@ -123,12 +125,13 @@ returns-clause-comes g c =
     let is : indices_of first.leaves ≡ indices_of second.leaves =
     sym (ap indices_of c.leaves.ensures.value) ∙ both ∙ ap indices_of c.leaves-2.ensures.value in
     let places = places-same first.leaves second.leaves is in
-    let roots : calculated pair_of (known_of first) 1 ≡ calculated pair_of (known_of second) 1 =
-    sym (c.walk-walked.ensures.first ∙ ap (calculated pair_of (known_of first)) c.root.ensures)
+    let roots : calculate_root pair_of (known_of first) 1
+    ≡ calculate_root pair_of (known_of second) 1 =
+    sym (c.walk-walked.ensures.first ∙ ap (calculate_root pair_of (known_of first)) c.root.ensures)
     ∙ (bytes_eq-Decides c.walk-walked.result.first.0 c.walk-walked.result.second.0).0
     (true-from_not _ (sym c.ne.ensures ∙ c.if-ne.false))
     ∙ c.walk-walked.ensures.second
-    ∙ ap (calculated pair_of (known_of second)) c.root.ensures in
+    ∙ ap (calculate_root pair_of (known_of second)) c.root.ensures in
     let found : IsFirstBelow pair_of first second 1 c.in-Some.pairs =
     subst (λ (k : ℕ). IsFirstBelow pair_of first second k c.in-Some.pairs) c.root.ensures
     (rw c.in-Some.is at c.walk-walked.ensures.clash) in

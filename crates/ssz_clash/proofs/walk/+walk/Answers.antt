@@ -2,7 +2,7 @@ use Rattle.std.proofs.Common.{◌≡◌, ◌∙◌, ℕ, ◌+◌, ◌*◌, List,
 use Rattle.ssz_chunk.specs.Index.{levels}
 use Rattle.ssz_gindex.specs.Helpers.{sibling}
 use Rattle.ssz_gindex.proofs.Within.{sibling-right}
-use Rattle.ssz_proof.specs.Calculation.{calculated, indices_of}
+use Rattle.ssz_proof.specs.Calculation.{calculate_root, indices_of}
 use Rattle.ssz_proof.specs.Multiproof.{known_of}
 use Rattle.ssz_proof.specs.Descent.{IsReached, levels_below}
 use Rattle.ssz_clash.specs.Walks.{IsFirstWithin}
@@ -100,8 +100,9 @@ returns-clause-first g t c =
     c.sibling.ensures ∙ ap sibling c.right-behind.ensures ∙ sibling-right c.args.index in
     c.pair-one.ensures.value
     ∙ ap₂ pair_of
-    (c.walk-left.ensures.first ∙ ap (calculated pair_of (known_of proof)) left)
-    (c.walk-right.ensures.first ∙ ap (calculated pair_of (known_of proof)) c.right-behind.ensures)
+    (c.walk-left.ensures.first ∙ ap (calculate_root pair_of (known_of proof)) left)
+    (c.walk-right.ensures.first
+    ∙ ap (calculate_root pair_of (known_of proof)) c.right-behind.ensures)
     ∙ sym down.first.chunk
 
 pub returns-clause-second : goal.returns-clause-second
@@ -115,8 +116,9 @@ returns-clause-second g t c =
     c.sibling.ensures ∙ ap sibling c.right-behind.ensures ∙ sibling-right c.args.index in
     c.pair-other.ensures.value
     ∙ ap₂ pair_of
-    (c.walk-left.ensures.second ∙ ap (calculated pair_of (known_of proof)) left)
-    (c.walk-right.ensures.second ∙ ap (calculated pair_of (known_of proof)) c.right-behind.ensures)
+    (c.walk-left.ensures.second ∙ ap (calculate_root pair_of (known_of proof)) left)
+    (c.walk-right.ensures.second
+    ∙ ap (calculate_root pair_of (known_of proof)) c.right-behind.ensures)
     ∙ sym down.second.chunk
 
 pub returns-clause-pairs : goal.returns-clause-pairs
@@ -157,11 +159,12 @@ returns-clause-clash g t c =
       first = (c.walk-left.result.first, c.walk-right.result.first);
       second = (c.walk-left.result.second, c.walk-right.result.second);
     } in
-    let left_one = c.walk-left.ensures.first ∙ ap (calculated pair_of (known_of one)) left in
-    let right_one = c.walk-right.ensures.first ∙ ap (calculated pair_of (known_of one)) right in
-    let left_other = c.walk-left.ensures.second ∙ ap (calculated pair_of (known_of other)) left in
+    let left_one = c.walk-left.ensures.first ∙ ap (calculate_root pair_of (known_of one)) left in
+    let right_one = c.walk-right.ensures.first ∙ ap (calculate_root pair_of (known_of one)) right in
+    let left_other = c.walk-left.ensures.second
+    ∙ ap (calculate_root pair_of (known_of other)) left in
     let right_other = c.walk-right.ensures.second
-    ∙ ap (calculated pair_of (known_of other)) right in
+    ∙ ap (calculate_root pair_of (known_of other)) right in
     let meet : Meet pair_of one other i c.pair-one.result c.pair-other.result pairs = record {
       index = refl;
       above = down.above;

@@ -2,11 +2,11 @@ use Rattle.std.proofs.Common.{◌∙◌, ◌≡◌, ◌*◌, ◌≤◌, ◌+◌,
 use Rattle.std.proofs.lemmas.List.{take_rest}
 use Rattle.ssz_schema.specs.Types.{SszType, container, union}
 use Rattle.ssz_schema.specs.Sizes.{head_size, fixed_size}
-use Rattle.ssz_schema.specs.Unfolding.{type_of, tree_at, tree_over, AreBelow, IsBelow, fields_over, options_over}
+use Rattle.ssz_schema.specs.Unfolding.{type_of, type_tree_at, tree_over, AreBelow, IsBelow, fields_over, options_over}
 use Rattle.std.specs.List.{AllByRecursion}
 use Rattle.ssz_schema.specs.Legal.{IsLegal}
 use Rattle.ssz_schema.proofs.SizeLemmas.{vector_few}
-use Rattle.ssz_value.specs.Faults.{why}
+use Rattle.ssz_value.specs.Faults.{first_fault}
 use Rattle.ssz_value.proofs.Agree.{length_from_fault}
 use Rattle.ssz_codec.proofs.SoundLemmas.{elements_sound}
 use Rattle.ssz_codec.proofs.NumberLemmas.{FieldsFrom-number, numbers_list}
@@ -22,18 +22,20 @@ scope-elements-requires t c =
     let is = sym c.ty.ensures.form ∙ ap (tree_over c.args.schema.now.trees) c.in-Vector.is in
     let few : c.in-Vector.count ≤ 2 ^ 24 =
     vector_few c.args.schema.now.format
-    (tree_at c.args.schema.now.trees c.in-Vector.elem) c.in-Vector.count
+    (type_tree_at c.args.schema.now.trees c.in-Vector.elem) c.in-Vector.count
     (subst (IsLegal c.args.schema.now.format) is c.ty.ensures.legal) in
     search rules
 
 pub fixed_elements-returns-in-Some : goal.fixed_elements-returns-in-Some
 fixed_elements-returns-in-Some t c =
-    sym (fixed_found_head (why (type_of c.args.schema.now c.args.elem)) c.args.size c.args.count
+    sym (fixed_found_head
+    (first_fault (type_of c.args.schema.now c.args.elem)) c.args.size c.args.count
     c.args.start c.args.bytes.now c.in-Some.fault (sym c.in-Some.ensures))
 
 pub fixed_elements-returns-in-Some-scope : goal.fixed_elements-returns-in-Some-scope
 fixed_elements-returns-in-Some-scope t c =
-    sym (FixedFrom-found (why (type_of c.args.schema.now c.args.elem)) c.args.size c.args.count
+    sym (FixedFrom-found (first_fault (type_of c.args.schema.now c.args.elem)) c.args.size
+    c.args.count
     c.args.start c.args.bytes.now c.loop-i.i c.in-Some-scope.fault
     c.loop-i.invariant (omega arith) (sym c.in-Some-scope.ensures))
 
@@ -47,45 +49,47 @@ fixed_elements-returns-then-is_sound t c =
 
 pub fixed_elements-loop-i-preserved : goal.fixed_elements-loop-i-preserved
 fixed_elements-loop-i-preserved t c =
-    FixedFrom-more (why (type_of c.args.schema.now c.args.elem)) c.args.size c.args.count
+    FixedFrom-more (first_fault (type_of c.args.schema.now c.args.elem)) c.args.size c.args.count
     c.args.start c.args.bytes.now c.loop-i.i
     c.loop-i.invariant (omega arith) (sym c.in_default-scope.ensures)
 
 pub fixed_elements-returns : goal.fixed_elements-returns
 fixed_elements-returns t c =
-    sym (FixedFrom-end (why (type_of c.args.schema.now c.args.elem)) c.args.size c.args.count
+    sym (FixedFrom-end (first_fault (type_of c.args.schema.now c.args.elem)) c.args.size
+    c.args.count
     c.args.start c.args.bytes.now c.loop-i.i c.loop-i.invariant (omega arith))
 
 pub variable_elements-loop-i-init : goal.variable_elements-loop-i-init
 variable_elements-loop-i-init t c =
-    VariableFrom-start (why (type_of c.args.schema.now c.args.elem)) c.args.count c.args.start
+    VariableFrom-start (first_fault (type_of c.args.schema.now c.args.elem)) c.args.count
+    c.args.start
     c.args.bytes.now (sym c.in_default.ensures)
 
 pub variable_elements-slice_bounds-part-count : goal.variable_elements-slice_bounds-part-count
 variable_elements-slice_bounds-part-count t c =
     let part = VariableFrom-part
-    (why (type_of c.args.schema.now c.args.elem)) c.args.count c.args.start c.args.bytes.now
+    (first_fault (type_of c.args.schema.now c.args.elem)) c.args.count c.args.start c.args.bytes.now
     c.loop-i.i c.loop-i.invariant (omega arith) in
     omega (arith, c.offset_at-from.ensures, c.end_of_part.ensures, part.up)
 
 pub variable_elements-slice_bounds-part-start : goal.variable_elements-slice_bounds-part-start
 variable_elements-slice_bounds-part-start t c =
     let part = VariableFrom-part
-    (why (type_of c.args.schema.now c.args.elem)) c.args.count c.args.start c.args.bytes.now
+    (first_fault (type_of c.args.schema.now c.args.elem)) c.args.count c.args.start c.args.bytes.now
     c.loop-i.i c.loop-i.invariant (omega arith) in
     omega (arith, c.offset_at-from.ensures, c.end_of_part.ensures, part.up)
 
 pub variable_elements-slice_bounds-part-end : goal.variable_elements-slice_bounds-part-end
 variable_elements-slice_bounds-part-end t c =
     let part = VariableFrom-part
-    (why (type_of c.args.schema.now c.args.elem)) c.args.count c.args.start c.args.bytes.now
+    (first_fault (type_of c.args.schema.now c.args.elem)) c.args.count c.args.start c.args.bytes.now
     c.loop-i.i c.loop-i.invariant (omega arith) in
     omega (arith, c.end_of_part.ensures, part.inside)
 
 -- the part that was checked is the one that the definition cuts
 pub variable_elements-returns-in-Some-scope : goal.variable_elements-returns-in-Some-scope
 variable_elements-returns-in-Some-scope t c =
-    let child = why (type_of c.args.schema.now c.args.elem) in
+    let child = first_fault (type_of c.args.schema.now c.args.elem) in
     let same = ap₂ (λ (from to : ℕ).
     child (c.args.start + from) (slice_range c.args.bytes.now from to)) c.offset_at-from.ensures
     c.end_of_part.ensures in
@@ -95,7 +99,7 @@ variable_elements-returns-in-Some-scope t c =
 
 pub variable_elements-loop-i-preserved : goal.variable_elements-loop-i-preserved
 variable_elements-loop-i-preserved t c =
-    let child = why (type_of c.args.schema.now c.args.elem) in
+    let child = first_fault (type_of c.args.schema.now c.args.elem) in
     let same = ap₂ (λ (from to : ℕ).
     child (c.args.start + from) (slice_range c.args.bytes.now from to)) c.offset_at-from.ensures
     c.end_of_part.ensures in
@@ -228,7 +232,8 @@ fields_behind-field_fault-requires t c =
 
 pub fields_behind-loop-i-preserved : goal.fields_behind-loop-i-preserved
 fields_behind-loop-i-preserved t c =
-    let size : head_size (fixed_size (tree_at c.args.schema.now.trees c.index-fields-i.result.1))
+    let size : head_size (fixed_size
+    (type_tree_at c.args.schema.now.trees c.index-fields-i.result.1))
     ≡ c.head_len-in-loop-i.result = sym (c.head_len-in-loop-i.ensures ∙ ap head_size c.fixed_size-in-loop-i.ensures.exact) in
     subst (FieldsFrom c.args.schema.now.trees c.args.fields.now c.args.start c.args.bytes.now
     (c.loop-i.i + 1)) (ap (λ n. c.loop-i.place + n) size)
@@ -249,10 +254,10 @@ scope-returns-in-Ok t c =
     ap (λ os. union (options_over c.args.schema.now.trees os)) c.as_slice.ensures.value
     ∙ ap (tree_over c.args.schema.now.trees) (sym c.in-Union.is) ∙ c.ty.ensures.form in
     c.scope.ensures
-    ∙ ap (why (type_of c.args.schema.now c.in-Ok.option) (c.args.start + 1))
+    ∙ ap (first_fault (type_of c.args.schema.now c.in-Ok.option) (c.args.start + 1))
     (take_rest c.args.bytes.now 1)
     ∙ sym (c.in-Ok.ensures.ok c.args.schema.now.trees)
-    ∙ ap (λ (ty : SszType). why ty c.args.start c.args.bytes.now) form
+    ∙ ap (λ (ty : SszType). first_fault ty c.args.start c.args.bytes.now) form
 
 -- a number of the right size has no fault
 pub fields_behind-loop-i-preserved-in-Uint : goal.fields_behind-loop-i-preserved-in-Uint
@@ -276,51 +281,51 @@ list-returns-in-Uint t c =
 
 pub containers-loop-i-init : goal.containers-loop-i-init
 containers-loop-i-init t c =
-    VariableFrom-start (why (type_of c.args.schema.now c.args.id)) c.args.count c.args.start
+    VariableFrom-start (first_fault (type_of c.args.schema.now c.args.id)) c.args.count c.args.start
     c.args.bytes.now c.requires.head
 
 pub containers-slice_bounds-part-count : goal.containers-slice_bounds-part-count
 containers-slice_bounds-part-count t c =
     let part = VariableFrom-part
-    (why (type_of c.args.schema.now c.args.id)) c.args.count c.args.start c.args.bytes.now
+    (first_fault (type_of c.args.schema.now c.args.id)) c.args.count c.args.start c.args.bytes.now
     c.loop-i.i c.loop-i.invariant (omega arith) in
     omega (arith, c.offset_at-from.ensures, c.end_of_part.ensures, part.up)
 
 pub containers-slice_bounds-part-start : goal.containers-slice_bounds-part-start
 containers-slice_bounds-part-start t c =
     let part = VariableFrom-part
-    (why (type_of c.args.schema.now c.args.id)) c.args.count c.args.start c.args.bytes.now
+    (first_fault (type_of c.args.schema.now c.args.id)) c.args.count c.args.start c.args.bytes.now
     c.loop-i.i c.loop-i.invariant (omega arith) in
     omega (arith, c.offset_at-from.ensures, c.end_of_part.ensures, part.up)
 
 pub containers-slice_bounds-part-end : goal.containers-slice_bounds-part-end
 containers-slice_bounds-part-end t c =
     let part = VariableFrom-part
-    (why (type_of c.args.schema.now c.args.id)) c.args.count c.args.start c.args.bytes.now
+    (first_fault (type_of c.args.schema.now c.args.id)) c.args.count c.args.start c.args.bytes.now
     c.loop-i.i c.loop-i.invariant (omega arith) in
     omega (arith, c.end_of_part.ensures, part.inside)
 
 pub containers-returns-in-Some : goal.containers-returns-in-Some
 containers-returns-in-Some t c =
-    let child = why (type_of c.args.schema.now c.args.id) in
+    let child = first_fault (type_of c.args.schema.now c.args.id) in
     let same = ap₂ (λ (from to : ℕ).
     child (c.args.start + from) (slice_range c.args.bytes.now from to)) c.offset_at-from.ensures
     c.end_of_part.ensures in
     sym (VariableFrom-found child c.args.count c.args.start c.args.bytes.now c.loop-i.i
     c.in-Some.fault c.loop-i.invariant (omega arith)
-    (sym same ∙ ap (λ (ty : SszType). why ty (c.args.start + c.offset_at-from.result)
+    (sym same ∙ ap (λ (ty : SszType). first_fault ty (c.args.start + c.offset_at-from.result)
     (slice_range c.args.bytes.now c.offset_at-from.result c.end_of_part.result)) c.requires.form
     ∙ sym c.in-Some.ensures))
 
 pub containers-loop-i-preserved : goal.containers-loop-i-preserved
 containers-loop-i-preserved t c =
-    let child = why (type_of c.args.schema.now c.args.id) in
+    let child = first_fault (type_of c.args.schema.now c.args.id) in
     let same = ap₂ (λ (from to : ℕ).
     child (c.args.start + from) (slice_range c.args.bytes.now from to)) c.offset_at-from.ensures
     c.end_of_part.ensures in
     VariableFrom-more child c.args.count c.args.start c.args.bytes.now c.loop-i.i c.loop-i.invariant
     (omega arith)
-    (sym same ∙ ap (λ (ty : SszType). why ty (c.args.start + c.offset_at-from.result)
+    (sym same ∙ ap (λ (ty : SszType). first_fault ty (c.args.start + c.offset_at-from.result)
     (slice_range c.args.bytes.now c.offset_at-from.result c.end_of_part.result)) c.requires.form
     ∙ sym c.in_default.ensures)
 

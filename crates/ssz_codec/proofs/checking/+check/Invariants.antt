@@ -1,6 +1,6 @@
 use Rattle.std.proofs.Common.{◌+◌, ◌*◌}
 use Rattle.ssz_schema.specs.Unfolding.{type_of}
-use Rattle.ssz_value.specs.Faults.{why}
+use Rattle.ssz_value.specs.Faults.{first_fault}
 use Rattle.ssz_parts.proofs.FieldLemmas.{FieldsFrom}
 use Rattle.ssz_parts.proofs.ElementFaults.{FixedFrom, VariableFrom}
 use Rattle.ssz_codec.proofs.checking.+check.Given as goal
@@ -37,15 +37,15 @@ decreases-list l = 8 * l.elem + 8
 
 abbrev pub invariant-fixed_elements-loop-i : goal.invariant-fixed_elements-loop-i
 invariant-fixed_elements-loop-i l =
-    FixedFrom (why (type_of l.schema l.elem)) l.size l.count l.start l.bytes l.i
+    FixedFrom (first_fault (type_of l.schema l.elem)) l.size l.count l.start l.bytes l.i
 
 abbrev pub invariant-variable_elements-loop-i : goal.invariant-variable_elements-loop-i
 invariant-variable_elements-loop-i l =
-    VariableFrom (why (type_of l.schema l.elem)) l.count l.start l.bytes l.i
+    VariableFrom (first_fault (type_of l.schema l.elem)) l.count l.start l.bytes l.i
 
 abbrev pub invariant-containers-loop-i : goal.invariant-containers-loop-i
 invariant-containers-loop-i l =
-    VariableFrom (why (type_of l.schema l.id)) l.count l.start l.bytes l.i
+    VariableFrom (first_fault (type_of l.schema l.id)) l.count l.start l.bytes l.i
 
 abbrev pub invariant-fields_behind-loop-i : goal.invariant-fields_behind-loop-i
 invariant-fields_behind-loop-i l = FieldsFrom l.schema.trees l.fields l.start l.bytes l.i l.place

@@ -3,16 +3,16 @@ use Rattle.std.specs.List.{AllByRecursion}
 use Rattle.std.proofs.lemmas.List.{take_rest, length_push}
 use Rattle.std.proofs.lemmas.Result.{err_from_is_err_and}
 use Rattle.ssz_schema.specs.Types.{SszType, uint, container, union}
-use Rattle.ssz_schema.specs.Unfolding.{type_of, tree_at, tree_over, AreBelow, options_over, fields_over}
+use Rattle.ssz_schema.specs.Unfolding.{type_of, type_tree_at, tree_over, AreBelow, options_over, fields_over}
 use Rattle.ssz_schema.specs.Legal.{IsLegal}
 use Rattle.ssz_schema.specs.Sizes.{byte_count, head_size, fixed_size}
 use Rattle.ssz_schema.proofs.SizeLemmas.{vector_few}
-use Rattle.ssz_value.specs.Faults.{why, elements_fault}
+use Rattle.ssz_value.specs.Faults.{first_fault, elements_fault}
 use Rattle.ssz_value.specs.Values.{chosen, sequence, values}
 use Rattle.ssz_value.specs.Reading.{value_in, elements_in}
 use Rattle.ssz_value.specs.Shapes.{StandAlike}
 use Rattle.ssz_value.proofs.Agree.{length_from_fault, same_some}
-use Rattle.ssz_codec.specs.Plain.{is_plain}
+use Rattle.ssz_codec.specs.Plain.{has_plain_encoding}
 use Rattle.ssz_codec.proofs.PlainLemmas.{clean_of, elements_clean}
 use Rattle.ssz_value.specs.Standing.{value_of, Stands, IsFormed, FieldsFormed}
 use Rattle.ssz_value.proofs.ValueLemmas.{chosen_is, seq_is}
@@ -32,7 +32,7 @@ scope-elements-requires t c =
     let is = sym c.ty.ensures.form ∙ ap (tree_over c.args.schema.now.trees) c.in-Vector.is in
     let few : c.in-Vector.count ≤ 2 ^ 24 =
     vector_few c.args.schema.now.format
-    (tree_at c.args.schema.now.trees c.in-Vector.elem) c.in-Vector.count
+    (type_tree_at c.args.schema.now.trees c.in-Vector.elem) c.in-Vector.count
     (subst (IsLegal c.args.schema.now.format) is c.ty.ensures.legal) in
     search rules
 
@@ -40,7 +40,7 @@ pub scope-returns-in-Vector : goal.scope-returns-in-Vector
 scope-returns-in-Vector t c =
     let is = sym c.ty.ensures.form ∙ ap (tree_over c.args.schema.now.trees) c.in-Vector.is in
     subst (λ (ty : SszType).
-    Decodes (why ty c.args.start c.args.bytes.now)
+    Decodes (first_fault ty c.args.start c.args.bytes.now)
     (Stands ty (value_in ty c.args.bytes.now)) c.elements.result) (sym is) c.elements.ensures
 
 pub list-returns-in-Ok : goal.list-returns-in-Ok
@@ -73,12 +73,12 @@ scope-returns-in-Union t c =
     ∙ ap (λ os. union (options_over c.args.schema.now.trees os))
     (sym c.as_slice.ensures.value) in
     subst (λ (ty : SszType).
-    Decodes (why ty c.args.start c.args.bytes.now)
+    Decodes (first_fault ty c.args.start c.args.bytes.now)
     (Stands ty (value_in ty c.args.bytes.now)) c.chosen.result) (sym is) c.chosen.ensures
 
 pub chosen-returns-in-None : goal.chosen-returns-in-None
 chosen-returns-in-None t c =
-    subst (Faulty (why (union (options_over c.args.schema.now.trees c.args.options.now))
+    subst (Faulty (first_fault (union (options_over c.args.schema.now.trees c.args.options.now))
     c.args.start c.args.bytes.now)) (sym c.bad-in-None.ensures)
     (union_past c.args.schema.now.trees c.args.options.now c.args.start c.args.bytes.now
     (some_byte c.args.bytes.now (sym c.if-is_empty.ensures)) c.in-None.ensures)
@@ -97,10 +97,10 @@ chosen-returns-in_err-inner-in-Some-Some t c =
     c.in-Some-Some.option c.args.bytes.now
     (some_byte c.args.bytes.now (sym c.if-is_empty.ensures))
     (ap Some (sym c.in-Some-Some.field-0-is) ∙ c.in-Some-Some.ensures)
-    ∙ ap (why (type_of c.args.schema.now c.in-Some-Some.option) (c.args.start + 1))
+    ∙ ap (first_fault (type_of c.args.schema.now c.in-Some-Some.option) (c.args.start + 1))
     (sym (take_rest c.args.bytes.now 1)) in
     rw (p.1, p.2) (error_of_part _
-    (why (union (options_over c.args.schema.now.trees c.args.options.now)) c.args.start
+    (first_fault (union (options_over c.args.schema.now.trees c.args.options.now)) c.args.start
     c.args.bytes.now) _ c.in_err-inner-in-Some-Some.ensures (λ f found. at ∙ found))
 
 pub chosen-returns-in_ok-new-in-Some-Some : goal.chosen-returns-in_ok-new-in-Some-Some
@@ -109,7 +109,7 @@ chosen-returns-in_ok-new-in-Some-Some t c =
     c.in-Some-Some.option c.args.bytes.now
     (some_byte c.args.bytes.now (sym c.if-is_empty.ensures))
     (ap Some (sym c.in-Some-Some.field-0-is) ∙ c.in-Some-Some.ensures)
-    ∙ ap (why (type_of c.args.schema.now c.in-Some-Some.option) (c.args.start + 1))
+    ∙ ap (first_fault (type_of c.args.schema.now c.in-Some-Some.option) (c.args.start + 1))
     (sym (take_rest c.args.bytes.now 1)) in (
       at ∙ c.in_ok-inner-in-Some-Some.ensures.0,
       record {
@@ -167,7 +167,8 @@ container-returns-in_err-put_field t c =
 pub container-loop-i-preserved : goal.container-loop-i-preserved
 container-loop-i-preserved t c =
     let trees = c.args.schema.now.trees in
-    let size : head_size (fixed_size (tree_at c.args.schema.now.trees c.index-fields-i.result.1))
+    let size : head_size (fixed_size
+    (type_tree_at c.args.schema.now.trees c.index-fields-i.result.1))
     ≡ c.head_len.result = sym (c.head_len.ensures ∙ ap head_size c.fixed_size.ensures.exact) in
     let next = ap (λ n. c.loop-i.place + n) size in
     record {
@@ -183,7 +184,7 @@ container-loop-i-preserved t c =
           (c.loop-i.i + 1) place (map value_of c.put_field.new.parts.items)) next
           (subst (FieldsRead c.args.schema.now.trees c.args.fields.now c.args.bytes.now
           (c.loop-i.i + 1) (c.loop-i.place + head_size
-          (fixed_size (tree_at c.args.schema.now.trees c.index-fields-i.result.1))))
+          (fixed_size (type_tree_at c.args.schema.now.trees c.index-fields-i.result.1))))
           (sym (values_push _ _ c.in_ok-put_field.ensures.put.1.value c.in_ok-put_field.ensures.put.1.items))
           (FieldsRead-more c.args.schema.now.trees c.args.fields.now c.args.bytes.now c.loop-i.i
           c.loop-i.place c.part_range-from.result.0 c.part_range-from.result.1
@@ -220,7 +221,7 @@ container-returns t c = (
 
 pub fixed_elements-returns-in-Some : goal.fixed_elements-returns-in-Some
 fixed_elements-returns-in-Some t c =
-    fixed_found_head (why (type_of c.args.schema.now c.args.elem)) c.args.size c.args.count
+    fixed_found_head (first_fault (type_of c.args.schema.now c.args.elem)) c.args.size c.args.count
     c.args.start c.args.bytes.now c.in-Some.fault (sym c.in-Some.ensures)
 
 -- of numbers, none of which can have a fault
@@ -234,7 +235,8 @@ fixed_elements-returns-in-Uint t c =
     let whole = length_from_fault (c.args.count * c.args.size) c.args.start c.args.bytes.now
     (sym c.in_default.ensures) in (
       elements_clean (type_of c.args.schema.now c.args.elem) c.args.size c.args.count c.args.start
-          c.args.bytes.now (clean_of (type_of c.args.schema.now c.args.elem) (ap is_plain is))
+          c.args.bytes.now (clean_of (type_of c.args.schema.now c.args.elem)
+          (ap has_plain_encoding is))
           c.requires.size (λ i. omega (arith, c.type_inv.bytes i)) whole,
       subst (λ (ty : SszType).
           StandAlike ty (map (value_in ty)
@@ -252,14 +254,15 @@ fixed_elements-returns-in_err-put t c =
     c.from_residual-in_err-put.ensures.1 in
     rw (p.1, p.2) (error_of_part _ _ _ c.in_err-put.ensures.put
     (λ f found. FixedFrom-found
-    (why (type_of c.args.schema.now c.args.elem)) c.args.size c.args.count c.args.start
+    (first_fault (type_of c.args.schema.now c.args.elem)) c.args.size c.args.count c.args.start
     c.args.bytes.now c.loop-i.i f c.loop-i.invariant.faultless (omega arith) found))
 
 pub fixed_elements-loop-i-preserved : goal.fixed_elements-loop-i-preserved
 fixed_elements-loop-i-preserved t c =
     record {
       faultless = FixedFrom-more
-          (why (type_of c.args.schema.now c.args.elem)) c.args.size c.args.count c.args.start
+          (first_fault (type_of c.args.schema.now c.args.elem)) c.args.size c.args.count
+          c.args.start
           c.args.bytes.now c.loop-i.i c.loop-i.invariant.faultless
           (omega arith) c.in_ok-put.ensures.put.0;
       read = subst (ReadFrom (type_of c.args.schema.now c.args.elem)
@@ -279,7 +282,8 @@ fixed_elements-loop-i-preserved t c =
 
 pub fixed_elements-returns : goal.fixed_elements-returns
 fixed_elements-returns t c = (
-  FixedFrom-end (why (type_of c.args.schema.now c.args.elem)) c.args.size c.args.count c.args.start
+  FixedFrom-end (first_fault (type_of c.args.schema.now c.args.elem)) c.args.size c.args.count
+      c.args.start
       c.args.bytes.now c.loop-i.i c.loop-i.invariant.faultless (omega arith),
   record {
     value = ReadFrom-end (type_of c.args.schema.now c.args.elem)
@@ -291,7 +295,7 @@ fixed_elements-returns t c = (
 
 pub variable_elements-returns : goal.variable_elements-returns
 variable_elements-returns t c = (
-  VariableFrom-end (why (type_of c.args.schema.now c.args.elem)) c.args.count c.args.start
+  VariableFrom-end (first_fault (type_of c.args.schema.now c.args.elem)) c.args.count c.args.start
       c.args.bytes.now c.loop-i.i c.loop-i.invariant.faultless (omega arith),
   record {
     value = ReadFrom-end
@@ -304,7 +308,8 @@ variable_elements-returns t c = (
 pub variable_elements-loop-i-init : goal.variable_elements-loop-i-init
 variable_elements-loop-i-init t c = record {
   faultless = VariableFrom-start
-      (why (type_of c.args.schema.now c.args.elem)) c.args.count c.args.start c.args.bytes.now
+      (first_fault (type_of c.args.schema.now c.args.elem)) c.args.count c.args.start
+      c.args.bytes.now
       (sym c.in_default.ensures);
   read = subst (ReadFrom (type_of c.args.schema.now c.args.elem) None c.args.count c.args.bytes.now
       0 (4 * 0)) (sym (ap (map value_of) c.in_ok-parts.ensures.items))
@@ -319,21 +324,21 @@ variable_elements-loop-i-init t c = record {
 pub variable_elements-slice_bounds-part-count : goal.variable_elements-slice_bounds-part-count
 variable_elements-slice_bounds-part-count t c =
     let part = VariableFrom-part
-    (why (type_of c.args.schema.now c.args.elem)) c.args.count c.args.start c.args.bytes.now
+    (first_fault (type_of c.args.schema.now c.args.elem)) c.args.count c.args.start c.args.bytes.now
     c.loop-i.i c.loop-i.invariant.faultless (omega arith) in
     omega (arith, c.offset_at-from.ensures, c.end_of_part.ensures, part.up)
 
 pub variable_elements-slice_bounds-part-start : goal.variable_elements-slice_bounds-part-start
 variable_elements-slice_bounds-part-start t c =
     let part = VariableFrom-part
-    (why (type_of c.args.schema.now c.args.elem)) c.args.count c.args.start c.args.bytes.now
+    (first_fault (type_of c.args.schema.now c.args.elem)) c.args.count c.args.start c.args.bytes.now
     c.loop-i.i c.loop-i.invariant.faultless (omega arith) in
     omega (arith, c.offset_at-from.ensures, c.end_of_part.ensures, part.up)
 
 pub variable_elements-slice_bounds-part-end : goal.variable_elements-slice_bounds-part-end
 variable_elements-slice_bounds-part-end t c =
     let part = VariableFrom-part
-    (why (type_of c.args.schema.now c.args.elem)) c.args.count c.args.start c.args.bytes.now
+    (first_fault (type_of c.args.schema.now c.args.elem)) c.args.count c.args.start c.args.bytes.now
     c.loop-i.i c.loop-i.invariant.faultless (omega arith) in
     omega (arith, c.end_of_part.ensures, part.inside)
 
@@ -341,18 +346,18 @@ pub variable_elements-returns-in_err-put : goal.variable_elements-returns-in_err
 variable_elements-returns-in_err-put t c =
     let p = err_from_is_err_and c.from_residual-in_err-put.result
     c.from_residual-in_err-put.ensures.1 in
-    let child = why (type_of c.args.schema.now c.args.elem) in
+    let child = first_fault (type_of c.args.schema.now c.args.elem) in
     let same = ap₂ (λ (from to : ℕ).
     child (c.args.start + from) (slice_range c.args.bytes.now from to)) c.offset_at-from.ensures
     c.end_of_part.ensures in
     rw (p.1, p.2) (error_of_part _ _ _ c.in_err-put.ensures.put
     (λ f found. VariableFrom-found
-    (why (type_of c.args.schema.now c.args.elem)) c.args.count c.args.start c.args.bytes.now
+    (first_fault (type_of c.args.schema.now c.args.elem)) c.args.count c.args.start c.args.bytes.now
     c.loop-i.i f c.loop-i.invariant.faultless (omega arith) (sym same ∙ found)))
 
 pub variable_elements-loop-i-preserved : goal.variable_elements-loop-i-preserved
 variable_elements-loop-i-preserved t c =
-    let child = why (type_of c.args.schema.now c.args.elem) in
+    let child = first_fault (type_of c.args.schema.now c.args.elem) in
     let same = ap₂ (λ (from to : ℕ).
     child (c.args.start + from) (slice_range c.args.bytes.now from to)) c.offset_at-from.ensures
     c.end_of_part.ensures in
@@ -361,7 +366,8 @@ variable_elements-loop-i-preserved t c =
     c.offset_at-from.ensures c.end_of_part.ensures in
     record {
       faultless = VariableFrom-more
-          (why (type_of c.args.schema.now c.args.elem)) c.args.count c.args.start c.args.bytes.now
+          (first_fault (type_of c.args.schema.now c.args.elem)) c.args.count c.args.start
+          c.args.bytes.now
           c.loop-i.i c.loop-i.invariant.faultless (omega arith) (sym same
           ∙ c.in_ok-put.ensures.put.0);
       read = subst (ReadFrom (type_of c.args.schema.now c.args.elem) None c.args.count
@@ -466,7 +472,7 @@ chosen-scope-requires t c =
 pub variable_elements-put-requires : goal.variable_elements-put-requires
 variable_elements-put-requires t c =
     let part = VariableFrom-part
-    (why (type_of c.args.schema.now c.args.elem)) c.args.count c.args.start c.args.bytes.now
+    (first_fault (type_of c.args.schema.now c.args.elem)) c.args.count c.args.start c.args.bytes.now
     c.loop-i.i c.loop-i.invariant.faultless (omega arith) in
     let up : c.offset_at-from.result ≤ c.end_of_part.result =
     omega (arith, c.offset_at-from.ensures, c.end_of_part.ensures, part.up) in
@@ -478,7 +484,7 @@ pub elements-returns-in_ok-parts-in-Some : goal.elements-returns-in_ok-parts-in-
 elements-returns-in_ok-parts-in-Some t c =
     let size : Some c.in-Some.size ≡ fixed_size (type_of c.args.schema.now c.args.elem) =
     sym c.in-Some.is ∙ c.fixed_size.ensures.exact in (
-      ap (λ (z : Option ℕ). elements_fault (why (type_of c.args.schema.now c.args.elem)) z
+      ap (λ (z : Option ℕ). elements_fault (first_fault (type_of c.args.schema.now c.args.elem)) z
           c.args.count c.args.start c.args.bytes.now) (sym size)
           ∙ c.in_ok-parts-in-Some.ensures.0,
       record {
@@ -496,7 +502,7 @@ pub elements-returns-in_ok-parts-in-None : goal.elements-returns-in_ok-parts-in-
 elements-returns-in_ok-parts-in-None t c =
     let size : None ≡ fixed_size (type_of c.args.schema.now c.args.elem) =
     sym c.in-None.is ∙ c.fixed_size.ensures.exact in (
-      ap (λ (z : Option ℕ). elements_fault (why (type_of c.args.schema.now c.args.elem)) z
+      ap (λ (z : Option ℕ). elements_fault (first_fault (type_of c.args.schema.now c.args.elem)) z
           c.args.count c.args.start c.args.bytes.now) (sym size)
           ∙ c.in_ok-parts-in-None.ensures.0,
       record {
@@ -516,7 +522,7 @@ put-elements-requires t c =
     let is = sym c.ty.ensures.form ∙ ap (tree_over c.args.schema.now.trees) c.in-Vector.is in
     let few : c.in-Vector.count ≤ 2 ^ 24 =
     vector_few c.args.schema.now.format
-    (tree_at c.args.schema.now.trees c.in-Vector.elem) c.in-Vector.count
+    (type_tree_at c.args.schema.now.trees c.in-Vector.elem) c.in-Vector.count
     (subst (IsLegal c.args.schema.now.format) is c.ty.ensures.legal) in
     search rules
 

@@ -1,7 +1,7 @@
 use Rattle.std.proofs.Common.{◌+◌, ◌*◌, ◌≤◌, map, length, ◌≡◌, Some, None, vec_len, vec_capacity}
 use Rattle.std.specs.List.{AllByRecursion}
 use Rattle.ssz_schema.specs.Unfolding.{type_of, fields_over}
-use Rattle.ssz_value.specs.Faults.{why}
+use Rattle.ssz_value.specs.Faults.{first_fault}
 use Rattle.ssz_value.specs.Standing.{value_of, IsFormed, FieldsFormed}
 use Rattle.ssz_parts.proofs.FieldLemmas.{FieldsFrom}
 use Rattle.ssz_parts.proofs.ElementFaults.{FixedFrom, VariableFrom}
@@ -37,7 +37,7 @@ decreases-list l = 8 * l.elem + 8
 
 abbrev pub invariant-fixed_elements-loop-i : goal.invariant-fixed_elements-loop-i
 invariant-fixed_elements-loop-i l = record {
-  faultless : FixedFrom (why (type_of l.schema l.elem)) l.size l.count l.start l.bytes l.i;
+  faultless : FixedFrom (first_fault (type_of l.schema l.elem)) l.size l.count l.start l.bytes l.i;
   read : ReadFrom (type_of l.schema l.elem) (Some l.size) l.count l.bytes l.i (l.i * l.size)
       (map value_of l.parts.items);
   formed : AllByRecursion (IsFormed (type_of l.schema l.elem)) l.parts.items;
@@ -47,7 +47,7 @@ invariant-fixed_elements-loop-i l = record {
 
 abbrev pub invariant-variable_elements-loop-i : goal.invariant-variable_elements-loop-i
 invariant-variable_elements-loop-i l = record {
-  faultless : VariableFrom (why (type_of l.schema l.elem)) l.count l.start l.bytes l.i;
+  faultless : VariableFrom (first_fault (type_of l.schema l.elem)) l.count l.start l.bytes l.i;
   read : ReadFrom (type_of l.schema l.elem) None l.count l.bytes l.i (4 * l.i)
       (map value_of l.parts.items);
   formed : AllByRecursion (IsFormed (type_of l.schema l.elem)) l.parts.items;

@@ -4,20 +4,20 @@ use Rattle.std.specs.List.{AllByRecursion}
 use Rattle.ssz_schema.specs.Types.{SszType, container}
 use Rattle.ssz_schema.specs.Sizes.{fixed_size, head_size, part_sizes}
 use Rattle.ssz_schema.specs.Legal.{IsLegal}
-use Rattle.ssz_schema.specs.Unfolding.{type_of, tree_over, AreBelow, fields_over, options_over, tree_at}
+use Rattle.ssz_schema.specs.Unfolding.{type_of, tree_over, AreBelow, fields_over, options_over, type_tree_at}
 use Rattle.ssz_value.specs.declared.value.Value.{Value}
 use Rattle.ssz_value.specs.declared.value.Value.TheVariants.{Union}
 use Rattle.ssz_value.specs.Values.{SszValue, number}
 use Rattle.ssz_value.specs.Standing.{value_of, IsValue}
 use Rattle.ssz_bytes.specs.Bytes.{le_bytes}
-use Rattle.ssz_value.specs.Encoding.{enc, joined, joined_alike, bodies, heads_length, field_encodings}
+use Rattle.ssz_value.specs.Encoding.{serialize, joined, joined_alike, bodies, heads_length, field_encodings}
 use Rattle.ssz_value.proofs.ExactLaw.{agrees}
 use Rattle.ssz_value.proofs.ValueLemmas.{seq_is, bytes_are, chosen_none_is}
 use Rattle.ssz_value.proofs.Sequences.{items-values}
 use Rattle.ssz_value.proofs.OptionLemmas.{option_below}
 use Rattle.ssz_value.proofs.PartLemmas.{part_known, known_weaker, field_count_is}
 use Rattle.ssz_value.specs.Shapes.{IsSequence, AreFields, parts_of}
-use Rattle.ssz_codec.specs.Writing.{Writes}
+use Rattle.ssz_codec.specs.Writing.{WritesEncoding}
 use Rattle.ssz_value.proofs.FormLemmas.{seq_elements, bytes_elements, seq_fields, chosen_fits, union_inner, chosen_option, value_of_chosen, element_at, vector_sequence, list_sequence}
 use Rattle.ssz_codec.proofs.WritingLemmas.{ElementsLeft-room, ElementsLeft-more, FieldsLeft-room, FieldsLeft-more, FieldsLeft-value, FieldsLeft-within, joined_writes}
 use Rattle.ssz_parts.proofs.PartSizes.{heads_alike}
@@ -36,7 +36,7 @@ put_part-write_value-len-requires t c =
     let head : head_size (fixed_size (type_of c.args.schema.now c.args.id)) ≡ c.in-Some.field-0 =
     ap head_size size in
     let behind = room_behind c.args.front.now c.args.at.0 in
-    let room : length (enc (type_of c.args.schema.now c.args.id)
+    let room : length (serialize (type_of c.args.schema.now c.args.id)
     (value_of c.args.part.now)) ≤ length
     (take (length c.args.front.now - c.args.at.0) (drop c.args.at.0 c.args.front.now)) =
     omega (arith, c.requires.place, head, sized, behind) in
@@ -53,7 +53,7 @@ put_part-returns-in-Some t c =
     (value_of c.args.part.now) size c.requires.value.fits in
     puts_fixed (fixed_size (type_of c.args.schema.now c.args.id)) c.in-Some.field-0
     c.write_value-len.result
-    (enc (type_of c.args.schema.now c.args.id) (value_of c.args.part.now)) c.args.at
+    (serialize (type_of c.args.schema.now c.args.id) (value_of c.args.part.now)) c.args.at
     c.args.front.now c.args.back.now c.write_value-len.new.room _
     size sized c.write_value-len.ensures (omega (arith, c.requires.place))
 
@@ -67,7 +67,7 @@ put_part-returns-in-None t c =
     c.put_uint.ensures in
     puts_variable (fixed_size (type_of c.args.schema.now c.args.id))
     c.write_value-len-in-None.result
-    (enc (type_of c.args.schema.now c.args.id) (value_of c.args.part.now)) c.args.at
+    (serialize (type_of c.args.schema.now c.args.id) (value_of c.args.part.now)) c.args.at
     c.args.front.now c.args.back.now c.put_uint.new.bytes _ c.write_value-len-in-None.new.room _
     size offset c.write_value-len-in-None.ensures (omega (arith, c.requires.place))
     (omega (arith, c.requires.end))
@@ -99,7 +99,7 @@ pub put_fields-put_part-at-requires : goal.put_fields-put_part-at-requires
 put_fields-put_part-at-requires t c =
     let within = FieldsLeft-within c.args.schema.now.trees c.args.fields.now c.args.parts.now
     c.requires.parts c.loop-i.i c.loop-i-test.true in
-    let value : IsValue (tree_at c.args.schema.now.trees c.index-fields-i.result.1)
+    let value : IsValue (type_tree_at c.args.schema.now.trees c.index-fields-i.result.1)
     c.index-parts-i.result =
     FieldsLeft-value c.args.schema.now.trees c.args.fields.now c.args.parts.now c.loop-i.i
     c.index-fields-i.result c.index-parts-i.result c.loop-i.at c.loop-i.front c.loop-i.back
@@ -159,7 +159,7 @@ write_elements-put_elements-requires t c =
     ∙ sym (heads_alike (length c.args.parts.now) (fixed_size ty)) in
     let back : length (bodies
     (replicate (length c.args.parts.now) (fixed_size (type_of c.args.schema.now c.args.elem)))
-    (map (enc (type_of c.args.schema.now c.args.elem))
+    (map (serialize (type_of c.args.schema.now c.args.elem))
     (map value_of c.args.parts.now))) ≤ length c.split_at_mut-front.result.1.now =
     omega (arith, size, product, c.requires.room, c.split_at_mut-front.ensures.back_len) in
     let short : length c.split_at_mut-front.result.0.now + length
@@ -179,7 +179,7 @@ write_elements-returns t c =
     let alike = heads_alike (length c.args.parts.now)
     (fixed_size (type_of c.args.schema.now c.args.elem)) in
     subst (λ (bytes : List ℕ).
-    Writes bytes (length c.args.parts.now * c.head_len.result + c.put_elements.result)
+    WritesEncoding bytes (length c.args.parts.now * c.head_len.result + c.put_elements.result)
     (c.put_elements.new.front ++ c.put_elements.new.back))
     (sym (joined_elements (type_of c.args.schema.now c.args.elem) c.args.parts.now))
     (joined_writes _ _ c.put_elements.result _ c.put_elements.new.front c.put_elements.new.back
@@ -269,11 +269,12 @@ write_chosen-write_value-requires t c =
     c.in-Some-Some.option (value_of c.args.value.now) (value_of c.in-Some.inner.value)
     (value_of_chosen c.args.value.now c.in-Union.selector c.in-Union.inner c.in-Some.inner
     c.in-Union.is c.in-Some.is) here in
-    let same = ap (λ v. length (enc (type_of c.args.schema.now c.in-Some-Some.option) (value_of v)))
+    let same = ap (λ v. length
+    (serialize (type_of c.args.schema.now c.in-Some-Some.option) (value_of v)))
     c.deref.ensures in
     let behind = room_behind (set c.args.room.now 0 c.in-Union.selector) 1 in
     let size = length-set c.args.room.now 0 c.in-Union.selector in
-    let room : length (enc (type_of c.args.schema.now c.in-Some-Some.option)
+    let room : length (serialize (type_of c.args.schema.now c.in-Some-Some.option)
     (value_of c.deref.result.now)) ≤ length
     (take (length (set c.args.room.now 0 c.in-Union.selector) - 1)
     (drop 1 (set c.args.room.now 0 c.in-Union.selector))) =
@@ -293,9 +294,9 @@ write_chosen-returns-in-Some-Some t c =
     (value_of_chosen c.args.value.now c.in-Union.selector c.in-Union.inner c.in-Some.inner
     c.in-Union.is c.in-Some.is) here in
     let inner = subst (λ (v : Value).
-    Writes (enc (type_of c.args.schema.now c.in-Some-Some.option) (value_of v))
+    WritesEncoding (serialize (type_of c.args.schema.now c.in-Some-Some.option) (value_of v))
     c.write_value.result c.write_value.new.room) c.deref.ensures c.write_value.ensures in
-    chosen_writes _ (enc (type_of c.args.schema.now c.in-Some-Some.option)
+    chosen_writes _ (serialize (type_of c.args.schema.now c.in-Some-Some.option)
     (value_of c.in-Some.inner.value)) c.args.room.now c.write_value.new.room _
     c.in-Union.selector c.write_value.result bytes
     (omega (arith, c.requires.room, ap length bytes)) inner
@@ -339,8 +340,8 @@ write_container-write_fields-requires t c =
     c.as_slice.result.now = subst
     (AreFields (fields_over c.args.schema.now.trees c.args.fields.now))
     (sym c.as_slice.ensures.value) all in
-    let bytes = ap (λ v. enc (container fs) (value_of v)) c.in-Seq.is
-    ∙ ap (enc (container fs)) (seq_is c.in-Seq.parts)
+    let bytes = ap (λ v. serialize (container fs) (value_of v)) c.in-Seq.is
+    ∙ ap (serialize (container fs)) (seq_is c.in-Seq.parts)
     ∙ ap (λ vs. joined (part_sizes fs) (field_encodings fs vs))
     (items-values (map value_of c.in-Seq.parts.items)
     ∙ ap (map value_of) (sym c.as_slice.ensures.value)) in
@@ -353,12 +354,12 @@ write_container-write_fields-requires t c =
 pub write_container-returns-in-Seq : goal.write_container-returns-in-Seq
 write_container-returns-in-Seq t c =
     let fs = fields_over c.args.schema.now.trees c.args.fields.now in
-    let bytes = ap (λ v. enc (container fs) (value_of v)) c.in-Seq.is
-    ∙ ap (enc (container fs)) (seq_is c.in-Seq.parts)
+    let bytes = ap (λ v. serialize (container fs) (value_of v)) c.in-Seq.is
+    ∙ ap (serialize (container fs)) (seq_is c.in-Seq.parts)
     ∙ ap (λ vs. joined (part_sizes fs) (field_encodings fs vs))
     (items-values (map value_of c.in-Seq.parts.items)
     ∙ ap (map value_of) (sym c.as_slice.ensures.value)) in
-    subst (λ (bytes : List ℕ). Writes bytes c.write_fields.result c.write_fields.new.room)
+    subst (λ (bytes : List ℕ). WritesEncoding bytes c.write_fields.result c.write_fields.new.room)
     (sym bytes) c.write_fields.ensures
 
 pub write_sequence-write_elements-requires : goal.write_sequence-write_elements-requires
@@ -374,9 +375,9 @@ write_sequence-write_elements-requires t c =
     ap (λ v. parts_of (value_of v)) c.in-Seq.is ∙ ap parts_of (seq_is c.in-Seq.parts)
     ∙ items-values (map value_of c.in-Seq.parts.items)
     ∙ ap (map value_of) (sym c.as_slice.ensures.value) in
-    let size = ap (λ vs. length (joined_alike (fixed_size ty) (map (enc ty) vs))) same in
+    let size = ap (λ vs. length (joined_alike (fixed_size ty) (map (serialize ty) vs))) same in
     let room : length (joined_alike (fixed_size (type_of c.args.schema.now c.args.elem))
-    (map (enc (type_of c.args.schema.now c.args.elem))
+    (map (serialize (type_of c.args.schema.now c.args.elem))
     (map value_of c.as_slice.result.now))) ≤ length c.args.room.now =
     omega (arith, c.requires.room, size) in
     search rules
@@ -389,8 +390,8 @@ write_sequence-returns-in-Seq t c =
     ∙ items-values (map value_of c.in-Seq.parts.items)
     ∙ ap (map value_of) (sym c.as_slice.ensures.value) in
     subst (λ (vs : List SszValue).
-    Writes (joined_alike (fixed_size (type_of c.args.schema.now c.args.elem))
-    (map (enc (type_of c.args.schema.now c.args.elem)) vs)) c.write_elements.result
+    WritesEncoding (joined_alike (fixed_size (type_of c.args.schema.now c.args.elem))
+    (map (serialize (type_of c.args.schema.now c.args.elem)) vs)) c.write_elements.result
     c.write_elements.new.room) (sym same) c.write_elements.ensures
 
 pub write_sequence-write_bytes-requires : goal.write_sequence-write_bytes-requires
@@ -413,22 +414,22 @@ write_sequence-returns-in-Bytes t c =
     let bytes = run_bytes (type_of c.args.schema.now c.args.elem)
     (value_of c.args.value.now) c.in-Bytes.run' byte (ap parts_of whole
     ∙ items-values (map number c.in-Bytes.run')) c.requires.value.fit whole in
-    subst (λ (bytes : List ℕ). Writes bytes c.write_bytes.result c.write_bytes.new.room)
+    subst (λ (bytes : List ℕ). WritesEncoding bytes c.write_bytes.result c.write_bytes.new.room)
     (c.as_slice-in-Bytes.ensures.value ∙ sym bytes) c.write_bytes.ensures
 
 pub write_value-write_sequence-requires : goal.write_value-write_sequence-requires
 write_value-write_sequence-requires t c =
     let is = sym c.ty.ensures.form ∙ ap (tree_over c.args.schema.now.trees) c.in-Vector.is in
-    let elem = tree_at c.args.schema.now.trees c.in-Vector.elem in
+    let elem = type_tree_at c.args.schema.now.trees c.in-Vector.elem in
     let value : IsSequence (type_of c.args.schema.now c.in-Vector.elem) c.args.value.now =
-    vector_sequence (tree_at c.args.schema.now.trees c.in-Vector.elem) c.in-Vector.field-1
+    vector_sequence (type_tree_at c.args.schema.now.trees c.in-Vector.elem) c.in-Vector.field-1
     c.args.value.now (subst (λ (ty : SszType). IsValue ty c.args.value.now) is c.requires.value)
     in
-    let size = ap (λ ty. length (enc ty (value_of c.args.value.now))) is
-    ∙ ap length (vector_enc (tree_at c.args.schema.now.trees c.in-Vector.elem)
+    let size = ap (λ ty. length (serialize ty (value_of c.args.value.now))) is
+    ∙ ap length (vector_enc (type_tree_at c.args.schema.now.trees c.in-Vector.elem)
     c.in-Vector.field-1 (value_of c.args.value.now)) in
     let room : length (joined_alike (fixed_size (type_of c.args.schema.now c.in-Vector.elem))
-    (map (enc (type_of c.args.schema.now c.in-Vector.elem))
+    (map (serialize (type_of c.args.schema.now c.in-Vector.elem))
     (parts_of (value_of c.args.value.now)))) ≤ length c.args.room.now =
     omega (arith, c.requires.room, size) in
     search rules
@@ -437,14 +438,14 @@ pub write_value-write_sequence-requires-in-List : goal.write_value-write_sequenc
 write_value-write_sequence-requires-in-List t c =
     let is = sym c.ty.ensures.form ∙ ap (tree_over c.args.schema.now.trees) c.in-List.is in
     let value : IsSequence (type_of c.args.schema.now c.in-List.elem) c.args.value.now =
-    list_sequence (tree_at c.args.schema.now.trees c.in-List.elem) c.in-List.field-1
+    list_sequence (type_tree_at c.args.schema.now.trees c.in-List.elem) c.in-List.field-1
     c.args.value.now (subst (λ (ty : SszType). IsValue ty c.args.value.now) is c.requires.value)
     in
-    let size = ap (λ ty. length (enc ty (value_of c.args.value.now))) is
-    ∙ ap length (list_enc (tree_at c.args.schema.now.trees c.in-List.elem) c.in-List.field-1
+    let size = ap (λ ty. length (serialize ty (value_of c.args.value.now))) is
+    ∙ ap length (list_enc (type_tree_at c.args.schema.now.trees c.in-List.elem) c.in-List.field-1
     (value_of c.args.value.now)) in
     let room : length (joined_alike (fixed_size (type_of c.args.schema.now c.in-List.elem))
-    (map (enc (type_of c.args.schema.now c.in-List.elem))
+    (map (serialize (type_of c.args.schema.now c.in-List.elem))
     (parts_of (value_of c.args.value.now)))) ≤ length c.args.room.now =
     omega (arith, c.requires.room, size) in
     search rules
@@ -452,20 +453,21 @@ write_value-write_sequence-requires-in-List t c =
 pub write_value-returns-in-Vector : goal.write_value-returns-in-Vector
 write_value-returns-in-Vector t c =
     let is = sym c.ty.ensures.form ∙ ap (tree_over c.args.schema.now.trees) c.in-Vector.is in
-    let bytes = ap (λ ty. enc ty (value_of c.args.value.now)) is
-    ∙ vector_enc (tree_at c.args.schema.now.trees c.in-Vector.elem) c.in-Vector.field-1
+    let bytes = ap (λ ty. serialize ty (value_of c.args.value.now)) is
+    ∙ vector_enc (type_tree_at c.args.schema.now.trees c.in-Vector.elem) c.in-Vector.field-1
     (value_of c.args.value.now) in
-    subst (λ (bytes : List ℕ). Writes bytes c.write_sequence.result c.write_sequence.new.room)
+    subst (λ (bytes : List ℕ).
+    WritesEncoding bytes c.write_sequence.result c.write_sequence.new.room)
     (sym bytes) c.write_sequence.ensures
 
 pub write_value-returns-in-List : goal.write_value-returns-in-List
 write_value-returns-in-List t c =
     let is = sym c.ty.ensures.form ∙ ap (tree_over c.args.schema.now.trees) c.in-List.is in
-    let bytes = ap (λ ty. enc ty (value_of c.args.value.now)) is
-    ∙ list_enc (tree_at c.args.schema.now.trees c.in-List.elem) c.in-List.field-1
+    let bytes = ap (λ ty. serialize ty (value_of c.args.value.now)) is
+    ∙ list_enc (type_tree_at c.args.schema.now.trees c.in-List.elem) c.in-List.field-1
     (value_of c.args.value.now) in
     subst (λ (bytes : List ℕ).
-    Writes bytes c.write_sequence-in-List.result c.write_sequence-in-List.new.room)
+    WritesEncoding bytes c.write_sequence-in-List.result c.write_sequence-in-List.new.room)
     (sym bytes) c.write_sequence-in-List.ensures
 
 pub write_value-write_container-requires : goal.write_value-write_container-requires
@@ -483,10 +485,14 @@ write_value-write_container-requires t c =
     (sym c.as_slice-in-Container.ensures.value) in
     let legal = subst (IsLegal c.args.schema.now.format) is c.ty.ensures.legal in
     let value = subst (λ (ty : SszType). IsValue ty c.args.value.now) is c.requires.value in
-    let room : length (enc (container
+    let room : length (serialize (container
     (fields_over c.args.schema.now.trees c.as_slice-in-Container.result.now))
     (value_of c.args.value.now)) ≤ length c.args.room.now =
-    omega (arith, c.requires.room, ap (λ ty. length (enc ty (value_of c.args.value.now))) is) in
+    omega (
+      arith,
+      c.requires.room,
+      ap (λ ty. length (serialize ty (value_of c.args.value.now))) is,
+    ) in
     search rules
 
 pub write_fields-container_heads_len-heads-requires-clause-known :

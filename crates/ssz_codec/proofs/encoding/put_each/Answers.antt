@@ -2,7 +2,7 @@ use Rattle.std.proofs.Common.{◌+◌, ◌-◌, [], length, map, Some, refl, ap,
 use Rattle.ssz_schema.specs.declared.format.Format.TheVariants.{One}
 use Rattle.ssz_schema.specs.Types.{uint}
 use Rattle.ssz_schema.specs.Sizes.{byte_count}
-use Rattle.ssz_value.specs.Encoding.{enc}
+use Rattle.ssz_value.specs.Encoding.{serialize}
 use Rattle.ssz_value.specs.Standing.{value_of}
 use Rattle.ssz_value.proofs.ExactLaw.{agrees}
 use Rattle.ssz_value.proofs.FormLemmas.{element_at}
@@ -13,7 +13,7 @@ use Rattle.ssz_codec.proofs.encoding.put_each.Goals as goal
 pub loop-part-init : goal.loop-part-init
 loop-part-init c =
     let none = no_bodies (length c.args.parts.now) (byte_count c.args.width)
-    (map (enc (uint c.args.width)) (map value_of c.args.parts.now)) in
+    (map (serialize (uint c.args.width)) (map value_of c.args.parts.now)) in
     ElementsLeft-start (uint c.args.width) c.args.parts.now c.args.front.now [] c.requires.front
     (omega (arith, ap length none))
 
@@ -42,7 +42,7 @@ loop-part-preserved c =
     c.loop-part.front [] _ [] c.loop-part.invariant c.loop-part-test.true c.part-item.is
     (puts_fixed (Some (byte_count c.args.width)) (byte_count c.args.width)
     c.write_number-place.result
-    (enc (uint c.args.width) (value_of c.part-item.result)) (c.loop-part.place, 0)
+    (serialize (uint c.args.width) (value_of c.part-item.result)) (c.loop-part.place, 0)
     c.loop-part.front [] c.write_number-place.new.room _ refl sized c.write_number-place.ensures
     (omega (arith, room.place)))
     (length-put c.loop-part.front c.write_number-place.new.room c.loop-part.place

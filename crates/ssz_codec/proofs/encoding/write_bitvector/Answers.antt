@@ -1,6 +1,6 @@
 use Rattle.std.proofs.Common.{◌∙◌, List, ℕ, length, ap, sym, subst, arith}
 use Rattle.ssz_bytes.proofs.Numbers.{length-le_bytes}
-use Rattle.ssz_codec.specs.Writing.{Writes}
+use Rattle.ssz_codec.specs.Writing.{WritesEncoding}
 use Rattle.ssz_codec.proofs.EncodingLemmas.{bitvector_run}
 use Rattle.ssz_codec.proofs.encoding.write_bitvector.Goals as goal
 
@@ -14,5 +14,5 @@ pub returns-in-Bits : goal.returns-in-Bits
 returns-in-Bits c =
     let bytes = bitvector_run c.args.n c.args.value.now c.in-Bits.run' c.in-Bits.is c.requires.value
     in
-    subst (λ (bs : List ℕ). Writes bs c.write_bits.result c.write_bits.new.room)
+    subst (λ (bs : List ℕ). WritesEncoding bs c.write_bits.result c.write_bits.new.room)
     (sym bytes) c.write_bits.ensures

@@ -5,7 +5,7 @@ use Rattle.ssz_versions.specs.Content.{Held, held_at}
 use Rattle.ssz_views.specs.Looking.{Looking, ForPart, type_seen}
 use Rattle.ssz_machine.specs.Asking.{len}
 use Rattle.ssz_machine.specs.Changes.{nothing}
-use Rattle.ssz_decisions.specs.Content.{Content}
+use Rattle.ssz_decisions.specs.Content.{EngineContent}
 use Rattle.ssz_decisions.specs.Counted.{HasCount, HasNoCount}
 use Rattle.ssz_decisions.specs.Decisions.{AnswersWith}
 use Rattle.ssz_decisions.specs.declared.decision.Decision.TheVariants.{Said, Refused}
@@ -28,13 +28,15 @@ returns-in-Ok-count_at g c =
     let path : Path = c.as_slice-steps.result.now in
     let is : path ≡ c.args.path.now = c.as_slice-steps.ensures.value ∙ way.all in
     let held : Held = (c.in-Ok.way.id, c.in-Ok.way.node) in
-    let seen : Content = over c.store.inside.schema c.store.inside.max
+    let seen : EngineContent = over c.store.inside.schema c.store.inside.max
     c.store.inside.versions.entries c.store.inside.base c.store.inside.arena in
     let there : held_at seen.entries w v ≡ Some held
-    = subst (λ (s : Content). held_at s.entries w v ≡ Some held) (sym c.store.view_is) way.there in
+    = subst (λ (s : EngineContent). held_at s.entries w v ≡ Some held)
+    (sym c.store.view_is) way.there in
     subst (λ (p : Path). AnswersWith pair_of (λ rules versions. len versions v p) nothing w
     c.args.store.now c.args.store.now (Said (Len c.in-Ok-count_at.count))) is
-    (subst (λ (s : Content). AnswersWith pair_of (λ rules versions. len versions v path) nothing w s
+    (subst (λ (s : EngineContent).
+    AnswersWith pair_of (λ rules versions. len versions v path) nothing w s
     s
     (Said (Len c.in-Ok-count_at.count))) c.store.view_is
     (len-said pair_of seen w v path held there c.in-Ok-count_at.count
@@ -51,13 +53,15 @@ returns g c =
     let path : Path = c.as_slice-steps.result.now in
     let is : path ≡ c.args.path.now = c.as_slice-steps.ensures.value ∙ way.all in
     let held : Held = (c.in-Ok.way.id, c.in-Ok.way.node) in
-    let seen : Content = over c.store.inside.schema c.store.inside.max
+    let seen : EngineContent = over c.store.inside.schema c.store.inside.max
     c.store.inside.versions.entries c.store.inside.base c.store.inside.arena in
     let there : held_at seen.entries w v ≡ Some held
-    = subst (λ (s : Content). held_at s.entries w v ≡ Some held) (sym c.store.view_is) way.there in
+    = subst (λ (s : EngineContent). held_at s.entries w v ≡ Some held)
+    (sym c.store.view_is) way.there in
     subst (λ (p : Path). AnswersWith pair_of (λ rules versions. len versions v p) nothing w
     c.args.store.now c.args.store.now (Refused c.in-Err-count_at.code)) is
-    (subst (λ (s : Content). AnswersWith pair_of (λ rules versions. len versions v path) nothing w s
+    (subst (λ (s : EngineContent).
+    AnswersWith pair_of (λ rules versions. len versions v path) nothing w s
     s
     (Refused c.in-Err-count_at.code)) c.store.view_is
     (len-refused pair_of seen w v path held there c.in-Err-count_at.code

@@ -3,7 +3,7 @@ use Rattle.ssz_schema.specs.Unfolding.{type_of}
 use Rattle.ssz_machine.specs.Changes.{puts}
 use Rattle.ssz_decisions.specs.Decisions.{AnswersAnew}
 use Rattle.ssz_decisions.specs.Loading.{brought_as}
-use Rattle.ssz_decisions.specs.declared.form.Form.{Form}
+use Rattle.ssz_decisions.specs.declared.load_form.Form.{Form}
 use Rattle.ssz_decisions.proofs.loading.bring_as.Goals as goal
 
 pub returns-in-Encoding-clause-answers : goal.returns-in-Encoding-clause-answers

@@ -8,11 +8,11 @@ use Rattle.ssz_value_json.proofs.Exact.{spelled_is}
 use Rattle.ssz_versions.specs.Content.{held_at}
 use Rattle.ssz_machine.specs.Changes.{puts}
 use Rattle.ssz_machine.specs.Rules.{makes}
-use Rattle.ssz_decisions.specs.Content.{Content}
+use Rattle.ssz_decisions.specs.Content.{EngineContent}
 use Rattle.ssz_decisions.specs.Decisions.{AnswersAnew}
 use Rattle.ssz_decisions.specs.Loading.{brought_as}
 use Rattle.ssz_decisions.specs.declared.decision.Decision.TheVariants.{Made}
-use Rattle.ssz_decisions.specs.declared.form.Form.TheVariants.{Json}
+use Rattle.ssz_decisions.specs.declared.load_form.Form.TheVariants.{Json}
 use Rattle.ssz_decisions.proofs.Brought.{made-answers, json-row, over}
 use Rattle.ssz_decisions.proofs.loading.bring_json.Goals as goal
 
@@ -33,11 +33,12 @@ returns-clause-answers g c = λ writer none.
     = spelled_is schema.format t text value c.ty-legal.ensures.legal answer.0
     (record { fits = fits; text = answer.1 }) in
     let known : c.args.id < length schema.trees
-    = subst (λ (s : Content). c.args.id < length s.types.trees) (sym c.store.view_is)
+    = subst (λ (s : EngineContent). c.args.id < length s.types.trees) (sym c.store.view_is)
     c.requires in
     let free : held_at entries writer v.now ≡ None
-    = subst (λ (s : Content). held_at s.entries writer v.now ≡ None) (sym c.store.view_is) none in
-    subst (λ (seen : Content). AnswersAnew g.H.PairHash.pair_of
+    = subst (λ (s : EngineContent). held_at s.entries writer v.now ≡ None)
+    (sym c.store.view_is) none in
+    subst (λ (seen : EngineContent). AnswersAnew g.H.PairHash.pair_of
     (λ rules versions. brought_as Json versions v.now (type_of seen.types c.args.id) text)
     (puts v.now) writer seen
     (over schema c.store.inside.max entries c.store.inside.base arena)

@@ -1,11 +1,11 @@
 use Rattle.std.proofs.Common.{◌≡◌, ◌≤◌, ◌<◌, ◌∙◌, List, ℕ, Bool, Some, length, arith, refl, sym, ap, subst}
 use Rattle.std.specs.Prelude.{IfSome, IsSomeAnd, nat_lt}
-use Rattle.ssz_outside.specs.Content.{bytes_of}
+use Rattle.ssz_outside.specs.Content.{file_bytes}
 use Rattle.ssz_schema.specs.Unfolding.{type_of}
 use Rattle.ssz_script.specs.declared.reply.TheConstants.Reply.{TOO_LONG}
 use Rattle.ssz_machine.specs.Rules.{◌>>◌, refuse}
 use Rattle.ssz_machine.specs.Changes.{puts}
-use Rattle.ssz_decisions.specs.Content.{Content, rules_of}
+use Rattle.ssz_decisions.specs.Content.{EngineContent, rules_of}
 use Rattle.ssz_decisions.specs.Loading.{brought_as, load_row}
 use Rattle.ssz_decisions.proofs.Brought.{IsLong, anew-same, free-row, load-is, loads-any, not-below, refused-anew, taken-blocks, taken-row, there-longer, there-whole, too-long, whole}
 use Rattle.ssz_decisions.proofs.loading.load.Goals as goal
@@ -31,12 +31,12 @@ returns-in-Ok-TooLong-clause-answers g c =
     let told = g.F.Files.content c.args.files.now in
     let store = c.args.store.now in
     let most : c.from.result ≡ store.most
-    = c.from.ensures ∙ ap (λ (s : Content). s.most) c.store.view_is in
-    let read : IfSome told (λ held. IsSomeAnd (bytes_of held c.args.file.now)
+    = c.from.ensures ∙ ap (λ (s : EngineContent). s.most) c.store.view_is in
+    let read : IfSome told (λ held. IsSomeAnd (file_bytes held c.args.file.now)
     (λ b. store.most < length b))
-    = subst (λ (m : ℕ). IfSome told (λ held. IsSomeAnd (bytes_of held c.args.file.now)
+    = subst (λ (m : ℕ). IfSome told (λ held. IsSomeAnd (file_bytes held c.args.file.now)
     (λ b. m < length b))) most
-    (subst (λ (n : List ℕ). IfSome told (λ held. IsSomeAnd (bytes_of held n)
+    (subst (λ (n : List ℕ). IfSome told (λ held. IsSomeAnd (file_bytes held n)
     (λ b. c.from.result < length b))) c.as_str.ensures.text
     (rw c.in-Ok-TooLong.field-0-is at c.in-Ok-TooLong.ensures.read)) in
     let long : IsLong told c.args.file.now store.most = too-long told c.args.file.now store.most
@@ -71,12 +71,12 @@ returns-in-Ok-Whole-clause-answers g c =
     let form = c.args.form in
     let type = type_of store.types c.in-Ok.id in
     let most : c.from.result ≡ store.most
-    = c.from.ensures ∙ ap (λ (s : Content). s.most) c.store.view_is in
-    let read : IfSome told (λ held. bytes_of held c.args.file.now ≡ Some bytes)
-    = subst (λ (b : List ℕ). IfSome told (λ held. bytes_of held c.args.file.now ≡ Some b))
+    = c.from.ensures ∙ ap (λ (s : EngineContent). s.most) c.store.view_is in
+    let read : IfSome told (λ held. file_bytes held c.args.file.now ≡ Some bytes)
+    = subst (λ (b : List ℕ). IfSome told (λ held. file_bytes held c.args.file.now ≡ Some b))
     (sym c.as_slice.ensures.value)
     (subst (λ (n : List ℕ). IfSome told (λ held.
-    bytes_of held n ≡ Some c.get.new.into.items)) c.as_str.ensures.text
+    file_bytes held n ≡ Some c.get.new.into.items)) c.as_str.ensures.text
     (rw c.in-Ok-Whole.field-0-is at c.in-Ok-Whole.ensures.read)) in
     let few : length bytes ≤ store.most
     = let bound = c.in-Ok-Whole.ensures.bound (ap Rattle.std.proofs.Common.Ok
@@ -104,10 +104,10 @@ returns-in-Err-clause-found g c = λ held told versions stand can.
 
 pub returns-in-Ok-TooLong-clause-found : goal.returns-in-Ok-TooLong-clause-found
 returns-in-Ok-TooLong-clause-found g c = λ held told versions stand can.
-    there-longer (bytes_of held c.args.file.now) _
+    there-longer (file_bytes held c.args.file.now) _
     (rw (c.in-Ok-TooLong.field-0-is, c.as_str.ensures.text, told) at c.in-Ok-TooLong.ensures.read)
 
 pub returns-in-Ok-Whole-clause-found : goal.returns-in-Ok-Whole-clause-found
 returns-in-Ok-Whole-clause-found g c = λ held told versions stand can.
-    there-whole (bytes_of held c.args.file.now) _
+    there-whole (file_bytes held c.args.file.now) _
     (rw (c.in-Ok-Whole.field-0-is, c.as_str.ensures.text, told) at c.in-Ok-Whole.ensures.read)

@@ -1,8 +1,8 @@
 use Rattle.std.proofs.Common.{ap, refl, sym, ◌∙◌, arith}
 use Rattle.ssz_script.specs.declared.reply.Reply.TheVariants.{List as Listed}
-use Rattle.ssz_versions.specs.Content.{names_of}
-use Rattle.ssz_machine.specs.Rules.{says}
-use Rattle.ssz_decisions.specs.Content.{Content}
+use Rattle.ssz_versions.specs.Content.{entry_names}
+use Rattle.ssz_machine.specs.Rules.{says_reply}
+use Rattle.ssz_decisions.specs.Content.{EngineContent}
 use Rattle.ssz_decisions.proofs.Names.{names-same}
 use Rattle.ssz_decisions.proofs.making.list.Goals as goal
 
@@ -10,9 +10,9 @@ pub returns : goal.returns
 returns g c = λ count. record {
   can = tt;
   of = refl;
-  comes = λ versions stands. ap (λ names. says versions (Listed names))
+  comes = λ versions stands. ap (λ names. says_reply versions (Listed names))
       (sym (names-same _ _ _ _ versions stands)
-      ∙ ap (λ (v : Content). names_of v.entries c.args.writer.0) (sym c.store.view_is)
+      ∙ ap (λ (v : EngineContent). entry_names v.entries c.args.writer.0) (sym c.store.view_is)
       ∙ sym c.in_ok-names.ensures);
   spends = λ versions stands. omega arith;
   few = λ versions stands. refl;

@@ -7,7 +7,7 @@ use Rattle.ssz_tree.proofs.Sharing.{shared_few}
 use Rattle.ssz_machine.specs.Making.{new}
 use Rattle.ssz_machine.specs.Rules.{makes}
 use Rattle.ssz_machine.specs.Changes.{puts}
-use Rattle.ssz_decisions.specs.Content.{Content}
+use Rattle.ssz_decisions.specs.Content.{EngineContent}
 use Rattle.ssz_decisions.specs.Decisions.{AnswersAnew}
 use Rattle.ssz_decisions.specs.Loading.{IsFree}
 use Rattle.ssz_decisions.specs.declared.decision.Decision.TheVariants.{Made}
@@ -25,12 +25,12 @@ returns-clause-answers g c =
     let w = c.args.writer.0 in
     let arena = c.build_default.new.arena in
     let node = c.in_ok-node.node in
-    let seen : Content = over schema c.store.inside.max entries c.store.inside.base
+    let seen : EngineContent = over schema c.store.inside.max entries c.store.inside.base
     c.store.inside.arena in
     let free : IsFree seen w v.now c.args.t.now id
-    = subst (λ (s : Content). IsFree s w v.now c.args.t.now id) (sym c.store.view_is)
+    = subst (λ (s : EngineContent). IsFree s w v.now c.args.t.now id) (sym c.store.view_is)
     c.in-Ok.ensures.ok in
-    subst (λ (s : Content). AnswersAnew pair_of
+    subst (λ (s : EngineContent). AnswersAnew pair_of
     (λ rules versions. new rules versions v.now c.args.t.now) (puts v.now) w s
     (over schema c.store.inside.max entries c.store.inside.base arena) (Made v id node c.in_ok-room.room))
     c.store.view_is

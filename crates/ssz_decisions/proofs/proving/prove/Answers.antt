@@ -5,8 +5,8 @@ use Rattle.ssz_arena.specs.Content.{tree_of}
 use Rattle.ssz_versions.specs.Content.{Held, held_at}
 use Rattle.ssz_machine.specs.Asking.{asked_indices, prove}
 use Rattle.ssz_machine.specs.Changes.{nothing}
-use Rattle.ssz_decisions.specs.Content.{Content}
-use Rattle.ssz_decisions.specs.Decisions.{Answers}
+use Rattle.ssz_decisions.specs.Content.{EngineContent}
+use Rattle.ssz_decisions.specs.Decisions.{AnswersRow}
 use Rattle.ssz_decisions.specs.Proving.{IsNowhere, Proves}
 use Rattle.ssz_decisions.specs.declared.decision.Decision.TheVariants.{Refused}
 use Rattle.ssz_decisions.proofs.Brought.{over}
@@ -23,9 +23,9 @@ returns-in-Ok-clause-answers g c =
     let indices : List Index = c.args.indices.now in
     let held : Held = c.in-Some.held in
     let inside = c.store.inside in
-    let seen : Content = over inside.schema inside.max inside.versions.entries inside.base
+    let seen : EngineContent = over inside.schema inside.max inside.versions.entries inside.base
     inside.arena in
-    let new : Content = over inside.schema inside.max inside.versions.entries inside.base
+    let new : EngineContent = over inside.schema inside.max inside.versions.entries inside.base
     c.prove_places.new.arena in
     let there : held_at seen.entries w v ≡ Some held
     = ap (λ n. held_at seen.entries w n) (sym c.as_name.ensures.text)
@@ -38,7 +38,7 @@ returns-in-Ok-clause-answers g c =
     = subst (λ (ns : List ℕ). IfOk c.prove_places.result
     (Proves pair_of (tree_of seen.arena held.1) ns)) c.as_slice-in-Ok.ensures.value
     c.prove_places.ensures.proves in
-    subst (λ (s : Content). IfOk c.prove_places.result (Answers pair_of
+    subst (λ (s : EngineContent). IfOk c.prove_places.result (AnswersRow pair_of
     (λ rules versions. prove rules versions v indices) nothing w s new
     (g.H.PairHash.pairs c.args.hasher.now) (g.H.PairHash.pairs c.prove_places.new.hasher)))
     c.store.view_is
@@ -54,7 +54,7 @@ returns-in-Err-clause-answers g c =
     let indices : List Index = c.args.indices.now in
     let held : Held = c.in-Some.held in
     let inside = c.store.inside in
-    let seen : Content = over inside.schema inside.max inside.versions.entries inside.base
+    let seen : EngineContent = over inside.schema inside.max inside.versions.entries inside.base
     inside.arena in
     let there : held_at seen.entries w v ≡ Some held
     = ap (λ n. held_at seen.entries w n) (sym c.as_name.ensures.text)
@@ -62,7 +62,8 @@ returns-in-Err-clause-answers g c =
     let is : IsNowhere (type_of seen.types held.0) indices c.in-Err.code
     = subst (λ (is : List Index). IsNowhere (type_of seen.types held.0) is c.in-Err.code)
     c.as_slice.ensures.indices (rw c.in-Err.is at c.in_ok-asked.ensures.err) in
-    subst (λ (s : Content). Answers pair_of (λ rules versions. prove rules versions v indices)
+    subst (λ (s : EngineContent).
+    AnswersRow pair_of (λ rules versions. prove rules versions v indices)
     nothing w s s (g.H.PairHash.pairs c.args.hasher.now) (g.H.PairHash.pairs c.args.hasher.now)
     (Refused c.in-Err.code)) c.store.view_is
     (nowhere-answers pair_of seen w v indices held there c.in-Err.code is
@@ -74,12 +75,12 @@ returns-in-Ok-clause-due g c =
     let v = c.args.v.now in
     let held : Held = c.in-Some.held in
     let inside = c.store.inside in
-    let seen : Content = over inside.schema inside.max inside.versions.entries inside.base
+    let seen : EngineContent = over inside.schema inside.max inside.versions.entries inside.base
     inside.arena in
     let before = g.H.PairHash.pairs c.args.hasher.now in
     let after = g.H.PairHash.pairs c.prove_places.new.hasher in
     let there : held_at seen.entries w v ≡ Some held
     = ap (λ n. held_at seen.entries w n) (sym c.as_name.ensures.text)
     ∙ sym c.get.ensures ∙ c.in-Some.is in
-    subst (λ (s : Content). HashesFor v w s before after) c.store.view_is
+    subst (λ (s : EngineContent). HashesFor v w s before after) c.store.view_is
     (hashed-for seen w v held before after there c.prove_places.ensures.due)

@@ -3,7 +3,7 @@ use Rattle.ssz_schema.specs.Types.{SszType}
 use Rattle.ssz_schema.specs.Unfolding.{type_of}
 use Rattle.ssz_schema.proofs.SmallLemmas.{legal_within}
 use Rattle.ssz_value.specs.Values.{SszValue, Fits}
-use Rattle.ssz_value.specs.Encoding.{enc}
+use Rattle.ssz_value.specs.Encoding.{serialize}
 use Rattle.ssz_value.specs.Written.{Appends}
 use Rattle.ssz_value.proofs.SizeLaw.{default_fits, defaults_have_length}
 use Rattle.ssz_draws.proofs.turns.default_bytes.Goals as goal
@@ -25,7 +25,7 @@ unreachable-requires c =
     omega (
       arith,
       long,
-      ap (λ (v : SszValue). length (enc t v)) c.in_ok-value.ensures.value,
+      ap (λ (v : SszValue). length (serialize t v)) c.in_ok-value.ensures.value,
       defaults_have_length format t c.ty-legal.ensures.legal,
       (legal_within format t c.ty-legal.ensures.legal).default_length,
     )

@@ -1,8 +1,8 @@
 use Rattle.std.proofs.Common.{◌+◌, sym, subst, arith}
 use Rattle.std.specs.Prelude.{IfOk}
 use Rattle.ssz_schema.specs.Unfolding.{type_of}
-use Rattle.ssz_tree.specs.Added.{Adds, IsPart}
-use Rattle.ssz_making.specs.Parts.{Part, part_of}
+use Rattle.ssz_tree.specs.Added.{AddsNodes, IsPartNode}
+use Rattle.ssz_making.specs.Parts.{MadePart, part_of_value}
 use Rattle.ssz_tree.proofs.Adding.{Adds-then, Adds-within}
 use Rattle.ssz_tree.proofs.FewNodes.{few_nodes}
 use Rattle.ssz_edit.specs.Given.{given_value}
@@ -12,7 +12,7 @@ use Rattle.ssz_edit.proofs.choosing.option_node.Goals as goal
 
 pub returns-in_default-clause-part : goal.returns-in_default-clause-part
 returns-in_default-clause-part g c =
-    subst (λ (part : Part). IfOk c.none_node.result (IsPart c.none_node.new.arena part))
+    subst (λ (part : MadePart). IfOk c.none_node.result (IsPartNode c.none_node.new.arena part))
     (sym (no_option_part c.args.schema.now c.args.option _ c.in_default.is))
     c.none_node.ensures.part
 
@@ -23,8 +23,8 @@ returns-in_default-clause-adds g c =
 
 pub returns-in_default-inner-clause-part : goal.returns-in_default-inner-clause-part
 returns-in_default-inner-clause-part g c =
-    subst (λ (part : Part). IfOk c.none_node-in_default-inner.result
-    (IsPart c.none_node-in_default-inner.new.arena part))
+    subst (λ (part : MadePart). IfOk c.none_node-in_default-inner.result
+    (IsPartNode c.none_node-in_default-inner.new.arena part))
     (sym (no_value_part c.args.schema.now c.args.option c.args.inner.now c.in_default-inner.is))
     c.none_node-in_default-inner.ensures.part
 
@@ -75,7 +75,7 @@ returns-in_err-reserve_for-clause-adds g c =
 
 pub returns-clause-part : goal.returns-clause-part
 returns-clause-part g c =
-    subst (λ (part : Part). IsPart c.given_node.new.arena part c.given_node.result)
+    subst (λ (part : MadePart). IsPartNode c.given_node.new.arena part c.given_node.result)
     (sym (given_part c.args.schema.now c.args.option c.args.inner.now c.in-Some.id
     c.in-Some-inner.given c.in-Some.is c.in-Some-inner.is))
     c.given_node.ensures.is
@@ -83,8 +83,9 @@ returns-clause-part g c =
 pub returns-clause-adds : goal.returns-clause-adds
 returns-clause-adds g c =
     let t = type_of c.args.schema.now c.in-Some.id in
-    let part = part_of t (given_value t c.in-Some-inner.given) in
-    subst (λ (part : Part). Adds part.nodes part.cost c.args.arena.now c.given_node.new.arena)
+    let part = part_of_value t (given_value t c.in-Some-inner.given) in
+    subst (λ (part : MadePart).
+    AddsNodes part.nodes part.cost c.args.arena.now c.given_node.new.arena)
     (sym (given_part c.args.schema.now c.args.option c.args.inner.now c.in-Some.id
     c.in-Some-inner.given c.in-Some.is c.in-Some-inner.is))
     (Adds-within (0 + part.nodes) (0 + part.cost) _ _ c.args.arena.now

@@ -1,8 +1,8 @@
 use Rattle.std.proofs.Common.{◌∙◌, ◌+◌, ◌*◌, ap, subst, arith, ℕ}
 use Rattle.ssz_chunk.specs.Index.{levels}
 use Rattle.ssz_value.specs.Trees.{number_chunk}
-use Rattle.ssz_tree.specs.Added.{Adds, Makes}
-use Rattle.ssz_making.specs.Parts.{joined}
+use Rattle.ssz_tree.specs.Added.{AddsNodes, MakesNode}
+use Rattle.ssz_making.specs.Parts.{joined_leaf}
 use Rattle.ssz_tree.proofs.Adding.{Adds-then, Adds-within, makes_leaf, makes_pair}
 use Rattle.ssz_edit.specs.Edited.{IsPut}
 use Rattle.ssz_edit.specs.Given.{option_part, option_value}
@@ -24,8 +24,8 @@ returns-in_err-chosen-clause-adds g c =
 -- the union was made
 made : (g : _) (c : After-replace g)
     → (let option = c.args.choice.now.option in
-    Makes c.args.arena.now c.pair-union.new.self
-    (joined (option_part c.args.schema.now option
+    MakesNode c.args.arena.now c.pair-union.new.self
+    (joined_leaf (option_part c.args.schema.now option
     (option_value c.args.schema.now option c.args.inner.now))
     (number_chunk c.args.choice.now.selector)) c.pair-union.result)
 made g c =
@@ -49,7 +49,7 @@ added : (g : _) (c : After-replace g)
     let part = option_part c.args.schema.now option
     (option_value c.args.schema.now option c.args.inner.now) in
     let more = levels c.args.choice.now.place.index in
-    Adds (2 * part.cost + 3 + more) (part.cost + 1 + more) c.args.arena.now c.replace.new.self)
+    AddsNodes (2 * part.cost + 3 + more) (part.cost + 1 + more) c.args.arena.now c.replace.new.self)
 added g c =
     let types = c.args.schema.now in
     let option = c.args.choice.now.option in
@@ -76,7 +76,7 @@ returns-clause-edits g c id path k v at of =
     let x = option_value types option c.args.inner.now in
     let union = made g c.before in
     let is_put : IsPut old c.replace.new.self c.args.node choice.place.index
-    (joined (option_part types option x) (number_chunk choice.selector)) c.in-Some.made =
+    (joined_leaf (option_part types option x) (number_chunk choice.selector)) c.in-Some.made =
     put_made old c.pair-union.new.self union.adds.keeps c.args.node c.requires.choice.top
     choice.place.index _ c.pair-union.result c.in-Some.made union.is
     c.replace.new.self c.in-Some.ensures.node c.in-Some.ensures.tree c.in-Some.ensures.todo in
@@ -84,7 +84,7 @@ returns-clause-edits g c id path k v at of =
     choice.place at.legal at.found at.is x c.option_fitting.ensures v of c.replace.new.self
     c.in-Some.made
     (subst (λ (n : ℕ). IsPut old c.replace.new.self c.args.node choice.place.index
-    (joined (option_part types option x) (number_chunk n)) c.in-Some.made) at.selects is_put)
+    (joined_leaf (option_part types option x) (number_chunk n)) c.in-Some.made) at.selects is_put)
     (added g c.before)
 
 pub returns-clause-adds : goal.returns-clause-adds

@@ -5,7 +5,7 @@ use Rattle.ssz_arena.specs.Content.{tree_of}
 use Rattle.ssz_arena.proofs.Nodes.{tree}
 use Rattle.ssz_arena.proofs.Keeping.{keeps_same, keeps_trans}
 use Rattle.ssz_places.specs.Spots.{CanHold}
-use Rattle.ssz_tree.specs.Added.{IsPart}
+use Rattle.ssz_tree.specs.Added.{IsPartNode}
 use Rattle.ssz_tree.proofs.Adding.{Adds-within}
 use Rattle.ssz_walk.specs.Found.{spot_of}
 use Rattle.ssz_edit.specs.Edited.{part_without}
@@ -39,7 +39,7 @@ returns-clause-grown g c holds =
     (keeps_trans (keeps_same c.args.arena.now c.reserve.new.self c.reserve.ensures.nodes)
     c.emptied_node-element.ensures.adds.keeps) c.requires.list
     (c.put_list.ensures.grown part
-    (subst (λ t. CanHold spot t → IsPart c.emptied_node-element.new.arena
+    (subst (λ t. CanHold spot t → IsPartNode c.emptied_node-element.new.arena
     (part_without spot u t) c.emptied_node-element.result)
     same c.emptied_node-element.ensures.part holds))
 

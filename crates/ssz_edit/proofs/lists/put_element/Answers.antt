@@ -8,10 +8,10 @@ use Rattle.ssz_arena.proofs.Nodes.{tree}
 use Rattle.ssz_arena.proofs.Keeping.{keeps_same, keeps_trans}
 use Rattle.ssz_places.specs.EditLaws.{content, count_of}
 use Rattle.ssz_places.specs.Spots.{CanHold}
-use Rattle.ssz_tree.specs.Added.{IsPart}
+use Rattle.ssz_tree.specs.Added.{IsPartNode}
 use Rattle.ssz_tree.proofs.Adding.{Adds-within}
 use Rattle.ssz_walk.specs.Found.{spot_of}
-use Rattle.ssz_edit.specs.Edited.{part_with}
+use Rattle.ssz_edit.specs.Edited.{edited_part}
 use Rattle.ssz_edit.specs.Given.{given_value}
 use Rattle.ssz_edit.proofs.Counted.{count_small}
 use Rattle.ssz_edit.proofs.ListLanding.{list_value, element_type_is, append_made}
@@ -63,7 +63,7 @@ returns-clause-edits g c id path v at of =
     c.fitting.ensures in
     let same : tree_of c.reserve_for.new.arena node ≡ tree_of old node =
     ap (λ ns. tree ns node.0) c.reserve_for.ensures.nodes in
-    let part = part_with spot e x (tree_of old node) in
+    let part = edited_part spot e x (tree_of old node) in
     append_made types.format types old id c.args.node path end.list at.legal at.found at.limit
     at.limited at.content at.content_node end.count at.within end.slot at.slot x v fits of l
     mixed.0 mixed.1 c.put_list.new.arena c.put_list.result
@@ -73,7 +73,7 @@ returns-clause-edits g c id path v at of =
     c.part_node-element.ensures.adds.keeps) c.requires.end.has_list
     (c.put_list.ensures.grown part
     (subst (λ t. CanHold spot t
-    → IsPart c.part_node-element.new.arena (part_with spot e x t) c.part_node-element.result)
+    → IsPartNode c.part_node-element.new.arena (edited_part spot e x t) c.part_node-element.result)
     same c.part_node-element.ensures.part holds)))
     (Adds-within _ _ _ _ old c.put_list.new.arena
     (adds_element old c.reserve_for.new.arena c.part_node-element.new.arena

@@ -2,11 +2,11 @@ use Rattle.std.proofs.Common.{sym, ap, subst, ◌∙◌, arith}
 use Rattle.ssz_schema.specs.Unfolding.{type_of}
 use Rattle.ssz_arena.specs.Content.{tree_of}
 use Rattle.ssz_places.specs.Spots.{CanHold, LiesWithin}
-use Rattle.ssz_tree.specs.Added.{IsPart}
+use Rattle.ssz_tree.specs.Added.{IsPartNode}
 use Rattle.ssz_tree.proofs.Adding.{Adds-within}
 use Rattle.ssz_tree.proofs.FewNodes.{few_nodes}
 use Rattle.ssz_walk.specs.Found.{spot_of}
-use Rattle.ssz_edit.specs.Edited.{part_with}
+use Rattle.ssz_edit.specs.Edited.{edited_part}
 use Rattle.ssz_edit.specs.Given.{given_value, IsGiven}
 use Rattle.ssz_edit.proofs.Parting.{byte_made, bit_made}
 use Rattle.ssz_edit.proofs.parts.part_node.Goals as goal
@@ -28,7 +28,7 @@ returns-in-Byte-clause-part g c =
     let x = given_value u c.args.given.now in
     let tree = tree_of c.args.arena.now c.args.old in
     subst (λ s. CanHold (spot_of s) tree
-    → IsPart c.byte_part.new.arena (part_with (spot_of s) u x tree) c.byte_part.result)
+    → IsPartNode c.byte_part.new.arena (edited_part (spot_of s) u x tree) c.byte_part.result)
     (sym c.in-Byte.is) (λ holds. byte_made c.byte_part.new.arena u c.in-Byte.at tree
     c.byte_part.result c.byte_part.ensures.node c.byte_part.ensures.due x
     c.given_chunk-bytes.result.0 (subst (λ s. LiesWithin u (spot_of s)) c.in-Byte.is c.requires.lies)
@@ -47,7 +47,7 @@ returns-in-Bit-clause-part g c =
     let tree = tree_of c.args.arena.now c.args.old in
     let lies = subst (λ s. LiesWithin u (spot_of s)) c.in-Bit.is c.requires.lies in
     subst (λ s. CanHold (spot_of s) tree
-    → IsPart c.bit_part.new.arena (part_with (spot_of s) u x tree) c.bit_part.result)
+    → IsPartNode c.bit_part.new.arena (edited_part (spot_of s) u x tree) c.bit_part.result)
     (sym c.in-Bit.is) (λ holds. bit_made c.bit_part.new.arena u c.in-Bit.at tree
     c.bit_part.result c.bit_part.ensures.node c.bit_part.ensures.due x c.given_flag.result
     (ap (λ s. given_value s c.args.given.now) lies.0 ∙ c.given_flag.ensures) holds

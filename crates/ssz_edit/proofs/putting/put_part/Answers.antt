@@ -6,10 +6,10 @@ use Rattle.ssz_arena.specs.Content.{tree_of, KeepsNodes}
 use Rattle.ssz_arena.proofs.Keeping.{keeps_same, keeps_trans}
 use Rattle.ssz_arena.proofs.Nodes.{tree}
 use Rattle.ssz_places.specs.Spots.{CanHold}
-use Rattle.ssz_tree.specs.Added.{Adds, IsPart}
+use Rattle.ssz_tree.specs.Added.{AddsNodes, IsPartNode}
 use Rattle.ssz_tree.proofs.Adding.{Adds-then, Adds-within}
 use Rattle.ssz_walk.specs.Found.{spot_of}
-use Rattle.ssz_edit.specs.Edited.{part_with}
+use Rattle.ssz_edit.specs.Edited.{edited_part}
 use Rattle.ssz_edit.specs.Given.{given_value}
 use Rattle.ssz_edit.proofs.Landing.{holds, set_made}
 use Rattle.ssz_edit.proofs.Replacing.{not_ok, adds_room, put_made}
@@ -37,7 +37,7 @@ added : (g : _) (c : After-replace g)
     → (let u = type_of c.args.schema.now c.args.place.now.id in
     let cost = pairs u (given_value u c.args.given.now) in
     let more = levels c.args.place.now.index in
-    Adds (2 * cost + 1 + more) (cost + more) c.args.arena.now c.replace.new.self)
+    AddsNodes (2 * cost + 1 + more) (cost + more) c.args.arena.now c.replace.new.self)
 added g c =
     let u = type_of c.args.schema.now c.args.place.now.id in
     let cost = pairs u (given_value u c.args.given.now) in
@@ -70,10 +70,10 @@ returns-clause-edits g c id path v at of =
     set_made types.format types old id c.args.node path place at.legal at.found
     c.replace.new.self x v c.in-Some.made c.fitting.ensures at.free of
     (put_made old c.part_node-part.new.arena (kept g c.before) c.args.node c.requires.place.top
-    place.index (part_with spot u x (tree_of old place.node)) c.part_node-part.result
+    place.index (edited_part spot u x (tree_of old place.node)) c.part_node-part.result
     c.in-Some.made
     (subst (λ t. CanHold spot t
-    → IsPart c.part_node-part.new.arena (part_with spot u x t) c.part_node-part.result) same
+    → IsPartNode c.part_node-part.new.arena (edited_part spot u x t) c.part_node-part.result) same
     c.part_node-part.ensures.part
     (holds types.format types old id c.args.node path place at.legal at.found v of))
     c.replace.new.self c.in-Some.ensures.node c.in-Some.ensures.tree c.in-Some.ensures.todo)

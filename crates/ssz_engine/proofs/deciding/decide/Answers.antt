@@ -3,7 +3,7 @@ use Rattle.ssz_machine.specs.Making.{load, loadjson}
 use Rattle.ssz_machine.specs.Changes.{puts}
 use Rattle.std.specs.Prelude.{OnOk}
 use Rattle.ssz_script.specs.declared.statement.Statement.{Statement}
-use Rattle.ssz_engine.specs.Steps.{CanAsk, Finds}
+use Rattle.ssz_engine.specs.Steps.{CanAsk, StatementFindsFile}
 use Rattle.ssz_engine.proofs.EngineSteps.{finds_alone}
 use Rattle.ssz_decisions.proofs.Results.{on_ok}
 use Rattle.ssz_decisions.specs.declared.fault.EngineFault.TheVariants.{Read, Write, Memory}
@@ -67,13 +67,15 @@ returns-in_default-clause-found g c =
 
 pub returns-in-Load-clause-found : goal.returns-in-Load-clause-found
 returns-in-Load-clause-found g c =
-    subst (λ (s : Statement). OnOk c.load.result (Finds g.H.PairHash.pair_of c.args.store.now
+    subst (λ (s : Statement).
+    OnOk c.load.result (StatementFindsFile g.H.PairHash.pair_of c.args.store.now
     c.args.writer.0 s (g.F.Files.content c.args.files.now))) (sym c.in-Load.is)
     c.load.ensures.found
 
 pub returns-in-LoadJson-clause-found : goal.returns-in-LoadJson-clause-found
 returns-in-LoadJson-clause-found g c =
-    subst (λ (s : Statement). OnOk c.load-in-LoadJson.result (Finds g.H.PairHash.pair_of
+    subst (λ (s : Statement).
+    OnOk c.load-in-LoadJson.result (StatementFindsFile g.H.PairHash.pair_of
     c.args.store.now c.args.writer.0 s (g.F.Files.content c.args.files.now)))
     (sym c.in-LoadJson.is) c.load-in-LoadJson.ensures.found
 

@@ -5,10 +5,10 @@ use Rattle.ssz_value.specs.Reading.{value_in}
 use Rattle.ssz_value.specs.Edits.{append_at}
 use Rattle.ssz_places.specs.Charges.{append_charge}
 use Rattle.ssz_versions.specs.Content.{Held, held_at}
-use Rattle.ssz_machine.specs.Rules.{code_of, coded}
+use Rattle.ssz_machine.specs.Rules.{edit_code, coded}
 use Rattle.ssz_machine.specs.Editing.{append}
 use Rattle.ssz_machine.specs.Changes.{puts}
-use Rattle.ssz_decisions.specs.Content.{Content}
+use Rattle.ssz_decisions.specs.Content.{EngineContent}
 use Rattle.ssz_decisions.specs.Decisions.{AnswersWith}
 use Rattle.ssz_decisions.specs.declared.decision.Decision.TheVariants.{BadBytes, Edited, Refused}
 use Rattle.ssz_decisions.proofs.Brought.{are-kept, over}
@@ -40,18 +40,20 @@ returns-in-Err-open_end-clause-answers g c =
     let t = type_of schema held.0 in
     let old = c.store.inside.arena in
     let there : held_at entries w v ≡ Some held
-    = subst (λ (s : Content). held_at s.entries w v ≡ Some held) (sym c.store.view_is) way.there in
+    = subst (λ (s : EngineContent). held_at s.entries w v ≡ Some held)
+    (sym c.store.view_is) way.there in
     let fault = c.in-Err-open_end.fault in
     subst (λ (p : Path). AnswersWith pair_of (λ rules versions. append versions v p literal)
     (puts v) w c.args.store.now c.args.store.now (Refused c.code_of_edit.result)) is
     (subst (λ (code : ℕ). AnswersWith pair_of (λ rules versions. append versions v path literal)
     (puts v) w c.args.store.now c.args.store.now (Refused code)) (sym c.code_of_edit.ensures)
-    (subst (λ (seen : Content). AnswersWith pair_of (λ rules versions. append versions v path literal)
-    (puts v) w seen seen (Refused (code_of fault))) c.store.view_is
+    (subst (λ (seen : EngineContent).
+    AnswersWith pair_of (λ rules versions. append versions v path literal)
+    (puts v) w seen seen (Refused (edit_code fault))) c.store.view_is
     (code-answers pair_of schema most entries base old old w c.args.v held
-    (λ rules versions. append versions v path literal) there (code_of fault)
+    (λ rules versions. append versions v path literal) there (edit_code fault)
     (λ versions value found of. append_refused versions v (record { type = t; value = value }) path
-    found literal (coded (code_of fault))
+    found literal (coded (edit_code fault))
     (cannot_append schema old held.0 held.1 path fault c.in-Err-open_end.ensures.err value of)))))
 
 pub returns-in-Some-clause-answers : goal.returns-in-Some-clause-answers
@@ -71,12 +73,14 @@ returns-in-Some-clause-answers g c =
     let t = type_of schema held.0 in
     let old = c.store.inside.arena in
     let there : held_at entries w v ≡ Some held
-    = subst (λ (s : Content). held_at s.entries w v ≡ Some held) (sym c.store.view_is) way.there in
+    = subst (λ (s : EngineContent). held_at s.entries w v ≡ Some held)
+    (sym c.store.view_is) way.there in
     let place = c.in-Ok-open_end.end in
     let u = type_of schema place.slot.element.id in
     subst (λ (p : Path). AnswersWith pair_of (λ rules versions. append versions v p literal)
     (puts v) w c.args.store.now c.args.store.now (BadBytes c.in-Some.fault)) is
-    (subst (λ (seen : Content). AnswersWith pair_of (λ rules versions. append versions v path literal)
+    (subst (λ (seen : EngineContent).
+    AnswersWith pair_of (λ rules versions. append versions v path literal)
     (puts v) w seen seen (BadBytes c.in-Some.fault)) c.store.view_is
     (bad-answers pair_of schema most entries base old old w c.args.v held
     (λ rules versions. append versions v path literal) there c.in-Some.fault
@@ -102,7 +106,8 @@ returns-clause-answers g c =
     let t = type_of schema held.0 in
     let old = c.store.inside.arena in
     let there : held_at entries w v ≡ Some held
-    = subst (λ (s : Content). held_at s.entries w v ≡ Some held) (sym c.store.view_is) way.there in
+    = subst (λ (s : EngineContent). held_at s.entries w v ≡ Some held)
+    (sym c.store.view_is) way.there in
     let place = c.in-Ok-open_end.end in
     let u = type_of schema place.slot.element.id in
     let x = value_in u literal in
@@ -110,7 +115,8 @@ returns-clause-answers g c =
     let node = c.in_ok-node.node in
     subst (λ (p : Path). AnswersWith pair_of (λ rules versions. append versions v p literal)
     (puts v) w c.args.store.now (over schema most entries base new) (Edited c.args.v node)) is
-    (subst (λ (seen : Content). AnswersWith pair_of (λ rules versions. append versions v path literal)
+    (subst (λ (seen : EngineContent).
+    AnswersWith pair_of (λ rules versions. append versions v path literal)
     (puts v) w seen (over schema most entries base new) (Edited c.args.v node)) c.store.view_is
     (edited-answers pair_of schema most entries base old new w c.args.v held
     (λ rules versions. append versions v path literal)

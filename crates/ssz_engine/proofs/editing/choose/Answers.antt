@@ -3,10 +3,10 @@ use Rattle.ssz_schema.specs.Paths.{Path}
 use Rattle.ssz_schema.specs.Unfolding.{type_of}
 use Rattle.ssz_versions.specs.Content.{Held, held_at}
 use Rattle.ssz_edit.specs.Targets.{ChoosesAt}
-use Rattle.ssz_machine.specs.Rules.{code_of, coded}
+use Rattle.ssz_machine.specs.Rules.{edit_code, coded}
 use Rattle.ssz_machine.specs.Editing.{choose}
 use Rattle.ssz_machine.specs.Changes.{puts}
-use Rattle.ssz_decisions.specs.Content.{Content}
+use Rattle.ssz_decisions.specs.Content.{EngineContent}
 use Rattle.ssz_decisions.specs.Decisions.{AnswersWith}
 use Rattle.ssz_decisions.specs.declared.decision.Decision.TheVariants.{Refused}
 use Rattle.ssz_engine.proofs.EditRows.{choose_refused}
@@ -39,20 +39,21 @@ returns-in-Err-open_choice-clause-answers g c =
     let t = type_of schema held.0 in
     let old = c.store.inside.arena in
     let there : held_at entries w v ≡ Some held
-    = subst (λ (s : Content). held_at s.entries w v ≡ Some held) (sym c.store.view_is) way.there in
+    = subst (λ (s : EngineContent). held_at s.entries w v ≡ Some held)
+    (sym c.store.view_is) way.there in
     let fault = c.in-Err-open_choice.fault in
     subst (λ (p : Path). AnswersWith pair_of (λ rules versions. choose versions v p k literal)
     (puts v) w c.args.store.now c.args.store.now (Refused c.code_of_edit.result)) is
     (subst (λ (code : ℕ). AnswersWith pair_of
     (λ rules versions. choose versions v path k literal) (puts v) w c.args.store.now
     c.args.store.now (Refused code)) (sym c.code_of_edit.ensures)
-    (subst (λ (seen : Content). AnswersWith pair_of
+    (subst (λ (seen : EngineContent). AnswersWith pair_of
     (λ rules versions. choose versions v path k literal) (puts v) w seen seen
-    (Refused (code_of fault))) c.store.view_is
+    (Refused (edit_code fault))) c.store.view_is
     (code-answers pair_of schema most entries base old old w c.args.v held
-    (λ rules versions. choose versions v path k literal) there (code_of fault)
+    (λ rules versions. choose versions v path k literal) there (edit_code fault)
     (λ versions value found of. choose_refused versions v (record { type = t; value = value }) path
-    found k literal (coded (code_of fault))
+    found k literal (coded (edit_code fault))
     (cannot_choose schema old held.0 held.1 path k fault c.in-Err-open_choice.ensures.err value
     of)))))
 
@@ -68,7 +69,7 @@ returns-in-Some-clause-answers g c =
     let held : Held = (c.in-Ok.way.id, c.in-Ok.way.node) in
     let choice = c.in-Ok-open_choice.choice in
     let at : ChoosesAt c.args.store.now.types c.args.store.now.arena held.0 held.1 path k choice
-    = subst (λ (s : Content). ChoosesAt s.types s.arena held.0 held.1 path k choice)
+    = subst (λ (s : EngineContent). ChoosesAt s.types s.arena held.0 held.1 path k choice)
     c.store.view_is c.in-Ok-open_choice.ensures.at in
     let result = c.choose_literal.result in
     let new = c.choose_literal.new.store in
@@ -92,7 +93,7 @@ returns-clause-answers g c =
     let held : Held = (c.in-Ok.way.id, c.in-Ok.way.node) in
     let choice = c.in-Ok-open_choice.choice in
     let at : ChoosesAt c.args.store.now.types c.args.store.now.arena held.0 held.1 path k choice
-    = subst (λ (s : Content). ChoosesAt s.types s.arena held.0 held.1 path k choice)
+    = subst (λ (s : EngineContent). ChoosesAt s.types s.arena held.0 held.1 path k choice)
     c.store.view_is c.in-Ok-open_choice.ensures.at in
     let result = c.choose_default.result in
     let new = c.choose_default.new.store in

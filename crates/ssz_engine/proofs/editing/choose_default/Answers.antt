@@ -10,7 +10,7 @@ use Rattle.ssz_edit.specs.Given.{option_value, IsOfOption}
 use Rattle.ssz_edit.specs.Targets.{ChoosesAt, HasUnion}
 use Rattle.ssz_machine.specs.Editing.{choose}
 use Rattle.ssz_machine.specs.Changes.{puts}
-use Rattle.ssz_decisions.specs.Content.{Content}
+use Rattle.ssz_decisions.specs.Content.{EngineContent}
 use Rattle.ssz_decisions.specs.Decisions.{AnswersWith}
 use Rattle.ssz_decisions.specs.declared.decision.Decision.TheVariants.{Edited}
 use Rattle.ssz_decisions.proofs.Brought.{are-kept, over}
@@ -22,7 +22,7 @@ use Rattle.ssz_engine.proofs.editing.choose_default.Goals as goal
 
 pub put_choice-requires-clause-choice : goal.put_choice-requires-clause-choice
 put_choice-requires-clause-choice g c =
-    subst (λ (s : Content). HasUnion s.types s.arena c.args.node c.args.choice.now)
+    subst (λ (s : EngineContent). HasUnion s.types s.arena c.args.node c.args.choice.now)
     (sym c.store.view_is) c.requires
 
 pub put_choice-requires-clause-inner : goal.put_choice-requires-clause-inner
@@ -47,15 +47,16 @@ returns-clause-answers g c w id k path is_there is_at =
     let t = type_of schema id in
     let old = c.store.inside.arena in
     let there : held_at entries w v ≡ Some held
-    = subst (λ (s : Content). held_at s.entries w v ≡ Some held) (sym c.store.view_is) is_there in
+    = subst (λ (s : EngineContent). held_at s.entries w v ≡ Some held)
+    (sym c.store.view_is) is_there in
     let at : ChoosesAt schema old id c.args.node path k choice
-    = subst (λ (s : Content). ChoosesAt s.types s.arena id c.args.node path k choice)
+    = subst (λ (s : EngineContent). ChoosesAt s.types s.arena id c.args.node path k choice)
     (sym c.store.view_is) is_at in
     let os = options_over schema.trees at.options in
     let x = option_value schema choice.option c.given_of-inner.result in
     let new = c.put_choice.new.arena in
     let node = c.in_ok-made.made in
-    subst (λ (seen : Content). AnswersWith pair_of
+    subst (λ (seen : EngineContent). AnswersWith pair_of
     (λ rules versions. choose versions v path k None) (puts v) w seen
     (over schema most entries base new) (Edited c.args.v node)) c.store.view_is
     (edited-answers pair_of schema most entries base old new w c.args.v held

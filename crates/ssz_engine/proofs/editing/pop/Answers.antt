@@ -7,7 +7,7 @@ use Rattle.ssz_places.specs.Charges.{pop_charge}
 use Rattle.ssz_versions.specs.Content.{Held, held_at}
 use Rattle.ssz_machine.specs.Editing.{pop}
 use Rattle.ssz_machine.specs.Changes.{puts}
-use Rattle.ssz_decisions.specs.Content.{Content}
+use Rattle.ssz_decisions.specs.Content.{EngineContent}
 use Rattle.ssz_decisions.specs.Decisions.{AnswersWith}
 use Rattle.ssz_decisions.proofs.Brought.{over}
 use Rattle.ssz_engine.proofs.EditRows.{pop_row}
@@ -39,11 +39,12 @@ returns-clause-answers g c =
     let old = c.store.inside.arena in
     let new = c.pop-made.new.arena in
     let there : held_at entries w v ≡ Some held
-    = subst (λ (s : Content). held_at s.entries w v ≡ Some held) (sym c.store.view_is) way.there in
+    = subst (λ (s : EngineContent). held_at s.entries w v ≡ Some held)
+    (sym c.store.view_is) way.there in
     subst (λ (p : Path). IfOk c.finish.result (AnswersWith pair_of
     (λ rules versions. pop versions v p) (puts v) w c.args.store.now
     (over schema most entries base new))) is
-    (subst (λ (seen : Content). IfOk c.finish.result (AnswersWith pair_of
+    (subst (λ (seen : EngineContent). IfOk c.finish.result (AnswersWith pair_of
     (λ rules versions. pop versions v path) (puts v) w seen (over schema most entries base new)))
     c.store.view_is
     (finished-answers pair_of schema most entries base old new w v held
@@ -58,7 +59,7 @@ pub returns-clause-whole : goal.returns-clause-whole
 returns-clause-whole g c =
     edit-whole c.args.store.now c.pop-made.new.arena c.args.v.now c.pop-made.result c.finish.result
     c.finish.ensures
-    (subst (λ (seen : Content). OnErr c.pop-made.result
+    (subst (λ (seen : EngineContent). OnErr c.pop-made.result
     (c.pop-made.new.arena.nodes ≡ seen.arena.nodes)) c.store.view_is c.pop-made.ensures.refused)
 
 pub returns-clause-tops : goal.returns-clause-tops

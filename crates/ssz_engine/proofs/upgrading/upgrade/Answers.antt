@@ -1,6 +1,6 @@
 use Rattle.std.proofs.Common.{◌≡◌, ◌∙◌, Some, None, Err, Result, is_some, refl, sym, ap, subst}
 use Rattle.std.specs.Prelude.{OnErr}
-use Rattle.ssz_schema.specs.Unfolding.{number_of, type_of}
+use Rattle.ssz_schema.specs.Unfolding.{type_number, type_of}
 use Rattle.ssz_value.specs.Values.{SszValue}
 use Rattle.ssz_arena.specs.declared.node.NodeId.{NodeId}
 use Rattle.ssz_arena.specs.Content.{tree_of}
@@ -8,12 +8,12 @@ use Rattle.ssz_places.specs.PlaceLaws.{IsTreeOf}
 use Rattle.ssz_forms.specs.declared.upgrade_fault.UpgradeFault.{UpgradeFault}
 use Rattle.ssz_forms.specs.declared.upgrade_fault.UpgradeFault.TheVariants.{NotContainer}
 use Rattle.ssz_forms.specs.Upgrades.{upgraded}
-use Rattle.ssz_upgrade.specs.Upgraded.{Answers as AnswersUpgrade}
+use Rattle.ssz_upgrade.specs.Upgraded.{AnswersUpgrade}
 use Rattle.ssz_script.specs.declared.reply.TheConstants.Reply.{NOT_CONTAINER}
 use Rattle.ssz_versions.specs.Content.{Held, held_at}
 use Rattle.ssz_machine.specs.Making.{upgrade}
 use Rattle.ssz_machine.specs.Changes.{puts}
-use Rattle.ssz_decisions.specs.Content.{Content}
+use Rattle.ssz_decisions.specs.Content.{EngineContent}
 use Rattle.ssz_decisions.specs.Decisions.{AnswersWith}
 use Rattle.ssz_engine.specs.Steps.{IsUpgradeOf}
 use Rattle.ssz_decisions.specs.declared.decision.Decision.TheVariants.{Made, Refused}
@@ -36,7 +36,8 @@ returns-in-NotContainer-clause-answers g c =
     let writer = c.args.writer.0 in
     let id = c.in-Some.id in
     let held : Held = c.in-Some-get.held in
-    let known : number_of schema t ≡ Some id = ap (number_of schema) (sym c.as_name.ensures.text)
+    let known : type_number schema t ≡ Some id =
+    ap (type_number schema) (sym c.as_name.ensures.text)
     ∙ sym c.find_name.ensures.exact ∙ c.in-Some.is in
     let there : held_at entries writer v ≡ Some held
     = ap (λ n. held_at entries writer n) (sym c.as_name-2.ensures.text) ∙ sym c.get.ensures
@@ -52,7 +53,7 @@ returns-in-NotContainer-clause-answers g c =
     subst (λ (r : Result NodeId UpgradeFault). AnswersUpgrade (type_of schema held.0)
     (type_of schema id) old new held.1 (upgraded (type_of schema held.0) x (type_of schema id)) r)
     fault (c.upgrade-made.ensures.answers x of) in
-    subst (λ (seen : Content). AnswersWith pair_of
+    subst (λ (seen : EngineContent). AnswersWith pair_of
     (λ rules versions. upgrade rules versions v w t) (puts w) writer seen
     (over schema most entries base new) (Refused NOT_CONTAINER)) c.store.view_is
     (refused-room pair_of schema most entries base old new
@@ -76,7 +77,8 @@ returns-clause-answers g c =
     let writer = c.args.writer.0 in
     let id = c.in-Some.id in
     let held : Held = c.in-Some-get.held in
-    let known : number_of schema t ≡ Some id = ap (number_of schema) (sym c.as_name.ensures.text)
+    let known : type_number schema t ≡ Some id =
+    ap (type_number schema) (sym c.as_name.ensures.text)
     ∙ sym c.find_name.ensures.exact ∙ c.in-Some.is in
     let there : held_at entries writer v ≡ Some held
     = ap (λ n. held_at entries writer n) (sym c.as_name-2.ensures.text) ∙ sym c.get.ensures
@@ -85,7 +87,7 @@ returns-clause-answers g c =
     = none-there _ (sym (c.is_some.ensures
     ∙ ap is_some (c.get-2.ensures ∙ ap (λ n. held_at entries writer n) c.as_name-3.ensures.text))
     ∙ c.if-is_some.false) in
-    subst (λ (seen : Content). AnswersWith pair_of
+    subst (λ (seen : EngineContent). AnswersWith pair_of
     (λ rules versions. upgrade rules versions v w.now t) (puts w.now) writer seen
     (over schema most entries base new) (Made w id c.in-Ok.node c.in_ok-room.room)) c.store.view_is
     (upgrade-answers pair_of schema most entries base old new writer v w t id held c.in-Ok.node
@@ -99,7 +101,7 @@ returns-clause-upgrades g c =
     let there : held_at entries c.args.writer.0 c.args.v.now ≡ Some held
     = ap (λ n. held_at entries c.args.writer.0 n) (sym c.as_name-2.ensures.text)
     ∙ sym c.get.ensures ∙ c.in-Some-get.is in
-    subst (λ (seen : Content). IsUpgradeOf c.args.v.now c.args.w.now c.args.writer.0 seen
+    subst (λ (seen : EngineContent). IsUpgradeOf c.args.v.now c.args.w.now c.args.writer.0 seen
     (over schema c.store.inside.max entries c.store.inside.base c.upgrade-made.new.arena)
     c.args.w.now c.in-Some.id c.in-Ok.node) c.store.view_is
     (upgrade-due schema c.store.inside.max entries c.store.inside.base c.store.inside.arena

@@ -5,7 +5,7 @@ use Rattle.ssz_script.specs.Lines.{statements_in}
 use Rattle.ssz_machine.specs.Machine.{Line}
 use Rattle.ssz_machine.specs.Plays.{adoptions, all_of, base_writer}
 use Rattle.ssz_machine.specs.declared.place.Place.TheVariants.{Weave}
-use Rattle.ssz_decisions.specs.Content.{Content}
+use Rattle.ssz_decisions.specs.Content.{EngineContent}
 use Rattle.ssz_engine.specs.Points.{Runs}
 use Rattle.ssz_engine.specs.Scripts.{Scene, scene}
 use Rattle.ssz_engine.specs.Weaves.{AdoptsAll, AdoptsSome}
@@ -23,7 +23,7 @@ returns-in_err-run_lines g c = λ scripts count.
 
 pub returns : goal.returns
 returns g c = λ scripts count.
-    let was : Content = c.engine.inside.store in
+    let was : EngineContent = c.engine.inside.store in
     let before : Scene = scene g.F.Files g.S.Sink g.H.PairHash c.args.engine.now
     c.args.files.now c.args.out.now c.args.hasher.now in
     let mid : Scene = scene g.F.Files g.S.Sink g.H.PairHash was c.run_lines.new.files
@@ -31,7 +31,7 @@ returns g c = λ scripts count.
     let begun : Runs g.H.PairHash.pair_of Weave
     (all_of base_writer (statements_in c.args.base.now)) (Ok tt) c.args.refused.now
     c.run_lines.new.refused before mid =
-    subst (λ (engine : Content). Runs g.H.PairHash.pair_of Weave
+    subst (λ (engine : EngineContent). Runs g.H.PairHash.pair_of Weave
     (all_of base_writer (statements_in c.args.base.now)) (Ok tt) c.args.refused.now
     c.run_lines.new.refused before (record mid { engine = engine })) (sym c.engine.view_is)
     (runs_of (ap (λ (lines : List Line). all_of base_writer lines) (sym c.new-lines.ensures))
@@ -44,7 +44,7 @@ returns g c = λ scripts count.
 
 pub returns-in-Err : goal.returns-in-Err
 returns-in-Err g c = λ scripts count.
-    let was : Content = c.engine.inside.store in
+    let was : EngineContent = c.engine.inside.store in
     let before : Scene = scene g.F.Files g.S.Sink g.H.PairHash c.args.engine.now
     c.args.files.now c.args.out.now c.args.hasher.now in
     let mid : Scene = scene g.F.Files g.S.Sink g.H.PairHash was c.run_lines.new.files
@@ -52,7 +52,7 @@ returns-in-Err g c = λ scripts count.
     let begun : Runs g.H.PairHash.pair_of Weave
     (all_of base_writer (statements_in c.args.base.now)) (Ok tt) c.args.refused.now
     c.run_lines.new.refused before mid =
-    subst (λ (engine : Content). Runs g.H.PairHash.pair_of Weave
+    subst (λ (engine : EngineContent). Runs g.H.PairHash.pair_of Weave
     (all_of base_writer (statements_in c.args.base.now)) (Ok tt) c.args.refused.now
     c.run_lines.new.refused before (record mid { engine = engine })) (sym c.engine.view_is)
     (runs_of (ap (λ (lines : List Line). all_of base_writer lines) (sym c.new-lines.ensures))

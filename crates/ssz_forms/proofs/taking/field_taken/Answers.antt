@@ -1,6 +1,6 @@
 use Rattle.std.proofs.Common.{rules, ◌≡◌, ◌<◌, ◌∙◌, Some, None, List, ℕ, length, cond, sym, ap, subst, bytes_eq}
 use Rattle.std.specs.List.{position_from}
-use Rattle.ssz_schema.specs.Unfolding.{tree_at}
+use Rattle.ssz_schema.specs.Unfolding.{type_tree_at}
 use Rattle.ssz_schema.proofs.StepLemmas.{found_field}
 use Rattle.ssz_value.proofs.PartLemmas.{Part, part_known}
 use Rattle.ssz_forms.specs.SameType.{same_type}
@@ -44,7 +44,7 @@ same-requires-clause-first c =
 pub returns-then-same : goal.returns-then-same
 returns-then-same c =
     let trees = c.args.schema.now.trees in
-    let t = tree_at trees c.args.field.now.1 in
+    let t = type_tree_at trees c.args.field.now.1 in
     let found : position_from (λ (p : Part). bytes_eq p.0 c.args.field.now.0) 0 c.args.old.now
     ≡ Some c.in-Some.number =
     subst (λ (name : List ℕ). position_from (λ (p : Part). bytes_eq p.0 name) 0 c.args.old.now
@@ -57,14 +57,14 @@ returns-then-same c =
           c.index-old-number.result c.in_ok-same-in-Some.same found c.index-old-number.is
           (ok_answer c.same.result c.in_ok-same-in-Some.same _ c.same.ensures.answer
           c.in_ok-same-in-Some.was
-          ∙ ap (λ (p : Part). same_type (tree_at trees p.1) t) (sym c.index-old-number.is)));
+          ∙ ap (λ (p : Part). same_type (type_tree_at trees p.1) t) (sym c.index-old-number.is)));
       right = c.same.ensures.right;
     }
 
 pub returns-else-same : goal.returns-else-same
 returns-else-same c =
     let trees = c.args.schema.now.trees in
-    let t = tree_at trees c.args.field.now.1 in
+    let t = type_tree_at trees c.args.field.now.1 in
     let found : position_from (λ (p : Part). bytes_eq p.0 c.args.field.now.0) 0 c.args.old.now
     ≡ Some c.in-Some.number =
     subst (λ (name : List ℕ). position_from (λ (p : Part). bytes_eq p.0 name) 0 c.args.old.now
@@ -77,14 +77,14 @@ returns-else-same c =
           c.index-old-number.result c.in_ok-same-in-Some.same found c.index-old-number.is
           (ok_answer c.same.result c.in_ok-same-in-Some.same _ c.same.ensures.answer
           c.in_ok-same-in-Some.was
-          ∙ ap (λ (p : Part). same_type (tree_at trees p.1) t) (sym c.index-old-number.is)));
+          ∙ ap (λ (p : Part). same_type (type_tree_at trees p.1) t) (sym c.index-old-number.is)));
       right = c.same.ensures.right;
     }
 
 pub returns-in-None : goal.returns-in-None
 returns-in-None c = record {
   found = sym (taken_nowhere c.args.schema.now.trees c.args.old.now c.args.field.now.0
-      (tree_at c.args.schema.now.trees c.args.field.now.1)
+      (type_tree_at c.args.schema.now.trees c.args.field.now.1)
       (subst (λ (name : List ℕ). position_from (λ (p : Part). bytes_eq p.0 name) 0
       c.args.old.now ≡ None) c.as_bytes.ensures
       (numbered_at c.args.old.now c.args.numbers.now c.as_bytes.result.now c.copied.result

@@ -1,7 +1,7 @@
 use Rattle.std.proofs.Common.{◌≡◌, ℕ, List, take, drop, suc, length, sym, ap, ◌∙◌, subst, arith}
 use Rattle.std.proofs.Math.Seq.{take-length}
 use Rattle.std.proofs.lemmas.Bool.{false≢true}
-use Rattle.ssz_gindex.specs.Walk.{Walks}
+use Rattle.ssz_gindex.specs.Walk.{WalksHelpers}
 use Rattle.ssz_gindex.specs.Faults.{AreHelpers}
 use Rattle.ssz_gindex.proofs.Prefixes.{nodes-from, take-next, ends-all}
 use Rattle.ssz_gindex.proofs.helpers.are_helpers.Goals as goal
@@ -19,7 +19,7 @@ returns-then-not-branch c =
 
 pub loop-node-preserved : goal.loop-node-preserved
 loop-node-preserved c =
-    subst (λ (nodes : List ℕ). Walks c.args.indices.now c.next_is.new.walk.waiting nodes)
+    subst (λ (nodes : List ℕ). WalksHelpers c.args.indices.now c.next_is.new.walk.waiting nodes)
     (sym (take-next c.args.nodes.now c.loop-node.node-index c.node-item.result
     c.loop-node-test.true c.node-item.is))
     (c.in_ok-next_is.ensures.same c.if-not-branch.false c.args.indices.now
@@ -31,5 +31,6 @@ returns c =
     omega (arith, c.loop-node-test.false, c.loop-node.auto.node-index-end) in
     let whole = ap (λ n. take n c.args.nodes.now) all ∙ take-length c.args.nodes.now in
     ends-all c.args.indices.now c.args.nodes.now c.loop-node.walk.waiting c.is_at_root.result
-    (subst (λ (nodes : List ℕ). Walks c.args.indices.now c.loop-node.walk.waiting nodes) whole
+    (subst (λ (nodes : List ℕ). WalksHelpers c.args.indices.now c.loop-node.walk.waiting nodes)
+    whole
     c.loop-node.invariant) c.is_at_root.ensures

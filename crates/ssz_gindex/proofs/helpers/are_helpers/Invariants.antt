@@ -1,6 +1,6 @@
 use Rattle.std.proofs.Common.{take}
-use Rattle.ssz_gindex.specs.Walk.{Walks}
+use Rattle.ssz_gindex.specs.Walk.{WalksHelpers}
 use Rattle.ssz_gindex.proofs.helpers.are_helpers.Given as goal
 
 abbrev pub invariant-loop-node : goal.invariant-loop-node
-invariant-loop-node l = Walks l.indices l.walk.waiting (take l.node-index l.nodes)
+invariant-loop-node l = WalksHelpers l.indices l.walk.waiting (take l.node-index l.nodes)

@@ -1,14 +1,15 @@
 use Rattle.std.proofs.Common.{refl, subst, inl, inr}
 use Rattle.std.proofs.lemmas.Bool.{false≢true}
 use Rattle.ssz_gindex.specs.declared.walk.Step.{Step}
-use Rattle.ssz_gindex.specs.Walk.{Comes}
+use Rattle.ssz_gindex.specs.Walk.{WalkReaches}
 use Rattle.ssz_gindex.proofs.Prefixes.{more-helpers, not-flat}
 use Rattle.ssz_gindex.proofs.helpers.is_at_root.Goals as goal
 
 pub returns-in-Root : goal.returns-in-Root
 returns-in-Root c = λ indices found walks.
     let comes = c.in_ok-step.ensures.comes indices found walks in
-    let ends = subst (λ (s : Step). Comes indices found c.step.new.self.waiting s) c.in-Root.is
+    let ends = subst (λ (s : Step). WalkReaches indices found c.step.new.self.waiting s)
+    c.in-Root.is
     comes in
     (λ at_root. record { flat = ends.1; are = ends.0 }, λ are. refl)
 
@@ -18,10 +19,10 @@ returns-in-Helper c = λ indices found walks.
       λ at_root. absurd (false≢true at_root),
       λ are. elim c.in-Helper.is [
         | inl is ↦ (let goes =
-            subst (λ (s : Step). Comes indices found c.step.new.self.waiting s) is.1 comes in
+            subst (λ (s : Step). WalkReaches indices found c.step.new.self.waiting s) is.1 comes in
             absurd (more-helpers indices c.step.new.self.waiting found is.0 goes are))
         | inr is ↦ (let upper =
-            subst (λ (s : Step). Comes indices found c.step.new.self.waiting s) is.1 comes in
+            subst (λ (s : Step). WalkReaches indices found c.step.new.self.waiting s) is.1 comes in
             absurd (not-flat indices found is.0 upper are))
       ],
     )

@@ -6,7 +6,7 @@ use Rattle.serde_json.specs.Data.{string}
 use Rattle.serde_json.specs.Written.{compact_text, members_text}
 use Rattle.ssz_schema.specs.Types.{container}
 use Rattle.ssz_schema.specs.Names.{IsName}
-use Rattle.ssz_schema.specs.Unfolding.{type_of, tree_at, tree_over, fields_over}
+use Rattle.ssz_schema.specs.Unfolding.{type_of, type_tree_at, tree_over, fields_over}
 use Rattle.ssz_value.specs.Values.{chosen, chosen_none}
 use Rattle.ssz_value.specs.declared.value.Value.TheVariants.{Union}
 use Rattle.ssz_value.specs.Standing.{value_of, IsValue}
@@ -198,7 +198,7 @@ append_fields-append_value-requires t c =
     let within : c.member_at-number.result.1 < length c.args.row.now.fields.now =
     c.member_at-number.ensures.field.0 in
     let same = field_count_is c.args.schema.now.trees fields c.args.parts.now c.requires.parts in
-    let value : IsValue (tree_at c.args.schema.now.trees c.index-row-number.result.1)
+    let value : IsValue (type_tree_at c.args.schema.now.trees c.index-row-number.result.1)
     c.index-parts-number.result =
     value_at_field c.args.schema.now.trees fields c.args.parts.now c.member_at-number.result.1
     c.index-row-number.result c.index-parts-number.result c.requires.parts within (omega arith)
@@ -228,7 +228,7 @@ append_fields-loop-i-preserved t c =
           c.loop-i.invariant.text c.in_ok-put_comma.ensures.text c.in_ok-put_key.ensures.text
           (c.in_ok-append_value.ensures.text
           ∙ ap (λ (f : Part). c.put_key.new.out.items
-          ++ json (tree_at trees f.1) (value_of c.index-parts-number.result))
+          ++ json (type_tree_at trees f.1) (value_of c.index-parts-number.result))
           (sym c.index-row-number.is)
           ∙ ap (λ d. c.put_key.new.out.items ++ compact_text d) (sym json_is));
       front = keeps_trans (keeps_trans (keeps_trans c.loop-i.invariant.front

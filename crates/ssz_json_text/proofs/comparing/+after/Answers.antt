@@ -8,7 +8,7 @@ use Rattle.serde_json.specs.Written.{compact_text, members_text}
 use Rattle.ssz_schema.specs.Legal.{IsLegal}
 use Rattle.ssz_schema.specs.Names.{IsName}
 use Rattle.ssz_schema.specs.Types.{container}
-use Rattle.ssz_schema.specs.Unfolding.{type_of, tree_at, fields_over}
+use Rattle.ssz_schema.specs.Unfolding.{type_of, type_tree_at, fields_over}
 use Rattle.ssz_value.specs.Standing.{value_of, IsValue}
 use Rattle.ssz_value.specs.Shapes.{IsSequence, AreFields}
 use Rattle.ssz_value.proofs.PartLemmas.{Part, field_count_is, part_known}
@@ -110,7 +110,7 @@ after_fields-after_value-requires t c =
     let within : c.member_at-number.result.1 < length c.args.row.now.fields.now =
     c.member_at-number.ensures.field.0 in
     let same = field_count_is c.args.schema.now.trees fields c.args.parts.now c.requires.parts in
-    let value : IsValue (tree_at c.args.schema.now.trees c.index-row-number.result.1)
+    let value : IsValue (type_tree_at c.args.schema.now.trees c.index-row-number.result.1)
     c.index-parts-number.result =
     value_at_field c.args.schema.now.trees fields c.args.parts.now c.member_at-number.result.1
     c.index-row-number.result c.index-parts-number.result c.requires.parts within (omega arith)
@@ -138,7 +138,8 @@ after_fields-loop-i-preserved t c =
     c.member_at-number.result c.loop-i.rest.now c.in_ok-rest-2.rest.now c.in_ok-rest-3.rest.now z
     below c.member_at-number.ensures.here c.in_ok-rest-2.ensures
     (c.in_ok-rest-3.ensures
-    ∙ ap (λ (f : Part). json (tree_at trees f.1) (value_of c.index-parts-number.result) ++ rest)
+    ∙ ap (λ (f : Part). json (type_tree_at trees f.1) (value_of c.index-parts-number.result)
+    ++ rest)
     (sym c.index-row-number.is)
     ∙ ap (λ d. compact_text d ++ rest) (sym json_is)) h)
 

@@ -3,7 +3,7 @@ use Rattle.std.proofs.lemmas.Bool.{eqb-false}
 use Rattle.std.specs.List.{AllByRecursion}
 use Rattle.serde_json.specs.Written.{compact_text}
 use Rattle.ssz_schema.specs.Types.{container, union}
-use Rattle.ssz_schema.specs.Unfolding.{type_of, tree_at, tree_over, fields_over, options_over}
+use Rattle.ssz_schema.specs.Unfolding.{type_of, type_tree_at, tree_over, fields_over, options_over}
 use Rattle.ssz_value.specs.Values.{chosen, chosen_none}
 use Rattle.ssz_value.specs.declared.value.Value.TheVariants.{Union}
 use Rattle.ssz_value.specs.Standing.{value_of, is_byte, IsValue}
@@ -185,7 +185,7 @@ pub fields_len-text_len-text-requires : goal.fields_len-text_len-text-requires
 fields_len-text_len-text-requires t c =
     let within = field_count_is c.args.schema.now.trees c.args.fields.now c.args.parts.now
     c.requires.parts in
-    let value : IsValue (tree_at c.args.schema.now.trees c.index-fields-i.result.1)
+    let value : IsValue (type_tree_at c.args.schema.now.trees c.index-fields-i.result.1)
     c.index-parts-i.result =
     value_at_field c.args.schema.now.trees c.args.fields.now c.args.parts.now c.loop-i.i
     c.index-fields-i.result c.index-parts-i.result c.requires.parts c.loop-i-test.true

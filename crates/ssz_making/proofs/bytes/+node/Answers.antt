@@ -5,8 +5,8 @@ use Rattle.std.proofs.lemmas.List.{take_rest, length-map}
 use Rattle.ssz_schema.specs.Types.{SszType, list, container, union}
 use Rattle.ssz_schema.specs.Sizes.{fixed_size, head_size, basic_size, element_chunks, depth}
 use Rattle.ssz_schema.specs.Legal.{IsLegal}
-use Rattle.ssz_schema.specs.Unfolding.{type_of, tree_at, tree_over, fields_over, options_over, IsBelow, AreBelow}
-use Rattle.ssz_value.specs.Faults.{why, element_count, elements_fault, count_fault}
+use Rattle.ssz_schema.specs.Unfolding.{type_of, type_tree_at, tree_over, fields_over, options_over, IsBelow, AreBelow}
+use Rattle.ssz_value.specs.Faults.{first_fault, element_count, elements_fault, count_fault}
 use Rattle.ssz_value.specs.Reading.{value_in, elements_in}
 use Rattle.ssz_value.specs.Trees.{number_chunk}
 use Rattle.ssz_value.proofs.Agree.{IsInput, no_faults}
@@ -21,7 +21,7 @@ use Rattle.ssz_parts.proofs.ElementValues.{length-element_values}
 use Rattle.ssz_parts.proofs.UnionValues.{union_chosen, union_rest}
 use Rattle.ssz_packing.proofs.Options.{below_at}
 use Rattle.ssz_making.specs.Nodes.{new_nodes}
-use Rattle.ssz_making.specs.Parts.{Part, whole, joined, part_of, chosen_part, elements_part}
+use Rattle.ssz_making.specs.Parts.{MadePart, whole_of, joined_leaf, part_of_value, chosen_part, elements_part}
 use Rattle.ssz_making.proofs.BytesForms.{element-at, packed_elements, vector_made, list_made, bitvector_made, bitlist_made, basic_made, union-part, same_nodes}
 use Rattle.ssz_making.proofs.FieldGathering.{FirstFields, FieldsAt-start, FieldsAt-faultless, FieldsAt-next, FieldsAt-room, FieldsAt-within, container_made, length-parts_from, parts_from}
 use Rattle.ssz_making.proofs.Forms.{elements-composite}
@@ -43,7 +43,7 @@ parts_made-elements-init g t c =
     let ty = type_of c.args.schema.now c.args.elem in
     subst (λ ps. g.M.Maker.gathered c.args.maker.now c.ahead-i.new.self c.args.depth c.args.count ps
     c.ahead-i.new.rows)
-    (sym (take-map (part_of ty) c.ahead-i.result
+    (sym (take-map (part_of_value ty) c.ahead-i.result
     (element_values ty c.args.count c.args.bytes.now)))
     (c.ahead-i.ensures.pushed c.args.depth c.start-rows.ensures)
 
@@ -56,50 +56,50 @@ parts_made-bytes_part-out-requires g t c κs within =
     let is = c.element_at-part.ensures ∙ ap (λ (size : Option ℕ). get_or
     (elements_in size c.args.count c.args.bytes.now) c.elements.i
     (let none : List ℕ = [] in none)) c.fixed_size-size.ensures.exact in
-    let none : why ty 0 c.element_at-part.result.now ≡ None =
-    subst (λ (b : List ℕ). why ty 0 b ≡ None) (sym is) good.none in
+    let none : first_fault ty 0 c.element_at-part.result.now ≡ None =
+    subst (λ (b : List ℕ). first_fault ty 0 b ≡ None) (sym is) good.none in
     let short : length c.element_at-part.result.now < 2 ^ 32 =
     subst (λ (b : List ℕ). length b < 2 ^ 32) (sym is) good.input.short in
     let at = element-at ty c.args.count c.args.bytes.now c.elements.i
     c.element_at-part.result.now c.elements-test.true is in
-    let all = map (part_of ty) (element_values ty c.args.count c.args.bytes.now) in
+    let all = map (part_of_value ty) (element_values ty c.args.count c.args.bytes.now) in
     let split = split-at all c.elements.i _ at in
-    let space = subst (λ ps. g.M.Maker.room c.args.maker.now (whole c.args.depth ps).nodes)
+    let space = subst (λ ps. g.M.Maker.room c.args.maker.now (whole_of c.args.depth ps).nodes)
     (sym split) c.requires.room in
     let room : g.M.Maker.room c.elements.maker (new_nodes ty (value_in ty
     c.element_at-part.result.now))
     = g.met.M.Maker.room_next _ _ c.args.depth c.args.count (take c.elements.i all) (drop
     (c.elements.i + 1) all)
-    (part_of ty (value_in ty c.element_at-part.result.now)) _ c.elements.invariant space in
+    (part_of_value ty (value_in ty c.element_at-part.result.now)) _ c.elements.invariant space in
     search rules
 
 pub parts_made-push-requires : goal.parts_made-push-requires
 parts_made-push-requires g t c =
     let ty = type_of c.args.schema.now c.args.elem in
     let vs = element_values ty c.args.count c.args.bytes.now in
-    let all = map (part_of ty) vs in
+    let all = map (part_of_value ty) vs in
     let many : length all ≡ c.args.count =
-    length-map vs (part_of ty) ∙ length-element_values ty c.args.count c.args.bytes.now in
+    length-map vs (part_of_value ty) ∙ length-element_values ty c.args.count c.args.bytes.now in
     let is = c.element_at-part.ensures ∙ ap (λ (size : Option ℕ). get_or
     (elements_in size c.args.count c.args.bytes.now) c.elements.i
     (let none : List ℕ = [] in none)) c.fixed_size-size.ensures.exact in
     let at = element-at ty c.args.count c.args.bytes.now c.elements.i
     c.element_at-part.result.now c.elements-test.true is in
     let split = split-at all c.elements.i _ at in
-    let space = subst (λ ps. g.M.Maker.room c.args.maker.now (whole c.args.depth ps).nodes)
+    let space = subst (λ ps. g.M.Maker.room c.args.maker.now (whole_of c.args.depth ps).nodes)
     (sym split) c.requires.room in
     record {
       start = c.args.maker.now;
       middle = c.elements.maker;
       depth = c.args.depth;
       before = take c.elements.i all;
-      one = part_of ty (value_in ty c.element_at-part.result.now);
+      one = part_of_value ty (value_in ty c.element_at-part.result.now);
       rest = drop (c.elements.i + 1) all;
       pushed = subst (λ k. g.M.Maker.gathered c.args.maker.now c.elements.maker c.args.depth k
           (take c.elements.i all) c.elements.rows)
-          (sym (ap (λ (ps : List Part). length ps) split ∙ many)) c.elements.invariant;
+          (sym (ap (λ (ps : List MadePart). length ps) split ∙ many)) c.elements.invariant;
       is = c.bytes_part-out.ensures;
-      few = subst (λ (ps : List Part). length ps ≤ 2 ^ c.args.depth) (sym split)
+      few = subst (λ (ps : List MadePart). length ps ≤ 2 ^ c.args.depth) (sym split)
           (omega (arith, many, c.requires.few));
       space = space;
     }
@@ -108,9 +108,9 @@ pub parts_made-elements-preserved : goal.parts_made-elements-preserved
 parts_made-elements-preserved g t c =
     let ty = type_of c.args.schema.now c.args.elem in
     let vs = element_values ty c.args.count c.args.bytes.now in
-    let all = map (part_of ty) vs in
+    let all = map (part_of_value ty) vs in
     let many : length all ≡ c.args.count =
-    length-map vs (part_of ty) ∙ length-element_values ty c.args.count c.args.bytes.now in
+    length-map vs (part_of_value ty) ∙ length-element_values ty c.args.count c.args.bytes.now in
     let is = c.element_at-part.ensures ∙ ap (λ (size : Option ℕ). get_or
     (elements_in size c.args.count c.args.bytes.now) c.elements.i
     (let none : List ℕ = [] in none)) c.fixed_size-size.ensures.exact in
@@ -118,7 +118,7 @@ parts_made-elements-preserved g t c =
     c.element_at-part.result.now c.elements-test.true is in
     let input = input_of c.args.bytes.now c.type_inv.bytes c.requires.short in
     let n = c.elements.i + 1 in
-    let more : List Part = take c.repeats-i.result (drop (c.elements.i + 1) all) in
+    let more : List MadePart = take c.repeats-i.result (drop (c.elements.i + 1) all) in
     let long : length (take c.repeats-i.result (drop (c.elements.i + 1) all))
     ≡ c.repeats-i.result = length-take-le c.repeats-i.result (drop (c.elements.i + 1) all)
     (omega (
@@ -144,9 +144,9 @@ pub parts_made-finish-requires : goal.parts_made-finish-requires
 parts_made-finish-requires g t c =
     let ty = type_of c.args.schema.now c.args.elem in
     let vs = element_values ty c.args.count c.args.bytes.now in
-    let all = map (part_of ty) vs in
+    let all = map (part_of_value ty) vs in
     let many : length all ≡ c.args.count =
-    length-map vs (part_of ty) ∙ length-element_values ty c.args.count c.args.bytes.now in
+    length-map vs (part_of_value ty) ∙ length-element_values ty c.args.count c.args.bytes.now in
     let whole_row : take c.elements.i all ≡ all = take_all c.elements.i all (omega (arith, many)) in
     let last = subst (λ k. g.M.Maker.gathered c.args.maker.now c.elements.maker c.args.depth k all
     c.elements.rows) (sym many)
@@ -165,9 +165,9 @@ pub parts_made-returns : goal.parts_made-returns
 parts_made-returns g t c =
     let ty = type_of c.args.schema.now c.args.elem in
     let vs = element_values ty c.args.count c.args.bytes.now in
-    let all = map (part_of ty) vs in
+    let all = map (part_of_value ty) vs in
     let many : length all ≡ c.args.count =
-    length-map vs (part_of ty) ∙ length-element_values ty c.args.count c.args.bytes.now in
+    length-map vs (part_of_value ty) ∙ length-element_values ty c.args.count c.args.bytes.now in
     let whole_row : take c.elements.i all ≡ all = take_all c.elements.i all (omega (arith, many)) in
     let last = subst (λ k. g.M.Maker.gathered c.args.maker.now c.elements.maker c.args.depth k all
     c.elements.rows) (sym many)
@@ -202,7 +202,8 @@ elements_made-parts_made-requires g t c κs within =
     let few : c.args.count ≤ 2 ^ c.args.depth = subst
     (λ (size : Option ℕ). element_chunks size c.args.count ≤ 2 ^ c.args.depth) composite
     c.requires.few in
-    let room : g.M.Maker.room c.args.maker.now (whole c.args.depth (map (part_of ty) vs)).nodes =
+    let room : g.M.Maker.room c.args.maker.now
+    (whole_of c.args.depth (map (part_of_value ty) vs)).nodes =
     subst (g.M.Maker.room c.args.maker.now)
     (sym (same_nodes _ _ (elements-composite ty c.args.depth vs composite))) c.requires.room in
     search rules
@@ -286,13 +287,13 @@ fields_made-bytes_part-out-requires g t c κs within =
     let good = FieldsAt-faultless _ _ _ _ _ _ c.index-fields-i.result
     c.loop-i.invariant.fields c.loop-i-test.true c.index-fields-i.is c.requires.legal input
     c.requires.faultless in
-    let ty = tree_at c.args.schema.now.trees c.index-fields-i.result.1 in
+    let ty = type_tree_at c.args.schema.now.trees c.index-fields-i.result.1 in
     let before : c.index-fields-i.result.1 < c.args.id =
     part_known c.args.id c.args.fields.now c.loop-i.i c.index-fields-i.result c.loop-i-test.true
     c.index-fields-i.is c.requires.before in
-    let none : why ty 0 (slice_range c.args.bytes.now c.part_range-from.result.0
+    let none : first_fault ty 0 (slice_range c.args.bytes.now c.part_range-from.result.0
     c.part_range-from.result.1) ≡ None =
-    subst (λ (r : ℕ × ℕ). why ty 0 (slice_range c.args.bytes.now r.0 r.1) ≡ None)
+    subst (λ (r : ℕ × ℕ). first_fault ty 0 (slice_range c.args.bytes.now r.0 r.1) ≡ None)
     (sym c.part_range-from.ensures) good.none in
     let short : length (slice_range c.args.bytes.now c.part_range-from.result.0
     c.part_range-from.result.1) < 2 ^ 32 =
@@ -304,14 +305,14 @@ fields_made-bytes_part-out-requires g t c κs within =
     let many : length all ≡ length c.args.fields.now =
     length-parts_from c.args.schema.now.trees c.args.fields.now 0 c.args.bytes.now in
     let split = split-at all c.loop-i.i _ next.at in
-    let space = subst (λ ps. g.M.Maker.room c.args.maker.now (whole c.args.depth ps).nodes)
+    let space = subst (λ ps. g.M.Maker.room c.args.maker.now (whole_of c.args.depth ps).nodes)
     (sym split) c.requires.room in
     let room : g.M.Maker.room c.loop-i.maker (new_nodes ty (value_in ty (slice_range
     c.args.bytes.now
     c.part_range-from.result.0 c.part_range-from.result.1))) =
     g.met.M.Maker.room_next _ _ c.args.depth (length c.args.fields.now) (take c.loop-i.i all) (drop
     (c.loop-i.i + 1) all)
-    (part_of ty (value_in ty (slice_range c.args.bytes.now c.part_range-from.result.0
+    (part_of_value ty (value_in ty (slice_range c.args.bytes.now c.part_range-from.result.0
     c.part_range-from.result.1))) _ c.loop-i.invariant.pushed space in
     search rules
 
@@ -323,7 +324,7 @@ fields_made-push-requires g t c =
     let many : length all ≡ length c.args.fields.now =
     length-parts_from c.args.schema.now.trees c.args.fields.now 0 c.args.bytes.now in
     let split = split-at all c.loop-i.i _ next.at in
-    let space = subst (λ ps. g.M.Maker.room c.args.maker.now (whole c.args.depth ps).nodes)
+    let space = subst (λ ps. g.M.Maker.room c.args.maker.now (whole_of c.args.depth ps).nodes)
     (sym split) c.requires.room in
     record {
       start = c.args.maker.now;
@@ -334,9 +335,9 @@ fields_made-push-requires g t c =
       rest = drop (c.loop-i.i + 1) all;
       pushed = subst (λ k. g.M.Maker.gathered c.args.maker.now c.loop-i.maker c.args.depth k
           (take c.loop-i.i all) c.loop-i.rows)
-          (sym (ap (λ (ps : List Part). length ps) split ∙ many)) c.loop-i.invariant.pushed;
+          (sym (ap (λ (ps : List MadePart). length ps) split ∙ many)) c.loop-i.invariant.pushed;
       is = c.bytes_part-out.ensures;
-      few = subst (λ (ps : List Part). length ps ≤ 2 ^ c.args.depth) (sym split)
+      few = subst (λ (ps : List MadePart). length ps ≤ 2 ^ c.args.depth) (sym split)
           (omega (arith, many, c.requires.few));
       space = space;
     }
@@ -407,10 +408,10 @@ union_made-option_made-value-requires g t c κs within =
     let short : length (take (length c.args.bytes.now - 1) (drop 1 c.args.bytes.now)) < 2 ^ 32 =
     omega (arith, ap length rest, length-drop 1 c.args.bytes.now, c.requires.short) in
     let faultless : IfSome c.index-options-from.result
-    (λ id. why (tree_at c.args.schema.now.trees id) 0
+    (λ id. first_fault (type_tree_at c.args.schema.now.trees id) 0
     (take (length c.args.bytes.now - 1) (drop 1 c.args.bytes.now)) ≡ None) =
     subst (λ (b : List ℕ). IfSome c.index-options-from.result
-    (λ id. why (tree_at c.args.schema.now.trees id) 0 b ≡ None)) (sym rest)
+    (λ id. first_fault (type_tree_at c.args.schema.now.trees id) 0 b ≡ None)) (sym rest)
     (union_rest c.args.schema.now.format c.args.schema.now.trees c.args.options.now
     c.index-options-from.result c.args.bytes.now h.some chosen c.requires.legal input
     c.requires.faultless) in
@@ -459,7 +460,7 @@ union_made-returns g t c =
     c.option_made-value.result) (take_rest c.args.bytes.now 1) c.option_made-value.ensures in
     let number = c.number_chunk-leaf.ensures ∙ ap number_chunk (c.from-2.ensures) in
     subst (λ part. g.M.Maker.made c.args.maker.now c.join.new.self part c.join.result)
-    (ap (joined (chosen_part c.args.schema.now.trees c.index-options-from.result
+    (ap (joined_leaf (chosen_part c.args.schema.now.trees c.index-options-from.result
     (drop 1 c.args.bytes.now))) number ∙ made) (c.join.ensures _ _ value)
 
 pub option_made-bytes_part-requires : goal.option_made-bytes_part-requires
@@ -468,8 +469,8 @@ option_made-bytes_part-requires g t c κs within =
     let b = c.args.bytes.now in
     let below : c.in-Some.option < c.args.id =
     subst (IsBelow c.args.id) c.in-Some.is c.requires.before in
-    let faultless : why (type_of schema c.in-Some.option) 0 b ≡ None = subst
-    (λ (o : Option ℕ). IfSome o (λ id. why (type_of schema id) 0 b ≡ None)) c.in-Some.is
+    let faultless : first_fault (type_of schema c.in-Some.option) 0 b ≡ None = subst
+    (λ (o : Option ℕ). IfSome o (λ id. first_fault (type_of schema id) 0 b ≡ None)) c.in-Some.is
     c.requires.faultless in
     let room : g.M.Maker.room c.args.maker.now (new_nodes (type_of schema c.in-Some.option)
     (value_in (type_of schema c.in-Some.option) b)) = subst
@@ -493,7 +494,7 @@ pub bytes_part-elements_made-requires : goal.bytes_part-elements_made-requires
 bytes_part-elements_made-requires g t c κs within =
     let trees = c.args.schema.now.trees in
     let form = sym c.ty.ensures.form ∙ ap (tree_over trees) c.in-Vector.is in
-    let ty = tree_at trees c.in-Vector.elem in
+    let ty = type_tree_at trees c.in-Vector.elem in
     let h = vector_elements c.args.schema.now.format (type_of c.args.schema.now c.args.id) ty
     c.in-Vector.count c.depth.result c.args.bytes.now form c.ty.ensures.legal
     c.requires.faultless c.depth.ensures.exact in
@@ -512,14 +513,14 @@ bytes_part-returns-in-Vector g t c =
     let form = sym c.ty.ensures.form ∙ ap (tree_over trees) c.in-Vector.is in
     subst (λ part. g.M.Maker.made c.args.maker.now c.elements_made.new.maker part
     c.elements_made.result) (vector_made (type_of c.args.schema.now c.args.id)
-    (tree_at trees c.in-Vector.elem) c.in-Vector.count c.depth.result c.args.bytes.now form
+    (type_tree_at trees c.in-Vector.elem) c.in-Vector.count c.depth.result c.args.bytes.now form
     c.depth.ensures.exact) c.elements_made.ensures
 
 pub bytes_part-elements_made-elements-requires : goal.bytes_part-elements_made-elements-requires
 bytes_part-elements_made-elements-requires g t c κs within =
     let trees = c.args.schema.now.trees in
     let form = sym c.ty.ensures.form ∙ ap (tree_over trees) c.in-List.is in
-    let ty = tree_at trees c.in-List.elem in
+    let ty = type_tree_at trees c.in-List.elem in
     let count = c.element_count-count.ensures ∙ ap
     (λ (size : Option ℕ). element_count size c.args.bytes.now) c.fixed_size.ensures.exact in
     let input = input_of c.args.bytes.now c.type_inv.bytes c.requires.short in
@@ -540,14 +541,14 @@ bytes_part-elements_made-elements-requires g t c κs within =
 pub bytes_part-element_count-count-requires-clause-faultless :
     goal.bytes_part-element_count-count-requires-clause-faultless
 bytes_part-element_count-count-requires-clause-faultless g t c =
-    let ty = tree_at c.args.schema.now.trees c.in-List.elem in
+    let ty = type_tree_at c.args.schema.now.trees c.in-List.elem in
     let limit = c.in-List.limit in
     let b = c.args.bytes.now in
     let form = sym c.ty.ensures.form ∙ ap (tree_over c.args.schema.now.trees) c.in-List.is in
-    let good : why (list ty limit) 0 b ≡ None =
-    subst (λ (form : SszType). why form 0 b ≡ None) form c.requires.faultless in
+    let good : first_fault (list ty limit) 0 b ≡ None =
+    subst (λ (form : SszType). first_fault form 0 b ≡ None) form c.requires.faultless in
     let both = no_faults (count_fault (fixed_size ty) limit 0 b)
-    (elements_fault (why ty) (fixed_size ty) (element_count (fixed_size ty) b) 0 b) good in
+    (elements_fault (first_fault ty) (fixed_size ty) (element_count (fixed_size ty) b) 0 b) good in
     subst (λ (size : Option ℕ). count_fault size limit 0 b ≡ None) (sym c.fixed_size.ensures.exact)
     both.0
 
@@ -558,7 +559,7 @@ bytes_part-join-requires g t c =
     let count = c.element_count-count.ensures ∙ ap
     (λ (size : Option ℕ). element_count size c.args.bytes.now) c.fixed_size.ensures.exact in
     let number = c.number_chunk-len.ensures ∙ ap number_chunk c.from.ensures in
-    let made = list_made (type_of c.args.schema.now c.args.id) (tree_at trees c.in-List.elem)
+    let made = list_made (type_of c.args.schema.now c.args.id) (type_tree_at trees c.in-List.elem)
     c.in-List.limit c.element_count-count.result c.depth-in-List.result c.args.bytes.now
     c.number_chunk-len.result.0 form c.depth-in-List.ensures.exact count number in
     record {
@@ -576,7 +577,7 @@ bytes_part-returns-in-List g t c =
     let count = c.element_count-count.ensures ∙ ap
     (λ (size : Option ℕ). element_count size c.args.bytes.now) c.fixed_size.ensures.exact in
     let number = c.number_chunk-len.ensures ∙ ap number_chunk c.from.ensures in
-    let made = list_made (type_of c.args.schema.now c.args.id) (tree_at trees c.in-List.elem)
+    let made = list_made (type_of c.args.schema.now c.args.id) (type_tree_at trees c.in-List.elem)
     c.in-List.limit c.element_count-count.result c.depth-in-List.result c.args.bytes.now
     c.number_chunk-len.result.0 form c.depth-in-List.ensures.exact count number in
     subst (λ part. g.M.Maker.made c.args.maker.now c.join.new.self part c.join.result) made
@@ -612,8 +613,8 @@ bytes_part-union_made-requires g t c κs within =
     ∙ ap (λ (ids : List (Option ℕ)). union (options_over trees ids)) options in
     let law = subst (IsLegal c.args.schema.now.format) form c.ty.ensures.legal in
     let legal = law.3 in
-    let faultless : why (union (options_over trees os)) 0 b ≡ None =
-    subst (λ (ty : SszType). why ty 0 b ≡ None) form c.requires.faultless in
+    let faultless : first_fault (union (options_over trees os)) 0 b ≡ None =
+    subst (λ (ty : SszType). first_fault ty 0 b ≡ None) form c.requires.faultless in
     let room : g.M.Maker.room c.args.maker.now (new_nodes (union (options_over trees os))
     (value_in (union (options_over trees os)) b)) = subst
     (λ (ty : SszType). g.M.Maker.room c.args.maker.now (new_nodes ty (value_in ty b))) form
@@ -630,7 +631,7 @@ bytes_part-returns-in-Union g t c =
     ∙ ap (λ (ids : List (Option ℕ)). union (options_over trees ids))
     (sym c.as_slice-in-Union.ensures.value) in
     subst (λ (ty : SszType). g.M.Maker.made c.args.maker.now c.union_made.new.maker
-    (part_of ty (value_in ty c.args.bytes.now)) c.union_made.result) (sym form)
+    (part_of_value ty (value_in ty c.args.bytes.now)) c.union_made.result) (sym form)
     c.union_made.ensures
 
 pub bytes_part-packed-requires-clause-depth :
@@ -690,7 +691,7 @@ bytes_part-fields_made-requires g t c κs within =
     let known : P c.as_slice.result.now = subst P fields all in
     let made = container_made (type_of c.args.schema.now c.args.id) trees c.as_slice.result.now
     c.depth-in-Container.result c.args.bytes.now form c.depth-in-Container.ensures.exact in
-    let room : g.M.Maker.room c.args.maker.now (whole c.depth-in-Container.result
+    let room : g.M.Maker.room c.args.maker.now (whole_of c.depth-in-Container.result
     (parts_from trees c.as_slice.result.now 0 c.args.bytes.now)).nodes =
     subst (g.M.Maker.room c.args.maker.now) (sym (same_nodes _ _ made)) c.requires.room in
     search rules

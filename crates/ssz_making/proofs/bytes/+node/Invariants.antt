@@ -1,7 +1,7 @@
 use Rattle.std.proofs.Common.{◌+◌, ◌-◌, ◌*◌, map, take}
 use Rattle.ssz_schema.specs.Unfolding.{type_of}
 use Rattle.ssz_parts.specs.PartValues.{element_values}
-use Rattle.ssz_making.specs.Parts.{part_of}
+use Rattle.ssz_making.specs.Parts.{part_of_value}
 use Rattle.ssz_making.proofs.FieldGathering.{FirstFields}
 use Rattle.ssz_making.proofs.bytes.+node.Given as goal
 
@@ -29,7 +29,7 @@ decreases-parts_made-elements g l = l.count - l.i
 abbrev pub invariant-parts_made-elements : goal.invariant-parts_made-elements
 invariant-parts_made-elements g l =
     g.M.Maker.gathered l.fn.maker l.maker l.depth l.count
-    (take l.i (map (part_of (type_of l.schema l.elem))
+    (take l.i (map (part_of_value (type_of l.schema l.elem))
     (element_values (type_of l.schema l.elem) l.count l.bytes))) l.rows
 
 abbrev pub invariant-fields_made-loop-i : goal.invariant-fields_made-loop-i

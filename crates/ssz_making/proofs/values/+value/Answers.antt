@@ -3,7 +3,7 @@ use Rattle.std.specs.List.{AllByRecursion}
 use Rattle.std.proofs.lemmas.List.{length-map}
 use Rattle.ssz_schema.specs.Types.{SszType, container}
 use Rattle.ssz_schema.specs.Sizes.{basic_size, element_chunks}
-use Rattle.ssz_schema.specs.Unfolding.{type_of, tree_at, tree_over, fields_over, AreBelow}
+use Rattle.ssz_schema.specs.Unfolding.{type_of, type_tree_at, tree_over, fields_over, AreBelow}
 use Rattle.ssz_value.specs.declared.value.Value.{Value}
 use Rattle.ssz_value.specs.declared.value.Value.TheVariants.{Bytes, Union}
 use Rattle.ssz_value.specs.Values.{SszValue, chosen, chosen_none}
@@ -23,7 +23,7 @@ use Rattle.std.proofs.Common.{◌-◌, drop, length-drop}
 use Rattle.std.proofs.Math.Seq.{take-add}
 use Rattle.std.proofs.lemmas.List.{take_all, length-take-le}
 use Rattle.ssz_making.specs.Nodes.{new_nodes}
-use Rattle.ssz_making.specs.Parts.{Part, whole, joined, part_of, none_part, elements_part, field_parts}
+use Rattle.ssz_making.specs.Parts.{MadePart, whole_of, joined_leaf, part_of_value, none_part, elements_part, field_parts}
 use Rattle.ssz_making.proofs.Alike.{values_alike}
 use Rattle.ssz_making.proofs.BytesForms.{same_nodes}
 use Rattle.ssz_making.proofs.Placing.{IsAt, IsAt-map, split-at}
@@ -34,18 +34,18 @@ use Rattle.ssz_making.proofs.values.+value.Goals as goal
 -- values of one type
 value-at : (t : SszType) (vs : List Value) (i : ℕ) (v : Value) → i < length vs
     → take (i + 1) (map value_of vs) ≡ take i (map value_of vs) ++ value_of v ∷ []
-    → IsAt (map (part_of t) (map value_of vs)) i (part_of t (value_of v))
-value-at t vs i v below more = IsAt-map (part_of t) (map value_of vs) i (value_of v)
+    → IsAt (map (part_of_value t) (map value_of vs)) i (part_of_value t (value_of v))
+value-at t vs i v below more = IsAt-map (part_of_value t) (map value_of vs) i (value_of v)
     (omega (arith, below, length-map vs value_of)) more
 
 many_values : (t : SszType) (vs : List Value)
-    → length (map (part_of t) (map value_of vs)) ≡ length vs
-many_values t vs = length-map (map value_of vs) (part_of t) ∙ length-map vs value_of
+    → length (map (part_of_value t) (map value_of vs)) ≡ length vs
+many_values t vs = length-map (map value_of vs) (part_of_value t) ∙ length-map vs value_of
 
 pub values_made-value_part-out-requires : goal.values_made-value_part-out-requires
 values_made-value_part-out-requires g t c κs within =
     let ty = type_of c.args.schema.now c.args.elem in
-    let all = map (part_of ty) (map value_of c.args.parts.now) in
+    let all = map (part_of_value ty) (map value_of c.args.parts.now) in
     let many : length all ≡ length c.args.parts.now = many_values ty c.args.parts.now in
     let value : IsValue ty c.index-parts-i.result =
     element_at ty c.args.parts.now c.elements.i c.index-parts-i.result c.requires.values
@@ -54,24 +54,24 @@ values_made-value_part-out-requires g t c κs within =
     c.elements-test.true (take-map-next value_of c.args.parts.now c.elements.i
     c.index-parts-i.result c.elements-test.true c.index-parts-i.is) in
     let split = split-at all c.elements.i _ at in
-    let space = subst (λ ps. g.M.Maker.room c.args.maker.now (whole c.args.depth ps).nodes)
+    let space = subst (λ ps. g.M.Maker.room c.args.maker.now (whole_of c.args.depth ps).nodes)
     (sym split) c.requires.room in
     let room : g.M.Maker.room c.elements.maker (new_nodes ty (value_of c.index-parts-i.result)) =
     g.met.M.Maker.room_next _ _ c.args.depth (length c.args.parts.now) (take c.elements.i all)
-    (drop (c.elements.i + 1) all) (part_of ty (value_of c.index-parts-i.result)) _
+    (drop (c.elements.i + 1) all) (part_of_value ty (value_of c.index-parts-i.result)) _
     c.elements.invariant space in
     search rules
 
 pub values_made-push-requires : goal.values_made-push-requires
 values_made-push-requires g t c =
     let ty = type_of c.args.schema.now c.args.elem in
-    let all = map (part_of ty) (map value_of c.args.parts.now) in
+    let all = map (part_of_value ty) (map value_of c.args.parts.now) in
     let many : length all ≡ length c.args.parts.now = many_values ty c.args.parts.now in
     let at = value-at ty c.args.parts.now c.elements.i c.index-parts-i.result
     c.elements-test.true (take-map-next value_of c.args.parts.now c.elements.i
     c.index-parts-i.result c.elements-test.true c.index-parts-i.is) in
     let split = split-at all c.elements.i _ at in
-    let space = subst (λ ps. g.M.Maker.room c.args.maker.now (whole c.args.depth ps).nodes)
+    let space = subst (λ ps. g.M.Maker.room c.args.maker.now (whole_of c.args.depth ps).nodes)
     (sym split) c.requires.room in
     record {
       start = c.args.maker.now;
@@ -82,9 +82,9 @@ values_made-push-requires g t c =
       rest = drop (c.elements.i + 1) all;
       pushed = subst (λ k. g.M.Maker.gathered c.args.maker.now c.elements.maker c.args.depth k
           (take c.elements.i all) c.elements.rows)
-          (sym (ap (λ (ps : List Part). length ps) split ∙ many)) c.elements.invariant;
+          (sym (ap (λ (ps : List MadePart). length ps) split ∙ many)) c.elements.invariant;
       is = c.value_part-out.ensures;
-      few = subst (λ (ps : List Part). length ps ≤ 2 ^ c.args.depth) (sym split)
+      few = subst (λ (ps : List MadePart). length ps ≤ 2 ^ c.args.depth) (sym split)
           (omega (arith, many, c.requires.few));
       space = space;
     }
@@ -92,7 +92,7 @@ values_made-push-requires g t c =
 pub values_made-elements-preserved : goal.values_made-elements-preserved
 values_made-elements-preserved g t c =
     let ty = type_of c.args.schema.now c.args.elem in
-    let all = map (part_of ty) (map value_of c.args.parts.now) in
+    let all = map (part_of_value ty) (map value_of c.args.parts.now) in
     let many : length all ≡ length c.args.parts.now = many_values ty c.args.parts.now in
     let value : IsValue ty c.index-parts-i.result =
     element_at ty c.args.parts.now c.elements.i c.index-parts-i.result c.requires.values
@@ -100,7 +100,7 @@ values_made-elements-preserved g t c =
     let at = value-at ty c.args.parts.now c.elements.i c.index-parts-i.result
     c.elements-test.true (take-map-next value_of c.args.parts.now c.elements.i
     c.index-parts-i.result c.elements-test.true c.index-parts-i.is) in
-    let more : List Part = take c.repeats.result (drop (c.elements.i + 1) all) in
+    let more : List MadePart = take c.repeats.result (drop (c.elements.i + 1) all) in
     let long : length (take c.repeats.result (drop (c.elements.i + 1) all))
     ≡ c.repeats.result = length-take-le c.repeats.result (drop (c.elements.i + 1) all)
     (omega (
@@ -124,7 +124,7 @@ values_made-elements-preserved g t c =
 pub values_made-finish-requires : goal.values_made-finish-requires
 values_made-finish-requires g t c =
     let ty = type_of c.args.schema.now c.args.elem in
-    let all = map (part_of ty) (map value_of c.args.parts.now) in
+    let all = map (part_of_value ty) (map value_of c.args.parts.now) in
     let many : length all ≡ length c.args.parts.now = many_values ty c.args.parts.now in
     let whole_row : take c.elements.i all ≡ all = take_all c.elements.i all (omega (arith, many)) in
     let last = subst (λ k. g.M.Maker.gathered c.args.maker.now c.elements.maker c.args.depth k all
@@ -143,7 +143,7 @@ values_made-finish-requires g t c =
 pub values_made-returns : goal.values_made-returns
 values_made-returns g t c =
     let ty = type_of c.args.schema.now c.args.elem in
-    let all = map (part_of ty) (map value_of c.args.parts.now) in
+    let all = map (part_of_value ty) (map value_of c.args.parts.now) in
     let many : length all ≡ length c.args.parts.now = many_values ty c.args.parts.now in
     let whole_row : take c.elements.i all ≡ all = take_all c.elements.i all (omega (arith, many)) in
     let last = subst (λ k. g.M.Maker.gathered c.args.maker.now c.elements.maker c.args.depth k all
@@ -177,7 +177,7 @@ field_values_made-value_part-out-requires g t c κs within =
     let before : c.index-fields-i.result.1 < c.args.id =
     part_known c.args.id c.args.fields.now c.loop-i.i c.index-fields-i.result c.loop-i-test.true
     c.index-fields-i.is c.requires.before in
-    let value : IsValue (tree_at c.args.schema.now.trees c.index-fields-i.result.1)
+    let value : IsValue (type_tree_at c.args.schema.now.trees c.index-fields-i.result.1)
     c.index-parts-i.result =
     field_value c.args.schema.now.trees c.args.fields.now c.args.parts.now c.loop-i.i
     c.index-fields-i.result c.index-parts-i.result c.requires.values c.loop-i-test.true
@@ -191,12 +191,12 @@ field_values_made-value_part-out-requires g t c κs within =
     let many : length all ≡ length c.args.fields.now = many_fields c.args.schema.now.trees
     c.args.fields.now c.args.parts.now c.requires.values in
     let split = split-at all c.loop-i.i _ at in
-    let space = subst (λ ps. g.M.Maker.room c.args.maker.now (whole c.args.depth ps).nodes)
+    let space = subst (λ ps. g.M.Maker.room c.args.maker.now (whole_of c.args.depth ps).nodes)
     (sym split) c.requires.room in
-    let room : g.M.Maker.room c.loop-i.maker (new_nodes (tree_at c.args.schema.now.trees
+    let room : g.M.Maker.room c.loop-i.maker (new_nodes (type_tree_at c.args.schema.now.trees
     c.index-fields-i.result.1) (value_of c.index-parts-i.result)) =
     g.met.M.Maker.room_next _ _ c.args.depth (length c.args.fields.now) (take c.loop-i.i all)
-    (drop (c.loop-i.i + 1) all) (part_of (tree_at c.args.schema.now.trees
+    (drop (c.loop-i.i + 1) all) (part_of_value (type_tree_at c.args.schema.now.trees
     c.index-fields-i.result.1) (value_of c.index-parts-i.result)) _ c.loop-i.invariant space in
     search rules
 
@@ -211,7 +211,7 @@ field_values_made-push-requires g t c =
     let many : length all ≡ length c.args.fields.now = many_fields c.args.schema.now.trees
     c.args.fields.now c.args.parts.now c.requires.values in
     let split = split-at all c.loop-i.i _ at in
-    let space = subst (λ ps. g.M.Maker.room c.args.maker.now (whole c.args.depth ps).nodes)
+    let space = subst (λ ps. g.M.Maker.room c.args.maker.now (whole_of c.args.depth ps).nodes)
     (sym split) c.requires.room in
     record {
       start = c.args.maker.now;
@@ -222,9 +222,9 @@ field_values_made-push-requires g t c =
       rest = drop (c.loop-i.i + 1) all;
       pushed = subst (λ k. g.M.Maker.gathered c.args.maker.now c.loop-i.maker c.args.depth k
           (take c.loop-i.i all) c.loop-i.rows)
-          (sym (ap (λ (ps : List Part). length ps) split ∙ many)) c.loop-i.invariant;
+          (sym (ap (λ (ps : List MadePart). length ps) split ∙ many)) c.loop-i.invariant;
       is = c.value_part-out.ensures;
-      few = subst (λ (ps : List Part). length ps ≤ 2 ^ c.args.depth) (sym split)
+      few = subst (λ (ps : List MadePart). length ps ≤ 2 ^ c.args.depth) (sym split)
           (omega (arith, many, c.requires.few));
       space = space;
     }
@@ -286,9 +286,10 @@ container_made-field_values_made-requires g t c κs within =
     let parts : map value_of c.as_slice.result.now ≡ parts_of (value_of c.args.value.now) =
     ap (map value_of) c.as_slice.ensures.value ∙ sym
     (ap (λ (v : Value). parts_of (value_of v)) c.in-Seq.is ∙ parts_of_seq c.in-Seq.parts) in
-    let room : g.M.Maker.room c.args.maker.now (whole c.args.depth (field_parts fs
+    let room : g.M.Maker.room c.args.maker.now (whole_of c.args.depth (field_parts fs
     (map value_of c.as_slice.result.now))).nodes =
-    subst (λ (vs : List SszValue). g.M.Maker.room c.args.maker.now (whole c.args.depth (field_parts
+    subst (λ (vs : List SszValue).
+    g.M.Maker.room c.args.maker.now (whole_of c.args.depth (field_parts
     (fields_over c.args.schema.now.trees c.args.fields.now) vs)).nodes)
     (sym parts) c.requires.room in
     search rules
@@ -299,7 +300,7 @@ container_made-returns-in-Seq g t c =
     ap (map value_of) c.as_slice.ensures.value ∙ sym
     (ap (λ (v : Value). parts_of (value_of v)) c.in-Seq.is ∙ parts_of_seq c.in-Seq.parts) in
     subst (λ part. g.M.Maker.made c.args.maker.now c.field_values_made.new.maker part
-    c.field_values_made.result) (ap (λ (vs : List SszValue). whole c.args.depth
+    c.field_values_made.result) (ap (λ (vs : List SszValue). whole_of c.args.depth
     (field_parts (fields_over c.args.schema.now.trees c.args.fields.now) vs)) parts)
     c.field_values_made.ensures
 
@@ -404,7 +405,7 @@ sequence_made-values_made-requires g t c κs within =
     let made = composite_values (type_of c.args.schema.now c.args.elem) c.args.depth
     c.in-Seq.parts c.as_slice-in-None.result.now c.args.value.now c.in-Seq.is
     c.as_slice-in-None.ensures.value (sym c.basic_size.ensures.exact ∙ c.in-None.is) in
-    let room : g.M.Maker.room c.args.maker.now (whole c.args.depth (map (part_of (type_of
+    let room : g.M.Maker.room c.args.maker.now (whole_of c.args.depth (map (part_of_value (type_of
     c.args.schema.now c.args.elem))
     (map value_of c.as_slice-in-None.result.now))).nodes =
     subst (g.M.Maker.room c.args.maker.now) (sym (same_nodes _ _ made)) c.requires.room in
@@ -538,7 +539,7 @@ value_part-returns-in-Bitlist g t c =
 pub value_part-sequence_made-requires : goal.value_part-sequence_made-requires
 value_part-sequence_made-requires g t c κs within =
     let form = sym c.ty.ensures.form ∙ ap (tree_over c.args.schema.now.trees) c.in-Vector.is in
-    let ty = tree_at c.args.schema.now.trees c.in-Vector.elem in
+    let ty = type_tree_at c.args.schema.now.trees c.in-Vector.elem in
     let h = HasVector-vector (λ l r. l) c.args.schema.now.format
     (type_of c.args.schema.now c.args.id) ty c.in-Vector.field-1 c.depth-in-Vector.result
     (value_of c.args.value.now) form c.ty.ensures.legal c.requires.value.fits
@@ -548,7 +549,7 @@ value_part-sequence_made-requires g t c κs within =
     (subst (λ f. IsValue f c.args.value.now) form c.requires.value) in
     let below : c.in-Vector.elem < c.args.id = subst (AreBelow c.args.id)
     c.in-Vector.is c.ty.ensures.before in
-    let room : g.M.Maker.room c.args.maker.now (elements_part (tree_at c.args.schema.now.trees
+    let room : g.M.Maker.room c.args.maker.now (elements_part (type_tree_at c.args.schema.now.trees
     c.in-Vector.elem)
     c.depth-in-Vector.result (parts_of (value_of c.args.value.now))).nodes =
     subst (g.M.Maker.room c.args.maker.now) (sym (same_nodes _ _ (vector_value
@@ -562,14 +563,14 @@ value_part-returns-in-Vector g t c =
     let form = sym c.ty.ensures.form ∙ ap (tree_over c.args.schema.now.trees) c.in-Vector.is in
     subst (λ part. g.M.Maker.made c.args.maker.now c.sequence_made.new.maker part
     c.sequence_made.result) (vector_value (type_of c.args.schema.now c.args.id)
-    (tree_at c.args.schema.now.trees c.in-Vector.elem) c.in-Vector.field-1
+    (type_tree_at c.args.schema.now.trees c.in-Vector.elem) c.in-Vector.field-1
     c.depth-in-Vector.result (value_of c.args.value.now) form c.requires.value.fits
     c.depth-in-Vector.ensures.exact) c.sequence_made.ensures
 
 pub value_part-sequence_made-content-requires : goal.value_part-sequence_made-content-requires
 value_part-sequence_made-content-requires g t c κs within =
     let form = sym c.ty.ensures.form ∙ ap (tree_over c.args.schema.now.trees) c.in-List.is in
-    let ty = tree_at c.args.schema.now.trees c.in-List.elem in
+    let ty = type_tree_at c.args.schema.now.trees c.in-List.elem in
     let h = HasList-list (λ l r. l) c.args.schema.now.format
     (type_of c.args.schema.now c.args.id) ty c.in-List.field-1 c.depth-in-List.result
     (value_of c.args.value.now) form c.ty.ensures.legal c.requires.value.fits
@@ -582,7 +583,7 @@ value_part-sequence_made-content-requires g t c κs within =
     let made = list_value (type_of c.args.schema.now c.args.id) ty c.in-List.field-1
     c.depth-in-List.result (value_of c.args.value.now) _ form c.requires.value.fits
     c.depth-in-List.ensures.exact refl in
-    let room : g.M.Maker.room c.args.maker.now (elements_part (tree_at c.args.schema.now.trees
+    let room : g.M.Maker.room c.args.maker.now (elements_part (type_tree_at c.args.schema.now.trees
     c.in-List.elem)
     c.depth-in-List.result (parts_of (value_of c.args.value.now))).nodes =
     g.met.M.Maker.room_less c.args.maker.now _ _ (omega (arith, same_nodes _ _ made))
@@ -593,7 +594,7 @@ pub value_part-join-requires-in-List : goal.value_part-join-requires-in-List
 value_part-join-requires-in-List g t c =
     let form = sym c.ty.ensures.form ∙ ap (tree_over c.args.schema.now.trees) c.in-List.is in
     let made = list_value (type_of c.args.schema.now c.args.id)
-    (tree_at c.args.schema.now.trees c.in-List.elem) c.in-List.field-1 c.depth-in-List.result
+    (type_tree_at c.args.schema.now.trees c.in-List.elem) c.in-List.field-1 c.depth-in-List.result
     (value_of c.args.value.now) _ form c.requires.value.fits c.depth-in-List.ensures.exact
     refl in
     record {
@@ -607,7 +608,7 @@ pub value_part-returns-in-List : goal.value_part-returns-in-List
 value_part-returns-in-List g t c =
     let form = sym c.ty.ensures.form ∙ ap (tree_over c.args.schema.now.trees) c.in-List.is in
     let made = list_value (type_of c.args.schema.now c.args.id)
-    (tree_at c.args.schema.now.trees c.in-List.elem) c.in-List.field-1 c.depth-in-List.result
+    (type_tree_at c.args.schema.now.trees c.in-List.elem) c.in-List.field-1 c.depth-in-List.result
     (value_of c.args.value.now) c.number_chunk-len-in-List.result.0 form c.requires.value.fits
     c.depth-in-List.ensures.exact
     (c.number_chunk-len-in-List.ensures ∙ ap number_chunk c.part_count.ensures) in
@@ -632,7 +633,7 @@ value_part-container_made-requires g t c κs within =
     let all : P c.in-Container.fields.items = subst (AreBelow c.args.id)
     c.in-Container.is c.ty.ensures.before in
     let known : P c.as_slice.result.now = subst P fields all in
-    let room : g.M.Maker.room c.args.maker.now (whole c.depth-in-Container.result (field_parts
+    let room : g.M.Maker.room c.args.maker.now (whole_of c.depth-in-Container.result (field_parts
     (fields_over trees c.as_slice.result.now) (parts_of (value_of c.args.value.now)))).nodes =
     subst (g.M.Maker.room c.args.maker.now) (sym (same_nodes _ _ (container_value
     (type_of c.args.schema.now c.args.id) trees c.as_slice.result.now
@@ -659,14 +660,15 @@ chosen_made-value_part-out-requires g t c κs within =
     let here : Some (Some c.in-Some-Some.option)
     ≡ slice_get c.args.options.now c.in-Union.selector = ap Some (sym c.in-Some-Some.field-0-is)
     ∙ sym c.in-Some-Some.is ∙ c.option_at.ensures in
-    let inner : IsValue (tree_at c.args.schema.now.trees c.in-Some-Some.option)
+    let inner : IsValue (type_tree_at c.args.schema.now.trees c.in-Some-Some.option)
     c.in-Some.inner.value =
     chosen_fits c.args.schema.now.trees c.args.options.now c.in-Union.selector c.in-Some-Some.option
     c.in-Some.inner
     (union_inner c.args.schema.now.trees c.args.options.now c.args.value.now c.in-Union.selector
     c.in-Union.inner c.in-Some.inner c.in-Union.is c.in-Some.is c.requires.value) here in
-    let value : IsValue (tree_at c.args.schema.now.trees c.in-Some-Some.option) c.deref.result.now =
-    subst (IsValue (tree_at c.args.schema.now.trees c.in-Some-Some.option))
+    let value : IsValue (type_tree_at c.args.schema.now.trees c.in-Some-Some.option)
+    c.deref.result.now =
+    subst (IsValue (type_tree_at c.args.schema.now.trees c.in-Some-Some.option))
     (sym c.deref.ensures) inner in
     let below : c.in-Some-Some.option < c.args.id =
     below_at c.args.id c.args.options.now c.in-Union.selector (Some c.in-Some-Some.option)
@@ -677,10 +679,10 @@ chosen_made-value_part-out-requires g t c κs within =
     let made = chosen_value c.args.schema.now.trees c.args.options.now c.in-Union.selector
     c.in-Some-Some.option (value_of c.in-Some.inner.value) (value_of c.args.value.now) (sym here)
     is in
-    let room : g.M.Maker.room c.args.maker.now (new_nodes (tree_at c.args.schema.now.trees
+    let room : g.M.Maker.room c.args.maker.now (new_nodes (type_tree_at c.args.schema.now.trees
     c.in-Some-Some.option)
     (value_of c.deref.result.now)) =
-    subst (λ (v : Value). g.M.Maker.room c.args.maker.now (new_nodes (tree_at
+    subst (λ (v : Value). g.M.Maker.room c.args.maker.now (new_nodes (type_tree_at
     c.args.schema.now.trees
     c.in-Some-Some.option) (value_of v))) (sym c.deref.ensures)
     (g.met.M.Maker.room_less c.args.maker.now _ _ (omega (arith, same_nodes _ _ made))
@@ -699,7 +701,7 @@ chosen_made-join-requires g t c =
     c.in-Some-Some.option (value_of c.in-Some.inner.value) (value_of c.args.value.now) (sym here)
     is in
     let out = subst (λ (v : Value). g.M.Maker.made c.args.maker.now c.value_part-out.new.maker
-    (part_of (type_of c.args.schema.now c.in-Some-Some.option) (value_of v))
+    (part_of_value (type_of c.args.schema.now c.in-Some-Some.option) (value_of v))
     c.value_part-out.result) c.deref.ensures c.value_part-out.ensures in
     record {
       start = c.args.maker.now;
@@ -720,11 +722,11 @@ chosen_made-returns-in-Some-Some g t c =
     c.in-Some-Some.option (value_of c.in-Some.inner.value) (value_of c.args.value.now) (sym here)
     is in
     let out = subst (λ (v : Value). g.M.Maker.made c.args.maker.now c.value_part-out.new.maker
-    (part_of (type_of c.args.schema.now c.in-Some-Some.option) (value_of v))
+    (part_of_value (type_of c.args.schema.now c.in-Some-Some.option) (value_of v))
     c.value_part-out.result) c.deref.ensures c.value_part-out.ensures in
     let numbered = c.number_chunk-leaf.ensures ∙ ap number_chunk c.from.ensures in
     subst (λ part. g.M.Maker.made c.args.maker.now c.join.new.self part c.join.result)
-    (ap (joined (part_of (type_of c.args.schema.now c.in-Some-Some.option)
+    (ap (joined_leaf (part_of_value (type_of c.args.schema.now c.in-Some-Some.option)
     (value_of c.in-Some.inner.value))) numbered ∙ made) (c.join.ensures _ _ out)
 
 pub chosen_made-returns-in-Some-None : goal.chosen_made-returns-in-Some-None
@@ -750,7 +752,7 @@ chosen_made-join-requires-in-None g t c =
     ap value_of (c.in-Union.is ∙ ap (Union c.in-Union.selector) c.in-None.is)
     ∙ chosen_none_is c.in-Union.selector in
     let numbered = c.number_chunk-leaf-in-None.ensures ∙ ap number_chunk c.from-in-None.ensures in
-    let made = ap (joined none_part) numbered ∙ none_value c.args.schema.now.trees
+    let made = ap (joined_leaf none_part) numbered ∙ none_value c.args.schema.now.trees
     c.args.options.now c.in-Union.selector (value_of c.args.value.now) is in
     record {
       start = c.args.maker.now;
@@ -765,7 +767,7 @@ chosen_made-returns-in-None g t c =
     ap value_of (c.in-Union.is ∙ ap (Union c.in-Union.selector) c.in-None.is)
     ∙ chosen_none_is c.in-Union.selector in
     let numbered = c.number_chunk-leaf-in-None.ensures ∙ ap number_chunk c.from-in-None.ensures in
-    let made = ap (joined none_part) numbered ∙ none_value c.args.schema.now.trees
+    let made = ap (joined_leaf none_part) numbered ∙ none_value c.args.schema.now.trees
     c.args.options.now c.in-Union.selector (value_of c.args.value.now) is in
     subst (λ part. g.M.Maker.made c.args.maker.now c.join-in-None.new.self part
     c.join-in-None.result) made

@@ -1,7 +1,7 @@
 use Rattle.std.proofs.Common.{◌+◌, ◌-◌, ◌*◌, length, map, take}
 use Rattle.ssz_schema.specs.Unfolding.{type_of, fields_over}
 use Rattle.ssz_value.specs.Standing.{value_of}
-use Rattle.ssz_making.specs.Parts.{part_of, field_parts}
+use Rattle.ssz_making.specs.Parts.{part_of_value, field_parts}
 use Rattle.ssz_making.proofs.values.+value.Given as goal
 
 abbrev pub decreases-value_part : goal.decreases-value_part
@@ -28,7 +28,7 @@ decreases-values_made-elements g l = length l.parts - l.i
 abbrev pub invariant-values_made-elements : goal.invariant-values_made-elements
 invariant-values_made-elements g l =
     g.M.Maker.gathered l.fn.maker l.maker l.depth (length l.parts)
-    (take l.i (map (part_of (type_of l.schema l.elem)) (map value_of l.parts))) l.rows
+    (take l.i (map (part_of_value (type_of l.schema l.elem)) (map value_of l.parts))) l.rows
 
 abbrev pub invariant-field_values_made-loop-i : goal.invariant-field_values_made-loop-i
 invariant-field_values_made-loop-i g l =

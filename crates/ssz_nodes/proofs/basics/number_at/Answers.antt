@@ -3,7 +3,7 @@ use Rattle.ssz_schema.specs.declared.width.Width.{Width}
 use Rattle.ssz_schema.specs.Types.{uint}
 use Rattle.ssz_schema.specs.Sizes.{byte_count}
 use Rattle.ssz_value.specs.Values.{Fits}
-use Rattle.ssz_value.specs.Encoding.{enc}
+use Rattle.ssz_value.specs.Encoding.{serialize}
 use Rattle.ssz_nodes.proofs.LeafParts.{number_value, wide_value}
 use Rattle.ssz_nodes.proofs.basics.number_at.Goals as goal
 
@@ -14,7 +14,7 @@ returns-in-W256 c = λ v fit there.
     c.wide_bytes-bytes.ensures.count
     (subst (λ (w : Width). Fits (uint w) v) c.in-W256.is fit)
     (subst (λ (w : Width). slice_range c.args.chunk.now.0 c.args.from
-    (c.args.from + length (enc (uint w) v)) ≡ enc (uint w) v) c.in-W256.is there)
+    (c.args.from + length (serialize (uint w) v)) ≡ serialize (uint w) v) c.in-W256.is there)
 
 pub returns-in_default : goal.returns-in_default
 returns-in_default c = λ v fit there.

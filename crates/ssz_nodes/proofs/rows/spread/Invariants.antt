@@ -1,8 +1,8 @@
 use Rattle.std.proofs.Common.{◌≡◌, List, length}
 use Rattle.std.specs.List.{All}
-use Rattle.ssz_chunk.specs.Tree.{Tree, full}
+use Rattle.ssz_chunk.specs.Tree.{Tree, merkle_tree}
 use Rattle.ssz_arena.specs.Content.{IsNodeOf, tree_of}
-use Rattle.ssz_nodes.specs.Ahead.{node_of}
+use Rattle.ssz_nodes.specs.Ahead.{ahead_node}
 use Rattle.ssz_nodes.proofs.Spreading.{Spread}
 use Rattle.ssz_nodes.proofs.rows.spread.Given as goal
 
@@ -10,5 +10,6 @@ abbrev pub invariant-loop-level : goal.invariant-loop-level
 invariant-loop-level g l =
     (length l.row ≡ length l.initial.row)
     × All (IsNodeOf l.arena) l.row
-    × ((trees : List Tree) → tree_of l.arena (node_of l.initial.row 0) ≡ full l.depth trees
+    × ((trees : List Tree)
+    → tree_of l.arena (ahead_node l.initial.row 0) ≡ merkle_tree l.depth trees
     → Spread l.arena trees l.depth l.level l.row)

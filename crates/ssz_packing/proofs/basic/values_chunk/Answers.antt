@@ -2,7 +2,7 @@ use Rattle.std.proofs.Common.{◌≡◌, ◌<◌, ◌≤◌, ◌*◌, ◌/◌, �
 use Rattle.std.proofs.lemmas.List.{take_rest, length-map, length-drop}
 use borrow.Rule.Slice.PartMut.{same_len_mid}
 use Rattle.ssz_value.specs.declared.value.Value.{Value}
-use Rattle.ssz_value.specs.Encoding.{enc}
+use Rattle.ssz_value.specs.Encoding.{serialize}
 use Rattle.ssz_value.specs.Standing.{value_of}
 use Rattle.ssz_value.specs.Trees.{padded}
 use Rattle.ssz_packing.specs.Elements.{encodings_of}
@@ -70,7 +70,7 @@ loop-k-preserved c =
           ≡ length c.args.parts.now - from =
           length-drop from (encodings_of t c.args.parts.now)
           ∙ ap (λ n. n - from) (length-map c.args.parts.now
-          (λ (v : Value). enc t (value_of v))) in
+          (λ (v : Value). serialize t (value_of v))) in
           IsFilled-put c.args.size (drop from (encodings_of t c.args.parts.now)) c.loop-k.k
           (c.loop-k.k * c.args.size + c.args.size - c.loop-k.k * c.args.size)
           c.loop-k.bytes c.basic_chunk-part.result.0 c.copy_from_slice.new.self
@@ -92,7 +92,7 @@ returns c = λ t e fits.
     let all = encodings_sized t c.args.size c.args.parts.now e fits in
     let every : length (encodings_of t c.args.parts.now)
     ≡ length c.args.parts.now = length-map c.args.parts.now
-    (λ (v : Value). enc t (value_of v)) in
+    (λ (v : Value). serialize t (value_of v)) in
     let count : length (drop from (encodings_of t c.args.parts.now))
     ≡ length (drop from c.args.parts.now) =
     length-drop from (encodings_of t c.args.parts.now) ∙ ap (λ n. n - from) every

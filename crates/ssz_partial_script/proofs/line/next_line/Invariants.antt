@@ -1,11 +1,12 @@
 use Rattle.std.proofs.Common.{◌≡◌, length}
 use Rattle.ssz_script.specs.Grammar.{partial_statements}
-use Rattle.ssz_script.specs.Lines.{said}
+use Rattle.ssz_script.specs.Lines.{lines_said}
 use Rattle.ssz_partial_script.proofs.line.next_line.Given as goal
 
 -- the lines that were passed say nothing
 abbrev pub invariant-loop-line : goal.invariant-loop-line
-invariant-loop-line l = said partial_statements l.lines ≡ said partial_statements l.fn.lines
+invariant-loop-line l =
+    lines_said partial_statements l.lines ≡ lines_said partial_statements l.fn.lines
 
 abbrev pub decreases-loop-line : goal.decreases-loop-line
 decreases-loop-line l = length l.lines

@@ -1,15 +1,15 @@
 use Rattle.std.proofs.Common.{◌≡◌, ◌≤◌, length}
 use Rattle.ssz_schema.specs.Unfolding.{type_of}
 use Rattle.ssz_script.specs.Grammar.{partial_statements}
-use Rattle.ssz_script.specs.Lines.{said}
-use Rattle.ssz_partial_script.specs.Runs.{Comes}
+use Rattle.ssz_script.specs.Lines.{lines_said}
+use Rattle.ssz_partial_script.specs.Runs.{PartialRunReaches}
 use Rattle.ssz_partial_script.proofs.run.run_lines.Given as goal
 
 -- the lines that were taken were done, and no fault was counted
 abbrev pub invariant-loop-line : goal.invariant-loop-line
 invariant-loop-line g l = record {
-  comes : Comes g.H.PairHash.pair_of (type_of l.schema l.fn.partial.id)
-      (said partial_statements l.fn.lines) (said partial_statements l.lines)
+  comes : PartialRunReaches g.H.PairHash.pair_of (type_of l.schema l.fn.partial.id)
+      (lines_said partial_statements l.fn.lines) (lines_said partial_statements l.lines)
       (record {
         known = l.fn.partial.proof;
         hashed = g.H.PairHash.pairs l.fn.hasher;
@@ -28,4 +28,4 @@ invariant-loop-line g l = record {
 }
 
 abbrev pub decreases-loop-line : goal.decreases-loop-line
-decreases-loop-line g l = length (said partial_statements l.lines)
+decreases-loop-line g l = length (lines_said partial_statements l.lines)

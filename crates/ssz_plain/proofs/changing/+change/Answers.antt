@@ -2,7 +2,7 @@ use Rattle.std.proofs.Common.{sym, ◌∙◌, ap, rules, refl, subst, ◌≡◌,
 use Rattle.std.specs.Vec.{with_item}
 use Rattle.std.specs.Box.{with_value}
 use Rattle.ssz_value.specs.Edits.{changed}
-use Rattle.ssz_plain.specs.Making.{Makes, SuitsPath, edit_of, takes_memory}
+use Rattle.ssz_plain.specs.Making.{EditsValue, SuitsPath, edit_of, takes_memory}
 use Rattle.ssz_schema.specs.Unfolding.{type_of}
 use Rattle.ssz_schema.specs.declared.path.PathStep.TheVariants.{Len, Selector, Option as Chosen}
 use Rattle.ssz_value.specs.declared.value.Value.TheVariants.{Union}
@@ -112,7 +112,7 @@ change_item-returns-else-i-len t c =
     (with_item c.in-Seq.parts c.args.at.1 c.change.new.value) c.index_mut.result.now
     c.change.new.value _ c.in-Seq.is (rw c.in-Seq.parts-is (search rules)) inside
     (rw c.in-Seq.parts-is at c.index_mut.ensures.value) refl
-    (subst (λ more. Makes (takes_memory c.args.edit) (type_of c.args.schema.now c.args.at.0)
+    (subst (λ more. EditsValue (takes_memory c.args.edit) (type_of c.args.schema.now c.args.at.0)
     (changed (edit_of c.args.edit) (type_of c.args.schema.now c.args.at.0)
     (value_of c.index_mut.result.now) more) c.index_mut.result.now c.change.new.value
     c.change.result) rest c.change.ensures)
@@ -157,13 +157,13 @@ change_inner-returns-in-Some t c =
     c.in-Some.part (with_value c.in-Some.part c.change.new.value) _ whole
     (ap (λ k. Union k (Some (with_value c.in-Some.part c.change.new.value)))
     c.if-selector-number.false)
-    (subst (λ part. Makes (takes_memory c.args.edit)
+    (subst (λ part. EditsValue (takes_memory c.args.edit)
     (type_of c.args.schema.now c.args.at.0)
     (changed (edit_of c.args.edit) (type_of c.args.schema.now c.args.at.0)
     (value_of part) led.rest) part c.change.new.value
     c.change.result)
     c.as_mut.ensures.value
-    (subst (λ more. Makes (takes_memory c.args.edit) (type_of c.args.schema.now c.args.at.0)
+    (subst (λ more. EditsValue (takes_memory c.args.edit) (type_of c.args.schema.now c.args.at.0)
     (changed (edit_of c.args.edit) (type_of c.args.schema.now c.args.at.0)
     (value_of c.as_mut.result.now) more) c.as_mut.result.now c.change.new.value c.change.result)
     rest c.change.ensures))

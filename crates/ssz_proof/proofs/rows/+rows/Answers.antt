@@ -2,7 +2,7 @@ use Rattle.std.proofs.Common.{◌≡◌, ℕ, ◌+◌, ◌-◌, ◌*◌, ◌/◌
 use Rattle.std.specs.List.{filter}
 use Rattle.std.proofs.lemmas.List.{get_or-take}
 use Rattle.ssz_chunk.specs.declared.Chunk.{Chunk}
-use Rattle.ssz_chunk.specs.Rows.{chunk_at as row_at}
+use Rattle.ssz_chunk.specs.Rows.{chunk_in_row as row_at}
 use Rattle.ssz_proof.specs.Calculation.{chunk_at}
 use Rattle.ssz_proof.specs.Descent.{IsReached}
 use Rattle.ssz_proof.specs.Rows.{AreCalculated, AreReached, AreUnknown, children, is_unknown, levels_left}

@@ -2,7 +2,7 @@ use Rattle.std.proofs.Common.{◌≡◌, ◌<◌, ◌∙◌, [], length, length-
 use Rattle.std.proofs.lemmas.Bool.{cases_eq}
 use Rattle.std.proofs.lemmas.List.{get_or-set_same, get_or-set_other}
 use Rattle.ssz_chunk.specs.declared.Chunk.{Chunk}
-use Rattle.ssz_chunk.specs.Rows.{chunk_at as row_at}
+use Rattle.ssz_chunk.specs.Rows.{chunk_in_row as row_at}
 use Rattle.ssz_proof.proofs.Rowwise.{earlier}
 use Rattle.ssz_proof.proofs.rows.place_all.Goals as goal
 

@@ -1,6 +1,6 @@
 use Rattle.std.proofs.Common.{◌≡◌, ◌⊎◌, ℕ, ◌<◌, List, length}
 use Rattle.std.specs.Prelude.{slice_index}
-use Rattle.ssz_chunk.specs.Rows.{chunk_at as row_at}
+use Rattle.ssz_chunk.specs.Rows.{chunk_in_row as row_at}
 use Rattle.ssz_proof.specs.Rows.{IsPlaced}
 use Rattle.ssz_proof.proofs.rows.place_all.Given as goal
 

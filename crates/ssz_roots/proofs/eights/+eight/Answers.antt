@@ -2,25 +2,25 @@ use Rattle.std.proofs.Common.{rules, ◌≡◌, ◌∙◌, ℕ, suc, ◌+◌, �
 use Rattle.std.specs.List.{AllByRecursion, sum_by}
 use Rattle.std.proofs.lemmas.List.{get_or_default}
 use Rattle.ssz_chunk.specs.Chunk.{CountsUp}
-use Rattle.ssz_chunk.specs.Rows.{chunk_at}
-use Rattle.ssz_chunk.specs.Tree.{root, full, grow}
+use Rattle.ssz_chunk.specs.Rows.{chunk_in_row}
+use Rattle.ssz_chunk.specs.Tree.{root, merkle_tree, merkle_pairs}
 use Rattle.ssz_chunk.proofs.Counting.{CountsUp-none, CountsUp-add}
 use Rattle.ssz_chunk.proofs.Growing.{grow-zero}
 use Rattle.ssz_schema.specs.Sizes.{fixed_size}
-use Rattle.ssz_schema.specs.Unfolding.{type_of, tree_at, fields_over}
+use Rattle.ssz_schema.specs.Unfolding.{type_of, type_tree_at, fields_over}
 use Rattle.ssz_value.specs.Encoding.{heads_length}
 use Rattle.ssz_value.proofs.PartLemmas.{Part, sizes_of}
-use Rattle.ssz_roots.specs.Eights.{AreFixed, AreFaultless, eight, lane, pieces}
+use Rattle.ssz_roots.specs.Eights.{AreFixed, AreFaultless, eight, lane_range, pieces}
 use Rattle.ssz_roots.proofs.Pieces.{eight-sum, eight-same, trees_in, pairs_in}
 use Rattle.ssz_roots.proofs.Cutting.{cut_fields, fields-halves, fields-pairs, no_items, one_field, behind, known-front, known-behind, length-behind}
 use Rattle.ssz_schema.specs.Types.{container}
 use Rattle.ssz_schema.specs.Unfolding.{tree_over, AreBelow}
-use Rattle.ssz_value.specs.Faults.{why, elements_fault}
+use Rattle.ssz_value.specs.Faults.{first_fault, elements_fault}
 use Rattle.ssz_value.proofs.Agree.{IsInput, IsInput-range}
 use Rattle.ssz_schema.specs.Sizes.{basic_size, element_chunks, depth}
 use Rattle.ssz_packing.proofs.Arms.{container_room, vector_elements, IsPackedBits-bitvector}
 use Rattle.ssz_schema.specs.Legal.{IsLegal}
-use Rattle.ssz_value.specs.Encoding.{enc}
+use Rattle.ssz_value.specs.Encoding.{serialize}
 use Rattle.ssz_value.specs.Reading.{value_in}
 use Rattle.ssz_value.specs.Trees.{tree, chunks, pack, element_leaves}
 use Rattle.ssz_value.specs.Pairs.{pairs}
@@ -48,7 +48,7 @@ pub fields_of_eight-returns-then-count-eq0-clause-counts :
 fields_of_eight-returns-then-count-eq0-clause-counts g t c =
     let trees = c.args.lanes.now.schema.now.trees in
     let d : ℕ = c.args.depth in
-    let costs : List Part → ℕ → ℕ = λ ps j. grow d (length ps) + pairs_in trees ps
+    let costs : List Part → ℕ → ℕ = λ ps j. merkle_pairs d (length ps) + pairs_in trees ps
     (pieces (sizes_of trees ps) (c.args.from + j * c.args.lanes.now.stride)
     c.args.lanes.now.bytes.now) in
     let none : c.args.fields.now ≡ [] = no_items c.args.fields.now (omega arith) in
@@ -153,14 +153,14 @@ fields_of_eight-returns-clause-roots g t c j below =
     (heads_length (sizes_of trees (take half parts))) c.fields_of_eight-next.result.1
     c.fields_of_eight-next.ensures.place in
     fields-halves g.H.PairHash.pair_of trees parts d half a c.args.lanes.now.bytes.now
-    (chunk_at c.fields_of_eight-next.result.0 j) (chunk_at c.fields_of_eight-end.result.0 j)
-    (chunk_at c.pair_columns.result j) c.left_of-half.ensures c.requires.fixed
+    (chunk_in_row c.fields_of_eight-next.result.0 j) (chunk_in_row c.fields_of_eight-end.result.0 j)
+    (chunk_in_row c.pair_columns.result j) c.left_of-half.ensures c.requires.fixed
     (c.fields_of_eight-next.ensures.roots j below)
     (c.fields_of_eight-end.ensures.roots j below
-    ∙ ap (λ p. root g.H.PairHash.pair_of (full d (trees_in trees (behind half parts)
+    ∙ ap (λ p. root g.H.PairHash.pair_of (merkle_tree d (trees_in trees (behind half parts)
     (pieces (sizes_of trees (behind half parts)) p c.args.lanes.now.bytes.now)))) (sym place))
     (c.pair_columns.ensures.value j below)
-    ∙ ap (λ k. root g.H.PairHash.pair_of (full k (trees_in trees parts
+    ∙ ap (λ k. root g.H.PairHash.pair_of (merkle_tree k (trees_in trees parts
     (pieces (sizes_of trees parts) a c.args.lanes.now.bytes.now)))) deep
 
 pub fields_of_eight-returns-clause-place : goal.fields_of_eight-returns-clause-place
@@ -184,7 +184,7 @@ fields_of_eight-returns-clause-counts g t c =
     let deep : suc d ≡ c.args.depth = omega (arith, c.if-depth-eq0.false) in
     let few : length parts ≤ 2 ^ suc d =
     subst (λ k. length parts ≤ 2 ^ k) (sym deep) c.requires.few in
-    let costs : ℕ → List Part → ℕ → ℕ = λ k ps a. grow k (length ps) + pairs_in trees ps
+    let costs : ℕ → List Part → ℕ → ℕ = λ k ps a. merkle_pairs k (length ps) + pairs_in trees ps
     (pieces (sizes_of trees ps) a c.args.lanes.now.bytes.now) in
     let each : (j : ℕ) → j < 8 → costs (suc d) parts (c.args.from + j * c.args.lanes.now.stride)
     ≡ costs d (take half parts) (c.args.from + j * c.args.lanes.now.stride)
@@ -213,7 +213,7 @@ pub elements_of_eight-returns-then-count-eq0-clause-counts :
 elements_of_eight-returns-then-count-eq0-clause-counts g t c =
     let ty = type_of c.args.lanes.now.schema.now c.args.elem in
     let d : ℕ = c.args.depth in
-    let costs : ℕ → ℕ → ℕ = λ n j. grow d n + pairs_of ty
+    let costs : ℕ → ℕ → ℕ = λ n j. merkle_pairs d n + pairs_of ty
     (pieces (replicate n (fixed_size ty)) (c.args.from + j * c.args.lanes.now.stride)
     c.args.lanes.now.bytes.now) in
     let each : (j : ℕ) → j < 8 → 0 ≡ costs c.args.count j = λ j below.
@@ -235,9 +235,9 @@ elements_of_eight-one_of_eight-requires g t c κs within =
     ≤ length c.args.lanes.now.bytes.now = subst (λ n. c.args.from + 7 * c.args.lanes.now.stride
     + heads_length (replicate n (fixed_size ty)) ≤ length c.args.lanes.now.bytes.now) one
     c.requires.room in
-    let good : (j : ℕ) → j < 8 → why ty 0 (get_or (pieces (replicate 1 (fixed_size ty))
+    let good : (j : ℕ) → j < 8 → first_fault ty 0 (get_or (pieces (replicate 1 (fixed_size ty))
     (c.args.from + j * c.args.lanes.now.stride) c.args.lanes.now.bytes.now) 0 []) ≡ None =
-    λ j below. subst (λ n. why ty 0 (get_or (pieces (replicate n (fixed_size ty))
+    λ j below. subst (λ n. first_fault ty 0 (get_or (pieces (replicate n (fixed_size ty))
     (c.args.from + j * c.args.lanes.now.stride) c.args.lanes.now.bytes.now) 0 []) ≡ None) one
     (c.requires.faultless j 0 below (omega (arith, one))) in
     search rules
@@ -280,7 +280,7 @@ elements_of_eight-elements_of_eight-next-requires g t c κs within =
     let room : c.args.from + 7 * c.args.lanes.now.stride
     + heads_length (replicate half (fixed_size ty))
     ≤ length c.args.lanes.now.bytes.now = omega (arith, made.heads, c.requires.room) in
-    let good : (j i : ℕ) → j < 8 → i < half → why ty 0 (get_or
+    let good : (j i : ℕ) → j < 8 → i < half → first_fault ty 0 (get_or
     (pieces (replicate half (fixed_size ty)) (c.args.from + j * c.args.lanes.now.stride)
     c.args.lanes.now.bytes.now) i []) ≡ None =
     λ j i below inside. none-front ty (fixed_size ty) c.args.count half
@@ -307,10 +307,11 @@ elements_of_eight-elements_of_eight-end-requires g t c κs within =
     c.elements_of_eight-next.ensures.place in
     let room : next + 7 * c.args.lanes.now.stride + heads_length (replicate rest (fixed_size ty))
     ≤ length c.args.lanes.now.bytes.now = omega (arith, made.heads, c.requires.room, place) in
-    let good : (j i : ℕ) → j < 8 → i < rest → why ty 0 (get_or
+    let good : (j i : ℕ) → j < 8 → i < rest → first_fault ty 0 (get_or
     (pieces (replicate rest (fixed_size ty)) (next + j * c.args.lanes.now.stride)
     c.args.lanes.now.bytes.now) i []) ≡ None =
-    λ j i below inside. subst (λ a. why ty 0 (get_or (pieces (replicate rest (fixed_size ty)) a
+    λ j i below inside. subst
+    (λ a. first_fault ty 0 (get_or (pieces (replicate rest (fixed_size ty)) a
     c.args.lanes.now.bytes.now) i []) ≡ None) (moved c.args.from (j * c.args.lanes.now.stride)
     (heads_length (replicate half (fixed_size ty))) next place)
     (none-back ty (fixed_size ty) c.args.count half
@@ -329,14 +330,14 @@ elements_of_eight-returns-clause-roots g t c j below =
     (heads_length (replicate half (fixed_size ty))) c.elements_of_eight-next.result.1
     c.elements_of_eight-next.ensures.place in
     elements-halves g.H.PairHash.pair_of ty (fixed_size ty) c.args.count d half a
-    c.args.lanes.now.bytes.now (chunk_at c.elements_of_eight-next.result.0 j)
-    (chunk_at c.elements_of_eight-end.result.0 j) (chunk_at c.pair_columns.result j)
+    c.args.lanes.now.bytes.now (chunk_in_row c.elements_of_eight-next.result.0 j)
+    (chunk_in_row c.elements_of_eight-end.result.0 j) (chunk_in_row c.pair_columns.result j)
     c.left_of-half.ensures c.requires.fixed (c.elements_of_eight-next.ensures.roots j below)
     (c.elements_of_eight-end.ensures.roots j below
-    ∙ ap (λ p. root g.H.PairHash.pair_of (full d (trees_of ty
+    ∙ ap (λ p. root g.H.PairHash.pair_of (merkle_tree d (trees_of ty
     (pieces (replicate (c.args.count - half) (fixed_size ty)) p c.args.lanes.now.bytes.now))))
     (sym place)) (c.pair_columns.ensures.value j below)
-    ∙ ap (λ k. root g.H.PairHash.pair_of (full k (trees_of ty
+    ∙ ap (λ k. root g.H.PairHash.pair_of (merkle_tree k (trees_of ty
     (pieces (replicate c.args.count (fixed_size ty)) a c.args.lanes.now.bytes.now)))) deep
 
 pub elements_of_eight-returns-clause-place : goal.elements_of_eight-returns-clause-place
@@ -361,7 +362,7 @@ elements_of_eight-returns-clause-counts g t c =
     let deep : suc d ≡ c.args.depth = omega (arith, c.if-depth-eq0.false) in
     let few : c.args.count ≤ 2 ^ suc d =
     subst (λ k. c.args.count ≤ 2 ^ k) (sym deep) c.requires.few in
-    let costs : ℕ → ℕ → ℕ → ℕ = λ k n a. grow k n + pairs_of ty
+    let costs : ℕ → ℕ → ℕ → ℕ = λ k n a. merkle_pairs k n + pairs_of ty
     (pieces (replicate n (fixed_size ty)) a c.args.lanes.now.bytes.now) in
     let each : (j : ℕ) → j < 8
     → costs (suc d) c.args.count (c.args.from + j * c.args.lanes.now.stride)
@@ -396,7 +397,8 @@ roots_of_eight-returns-in-Uint-clause-roots g t c j below =
     c.chunk_column.ensures j below
     ∙ basic_root g.H.PairHash.pair_of c.args.lanes.now.schema.now.format
     (type_of c.args.lanes.now.schema.now c.args.id) _
-    (lane c.args.span.from c.args.lanes.now.stride c.args.span.size c.args.lanes.now.bytes.now j)
+    (lane_range c.args.span.from c.args.lanes.now.stride c.args.span.size c.args.lanes.now.bytes.now
+    j)
     (ap basic_size form) c.ty.ensures.legal (record {
       input = IsInput-range c.args.lanes.now.bytes.now _ _ input;
       none = c.requires.faultless j below;
@@ -412,7 +414,8 @@ roots_of_eight-returns-in-Boolean-clause-roots g t c j below =
     c.chunk_column-in-Boolean.ensures j below
     ∙ basic_root g.H.PairHash.pair_of c.args.lanes.now.schema.now.format
     (type_of c.args.lanes.now.schema.now c.args.id) _
-    (lane c.args.span.from c.args.lanes.now.stride c.args.span.size c.args.lanes.now.bytes.now j)
+    (lane_range c.args.span.from c.args.lanes.now.stride c.args.span.size c.args.lanes.now.bytes.now
+    j)
     (ap basic_size form) c.ty.ensures.legal (record {
       input = IsInput-range c.args.lanes.now.bytes.now _ _ input;
       none = c.requires.faultless j below;
@@ -498,8 +501,9 @@ roots_of_eight-returns-in-Container-clause-counts g t c =
 pub roots_of_eight-vector_of_eight-requires : goal.roots_of_eight-vector_of_eight-requires
 roots_of_eight-vector_of_eight-requires g t c κs within =
     let trees = c.args.lanes.now.schema.now.trees in
-    let ty = tree_at trees c.in-Vector.elem in
-    let bytes = lane c.args.span.from c.args.lanes.now.stride c.args.span.size c.args.lanes.now.bytes.now in
+    let ty = type_tree_at trees c.in-Vector.elem in
+    let bytes = lane_range c.args.span.from c.args.lanes.now.stride c.args.span.size
+    c.args.lanes.now.bytes.now in
     let form = sym c.ty.ensures.form ∙ ap (tree_over trees) c.in-Vector.is in
     let h = λ (j : ℕ) (below : j < 8). vector_elements c.args.lanes.now.schema.now.format
     (type_of c.args.lanes.now.schema.now c.args.id) ty c.in-Vector.count c.depth-depth.result
@@ -512,7 +516,7 @@ roots_of_eight-vector_of_eight-requires g t c κs within =
     first.few in
     let fixed : option_map (λ z. c.in-Vector.count * z) (fixed_size ty) ≡ Some c.args.span.size =
     sym (ap fixed_size form) ∙ c.requires.fixed in
-    let good : (j : ℕ) → j < 8 → elements_fault (why ty) (fixed_size ty) c.in-Vector.count 0
+    let good : (j : ℕ) → j < 8 → elements_fault (first_fault ty) (fixed_size ty) c.in-Vector.count 0
     (bytes j) ≡ None = λ j below. (h j below).faultless in
     search rules
 
@@ -521,10 +525,11 @@ pub roots_of_eight-returns-in-Vector-clause-roots :
 roots_of_eight-returns-in-Vector-clause-roots g t c j below =
     let trees = c.args.lanes.now.schema.now.trees in
     let form = sym c.ty.ensures.form ∙ ap (tree_over trees) c.in-Vector.is in
-    let ty = tree_at trees c.in-Vector.elem in
-    let bytes = lane c.args.span.from c.args.lanes.now.stride c.args.span.size c.args.lanes.now.bytes.now j in
+    let ty = type_tree_at trees c.in-Vector.elem in
+    let bytes = lane_range c.args.span.from c.args.lanes.now.stride c.args.span.size
+    c.args.lanes.now.bytes.now j in
     c.vector_of_eight.ensures.roots j below
-    ∙ ap (λ d. root g.H.PairHash.pair_of (full d
+    ∙ ap (λ d. root g.H.PairHash.pair_of (merkle_tree d
     (element_trees ty (element_values ty c.in-Vector.count bytes))))
     (c.depth-depth.ensures.exact ∙ ap depth form)
     ∙ vector_root g.H.PairHash.pair_of ty c.in-Vector.count bytes
@@ -535,14 +540,15 @@ pub roots_of_eight-returns-in-Vector-clause-counts :
 roots_of_eight-returns-in-Vector-clause-counts g t c =
     let trees = c.args.lanes.now.schema.now.trees in
     let form = sym c.ty.ensures.form ∙ ap (tree_over trees) c.in-Vector.is in
-    let ty = tree_at trees c.in-Vector.elem in
+    let ty = type_tree_at trees c.in-Vector.elem in
     let n : ℕ = c.in-Vector.count in
-    let bytes = lane c.args.span.from c.args.lanes.now.stride c.args.span.size c.args.lanes.now.bytes.now in
-    let same = eight-same (λ j. grow c.depth-depth.result (element_chunks (basic_size ty) n)
+    let bytes = lane_range c.args.span.from c.args.lanes.now.stride c.args.span.size
+    c.args.lanes.now.bytes.now in
+    let same = eight-same (λ j. merkle_pairs c.depth-depth.result (element_chunks (basic_size ty) n)
     + sum_by (pairs ty) (element_values ty n (bytes j)))
     (λ j. pairs (type_of c.args.lanes.now.schema.now c.args.id)
     (value_in (type_of c.args.lanes.now.schema.now c.args.id) (bytes j)))
-    (λ j below. ap (λ d. grow d (element_chunks (basic_size ty) n) + sum_by (pairs ty)
+    (λ j below. ap (λ d. merkle_pairs d (element_chunks (basic_size ty) n) + sum_by (pairs ty)
     (element_values ty n (bytes j))) (c.depth-depth.ensures.exact ∙ ap depth form)
     ∙ vector_pairs ty n (bytes j) (length-element_values ty n (bytes j))
     ∙ ap (λ ty. pairs ty (value_in ty (bytes j))) (sym form)) in
@@ -554,7 +560,8 @@ pub roots_of_eight-chunks_of_eight-requires-clause-few :
 roots_of_eight-chunks_of_eight-requires-clause-few g t c =
     let input : IsInput c.args.lanes.now.bytes.now = record
     { bytes = c.args.lanes.now.are_bytes; short = c.args.lanes.now.short } in
-    let bytes = lane c.args.span.from c.args.lanes.now.stride c.args.span.size c.args.lanes.now.bytes.now 0 in
+    let bytes = lane_range c.args.span.from c.args.lanes.now.stride c.args.span.size
+    c.args.lanes.now.bytes.now 0 in
     let h = IsPackedBits-bitvector g.H.PairHash.pair_of c.args.lanes.now.schema.now.format
     (type_of c.args.lanes.now.schema.now c.args.id) c.in-Bitvector.field-0 bytes
     (sym c.ty.ensures.form ∙ ap (tree_over c.args.lanes.now.schema.now.trees) c.in-Bitvector.is)
@@ -574,7 +581,7 @@ pub roots_of_eight-returns-in-Bitvector-clause-roots :
 roots_of_eight-returns-in-Bitvector-clause-roots g t c j below =
     let input : IsInput c.args.lanes.now.bytes.now = record
     { bytes = c.args.lanes.now.are_bytes; short = c.args.lanes.now.short } in
-    let bytes : List ℕ = lane c.args.span.from c.args.lanes.now.stride c.args.span.size
+    let bytes : List ℕ = lane_range c.args.span.from c.args.lanes.now.stride c.args.span.size
     c.args.lanes.now.bytes.now j in
     let h = IsPackedBits-bitvector g.H.PairHash.pair_of c.args.lanes.now.schema.now.format
     (type_of c.args.lanes.now.schema.now c.args.id) c.in-Bitvector.field-0 bytes
@@ -586,10 +593,10 @@ roots_of_eight-returns-in-Bitvector-clause-roots g t c j below =
     (lane_room c.args.span.from c.args.lanes.now.stride c.args.span.size (length c.args.lanes.now.bytes.now) j
     below c.requires.room) in
     c.chunks_of_eight.ensures.roots j below
-    ∙ ap (λ n. root g.H.PairHash.pair_of (full c.depth.result
+    ∙ ap (λ n. root g.H.PairHash.pair_of (merkle_tree c.depth.result
     (leaves (chunks n bytes)))) (c.chunk_count-count.ensures
     ∙ ap (λ n. (n + 31) / 32) (sym long))
-    ∙ ap (λ d. root g.H.PairHash.pair_of (full d (leaves (pack bytes))))
+    ∙ ap (λ d. root g.H.PairHash.pair_of (merkle_tree d (leaves (pack bytes))))
     c.depth.ensures.exact ∙ h.same
 
 pub roots_of_eight-returns-in-Bitvector-clause-counts :
@@ -598,9 +605,9 @@ roots_of_eight-returns-in-Bitvector-clause-counts g t c =
     let input : IsInput c.args.lanes.now.bytes.now = record
     { bytes = c.args.lanes.now.are_bytes; short = c.args.lanes.now.short } in
     let ty = type_of c.args.lanes.now.schema.now c.args.id in
-    let bytes : ℕ → List ℕ = lane c.args.span.from c.args.lanes.now.stride c.args.span.size
+    let bytes : ℕ → List ℕ = lane_range c.args.span.from c.args.lanes.now.stride c.args.span.size
     c.args.lanes.now.bytes.now in
-    let each : (j : ℕ) → j < 8 → grow c.depth.result c.chunk_count-count.result
+    let each : (j : ℕ) → j < 8 → merkle_pairs c.depth.result c.chunk_count-count.result
     ≡ pairs ty (value_in ty (bytes j)) =
     λ j below.
     let h = IsPackedBits-bitvector g.H.PairHash.pair_of c.args.lanes.now.schema.now.format
@@ -612,13 +619,13 @@ roots_of_eight-returns-in-Bitvector-clause-counts g t c =
     (c.args.span.from + j * c.args.lanes.now.stride) c.args.span.size
     (lane_room c.args.span.from c.args.lanes.now.stride c.args.span.size (length c.args.lanes.now.bytes.now) j
     below c.requires.room) in
-    ap (grow c.depth.result) (c.chunk_count-count.ensures
+    ap (merkle_pairs c.depth.result) (c.chunk_count-count.ensures
     ∙ ap (λ n. (n + 31) / 32) (sym long))
-    ∙ ap (λ d. grow d ((length (bytes j) + 31) / 32)) c.depth.ensures.exact
+    ∙ ap (λ d. merkle_pairs d ((length (bytes j) + 31) / 32)) c.depth.ensures.exact
     ∙ h.costs in
     subst (λ n. CountsUp n (g.H.PairHash.pairs c.args.hasher.now)
     (g.H.PairHash.pairs c.chunks_of_eight.new.hasher))
-    (eight-times (grow c.depth.result c.chunk_count-count.result)
+    (eight-times (merkle_pairs c.depth.result c.chunk_count-count.result)
     (λ j. pairs ty (value_in ty (bytes j))) each) c.chunks_of_eight.ensures.counts
 
 -- vectors
@@ -645,7 +652,7 @@ vector_of_eight-returns-in-Some-clause-roots g t c j below =
     let input : IsInput c.args.lanes.now.bytes.now = record
     { bytes = c.args.lanes.now.are_bytes; short = c.args.lanes.now.short } in
     let ty = type_of c.args.lanes.now.schema.now c.args.elem in
-    let bytes : List ℕ = lane c.args.span.from c.args.lanes.now.stride c.args.span.size
+    let bytes : List ℕ = lane_range c.args.span.from c.args.lanes.now.stride c.args.span.size
     c.args.lanes.now.bytes.now j in
     let room = lane_room c.args.span.from c.args.lanes.now.stride c.args.span.size
     (length c.args.lanes.now.bytes.now) j below c.requires.room in
@@ -656,7 +663,7 @@ vector_of_eight-returns-in-Some-clause-roots g t c j below =
     c.args.lanes.now.bytes.now (sym c.in-Some.ensures.exact) c.requires.legal input room
     c.requires.fixed (c.requires.faultless j below) in
     c.chunks_of_eight.ensures.roots j below
-    ∙ ap (λ n. root g.H.PairHash.pair_of (full c.args.depth (leaves (chunks n bytes))))
+    ∙ ap (λ n. root g.H.PairHash.pair_of (merkle_tree c.args.depth (leaves (chunks n bytes))))
     (c.chunk_count-chunks.ensures ∙ ap (λ n. (n + 31) / 32) (sym long))
     ∙ packed.same
 
@@ -667,10 +674,10 @@ vector_of_eight-returns-in-Some-clause-counts g t c =
     { bytes = c.args.lanes.now.are_bytes; short = c.args.lanes.now.short } in
     let ty = type_of c.args.lanes.now.schema.now c.args.elem in
     let d : ℕ = c.args.depth in
-    let bytes : ℕ → List ℕ = lane c.args.span.from c.args.lanes.now.stride c.args.span.size
+    let bytes : ℕ → List ℕ = lane_range c.args.span.from c.args.lanes.now.stride c.args.span.size
     c.args.lanes.now.bytes.now in
-    let each : (j : ℕ) → j < 8 → grow d c.chunk_count-chunks.result
-    ≡ grow d (element_chunks (basic_size ty) c.args.count)
+    let each : (j : ℕ) → j < 8 → merkle_pairs d c.chunk_count-chunks.result
+    ≡ merkle_pairs d (element_chunks (basic_size ty) c.args.count)
     + sum_by (pairs ty) (element_values ty c.args.count (bytes j)) =
     λ j below.
     let room = lane_room c.args.span.from c.args.lanes.now.stride c.args.span.size
@@ -681,12 +688,12 @@ vector_of_eight-returns-in-Some-clause-counts g t c =
     c.in-Some.field-0 c.args.count (c.args.span.from + j * c.args.lanes.now.stride) c.args.span.size
     c.args.lanes.now.bytes.now (sym c.in-Some.ensures.exact) c.requires.legal input room
     c.requires.fixed (c.requires.faultless j below) in
-    ap (grow d) (c.chunk_count-chunks.ensures ∙ ap (λ n. (n + 31) / 32) (sym long)
+    ap (merkle_pairs d) (c.chunk_count-chunks.ensures ∙ ap (λ n. (n + 31) / 32) (sym long)
     ∙ packed.chunks) ∙ omega (arith, packed.no_pairs) in
     subst (λ n. CountsUp n (g.H.PairHash.pairs c.args.hasher.now)
     (g.H.PairHash.pairs c.chunks_of_eight.new.hasher))
-    (eight-times (grow d c.chunk_count-chunks.result) (λ j.
-    grow d (element_chunks (basic_size ty) c.args.count)
+    (eight-times (merkle_pairs d c.chunk_count-chunks.result) (λ j.
+    merkle_pairs d (element_chunks (basic_size ty) c.args.count)
     + sum_by (pairs ty) (element_values ty c.args.count (bytes j))) each)
     c.chunks_of_eight.ensures.counts
 
@@ -704,7 +711,7 @@ vector_of_eight-elements_of_eight-made-requires g t c κs within =
     let room : c.args.span.from + 7 * c.args.lanes.now.stride
     + heads_length (replicate c.args.count (fixed_size ty)) ≤ length c.args.lanes.now.bytes.now =
     omega (arith, law.1, c.requires.room) in
-    let good : (j i : ℕ) → j < 8 → i < c.args.count → why ty 0 (get_or
+    let good : (j i : ℕ) → j < 8 → i < c.args.count → first_fault ty 0 (get_or
     (pieces (replicate c.args.count (fixed_size ty)) (c.args.span.from + j * c.args.lanes.now.stride)
     c.args.lanes.now.bytes.now) i []) ≡ None =
     λ j i below inside. elements_none c.args.lanes.now.schema.now.format ty c.args.count
@@ -717,13 +724,14 @@ vector_of_eight-returns-in-None-clause-roots g t c j below =
     let ty = type_of c.args.lanes.now.schema.now c.args.elem in
     let law = fixed_elements c.args.count c.args.span.size (fixed_size ty) c.requires.fixed in
     let vs = element_values ty c.args.count
-    (lane c.args.span.from c.args.lanes.now.stride c.args.span.size c.args.lanes.now.bytes.now j) in
+    (lane_range c.args.span.from c.args.lanes.now.stride c.args.span.size c.args.lanes.now.bytes.now
+    j) in
     c.elements_of_eight-made.ensures.roots j below
-    ∙ ap (λ xs. root g.H.PairHash.pair_of (full c.args.depth (trees_of ty xs)))
+    ∙ ap (λ xs. root g.H.PairHash.pair_of (merkle_tree c.args.depth (trees_of ty xs)))
     (sym (elements_within (fixed_size ty) c.args.count (c.args.span.from + j * c.args.lanes.now.stride)
     c.args.span.size c.args.lanes.now.bytes.now law.0 law.1))
-    ∙ ap (λ size. root g.H.PairHash.pair_of (full c.args.depth (element_leaves size
-    (map (enc ty) vs) (map (tree ty) vs)))) c.in-None.ensures.exact
+    ∙ ap (λ size. root g.H.PairHash.pair_of (merkle_tree c.args.depth (element_leaves size
+    (map (serialize ty) vs) (map (tree ty) vs)))) c.in-None.ensures.exact
 
 pub vector_of_eight-returns-in-None-clause-counts :
     goal.vector_of_eight-returns-in-None-clause-counts
@@ -732,16 +740,16 @@ vector_of_eight-returns-in-None-clause-counts g t c =
     let d : ℕ = c.args.depth in
     let n : ℕ = c.args.count in
     let law = fixed_elements n c.args.span.size (fixed_size ty) c.requires.fixed in
-    let bytes : ℕ → List ℕ = lane c.args.span.from c.args.lanes.now.stride c.args.span.size
+    let bytes : ℕ → List ℕ = lane_range c.args.span.from c.args.lanes.now.stride c.args.span.size
     c.args.lanes.now.bytes.now in
-    let same = eight-same (λ j. grow d n + pairs_of ty
+    let same = eight-same (λ j. merkle_pairs d n + pairs_of ty
     (pieces (replicate n (fixed_size ty)) (c.args.span.from + j * c.args.lanes.now.stride)
-    c.args.lanes.now.bytes.now)) (λ j. grow d (element_chunks (basic_size ty) n)
+    c.args.lanes.now.bytes.now)) (λ j. merkle_pairs d (element_chunks (basic_size ty) n)
     + sum_by (pairs ty) (element_values ty n (bytes j)))
-    (λ j below. ap (λ xs. grow d n + pairs_of ty xs)
+    (λ j below. ap (λ xs. merkle_pairs d n + pairs_of ty xs)
     (sym (elements_within (fixed_size ty) n (c.args.span.from + j * c.args.lanes.now.stride)
     c.args.span.size c.args.lanes.now.bytes.now law.0 law.1))
-    ∙ ap (λ size. grow d (element_chunks size n)
+    ∙ ap (λ size. merkle_pairs d (element_chunks size n)
     + sum_by (pairs ty) (element_values ty n (bytes j))) c.in-None.ensures.exact) in
     subst (λ n. CountsUp n (g.H.PairHash.pairs c.args.hasher.now)
     (g.H.PairHash.pairs c.elements_of_eight-made.new.hasher)) same

@@ -1,6 +1,6 @@
 use Rattle.std.proofs.Common.{◌≡◌, ◌∙◌, ℕ, ◌≤◌, ◌+◌, ◌/◌, ◌^◌, length, refl, sym, ap, subst, arith}
 use Rattle.ssz_chunk.specs.Chunk.{CountsUp}
-use Rattle.ssz_chunk.specs.Tree.{root, full, grow}
+use Rattle.ssz_chunk.specs.Tree.{root, merkle_tree, merkle_pairs}
 use Rattle.ssz_merkle.specs.Frontier.{leaves}
 use Rattle.ssz_value.specs.Trees.{chunks}
 use Rattle.ssz_roots.proofs.Packing.{Packed-room, Packed-more, Packed-root, Packed-counts, one_chunk, no_pairs}
@@ -24,13 +24,14 @@ pub returns-clause-root : goal.returns-clause-root
 returns-clause-root g c =
     let last : c.loop-i.i ≡ (length c.args.bytes.now + 31) / 32 = omega arith in
     Packed-root _ _ _ _ _ _ _ c.finish.result.0 c.loop-i.invariant c.finish.ensures.root
-    ∙ ap (λ n. root g.H.PairHash.pair_of (full c.args.depth (leaves (chunks n c.args.bytes.now))))
+    ∙ ap (λ n. root g.H.PairHash.pair_of
+    (merkle_tree c.args.depth (leaves (chunks n c.args.bytes.now))))
     last
 
 pub returns-clause-counts : goal.returns-clause-counts
 returns-clause-counts g c =
     let last : c.loop-i.i ≡ (length c.args.bytes.now + 31) / 32 = omega arith in
-    subst (λ n. CountsUp (grow c.args.depth n) (g.H.PairHash.pairs c.args.hasher.now)
+    subst (λ n. CountsUp (merkle_pairs c.args.depth n) (g.H.PairHash.pairs c.args.hasher.now)
     (g.H.PairHash.pairs c.finish.new.hasher)) last
     (Packed-counts _ _ _ _ _ _ _ _ c.loop-i.invariant c.finish.ensures.counts)
 
@@ -42,11 +43,11 @@ returns-then-depth-eq0-clause-root g c =
     ≤ 1 = subst (λ d. (length c.args.bytes.now + 31) / 32 ≤ 2 ^ d) flat c.requires.few in
     c.chunk_at.ensures ∙ one_chunk g.H.PairHash.pair_of c.args.bytes.now
     ((length c.args.bytes.now + 31) / 32) refl few
-    ∙ ap (λ d. root g.H.PairHash.pair_of (full d
+    ∙ ap (λ d. root g.H.PairHash.pair_of (merkle_tree d
     (leaves (chunks ((length c.args.bytes.now + 31) / 32) c.args.bytes.now)))) (sym flat)
 
 pub returns-then-depth-eq0-clause-counts : goal.returns-then-depth-eq0-clause-counts
 returns-then-depth-eq0-clause-counts g c =
-    subst (λ d. CountsUp (grow d ((length c.args.bytes.now + 31) / 32))
+    subst (λ d. CountsUp (merkle_pairs d ((length c.args.bytes.now + 31) / 32))
     (g.H.PairHash.pairs c.args.hasher.now) (g.H.PairHash.pairs c.args.hasher.now))
     (sym c.if-depth-eq0.true) (no_pairs ((length c.args.bytes.now + 31) / 32) _)

@@ -3,13 +3,13 @@ use Rattle.ssz_chunk.specs.Chunk.{CountsUp}
 use Rattle.ssz_chunk.specs.Tree.{root}
 use Rattle.ssz_schema.specs.Sizes.{fixed_size}
 use Rattle.ssz_schema.specs.Unfolding.{type_of}
-use Rattle.ssz_value.specs.Faults.{why, head_fault}
+use Rattle.ssz_value.specs.Faults.{first_fault, head_fault}
 use Rattle.ssz_value.specs.Reading.{value_in, elements_in}
 use Rattle.ssz_value.specs.Trees.{tree}
 use Rattle.ssz_value.specs.Pairs.{pairs}
 use Rattle.ssz_value.proofs.Agree.{IsInput}
 use Rattle.ssz_parts.proofs.ElementLemmas.{fixed_room, element_faultless, elements_head}
-use Rattle.ssz_roots.specs.Eights.{lane}
+use Rattle.ssz_roots.specs.Eights.{lane_range}
 use Rattle.ssz_roots.proofs.Pieces.{eight-same}
 use Rattle.ssz_roots.proofs.ElementRows.{lane_element, column_roots, costs_of_eight}
 use Rattle.ssz_roots.proofs.pushing.column_of.Goals as goal
@@ -47,7 +47,7 @@ roots_of_eight-requires g c =
       fixed = c.requires.size;
       room = omega (arith, last, place);
       faultless = λ j below.
-          ap (why ty 0) (lane_element ty c.args.lanes.now.stride c.args.count c.args.first j
+          ap (first_fault ty 0) (lane_element ty c.args.lanes.now.stride c.args.count c.args.first j
           c.args.lanes.now.bytes.now c.requires.size (omega (arith, below, c.requires.inside)))
           ∙ (element_faultless c.args.lanes.now.schema.now.format ty c.requires.legal
           (fixed_size ty)
@@ -71,7 +71,7 @@ pub returns-clause-counts : goal.returns-clause-counts
 returns-clause-counts g c =
     let ty = type_of c.args.lanes.now.schema.now c.args.elem in
     let same = eight-same
-    (λ j. pairs ty (value_in ty (lane (c.args.first * c.args.lanes.now.stride)
+    (λ j. pairs ty (value_in ty (lane_range (c.args.first * c.args.lanes.now.stride)
     c.args.lanes.now.stride c.args.lanes.now.stride c.args.lanes.now.bytes.now j)))
     (λ j. pairs ty (value_in ty (get_or (elements_in (fixed_size ty) c.args.count
     c.args.lanes.now.bytes.now) (c.args.first + j) [])))

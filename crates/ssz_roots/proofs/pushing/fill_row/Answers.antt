@@ -6,7 +6,7 @@ use Rattle.ssz_chunk.specs.declared.Chunk.{Chunk}
 use Rattle.ssz_chunk.specs.Chunk.{CountsUp}
 use Rattle.ssz_chunk.proofs.Counting.{CountsUp-none, CountsUp-add}
 use Rattle.ssz_schema.specs.Unfolding.{type_of}
-use Rattle.ssz_merkle.specs.Frontier.{bytes_of}
+use Rattle.ssz_merkle.specs.Frontier.{chunk_bytes}
 use Rattle.ssz_roots.proofs.ElementRows.{roots_from, costs_from, roots_joined, costs_joined}
 use Rattle.ssz_roots.proofs.pushing.fill_row.Goals as goal
 
@@ -27,7 +27,7 @@ loop-k-preserved g c =
     let same : column ≡ c.column_of-column.result = c.copy_from_slice.ensures.after in
     let wide : length column ≡ 8 = omega (arith, ap length same) in
     let row : List Chunk = c.loop-k.row in
-    let laid = ap bytes_of (take-put_mid at (at + 8 - at) row column (8 * (c.loop-k.k + 1))
+    let laid = ap chunk_bytes (take-put_mid at (at + 8 - at) row column (8 * (c.loop-k.k + 1))
     (omega (arith, wide)) (omega (arith, c.loop-k.invariant.long)))
     ∙ map-append (λ (chunk : Chunk). chunk.0) (take at row) column in
     record {
@@ -35,7 +35,7 @@ loop-k-preserved g c =
           ∙ c.loop-k.invariant.long;
       made = laid
           ∙ ap₂ (λ (xs ys : List (List ℕ)). xs ++ ys) c.loop-k.invariant.made
-          (ap bytes_of same ∙ c.column_of-column.ensures.roots)
+          (ap chunk_bytes same ∙ c.column_of-column.ensures.roots)
           ∙ roots_joined pair_of ty c.args.count c.args.lanes.now.bytes.now c.args.first at 8
           ∙ ap (roots_from pair_of ty c.args.count c.args.lanes.now.bytes.now c.args.first) next;
       counted = subst (λ n. CountsUp n (g.H.PairHash.pairs c.args.hasher.now)
@@ -51,7 +51,7 @@ returns-clause-roots g c =
     let last : 8 * c.loop-k.k ≡ length c.args.row.now = omega (arith, c.requires.eights) in
     let whole : take (8 * c.loop-k.k) c.loop-k.row ≡ c.loop-k.row =
     take_all (8 * c.loop-k.k) c.loop-k.row (omega (arith, last, c.loop-k.invariant.long)) in
-    sym (ap bytes_of whole) ∙ c.loop-k.invariant.made
+    sym (ap chunk_bytes whole) ∙ c.loop-k.invariant.made
     ∙ ap (roots_from g.H.PairHash.pair_of ty c.args.count c.args.lanes.now.bytes.now
     c.args.first) last
 

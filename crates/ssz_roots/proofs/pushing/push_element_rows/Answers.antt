@@ -3,7 +3,7 @@ use Rattle.std.proofs.lemmas.List.{take_at}
 use Rattle.ssz_chunk.specs.declared.Chunk.{Chunk}
 use Rattle.ssz_chunk.specs.Chunk.{CountsUp}
 use Rattle.ssz_schema.specs.Unfolding.{type_of}
-use Rattle.ssz_merkle.specs.Frontier.{Holds, bytes_of, whole_pairs}
+use Rattle.ssz_merkle.specs.Frontier.{FrontierHolds, chunk_bytes, whole_pairs}
 use Rattle.ssz_roots.proofs.Gathering.{FirstElements-start}
 use Rattle.ssz_roots.proofs.RowChunks.{row_high}
 use Rattle.ssz_roots.proofs.ElementRows.{roots_from, costs_from, FirstElements-fits, FirstElements-row, FirstElements-counted}
@@ -90,8 +90,9 @@ rows-preserved g c =
           c.rows.done k) (g.H.PairHash.pairs c.rows.hasher)
           (g.H.PairHash.pairs c.fill_row.new.hasher)) part c.fill_row.ensures.counts)
           c.push_row.ensures.depth
-          (subst (λ (l : List Chunk). (before : List (List ℕ)) → Holds pair_of before c.rows.pushed
-          → Holds pair_of (before ++ bytes_of l) c.push_row.new.self)
+          (subst (λ (l : List Chunk). (before : List (List ℕ))
+          → FrontierHolds pair_of before c.rows.pushed
+          → FrontierHolds pair_of (before ++ chunk_bytes l) c.push_row.new.self)
           (take_at row (drop n c.rows.row) n long) c.push_row.ensures.holds)
           (subst (λ k. CountsUp (whole_pairs c.rows.pushed.depth (c.rows.pushed.pushed + k)
           - whole_pairs c.rows.pushed.depth c.rows.pushed.pushed)

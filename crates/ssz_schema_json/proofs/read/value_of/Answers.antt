@@ -1,8 +1,8 @@
 use Rattle.std.proofs.Common.{Err}
 use Rattle.serde_json.specs.View.{view}
 use Rattle.ssz_schema_json.specs.declared.fault.SchemaRead.TheVariants.{NotJson, Shape, Def, Memory}
-use Rattle.ssz_schema_json.specs.Schema.{json_of}
-use Rattle.ssz_schema_json.specs.Views.{IsFaultOf, ReadsJson}
+use Rattle.ssz_schema_json.specs.Schema.{json_read}
+use Rattle.ssz_schema_json.specs.Views.{IsSchemaFaultOf, ReadsSchemaJson}
 use Rattle.ssz_schema_json.proofs.Json.{json_of-text, json_of-no_text}
 use Rattle.ssz_schema_json.proofs.read.value_of.Goals as goal
 
@@ -15,7 +15,8 @@ pub returns-in-Err : goal.returns-in-Err
 returns-in-Err c =
     let bytes = c.args.bytes.now in
     elim c.fault_of.result
-    as (λ fault. IsFaultOf c.in-Err.error fault → ReadsJson (Err fault) (json_of bytes)) [
+    as (λ fault. IsSchemaFaultOf c.in-Err.error fault
+    → ReadsSchemaJson (Err fault) (json_read bytes)) [
       | NotJson ↦ λ other. json_of-no_text bytes (c.in-Err.ensures.err other)
       | Shape ↦ λ none. none
       | Def number fault ↦ λ none. none

@@ -2,7 +2,7 @@ use Rattle.std.proofs.Common.{◌<◌, length, refl, sym, subst}
 use Rattle.std.proofs.lemmas.Result.{err_from_is_err_and}
 use Rattle.ssz_proof.specs.Multiproof.{IsProofOf}
 use Rattle.ssz_schema.specs.Unfolding.{type_of}
-use Rattle.ssz_tool.specs.Tasks.{HasItems, HasTypes, IsTask}
+use Rattle.ssz_tool.specs.Tasks.{HasItems, NamesHaveTypes, IsTask}
 use Rattle.ssz_tool.proofs.Reading.{named, not_named}
 use Rattle.ssz_tool.proofs.Steps.{follows_exit, follows_here, follows_none, follows_some, follows_stopped, follows_then}
 use Rattle.ssz_partial.specs.Partial.{Knowledge}
@@ -15,12 +15,12 @@ pub returns-in_err-schema : goal.returns-in_err-schema
 returns-in_err-schema g c =
     let exit = err_from_is_err_and c.from_residual.result c.from_residual.ensures.1 in
     follows_exit g.F.Files IsTask _ _ exit.0 c.in_err-schema.field-0.0 _ _ exit.1 exit.2
-    (follows_stopped g.F.Files HasTypes IsTask _ _ c.in_err-schema.field-0.0 _ _
+    (follows_stopped g.F.Files NamesHaveTypes IsTask _ _ c.in_err-schema.field-0.0 _ _
     (rw c.as_str.ensures at c.in_err-schema.ensures))
 
 pub returns-in_default : goal.returns-in_default
 returns-in_default g c =
-    follows_then g.F.Files HasTypes IsTask _ _ c.in_ok-schema.schema _ _ _ _
+    follows_then g.F.Files NamesHaveTypes IsTask _ _ c.in_ok-schema.schema _ _ _ _
     (rw c.as_str.ensures at c.in_ok-schema.ensures)
     (λ types has. follows_none g.F.Files IsTask _ _ _ _
     (not_named types c.in_ok-schema.schema c.args.args.now.type_name c.as_str-2.result.now
@@ -31,7 +31,7 @@ returns-in_err-proof g c =
     let exit = err_from_is_err_and c.from_residual-in_err-proof.result
     c.from_residual-in_err-proof.ensures.1 in
     follows_exit g.F.Files IsTask _ _ exit.0 c.in_err-proof.field-0.0 _ _ exit.1 exit.2
-    (follows_then g.F.Files HasTypes IsTask _ _ c.in_ok-schema.schema _ _ _ _
+    (follows_then g.F.Files NamesHaveTypes IsTask _ _ c.in_ok-schema.schema _ _ _ _
     (rw c.as_str.ensures at c.in_ok-schema.ensures)
     (λ types has. follows_some g.F.Files IsTask _ _ (type_of c.in_ok-schema.schema c.in-Some.id) _
     _ _ _
@@ -45,7 +45,7 @@ returns-in_err-script g c =
     let exit = err_from_is_err_and c.from_residual-in_err-script.result
     c.from_residual-in_err-script.ensures.1 in
     follows_exit g.F.Files IsTask _ _ exit.0 c.in_err-script.field-0.0 _ _ exit.1 exit.2
-    (follows_then g.F.Files HasTypes IsTask _ _ c.in_ok-schema.schema _ _ _ _
+    (follows_then g.F.Files NamesHaveTypes IsTask _ _ c.in_ok-schema.schema _ _ _ _
     (rw c.as_str.ensures at c.in_ok-schema.ensures)
     (λ types has. follows_some g.F.Files IsTask _ _ (type_of c.in_ok-schema.schema c.in-Some.id) _
     _ _ _
@@ -58,7 +58,7 @@ returns-in_err-script g c =
 
 pub returns : goal.returns
 returns g c =
-    follows_then g.F.Files HasTypes IsTask _ _ c.in_ok-schema.schema _ _ _ _
+    follows_then g.F.Files NamesHaveTypes IsTask _ _ c.in_ok-schema.schema _ _ _ _
     (rw c.as_str.ensures at c.in_ok-schema.ensures)
     (λ types has. follows_some g.F.Files IsTask _ _ (type_of c.in_ok-schema.schema c.in-Some.id) _
     _ _ _

@@ -1,14 +1,14 @@
 use Rattle.std.proofs.Common.{◌≡◌, ℕ, List, Err, refl, sym, ap, subst, ◌∙◌}
 use Rattle.std.proofs.lemmas.Result.{err_from_is_err_and}
 use Rattle.ssz_schema.specs.Unfolding.{type_of}
-use Rattle.ssz_tool.specs.Tasks.{HasItems, HasTypes, IsTask}
+use Rattle.ssz_tool.specs.Tasks.{HasItems, NamesHaveTypes, IsTask}
 use Rattle.ssz_tool.proofs.Reading.{named, not_named, read_within}
 use Rattle.ssz_tool.proofs.Steps.{follows_exit, follows_here, follows_none, follows_some, follows_stopped, follows_then}
 use Rattle.ssz_tool.proofs.Verdicts.{DoesSame-equal}
 use Rattle.ssz_outside.specs.declared.status.Status.TheVariants.{Accepted}
 use Rattle.ssz_schema.specs.Paths.{Path, path_type}
 use Rattle.ssz_tool.specs.Commands.{encoding_in}
-use Rattle.ssz_tool.specs.Follows.{Answers}
+use Rattle.ssz_tool.specs.Follows.{AnswersPlan}
 use Rattle.ssz_tool.specs.Tasks.{IsTextOf}
 use Rattle.ssz_tool.specs.ToDo.{prints}
 use Rattle.ssz_tool.proofs.Reading.{follows_answered, there, where_none}
@@ -18,12 +18,12 @@ pub returns-in_err-schema : goal.returns-in_err-schema
 returns-in_err-schema g c =
     let exit = err_from_is_err_and c.from_residual.result c.from_residual.ensures.1 in
     follows_exit g.F.Files IsTask _ _ exit.0 c.in_err-schema.field-0.0 _ _ exit.1 exit.2
-    (follows_stopped g.F.Files HasTypes IsTask _ _ c.in_err-schema.field-0.0 _ _
+    (follows_stopped g.F.Files NamesHaveTypes IsTask _ _ c.in_err-schema.field-0.0 _ _
     (rw c.as_str.ensures at c.in_err-schema.ensures))
 
 pub returns-in_default : goal.returns-in_default
 returns-in_default g c =
-    follows_then g.F.Files HasTypes IsTask _ _ c.in_ok-schema.schema _ _ _ _
+    follows_then g.F.Files NamesHaveTypes IsTask _ _ c.in_ok-schema.schema _ _ _ _
     (rw c.as_str.ensures at c.in_ok-schema.ensures)
     (λ types has. follows_none g.F.Files IsTask _ _ _ _
     (not_named types c.in_ok-schema.schema c.args.args.now.type_name c.as_str-2.result.now
@@ -31,7 +31,7 @@ returns-in_default g c =
 
 pub returns-in_default-2 : goal.returns-in_default-2
 returns-in_default-2 g c =
-    follows_then g.F.Files HasTypes IsTask _ _ c.in_ok-schema.schema _ _ _ _
+    follows_then g.F.Files NamesHaveTypes IsTask _ _ c.in_ok-schema.schema _ _ _ _
     (rw c.as_str.ensures at c.in_ok-schema.ensures)
     (λ types has. follows_some g.F.Files IsTask _ _ (type_of c.in_ok-schema.schema c.in-Some.id) _
     _ _ _
@@ -48,7 +48,7 @@ returns-in_err-bytes g c =
     let exit = err_from_is_err_and c.from_residual-in_err-bytes.result
     c.from_residual-in_err-bytes.ensures.1 in
     follows_exit g.F.Files IsTask _ _ exit.0 c.in_err-bytes.field-0.0 _ _ exit.1 exit.2
-    (follows_then g.F.Files HasTypes IsTask _ _ c.in_ok-schema.schema _ _ _ _
+    (follows_then g.F.Files NamesHaveTypes IsTask _ _ c.in_ok-schema.schema _ _ _ _
     (rw c.as_str.ensures at c.in_ok-schema.ensures)
     (λ types has. follows_some g.F.Files IsTask _ _ (type_of c.in_ok-schema.schema c.in-Some.id) _
     _ _ _
@@ -74,7 +74,7 @@ returns-in_err-text_of_part g c =
     let exit = err_from_is_err_and c.from_residual-in_err-text_of_part.result
     c.from_residual-in_err-text_of_part.ensures.1 in
     follows_exit g.F.Files IsTask _ _ exit.0 why _ _ exit.1 exit.2
-    (follows_then g.F.Files HasTypes IsTask _ _ c.in_ok-schema.schema _ _ _ _
+    (follows_then g.F.Files NamesHaveTypes IsTask _ _ c.in_ok-schema.schema _ _ _ _
     (rw c.as_str.ensures at c.in_ok-schema.ensures)
     (λ types has. follows_some g.F.Files IsTask _ _ (type_of c.in_ok-schema.schema c.in-Some.id) _
     _ _ _
@@ -88,10 +88,10 @@ returns-in_err-text_of_part g c =
     (follows_answered g.F.Files IsTextOf (encoding_in c.args.args.now.max_bytes
     (type_of c.in_ok-schema.schema c.in-Some.id)
     form.0 c.args.path.now bytes) (Err why) _
-    (subst (λ (walk : Path). Answers IsTextOf
+    (subst (λ (walk : Path). AnswersPlan IsTextOf
     (encoding_in c.args.args.now.max_bytes (type_of c.in_ok-schema.schema c.in-Some.id) form.0
     walk bytes) (Err why)) walked
-    (subst (λ (b : List ℕ). Answers IsTextOf
+    (subst (λ (b : List ℕ). AnswersPlan IsTextOf
     (encoding_in c.args.args.now.max_bytes (type_of c.in_ok-schema.schema c.in-Some.id) form.0
     c.deref.result.now b) (Err why))
     (c.deref-2.ensures.value ∙ is)
@@ -103,7 +103,7 @@ returns g c =
     let form = there (path_type (type_of c.in_ok-schema.schema c.in-Some.id) c.args.path.now)
     fit.1 in
     let walked : c.deref.result.now ≡ c.args.path.now = c.deref.ensures.value ∙ fit.0 in
-    follows_then g.F.Files HasTypes IsTask _ _ c.in_ok-schema.schema _ _ _ _
+    follows_then g.F.Files NamesHaveTypes IsTask _ _ c.in_ok-schema.schema _ _ _ _
     (rw c.as_str.ensures at c.in_ok-schema.ensures)
     (λ types has. follows_some g.F.Files IsTask _ _ (type_of c.in_ok-schema.schema c.in-Some.id) _
     _ _ _

@@ -1,6 +1,6 @@
 use Rattle.std.proofs.Common.{◌≡◌, refl, ◌∙◌}
 use Rattle.std.proofs.lemmas.Result.{err_from_is_err_and}
-use Rattle.ssz_tool.specs.Tasks.{AreItems, HasItems, HasTypes, IsTask}
+use Rattle.ssz_tool.specs.Tasks.{AreItems, HasItems, NamesHaveTypes, IsTask}
 use Rattle.ssz_tool.proofs.Steps.{follows_exit, follows_here, follows_stopped, follows_then}
 use Rattle.ssz_tool.proofs.Verdicts.{DoesSame-equal}
 use Rattle.ssz_tool.specs.Commands.{script_files}
@@ -12,7 +12,7 @@ pub returns-in_err-schema : goal.returns-in_err-schema
 returns-in_err-schema g c =
     let exit = err_from_is_err_and c.from_residual.result c.from_residual.ensures.1 in
     follows_exit g.F.Files IsTask _ _ exit.0 c.in_err-schema.field-0.0 _ _ exit.1 exit.2
-    (follows_stopped g.F.Files HasTypes IsTask _ _ c.in_err-schema.field-0.0 _ _
+    (follows_stopped g.F.Files NamesHaveTypes IsTask _ _ c.in_err-schema.field-0.0 _ _
     (rw c.as_str.ensures at c.in_err-schema.ensures))
 
 pub returns-in_err-base : goal.returns-in_err-base
@@ -20,7 +20,7 @@ returns-in_err-base g c =
     let exit = err_from_is_err_and c.from_residual-in_err-base.result
     c.from_residual-in_err-base.ensures.1 in
     follows_exit g.F.Files IsTask _ _ exit.0 c.in_err-base.field-0.0 _ _ exit.1 exit.2
-    (follows_then g.F.Files HasTypes IsTask _ _ c.in_ok-schema.schema _ _ _ _
+    (follows_then g.F.Files NamesHaveTypes IsTask _ _ c.in_ok-schema.schema _ _ _ _
     (rw c.as_str.ensures at c.in_ok-schema.ensures)
     (λ types has. follows_stopped g.F.Files HasItems IsTask _ _ c.in_err-base.field-0.0 _ _
     (rw c.as_str-2.ensures at c.in_err-base.ensures)))
@@ -30,7 +30,7 @@ returns-in_err-scripts g c =
     let exit = err_from_is_err_and c.from_residual-in_err-scripts.result
     c.from_residual-in_err-scripts.ensures.1 in
     follows_exit g.F.Files IsTask _ _ exit.0 c.in_err-scripts.field-0.0 _ _ exit.1 exit.2
-    (follows_then g.F.Files HasTypes IsTask _ _ c.in_ok-schema.schema _ _ _ _
+    (follows_then g.F.Files NamesHaveTypes IsTask _ _ c.in_ok-schema.schema _ _ _ _
     (rw c.as_str.ensures at c.in_ok-schema.ensures)
     (λ types has. follows_then g.F.Files HasItems IsTask _ _ c.in_ok-base.base _ _ _ _
     (rw c.as_str-2.ensures at c.in_ok-base.ensures)
@@ -45,7 +45,7 @@ returns g c =
     let count = so_many _ _ c.args.args.now.scripts c.in_ok-scripts.scripts.items
     (comes_as _ _ AreItems (λ meant made. made ≡ meant) (script_files c.args.args.now.scripts)
     c.in_ok-scripts.scripts c.in_ok-scripts.scripts.items (λ x same. same) read.comes) in
-    follows_then g.F.Files HasTypes IsTask _ _ c.in_ok-schema.schema _ _ _ _
+    follows_then g.F.Files NamesHaveTypes IsTask _ _ c.in_ok-schema.schema _ _ _ _
     (rw c.as_str.ensures at c.in_ok-schema.ensures)
     (λ types has. follows_then g.F.Files HasItems IsTask _ _ c.in_ok-base.base _ _ _ _
     (rw c.as_str-2.ensures at c.in_ok-base.ensures)

@@ -1,10 +1,10 @@
 use Rattle.std.proofs.Common.{rules, ◌≡◌, ◌∙◌, ◌+◌, ◌-◌, ◌*◌, ◌<◌, ◌≤◌, ◌^◌, ℕ, List, [], length, replicate, slice_get, Option, Some, None, refl, sym, ap, subst, arith}
 use Rattle.std.specs.List.{AllByRecursion}
-use Rattle.ssz_chunk.specs.Tree.{grow}
+use Rattle.ssz_chunk.specs.Tree.{merkle_pairs}
 use Rattle.ssz_schema.specs.Types.{container, union}
 use Rattle.ssz_schema.specs.Sizes.{basic_size, element_chunks, depth}
 use Rattle.ssz_schema.specs.Legal.{IsLegal}
-use Rattle.ssz_schema.specs.Unfolding.{type_of, tree_at, tree_over, fields_over, options_over, AreBelow}
+use Rattle.ssz_schema.specs.Unfolding.{type_of, type_tree_at, tree_over, fields_over, options_over, AreBelow}
 use Rattle.ssz_arena.specs.Content.{todo, tree_of}
 use Rattle.ssz_merkle.specs.Frontier.{whole_pairs}
 use Rattle.ssz_value.specs.Defaults.{default_of}
@@ -13,8 +13,8 @@ use Rattle.ssz_value.proofs.PartLemmas.{part_known}
 use Rattle.ssz_packing.proofs.Arms.{container_room}
 use Rattle.ssz_packing.proofs.Bounds.{vector_room}
 use Rattle.ssz_packing.proofs.Options.{below_at}
-use Rattle.ssz_tree.specs.Added.{Adds, IsPart}
-use Rattle.ssz_making.specs.Parts.{whole, elements_part}
+use Rattle.ssz_tree.specs.Added.{AddsNodes, IsPartNode}
+use Rattle.ssz_making.specs.Parts.{whole_of, elements_part}
 use Rattle.ssz_tree.specs.Shared.{shared, shared_fields, shared_vector, default_part}
 use Rattle.ssz_tree.specs.Given.{IsGiven, made_at, left_fields}
 use Rattle.ssz_tree.proofs.Adding.{makes_pair}
@@ -45,8 +45,8 @@ container_node-field_node-node-requires g t c κs within =
     subst (IsGiven c.loop-i.arena) (sym c.given_at.ensures)
     (given-kept c.args.arena.now c.loop-i.arena _ c.loop-i.invariant.adds.keeps
     (given_there c.args.arena.now c.args.given.now c.loop-i.i c.requires.given)) in
-    let spare : made_at (tree_at trees field.1) c.given_at.result ≤ c.loop-i.arena.spare =
-    subst (λ node. made_at (tree_at trees field.1) node ≤ c.loop-i.arena.spare)
+    let spare : made_at (type_tree_at trees field.1) c.given_at.result ≤ c.loop-i.arena.spare =
+    subst (λ node. made_at (type_tree_at trees field.1) node ≤ c.loop-i.arena.spare)
     (sym c.given_at.ensures) (FirstPieces-room _ _ _ _ _ _ _ c.loop-i.invariant stands room) in
     search rules
 
@@ -59,7 +59,8 @@ container_node-push-requires-clause-room g t c =
     let stands = piece-stands c.args.arena.now trees c.args.fields.now c.args.given.now c.loop-i.i
     field c.loop-i-test.true c.index-fields-i.is in
     let made = field-made c.args.arena.now c.loop-i.arena c.field_node-node.new.arena
-    (tree_at trees field.1) c.args.given.now c.loop-i.i c.given_at.result c.field_node-node.result
+    (type_tree_at trees field.1) c.args.given.now c.loop-i.i c.given_at.result
+    c.field_node-node.result
     c.loop-i.invariant.adds.keeps c.requires.given c.given_at.ensures c.field_node-node.ensures in
     (FirstPieces-push _ _ _ _ _ _ _ _ _ c.loop-i.invariant stands room made).room
 
@@ -70,7 +71,8 @@ container_node-loop-i-preserved g t c =
     let stands = piece-stands c.args.arena.now trees c.args.fields.now c.args.given.now c.loop-i.i
     field c.loop-i-test.true c.index-fields-i.is in
     let made = field-made c.args.arena.now c.loop-i.arena c.field_node-node.new.arena
-    (tree_at trees field.1) c.args.given.now c.loop-i.i c.given_at.result c.field_node-node.result
+    (type_tree_at trees field.1) c.args.given.now c.loop-i.i c.given_at.result
+    c.field_node-node.result
     c.loop-i.invariant.adds.keeps c.requires.given c.given_at.ensures c.field_node-node.ensures in
     FirstPieces-more _ _ _ _ _ _ _ _ _ _ _ c.loop-i.invariant stands made c.push.ensures.depth
     c.push.ensures.holds c.push.ensures.adds
@@ -143,10 +145,10 @@ vector_node-finish-requires-clause-room g t c =
     let room : shared ty + 2 * c.args.depth ≤ c.args.arena.now.spare =
     subst (λ (s : Option ℕ). shared_vector s (shared ty) c.args.depth ≤ c.args.arena.now.spare)
     (sym c.basic_size.ensures.exact ∙ c.in-None.is) c.requires.room in
-    let few : grow c.of_copies-nodes.result.depth c.of_copies-nodes.result.pushed
+    let few : merkle_pairs c.of_copies-nodes.result.depth c.of_copies-nodes.result.pushed
     - whole_pairs c.of_copies-nodes.result.depth c.of_copies-nodes.result.pushed
     ≤ c.args.depth =
-    subst (λ d. grow c.of_copies-nodes.result.depth c.of_copies-nodes.result.pushed
+    subst (λ d. merkle_pairs c.of_copies-nodes.result.depth c.of_copies-nodes.result.pushed
     - whole_pairs c.of_copies-nodes.result.depth c.of_copies-nodes.result.pushed ≤ d)
     c.of_copies-nodes.ensures.depth
     (grow-few c.of_copies-nodes.result.depth c.of_copies-nodes.result.pushed) in
@@ -168,15 +170,15 @@ pub vector_node-returns-in-None : goal.vector_node-returns-in-None
 vector_node-returns-in-None g t c =
     let ty = type_of c.args.schema.now c.args.elem in
     let none : basic_size ty ≡ None = sym c.basic_size.ensures.exact ∙ c.in-None.is in
-    let made = subst (λ d. IsPart c.finish.new.arena (whole d (replicate c.args.count
+    let made = subst (λ d. IsPartNode c.finish.new.arena (whole_of d (replicate c.args.count
     (default_part ty))) c.finish.result) c.of_copies-nodes.ensures.depth
     (c.finish.ensures.part (replicate c.args.count (default_part ty))
     (c.of_copies-nodes.ensures.holds (default_part ty) c.default_node-part.ensures.is)) in
-    let ends = subst (λ n. Adds (grow c.args.depth n - whole_pairs c.args.depth n)
-    (grow c.args.depth n - whole_pairs c.args.depth n) c.of_copies-nodes.new.arena
+    let ends = subst (λ n. AddsNodes (merkle_pairs c.args.depth n - whole_pairs c.args.depth n)
+    (merkle_pairs c.args.depth n - whole_pairs c.args.depth n) c.of_copies-nodes.new.arena
     c.finish.new.arena) c.of_copies-nodes.ensures.pushed
-    (subst (λ d. Adds (grow d c.of_copies-nodes.result.pushed
-    - whole_pairs d c.of_copies-nodes.result.pushed) (grow d c.of_copies-nodes.result.pushed
+    (subst (λ d. AddsNodes (merkle_pairs d c.of_copies-nodes.result.pushed
+    - whole_pairs d c.of_copies-nodes.result.pushed) (merkle_pairs d c.of_copies-nodes.result.pushed
     - whole_pairs d c.of_copies-nodes.result.pushed) c.of_copies-nodes.new.arena
     c.finish.new.arena) c.of_copies-nodes.ensures.depth c.finish.ensures.adds) in
     MakesWith-same _ _ _ _ _ _ _ (ap (λ (s : Option ℕ). shared_vector s (shared ty) c.args.depth)
@@ -193,7 +195,7 @@ union_node-default_node-node-requires g t c κs within =
     let below : c.in-Some-Some.option < c.args.id =
     below_at c.args.id c.args.options.now 0 (Some c.in-Some-Some.option) (sym here)
     c.requires.before in
-    let spare : shared (tree_at c.args.schema.now.trees c.in-Some-Some.option)
+    let spare : shared (type_tree_at c.args.schema.now.trees c.in-Some-Some.option)
     ≤ c.args.arena.now.spare =
     omega (
       arith,
@@ -220,7 +222,7 @@ union_node-returns-in-Some-Some g t c =
     ap Some (sym c.in-Some-Some.field-0-is) ∙ sym c.in-Some-Some.is ∙ c.option_at.ensures in
     let z = c.zero-selector.ensures in
     let p = c.pair.ensures in
-    let ty = tree_at c.args.schema.now.trees c.in-Some-Some.option in
+    let ty = type_tree_at c.args.schema.now.trees c.in-Some-Some.option in
     let count : shared ty + 1
     ≡ shared (union (options_over c.args.schema.now.trees c.args.options.now)) =
     omega (
@@ -257,20 +259,20 @@ union_node-returns-in-None g t c =
 pub default_node-vector_node-requires : goal.default_node-vector_node-requires
 default_node-vector_node-requires g t c κs within =
     let form = sym c.ty.ensures.form ∙ ap (tree_over c.args.schema.now.trees) c.in-Vector.is in
-    let ty = tree_at c.args.schema.now.trees c.in-Vector.elem in
+    let ty = type_tree_at c.args.schema.now.trees c.in-Vector.elem in
     let law = subst (IsLegal c.args.schema.now.format) form c.ty.ensures.legal in
     let h = vector_room c.args.schema.now.format ty c.in-Vector.count law in
     let deep = c.depth-in-Vector.ensures.exact ∙ ap depth form in
     let some : 0 < c.in-Vector.count = law.1 in
-    let few : element_chunks (basic_size (tree_at c.args.schema.now.trees c.in-Vector.elem))
+    let few : element_chunks (basic_size (type_tree_at c.args.schema.now.trees c.in-Vector.elem))
     c.in-Vector.count ≤ 2 ^ c.depth-in-Vector.result =
-    subst (λ d. element_chunks (basic_size (tree_at c.args.schema.now.trees c.in-Vector.elem))
+    subst (λ d. element_chunks (basic_size (type_tree_at c.args.schema.now.trees c.in-Vector.elem))
     c.in-Vector.count ≤ 2 ^ d) (sym deep) h.few in
     let shallow : c.depth-in-Vector.result ≤ 126 = subst (λ d. d ≤ 126) (sym deep) h.shallow in
     let below : c.in-Vector.elem < c.args.id = subst (AreBelow c.args.id)
     c.in-Vector.is c.ty.ensures.before in
-    let room : shared_vector (basic_size (tree_at c.args.schema.now.trees c.in-Vector.elem))
-    (shared (tree_at c.args.schema.now.trees c.in-Vector.elem)) c.depth-in-Vector.result
+    let room : shared_vector (basic_size (type_tree_at c.args.schema.now.trees c.in-Vector.elem))
+    (shared (type_tree_at c.args.schema.now.trees c.in-Vector.elem)) c.depth-in-Vector.result
     ≤ c.args.arena.now.spare =
     omega (
       arith,
@@ -283,7 +285,7 @@ default_node-vector_node-requires g t c κs within =
 pub default_node-returns-in-Vector : goal.default_node-returns-in-Vector
 default_node-returns-in-Vector g t c =
     let form = sym c.ty.ensures.form ∙ ap (tree_over c.args.schema.now.trees) c.in-Vector.is in
-    let ty = tree_at c.args.schema.now.trees c.in-Vector.elem in
+    let ty = type_tree_at c.args.schema.now.trees c.in-Vector.elem in
     MakesWith-same _ _ _ _ _ _ _
     (shared-of-vector (type_of c.args.schema.now c.args.id) ty c.in-Vector.count
     c.depth-in-Vector.result form c.depth-in-Vector.ensures.exact)
@@ -305,7 +307,7 @@ default_node-container_node-requires g t c κs within =
     let all : P c.in-Container.fields.items = subst (AreBelow c.args.id)
     c.in-Container.is c.ty.ensures.before in
     let known : P c.as_slice.result.now = subst P fields all in
-    let room : grow c.depth-in-Container.result (length c.as_slice.result.now)
+    let room : merkle_pairs c.depth-in-Container.result (length c.as_slice.result.now)
     + shared_fields (left_fields (fields_over trees c.as_slice.result.now) [])
     ≤ c.args.arena.now.spare =
     omega (
@@ -325,7 +327,7 @@ default_node-returns-in-Container g t c =
     let form = sym c.ty.ensures.form ∙ ap (tree_over trees) c.in-Container.is
     ∙ ap (λ (parts : List (List ℕ × ℕ)). container (fields_over trees parts)) fields in
     MakesWith-same _ _ _ _ _ _ _
-    (ap (λ n. grow c.depth-in-Container.result n
+    (ap (λ n. merkle_pairs c.depth-in-Container.result n
     + shared_fields (fields_over trees c.as_slice.result.now))
     (count-fields trees c.as_slice.result.now)
     ∙ shared-container (type_of c.args.schema.now c.args.id) trees c.as_slice.result.now
@@ -377,5 +379,5 @@ default_node-returns-in-List g t c =
     let form = sym c.ty.ensures.form ∙ ap (tree_over c.args.schema.now.trees) c.in-List.is in
     MakesWith-same 1 _ _ _ _ _ _ (sym (ap shared form))
     (list-default (type_of c.args.schema.now c.args.id)
-    (tree_at c.args.schema.now.trees c.in-List.field-0) c.in-List.field-1
+    (type_tree_at c.args.schema.now.trees c.in-List.field-0) c.in-List.field-1
     c.depth-in-List.result form c.depth-in-List.ensures.exact) c.empty_node-in-List.ensures

@@ -1,7 +1,7 @@
 use Rattle.std.proofs.Common.{◌≡◌, ◌+◌, ◌/◌, ◌^◌, ◌<◌, length, map, sym, ap, ap₂, ◌∙◌, arith}
 use Rattle.ssz_value.specs.Trees.{chunks, padded}
 use Rattle.ssz_parts.proofs.UnionLemmas.{some_byte}
-use Rattle.ssz_making.specs.Parts.{whole, chunk_part}
+use Rattle.ssz_making.specs.Parts.{whole_of, chunk_part}
 use Rattle.ssz_tree.proofs.Adding.{makes_leaf, Makes-chunk, Makes-same}
 use Rattle.ssz_making.proofs.Chunks.{one-chunk}
 use Rattle.ssz_tree.proofs.packed.packed_node.Goals as goal
@@ -16,6 +16,6 @@ returns-then-not-is_empty g c =
     let e = c.leaf.ensures in
     Makes-same _ _ (chunk_part c.chunk_at.result.0) _ _
     (ap chunk_part c.chunk_at.ensures ∙ sym (one-chunk (padded c.args.bytes.now))
-    ∙ sym (ap₂ (λ d n. whole d (map chunk_part (chunks n c.args.bytes.now))) flat one))
+    ∙ sym (ap₂ (λ d n. whole_of d (map chunk_part (chunks n c.args.bytes.now))) flat one))
     (Makes-chunk _ _ _ _
     (makes_leaf _ _ _ _ e.node e.tree e.todo e.keeps e.same e.unhashed e.count e.spare))

@@ -1,7 +1,7 @@
 use Rattle.std.proofs.Common.{◌≡◌, ◌∙◌, ℕ, ◌<◌, refl, ◌+◌, ◌*◌, ◌/◌, List, length, map, ap, arith}
 use Rattle.ssz_value.specs.Trees.{chunks}
 use Rattle.ssz_packing.proofs.BitValues.{bytes_of_bits, bits_chunk_is, pack_bits-chunks}
-use Rattle.ssz_making.specs.Parts.{whole, chunk_part}
+use Rattle.ssz_making.specs.Parts.{whole_of, chunk_part}
 use Rattle.ssz_tree.proofs.Adding.{makes_leaf, Makes-chunk, Makes-same}
 use Rattle.ssz_making.proofs.Chunks.{chunk-at, length-parts}
 use Rattle.ssz_tree.proofs.Chunks.{chunks-room}
@@ -73,7 +73,7 @@ returns g c =
     c.requires.room in
     let last : c.loop-i.i ≡ length (map chunk_part (chunks count (bytes_of_bits c.args.bits.now))) =
     omega (arith, length-parts count (bytes_of_bits c.args.bits.now)) in
-    Makes-same _ _ _ _ _ (ap (λ (cs : List (List ℕ)). whole c.args.depth (map chunk_part cs))
+    Makes-same _ _ _ _ _ (ap (λ (cs : List (List ℕ)). whole_of c.args.depth (map chunk_part cs))
     (pack_bits-chunks c.args.bits.now count refl))
     (First-done c.args.arena.now c.loop-i.arena _ _ _ _ _ _ c.loop-i.invariant last
     c.finish.ensures.part c.finish.ensures.adds)

@@ -2,13 +2,13 @@ use Rattle.std.proofs.Common.{◌≡◌, ◌∙◌, ℕ, ◌≤◌, ◌<◌, ◌
 use Rattle.std.specs.List.{concat}
 use Rattle.std.proofs.lemmas.List.{length-map}
 use Rattle.ssz_value.specs.declared.value.Value.{Value}
-use Rattle.ssz_value.specs.Encoding.{enc}
+use Rattle.ssz_value.specs.Encoding.{serialize}
 use Rattle.ssz_value.specs.Standing.{value_of}
 use Rattle.ssz_value.specs.Trees.{chunks}
 use Rattle.ssz_packing.specs.Elements.{encodings_of}
 use Rattle.ssz_packing.proofs.BasicValues.{encodings_sized}
 use Rattle.ssz_packing.proofs.Filling.{length-concat}
-use Rattle.ssz_making.specs.Parts.{whole, chunk_part}
+use Rattle.ssz_making.specs.Parts.{whole_of, chunk_part}
 use Rattle.ssz_tree.proofs.Adding.{makes_leaf, Makes-chunk, Makes-same}
 use Rattle.ssz_making.proofs.Chunks.{chunk-at, length-parts}
 use Rattle.ssz_tree.proofs.Chunks.{chunks-room}
@@ -97,8 +97,9 @@ returns g c = λ t sized fit.
     let long : length bytes ≡ length c.args.parts.now * c.args.size =
     length-concat c.args.size (encodings_of t c.args.parts.now)
     (encodings_sized t c.args.size c.args.parts.now sized fit)
-    ∙ ap (λ n. n * c.args.size) (length-map c.args.parts.now (λ (v : Value). enc t (value_of v))) in
-    Makes-same _ _ _ _ _ (ap (λ n. whole c.args.depth (map chunk_part (chunks ((n + 31) / 32)
+    ∙ ap (λ n. n * c.args.size)
+    (length-map c.args.parts.now (λ (v : Value). serialize t (value_of v))) in
+    Makes-same _ _ _ _ _ (ap (λ n. whole_of c.args.depth (map chunk_part (chunks ((n + 31) / 32)
     bytes))) (sym long))
     (First-done c.args.arena.now c.loop-i.arena _ _ _ _ _ _
     (c.loop-i.invariant.first t sized fit) last c.finish.ensures.part c.finish.ensures.adds)

@@ -1,6 +1,6 @@
 use Rattle.std.proofs.Common.{◌≡◌, ◌∙◌, ◌-◌, ◌^◌, ℕ, min, List, slice_get, Some, None, sym, ap, arith}
 use Rattle.ssz_schema.specs.Types.{container}
-use Rattle.ssz_schema.specs.Unfolding.{type_of, tree_at, tree_over, fields_over}
+use Rattle.ssz_schema.specs.Unfolding.{type_of, type_tree_at, tree_over, fields_over}
 use Rattle.ssz_tree.specs.Shared.{shared_fields}
 use Rattle.ssz_tree.specs.Given.{made_at}
 use Rattle.ssz_tree.proofs.FieldPieces.{CountsPieces-start, CountsPieces-more, CountsPieces-end, nothing_given}
@@ -16,7 +16,7 @@ container_nodes-loop-i-preserved t c =
     CountsPieces-more c.args.schema.now.trees c.args.fields.now c.args.given.now c.args.depth
     c.loop-i.i c.loop-i.nodes c.index-fields-i.result c.field_nodes.result _ c.loop-i.invariant
     c.loop-i-test.true c.index-fields-i.is
-    (c.field_nodes.ensures ∙ ap (λ given. min (made_at (tree_at c.args.schema.now.trees
+    (c.field_nodes.ensures ∙ ap (λ given. min (made_at (type_tree_at c.args.schema.now.trees
     c.index-fields-i.result.1) given) (2 ^ 64 - 1)) c.given_at.ensures)
     c.saturating_add-nodes.ensures
 

@@ -6,8 +6,8 @@ use Rattle.ssz_schema.specs.Unfolding.{type_of, tree_over, fields_over}
 use Rattle.ssz_arena.specs.declared.node.NodeId.{NodeId}
 use Rattle.ssz_value.proofs.PartLemmas.{Part}
 use Rattle.ssz_forms.specs.Upgrades.{all_taken}
-use Rattle.ssz_tree.specs.Added.{Adds, IsPart}
-use Rattle.ssz_tree.specs.Given.{IsGiven, part_with, shared_with, pairs_with}
+use Rattle.ssz_tree.specs.Added.{AddsNodes, IsPartNode}
+use Rattle.ssz_tree.specs.Given.{IsGiven, given_part_with, shared_with, pairs_with}
 use Rattle.ssz_upgrade.specs.Fields.{pick}
 use Rattle.ssz_upgrade.proofs.Picking.{picks_there}
 use Rattle.ssz_upgrade.proofs.Upgraded.{few_fields, fields_of, upgrade_answers}
@@ -64,10 +64,10 @@ returns-clause-answers g c =
           omega (arith, c.len.ensures, c.as_slice.ensures.len) in many)
           c.in_ok-nodes.ensures;
       picks = picks;
-      part = subst (λ u. IsPart c.build_fields.new.arena
-          (part_with c.args.arena.now u c.as_slice-5.result.now) c.in_ok-made.made) form_new
+      part = subst (λ u. IsPartNode c.build_fields.new.arena
+          (given_part_with c.args.arena.now u c.as_slice-5.result.now) c.in_ok-made.made) form_new
           c.in_ok-made.ensures.part;
-      adds = subst (λ u. Adds (shared_with u c.as_slice-5.result.now)
+      adds = subst (λ u. AddsNodes (shared_with u c.as_slice-5.result.now)
           (min (shared_with u c.as_slice-5.result.now) (pairs_with u c.as_slice-5.result.now))
           c.args.arena.now c.build_fields.new.arena) form_new c.in_ok-made.ensures.adds;
     })

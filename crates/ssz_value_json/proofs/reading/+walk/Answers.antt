@@ -5,15 +5,15 @@ use Rattle.std.proofs.lemmas.List.{drop_all, length_push}
 use Rattle.serde_json.specs.Find.{get_member}
 use Rattle.serde_json.specs.View.{view, items_view, members_view}
 use Rattle.ssz_schema.specs.Legal.{IsLegal}
-use Rattle.ssz_schema.specs.Unfolding.{type_of, tree_at, tree_over, fields_over, options_over, IsBelow, AreBelow}
+use Rattle.ssz_schema.specs.Unfolding.{type_of, type_tree_at, tree_over, fields_over, options_over, IsBelow, AreBelow}
 use Rattle.ssz_value.specs.Standing.{value_of, is_byte, IsFormed, FieldsFormed}
 use Rattle.ssz_schema.proofs.WalkFields.{drop_at}
 use Rattle.ssz_value.proofs.PartLemmas.{Part, values_push}
 use Rattle.ssz_value.proofs.FormLemmas.{formed_push, fields_push, seq_formed_alike, seq_formed_fields, chosen_formed}
 use Rattle.ssz_value_json.specs.declared.count.Count.TheVariants.{Exactly, AtMost}
-use Rattle.ssz_value_json.specs.Walk.{walk, uint_at, boolean_at, bits_at, elements_at, fields_at, field_walked, members_in, none_at}
-use Rattle.ssz_value_json.specs.Steps.{allows, bad_count, bad_member, bad_selector}
-use Rattle.ssz_value_json.specs.Answers.{Walks, IsFormedSequence, IsFormedUnion}
+use Rattle.ssz_value_json.specs.Walk.{json_walk, uint_at, boolean_at, bits_at, elements_at, fields_at, field_walked, members_in, none_at}
+use Rattle.ssz_value_json.specs.Steps.{allows, bad_count, bad_member, json_bad_selector}
+use Rattle.ssz_value_json.specs.Answers.{WalksJson, IsFormedSequence, IsFormedUnion}
 use Rattle.ssz_value.specs.declared.value.Value.{Value}
 use Rattle.ssz_value.specs.Values.{chosen}
 use Rattle.ssz_value.proofs.ValueLemmas.{seq_is, chosen_is}
@@ -29,7 +29,7 @@ elements_in-loop-item-init t c =
     record {
       walked = before_none _
           ∙ ap (λ vs. before (map value_of vs)
-          (elements_at (walk (type_of c.args.schema.now c.args.elem)) c.args.number.now
+          (elements_at (json_walk (type_of c.args.schema.now c.args.elem)) c.args.number.now
           (items_view c.args.items.now))) (sym c.in_ok-parts.ensures.items);
       formed = subst (AllByRecursion (IsFormed (type_of c.args.schema.now c.args.elem)))
           (sym c.in_ok-parts.ensures.items) tt;
@@ -41,12 +41,12 @@ elements_in-loop-item-preserved t c =
     let i = c.loop-item.item-index in
     let items = c.args.items.now in
     let done = map value_of c.loop-item.parts.items in
-    let rest = λ (m : ℕ). elements_at (walk ty) m (items_view (drop (i + 1) items)) in
+    let rest = λ (m : ℕ). elements_at (json_walk ty) m (items_view (drop (i + 1) items)) in
     record {
-      walked = then_more _ done (walk ty c.loop-item.number (view c.item-item.result)) rest
+      walked = then_more _ done (json_walk ty c.loop-item.number (view c.item-item.result)) rest
           (value_of c.in_ok-part.part) c.value_in.new.number
           (c.loop-item.invariant.walked
-          ∙ ap (λ ds. before done (elements_at (walk ty) c.loop-item.number ds))
+          ∙ ap (λ ds. before done (elements_at (json_walk ty) c.loop-item.number ds))
           (item_here items i c.item-item.result c.loop-item-test.true c.item-item.is))
           c.in_ok-part.ensures.0
           ∙ ap (λ vs. before vs (rest c.value_in.new.number))
@@ -62,17 +62,17 @@ elements_in-returns-in_err-part t c =
     let i = c.loop-item.item-index in
     let items = c.args.items.now in
     let done = map value_of c.loop-item.parts.items in
-    let rest = λ (m : ℕ). elements_at (walk ty) m (items_view (drop (i + 1) items)) in
+    let rest = λ (m : ℕ). elements_at (json_walk ty) m (items_view (drop (i + 1) items)) in
     let p = err_from_is_err_and c.from_residual-in_err-part.result
     c.from_residual-in_err-part.ensures.1 in
     rw (p.1, p.2) (passed_on value_of (IsFormed ty)
-    (walk ty c.loop-item.number (view c.item-item.result)) c.value_in.new.number
+    (json_walk ty c.loop-item.number (view c.item-item.result)) c.value_in.new.number
     c.in_err-part.field-0.0 (λ (vs : Vec Value Global). map value_of vs.items)
     (λ (vs : Vec Value Global). AllByRecursion (IsFormed ty) vs.items) _ c.value_in.new.number
     c.in_err-part.ensures
-    (λ f found. then_found _ done (walk ty c.loop-item.number (view c.item-item.result)) rest f
+    (λ f found. then_found _ done (json_walk ty c.loop-item.number (view c.item-item.result)) rest f
     (c.loop-item.invariant.walked
-    ∙ ap (λ ds. before done (elements_at (walk ty) c.loop-item.number ds))
+    ∙ ap (λ ds. before done (elements_at (json_walk ty) c.loop-item.number ds))
     (item_here items i c.item-item.result c.loop-item-test.true c.item-item.is)) found))
 
 pub elements_in-returns : goal.elements_in-returns
@@ -80,7 +80,7 @@ elements_in-returns t c =
     let ty = type_of c.args.schema.now c.args.elem in
     let done = map value_of c.loop-item.parts.items in (
       c.loop-item.invariant.walked
-          ∙ ap (λ js. before done (elements_at (walk ty) c.loop-item.number (items_view js)))
+          ∙ ap (λ js. before done (elements_at (json_walk ty) c.loop-item.number (items_view js)))
           (drop_all c.loop-item.item-index c.args.items.now c.loop-item-test.false)
           ∙ ap (λ vs. Ok (vs, c.loop-item.number)) (append-nil done),
       c.loop-item.invariant.formed,
@@ -97,12 +97,14 @@ fields_in-loop-field-preserved t c =
     let rest = λ (m : ℕ). fields_at (fields_over trees (drop (i + 1) fields)) m ms in
     record {
       walked = then_more _ done
-          (field_walked (walk (tree_at trees f.1)) c.loop-field.number (get_member f.0 ms)) rest
+          (field_walked (json_walk (type_tree_at trees f.1)) c.loop-field.number
+          (get_member f.0 ms)) rest
           (value_of c.in_ok-part.part) c.field_in.new.number
           (c.loop-field.invariant.walked
           ∙ ap (λ ps. before done (fields_at (fields_over trees ps) c.loop-field.number ms))
           (drop_at fields i f c.loop-field-test.true c.field-item.is))
-          (ap (field_walked (walk (tree_at trees f.1)) c.loop-field.number) (sym c.member.ensures)
+          (ap (field_walked (json_walk (type_tree_at trees f.1)) c.loop-field.number)
+          (sym c.member.ensures)
           ∙ c.in_ok-part.ensures.0)
           ∙ ap (λ vs. before vs (rest c.field_in.new.number))
           (sym (values_push _ _ c.in_ok-part.part c.in_ok-push.ensures.items));
@@ -126,7 +128,7 @@ sequence_in-returns-then-not-allows t c =
     omega (arith, c.len.ensures, c.in-Some.items.now.ok.0) in
     refused_walks value_of (IsFormedSequence ty) _ c.take_number-here.new.number
     c.bad-then-not-allows.result _ c.bad-then-not-allows.ensures
-    (array_refused (is_byte ty) (walk ty) c.args.count c.args.number.now (view c.args.json.now)
+    (array_refused (is_byte ty) (json_walk ty) c.args.count c.args.number.now (view c.args.json.now)
     (items_view xs) (sym c.is_byte.ensures ∙ c.if-is_byte.false) (sym c.in-Some.ensures)
     (ap (allows c.args.count) (items_len_is xs ∙ sym long)
     ∙ sym c.allows.ensures ∙ c.if-not-allows.true)
@@ -141,10 +143,10 @@ sequence_in-returns-in_err-parts t c =
     let p = err_from_is_err_and c.from_residual.result c.from_residual.ensures.1 in
     rw (p.1, p.2) (passed_on (λ (vs : Vec Value Global). map value_of vs.items)
     (λ (vs : Vec Value Global). AllByRecursion (IsFormed ty) vs.items)
-    (elements_at (walk ty) c.take_number-here.new.number (items_view c.as_slice.result.now))
+    (elements_at (json_walk ty) c.take_number-here.new.number (items_view c.as_slice.result.now))
     c.elements_in.new.number c.in_err-parts.field-0.0 value_of (IsFormedSequence ty) _
     c.elements_in.new.number c.in_err-parts.ensures
-    (λ f found. array_from (is_byte ty) (walk ty) c.args.count c.args.number.now
+    (λ f found. array_from (is_byte ty) (json_walk ty) c.args.count c.args.number.now
     c.take_number-here.new.number c.len.result (view c.args.json.now) xs c.as_slice.result.now
     (sym c.is_byte.ensures ∙ c.if-is_byte.false) (sym c.in-Some.ensures) long
     (sym c.allows.ensures ∙ c.if-not-allows.false) c.take_number-here.ensures.behind
@@ -157,7 +159,7 @@ sequence_in-returns t c =
     let other = sym c.is_byte.ensures ∙ c.if-is_byte.false in
     let long : c.len.result ≡ length c.in-Some.items.now.items =
     omega (arith, c.len.ensures, c.in-Some.items.now.ok.0) in (
-      array_from (is_byte ty) (walk ty) c.args.count c.args.number.now
+      array_from (is_byte ty) (json_walk ty) c.args.count c.args.number.now
           c.take_number-here.new.number c.len.result (view c.args.json.now) xs
           c.as_slice.result.now other (sym c.in-Some.ensures) long
           (sym c.allows.ensures ∙ c.if-not-allows.false) c.take_number-here.ensures.behind
@@ -235,13 +237,13 @@ chosen_in-returns-in_err-inner-in-Some-Some t c =
     ap Some (sym c.in-Some-Some.field-0-is) ∙ sym c.in-Some-Some.is ∙ c.option_at.ensures in
     let p = err_from_is_err_and c.from_residual.result c.from_residual.ensures.1 in
     rw (p.1, p.2) (passed_on value_of (IsFormed ty)
-    (walk ty c.take_number-here.new.number (view c.in-Some.inner.now))
+    (json_walk ty c.take_number-here.new.number (view c.in-Some.inner.now))
     c.value_in.new.number c.in_err-inner-in-Some-Some.field-0.0 value_of (IsFormed (union os)) _
     c.value_in.new.number c.in_err-inner-in-Some-Some.ensures
     (λ f found. ap (union_then os c.args.number.now) (sym c.in-Some.ensures)
     ∙ option_some c.args.schema.now.trees c.args.options.now c.in-Some.selector c.in-Some.selector
     c.args.number.now c.in-Some-Some.option (view c.in-Some.inner.now) here
-    ∙ ap (λ n. chosen_of c.in-Some.selector (walk ty n (view c.in-Some.inner.now)))
+    ∙ ap (λ n. chosen_of c.in-Some.selector (json_walk ty n (view c.in-Some.inner.now)))
     (sym c.take_number-here.ensures.behind)
     ∙ ap (chosen_of c.in-Some.selector) found))
 
@@ -253,7 +255,7 @@ chosen_in-returns-in-None t c =
     (ap (union_then os c.args.number.now) (sym c.in-Some.ensures)
     ∙ option_past c.args.schema.now.trees c.args.options.now c.in-Some.selector c.in-Some.selector
     c.args.number.now (view c.in-Some.inner.now) (sym c.in-None.is ∙ c.option_at.ensures)
-    ∙ ap (λ n. Err (bad_selector n)) (sym c.take_number-here.ensures.here))
+    ∙ ap (λ n. Err (json_bad_selector n)) (sym c.take_number-here.ensures.here))
 
 pub chosen_in-returns-in-Some-None : goal.chosen_in-returns-in-Some-None
 chosen_in-returns-in-Some-None t c =
@@ -283,7 +285,7 @@ chosen_in-returns-in_ok-new-in-Some-Some t c =
       ap (union_then os c.args.number.now) (sym c.in-Some.ensures)
           ∙ option_some c.args.schema.now.trees c.args.options.now k k
           c.args.number.now c.in-Some-Some.option (view c.in-Some.inner.now) here
-          ∙ ap (λ n. chosen_of k (walk ty n (view c.in-Some.inner.now)))
+          ∙ ap (λ n. chosen_of k (json_walk ty n (view c.in-Some.inner.now)))
           (sym c.take_number-here.ensures.behind)
           ∙ ap (chosen_of k) c.in_ok-inner-in-Some-Some.ensures.0
           ∙ ap (λ v. Ok (chosen k (value_of v), c.value_in.new.number)) (sym is)
@@ -326,30 +328,34 @@ value_in-returns-in-Bitlist t c =
 
 pub value_in-returns-in-Vector : goal.value_in-returns-in-Vector
 value_in-returns-in-Vector t c =
-    subst (λ (ty : SszType). Walks value_of (IsFormed ty)
-    (walk ty c.args.number.now (view c.args.json.now)) c.sequence_in.new.number c.sequence_in.result)
+    subst (λ (ty : SszType). WalksJson value_of (IsFormed ty)
+    (json_walk ty c.args.number.now (view c.args.json.now)) c.sequence_in.new.number
+    c.sequence_in.result)
     (sym (sym c.ty.ensures.form ∙ ap (tree_over c.args.schema.now.trees) c.in-Vector.is))
     c.sequence_in.ensures
 
 pub value_in-returns-in-List : goal.value_in-returns-in-List
 value_in-returns-in-List t c =
-    subst (λ (ty : SszType). Walks value_of (IsFormed ty)
-    (walk ty c.args.number.now (view c.args.json.now)) c.sequence_in-in-List.new.number c.sequence_in-in-List.result)
+    subst (λ (ty : SszType). WalksJson value_of (IsFormed ty)
+    (json_walk ty c.args.number.now (view c.args.json.now)) c.sequence_in-in-List.new.number
+    c.sequence_in-in-List.result)
     (sym (sym c.ty.ensures.form ∙ ap (tree_over c.args.schema.now.trees) c.in-List.is))
     c.sequence_in-in-List.ensures
 
 pub value_in-returns-in-Union : goal.value_in-returns-in-Union
 value_in-returns-in-Union t c =
-    subst (λ (ty : SszType). Walks value_of (IsFormed ty)
-    (walk ty c.args.number.now (view c.args.json.now)) c.chosen_in.new.number c.chosen_in.result)
+    subst (λ (ty : SszType). WalksJson value_of (IsFormed ty)
+    (json_walk ty c.args.number.now (view c.args.json.now)) c.chosen_in.new.number
+    c.chosen_in.result)
     (sym (sym c.ty.ensures.form ∙ ap (tree_over c.args.schema.now.trees) c.in-Union.is
     ∙ ap (λ ids. union (options_over c.args.schema.now.trees ids)) (sym c.as_slice.ensures.value)))
     c.chosen_in.ensures
 
 pub value_in-returns-in-Container : goal.value_in-returns-in-Container
 value_in-returns-in-Container t c =
-    subst (λ (ty : SszType). Walks value_of (IsFormed ty)
-    (walk ty c.args.number.now (view c.args.json.now)) c.container_in.new.number c.container_in.result)
+    subst (λ (ty : SszType). WalksJson value_of (IsFormed ty)
+    (json_walk ty c.args.number.now (view c.args.json.now)) c.container_in.new.number
+    c.container_in.result)
     (sym (sym c.ty.ensures.form ∙ ap (tree_over c.args.schema.now.trees) c.in-Container.is
     ∙ ap (λ parts. container (fields_over c.args.schema.now.trees parts))
     (sym c.as_slice-in-Container.ensures.value)))
@@ -388,14 +394,16 @@ fields_in-returns-in_err-part t c =
     let rest = λ (m : ℕ). fields_at (fields_over trees (drop (i + 1) fields)) m ms in
     let p = err_from_is_err_and c.from_residual-in_err-part.result
     c.from_residual-in_err-part.ensures.1 in
-    rw (p.1, p.2) (passed_on value_of (IsFormed (tree_at trees f.1)) _ c.field_in.new.number
+    rw (p.1, p.2) (passed_on value_of (IsFormed (type_tree_at trees f.1)) _ c.field_in.new.number
     c.in_err-part.field-0.0 (λ (vs : Vec Value Global). map value_of vs.items)
     (λ (vs : Vec Value Global). FieldsFormed (fields_over trees fields) vs.items) _
     c.field_in.new.number c.in_err-part.ensures
     (λ fault found. then_found _ done
-    (field_walked (walk (tree_at trees f.1)) c.loop-field.number (get_member f.0 ms)) rest fault
+    (field_walked (json_walk (type_tree_at trees f.1)) c.loop-field.number (get_member f.0 ms)) rest
+    fault
     (c.loop-field.invariant.walked
     ∙ ap (λ ps. before done (fields_at (fields_over trees ps) c.loop-field.number ms))
     (drop_at fields i f c.loop-field-test.true c.field-item.is))
-    (ap (field_walked (walk (tree_at trees f.1)) c.loop-field.number) (sym c.member.ensures)
+    (ap (field_walked (json_walk (type_tree_at trees f.1)) c.loop-field.number)
+    (sym c.member.ensures)
     ∙ found)))

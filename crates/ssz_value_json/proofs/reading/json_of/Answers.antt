@@ -1,9 +1,9 @@
 use Rattle.std.proofs.Common.{Err}
 use Rattle.serde_json.specs.View.{view}
-use Rattle.ssz_schema_json.specs.Schema.{json_of}
+use Rattle.ssz_schema_json.specs.Schema.{json_read}
 use Rattle.ssz_schema_json.proofs.Json.{json_of-text, json_of-no_text}
 use Rattle.ssz_value_json.specs.declared.fault.JsonRead.TheVariants.{Bad, Memory}
-use Rattle.ssz_value_json.specs.Answers.{IsFaultOf, ReadsJson}
+use Rattle.ssz_value_json.specs.Answers.{IsJsonFaultOf, ReadsJson}
 use Rattle.ssz_value_json.proofs.reading.json_of.Goals as goal
 
 pub returns-in-Ok : goal.returns-in-Ok
@@ -15,7 +15,7 @@ pub returns-in-Err : goal.returns-in-Err
 returns-in-Err c =
     let bytes = c.args.bytes.now in
     elim c.fault_of.result
-    as (λ fault. IsFaultOf c.in-Err.error fault → ReadsJson (Err fault) (json_of bytes)) [
+    as (λ fault. IsJsonFaultOf c.in-Err.error fault → ReadsJson (Err fault) (json_read bytes)) [
       | Bad f ↦ λ other. (json_of-no_text bytes (c.in-Err.ensures.err other.0), other.1)
       | Memory ↦ λ memory. tt
     ] c.fault_of.ensures

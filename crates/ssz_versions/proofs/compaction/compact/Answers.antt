@@ -1,7 +1,7 @@
 use Rattle.std.proofs.Common.{◌++◌, ◌∙◌, sym, ap, subst, length, arith}
 use Rattle.std.specs.List.{All}
 use Rattle.ssz_arena.specs.Content.{IsNodeOf}
-use Rattle.ssz_versions.specs.Lists.{moved}
+use Rattle.ssz_versions.specs.Lists.{entries_moved}
 use Rattle.ssz_versions.proofs.Compacting.{roots_of, roots_are_nodes, as_many, compacted, moved_ordered}
 use Rattle.ssz_versions.proofs.Ordered.{IsOrdered}
 use Rattle.ssz_versions.proofs.compaction.compact.Goals as goal
@@ -30,7 +30,7 @@ invariant_of-versions g c =
     let held = c.versions.inside.held in
     subst IsOrdered
     (sym (c.with_nodes-held.ensures.tree
-    ∙ ap (λ row. moved row c.deref-2.result.now) c.replace-held.ensures.value))
+    ∙ ap (λ row. entries_moved row c.deref-2.result.now) c.replace-held.ensures.value))
     (moved_ordered held c.deref-2.result.now c.versions.invariant)
 
 pub returns-clause-ok : goal.returns-clause-ok
@@ -43,5 +43,5 @@ returns-clause-ok g c =
     ∙ ap (λ ids. ids ++ roots_of held) c.in_ok-nodes.ensures.items)
     c.in_ok-made.ensures
     (c.with_nodes-held.ensures.tree
-    ∙ ap (λ row. moved row c.deref-2.result.now) c.replace-held.ensures.value
-    ∙ ap (moved held) c.deref-2.ensures.value)
+    ∙ ap (λ row. entries_moved row c.deref-2.result.now) c.replace-held.ensures.value
+    ∙ ap (entries_moved held) c.deref-2.ensures.value)

@@ -3,7 +3,7 @@ use Rattle.std.proofs.lemmas.Result.{err_from_is_err_and}
 use Rattle.clap.specs.Words.{subcommand_rows_of}
 use Rattle.ssz_words.proofs.FoundLemmas.{command_found, command_missing, refused_reads}
 use Rattle.ssz_words.proofs.FoundLemmas.{subcommand_name-rows}
-use Rattle.ssz_words.specs.Reading.{Reads}
+use Rattle.ssz_words.specs.Reading.{ReadsWords}
 use Rattle.ssz_words.specs.Words.{command_of}
 use Rattle.ssz_words.proofs.TakenLemmas.{reads_within}
 use Rattle.ssz_words.proofs.reading.read_words.Goals as goal
@@ -21,7 +21,8 @@ returns-in-Some c =
     let matches = c.in_ok-matches.matches in
     let is = command_found words (subcommand_rows_of matches) _ _ c.in_ok-matches.ensures.taken
     (c.in-Some.ensures.name ∙ subcommand_name-rows matches) c.in-Some.ensures.rows in
-    let exact : Reads c.named_command.result (command_of words) = rw is c.named_command.ensures in
+    let exact : ReadsWords c.named_command.result (command_of words) =
+    rw is c.named_command.ensures in
     record { exact = exact; limits = reads_within words c.named_command.result exact }
 
 pub returns-clause-exact : goal.returns-clause-exact

@@ -1,5 +1,5 @@
 use Rattle.std.proofs.Common.{ℕ, ◌≡◌, ◌<◌, List, length, slice_index_or}
-use Rattle.ssz_schema.specs.Unfolding.{tree_at}
+use Rattle.ssz_schema.specs.Unfolding.{type_tree_at}
 use Rattle.ssz_writing.specs.Leaves.{IsLeafLen}
 use Rattle.ssz_writing.proofs.leaves.leaf_lens.Given as goal
 
@@ -7,4 +7,4 @@ abbrev pub invariant-loop-i : goal.invariant-loop-i
 invariant-loop-i l =
     (length l.lens ≡ 8)
     × ((i : ℕ) (part : List ℕ × ℕ) → i < l.i → part ≡ slice_index_or l.fields i part
-    → IsLeafLen (tree_at l.schema.trees part.1) (slice_index_or l.lens i 0))
+    → IsLeafLen (type_tree_at l.schema.trees part.1) (slice_index_or l.lens i 0))

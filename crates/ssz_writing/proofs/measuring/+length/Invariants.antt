@@ -2,8 +2,8 @@ use Rattle.std.proofs.Common.{◌+◌, ◌*◌, List}
 use Rattle.ssz_schema.specs.Unfolding.{type_of, fields_over}
 use Rattle.ssz_value.specs.Values.{SszValue}
 use Rattle.ssz_arena.specs.Content.{tree_of}
-use Rattle.ssz_nodes.specs.Ahead.{AreNodes}
-use Rattle.ssz_nodes.specs.Shown.{AreElements, AreFields}
+use Rattle.ssz_nodes.specs.Ahead.{AheadAreNodes}
+use Rattle.ssz_nodes.specs.Shown.{AreElements, AreFieldsIn}
 use Rattle.ssz_nodes.proofs.Walked.{Sums, FieldSums}
 use Rattle.ssz_writing.proofs.measuring.+length.Given as goal
 
@@ -27,7 +27,7 @@ decreases-field_len g l = 6 * l.id + 4
 
 abbrev pub invariant-elements_len-loop-i : goal.invariant-elements_len-loop-i
 invariant-elements_len-loop-i g l =
-    AreNodes l.arena l.places
+    AheadAreNodes l.arena l.places
     × ((vs : List SszValue)
     → AreElements (type_of l.schema l.elem) l.fn.top.depth l.count vs
     (tree_of l.arena l.fn.top.node)
@@ -36,7 +36,7 @@ invariant-elements_len-loop-i g l =
 abbrev pub invariant-fields_len-loop-i : goal.invariant-fields_len-loop-i
 invariant-fields_len-loop-i g l =
     (vs : List SszValue)
-    → AreFields (fields_over l.schema.trees l.fields) l.fn.top.depth vs
+    → AreFieldsIn (fields_over l.schema.trees l.fields) l.fn.top.depth vs
     (tree_of l.arena l.fn.top.node)
     → FieldSums l.schema.trees l.fields vs l.i l.total l.fn.top.depth
     (tree_of l.arena l.fn.top.node)

@@ -10,7 +10,7 @@ use Rattle.ssz_arena.specs.Content.{tree_of}
 use Rattle.ssz_machine.specs.Drawing.{drawn_below, drawn_bit, next_seed, seed_after}
 use Rattle.ssz_draws.specs.declared.turn.Turn.{Turn}
 use Rattle.ssz_draws.specs.declared.turn.Turn.TheVariants.{On, SetBit}
-use Rattle.ssz_draws.specs.Turns.{IsTurn, IsSeen, IsChosen, HasLength}
+use Rattle.ssz_draws.specs.Turns.{IsDrawnTurn, IsSeen, IsChosen, HasLength}
 use Rattle.ssz_draws.proofs.Turning.{answer_of_type, turn_of_type, turn_known, vector_turn, vector_bit, if_ok, list_seen, bits_seen, union_seen}
 use Rattle.ssz_draws.proofs.generator.Generator.turn.Goals as goal
 
@@ -81,7 +81,7 @@ returns-in-Bitvector g c =
     (IsSeen t tree) same (λ v seen. seen)
     (if_ok c.turn_to_bit.result
     (λ (turn : Turn). turn ≡ SetBit (drawn_below n x) (drawn_bit (next_seed x)))
-    (IsTurn types c.args.id t (IsSeen t tree) x c.turn_to_bit.new.self)
+    (IsDrawnTurn types c.args.id t (IsSeen t tree) x c.turn_to_bit.new.self)
     (c.turn_to_bit.new.self ≡ seed_after 2 x) c.turn_to_bit.ensures.drawn
     c.turn_to_bit.ensures.next
     (λ turn drawn next. vector_bit types c.args.id n (IsSeen t tree) x c.turn_to_bit.new.self turn

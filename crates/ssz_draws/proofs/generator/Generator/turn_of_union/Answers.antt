@@ -4,7 +4,7 @@ use Rattle.ssz_schema.specs.Types.{SszType, union}
 use Rattle.ssz_schema.specs.Unfolding.{options_over}
 use Rattle.ssz_machine.specs.Drawing.{drawn, next_seed}
 use Rattle.ssz_draws.specs.declared.turn.Turn.TheVariants.{Choose}
-use Rattle.ssz_draws.specs.Turns.{GoesOn}
+use Rattle.ssz_draws.specs.Turns.{WalkContinues}
 use Rattle.ssz_draws.proofs.Choices.{chosen_on}
 use Rattle.ssz_draws.proofs.Turning.{option_turn}
 use Rattle.ssz_value.proofs.OptionLemmas.{option_below}
@@ -18,7 +18,7 @@ returns-in-Some c =
     let one : drawn 2 c.args.self.now ≡ 1 = sym c.draw.ensures.drawn ∙ c.if-draw-eq1.true in (
       option_below ids c.args.selector c.in-Some.part c.args.id (sym c.in-Some.ensures.some)
           c.requires.before,
-      λ v known. subst (λ (s : ℕ). GoesOn types t v c.args.self.now s c.in-Some.part
+      λ v known. subst (λ (s : ℕ). WalkContinues types t v c.args.self.now s c.in-Some.part
           (Chosen c.args.selector)) (sym c.draw.ensures.next)
           (chosen_on types ids c.args.selector c.in-Some.part c.args.self.now v
           c.in-Some.ensures.some one known),

@@ -8,8 +8,8 @@ use Rattle.ssz_script.specs.declared.statement.Statement.{Statement}
 use Rattle.ssz_machine.specs.Drawing.{Walk}
 use Rattle.ssz_draws.specs.declared.turn.Turn.{Turn}
 use Rattle.ssz_draws.specs.declared.turn.Turn.TheVariants.{On}
-use Rattle.ssz_draws.specs.Turns.{IsTurn, IsSeen, edit_at}
-use Rattle.ssz_draws.specs.Walked.{IsWalked, IsEdit}
+use Rattle.ssz_draws.specs.Turns.{IsDrawnTurn, IsSeen, edit_at}
+use Rattle.ssz_draws.specs.Walked.{IsWalked, IsEditStatement}
 use Rattle.ssz_draws.proofs.Turning.{ok_so}
 use Rattle.ssz_draws.proofs.Ways.{IsOn, edits_are, walk_ends, walk_goes_on, walk_leads}
 use Rattle.ssz_draws.proofs.generator.Generator.walk_on.Goals as goal
@@ -20,9 +20,10 @@ returns-in_default-step_place-clause-walked g c = λ v of.
     let arena = c.args.arena.now in
     let part = c.loop-path.part in
     let t : SszType = type_of types part in
-    let turned : IsTurn types part t (IsSeen t (tree_of arena c.loop-path.here)) c.loop-path.self
+    let turned : IsDrawnTurn types part t
+    (IsSeen t (tree_of arena c.loop-path.here)) c.loop-path.self
     c.turn.new.self (On c.in-On.next c.in-On.step) =
-    subst (IsTurn types part t (IsSeen t (tree_of arena c.loop-path.here)) c.loop-path.self
+    subst (IsDrawnTurn types part t (IsSeen t (tree_of arena c.loop-path.here)) c.loop-path.self
     c.turn.new.self) c.in-On.is c.in_ok-turn.ensures in
     absurd (walk_leads types.format types arena c.args.id c.args.node c.args.self.now part
     c.loop-path.here c.loop-path.path.items c.loop-path.self c.turn.new.self
@@ -35,9 +36,10 @@ loop-path-preserved g c =
     let arena = c.args.arena.now in
     let part = c.loop-path.part in
     let t : SszType = type_of types part in
-    let turned : IsTurn types part t (IsSeen t (tree_of arena c.loop-path.here)) c.loop-path.self
+    let turned : IsDrawnTurn types part t
+    (IsSeen t (tree_of arena c.loop-path.here)) c.loop-path.self
     c.turn.new.self (On c.in-On.next c.in-On.step) =
-    subst (IsTurn types part t (IsSeen t (tree_of arena c.loop-path.here)) c.loop-path.self
+    subst (IsDrawnTurn types part t (IsSeen t (tree_of arena c.loop-path.here)) c.loop-path.self
     c.turn.new.self) c.in-On.is c.in_ok-turn.ensures in
     record {
       on = subst (λ (path : List PathStep). IsOn types arena c.args.id c.args.node
@@ -68,7 +70,7 @@ returns-in_default g c =
           ∙ ap (λ (e : Option Statement).
           let walk : Walk = record { edit = e; seed = c.turn.new.self } in walk) (sym same));
       edits = ok_so c.edit_at.result (λ (edit : Option Statement). edit ≡ edit_at turn path)
-          (λ (edit : Option Statement). IfSome edit IsEdit) c.edit_at.ensures
-          (λ edit same. subst (λ (e : Option Statement). IfSome e IsEdit) (sym same)
+          (λ (edit : Option Statement). IfSome edit IsEditStatement) c.edit_at.ensures
+          (λ edit same. subst (λ (e : Option Statement). IfSome e IsEditStatement) (sym same)
           (edits_are turn path));
     }

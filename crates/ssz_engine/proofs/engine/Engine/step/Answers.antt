@@ -3,9 +3,9 @@ use Rattle.std.specs.Prelude.{OnErr}
 use Rattle.ssz_arena.specs.Content.{node_count}
 use Rattle.ssz_outside.specs.Content.{Content as Files}
 use Rattle.ssz_script.specs.declared.statement.Statement.{Statement}
-use Rattle.ssz_engine.specs.Steps.{Decides, DoesStep, Finds, ForksWhere, Stops, UpgradesWhere}
+use Rattle.ssz_engine.specs.Steps.{Decides, DoesStep, StatementFindsFile, ForksWhere, Stops, UpgradesWhere}
 use Rattle.ssz_decisions.specs.Carried.{Fails, IsCarriedOut}
-use Rattle.ssz_decisions.specs.Content.{Content}
+use Rattle.ssz_decisions.specs.Content.{EngineContent}
 use Rattle.ssz_decisions.specs.Roots.{HashesSome, LeavesHashed}
 use Rattle.ssz_decisions.specs.Standing.{StandsForSome}
 use Rattle.ssz_engine.specs.Tops.{TopsWhere}
@@ -28,7 +28,7 @@ returns-in-Compact-clause-ok g c =
     let told = g.F.Files.content c.args.files.now in
     let out_old = c.args.out.now.items in
     let out_new = c.compact.new.out.items in
-    subst (λ (s : Content). DoesStep g.H.PairHash.pair_of c.args.place c.args.writer.0
+    subst (λ (s : EngineContent). DoesStep g.H.PairHash.pair_of c.args.place c.args.writer.0
     c.args.line c.args.statement.now s new count count told told out_old out_new Accepted)
     c.self.view_is
     (subst (λ (statement : Statement). DoesStep g.H.PairHash.pair_of c.args.place c.args.writer.0
@@ -59,7 +59,8 @@ returns-clause-ok g c =
     = subst (λ (told : Option Files). Decides pair_of c.args.place statement w
     (before - first.base) told first mid before after made) (sym same)
     c.in_ok-decision.ensures.decides in
-    subst (λ (s : Content). IfOk c.carry_out.result (DoesStep pair_of c.args.place w c.args.line
+    subst (λ (s : EngineContent).
+    IfOk c.carry_out.result (DoesStep pair_of c.args.place w c.args.line
     statement s new before after (g.F.Files.content c.args.files.now) told_new c.args.out.now.items
     out_new)) c.self.view_is
     (subst (λ (out : List ℕ). IfOk c.carry_out.result (DoesStep pair_of c.args.place w
@@ -98,7 +99,8 @@ returns-clause-stops g c =
     = subst (λ (told : Option Files). Decides pair_of c.args.place statement w
     (before - first.base) told first mid before after made) (sym same)
     c.in_ok-decision.ensures.decides in
-    subst (λ (s : Content). IfErr c.carry_out.result (λ fault. Stops fault pair_of c.args.place w
+    subst (λ (s : EngineContent).
+    IfErr c.carry_out.result (λ fault. Stops fault pair_of c.args.place w
     c.args.line (before - s.base) statement s (g.F.Files.content c.args.files.now) told_new)) c.self.view_is
     (subst (λ (told : Option Files). IfErr c.carry_out.result (λ fault. Stops fault pair_of
     c.args.place w c.args.line (before - first.base) statement first told told_new)) same
@@ -113,7 +115,7 @@ returns-clause-stops g c =
 
 pub returns-clause-whole : goal.returns-clause-whole
 returns-clause-whole g c =
-    subst (λ (s : Content). OnErr c.carry_out.result
+    subst (λ (s : EngineContent). OnErr c.carry_out.result
     (node_count c.carry_out.new.store.arena ≡ node_count s.arena)) c.self.view_is
     (whole g.H.PairHash.pair_of c.args.place c.args.statement.now c.args.writer.0 _ _
     c.self.inside.store c.decide.new.store c.carry_out.new.store _ _ c.in_ok-decision.decision
@@ -133,7 +135,8 @@ returns-clause-forks g c =
     let told_new = g.F.Files.content c.carry_out.new.files in
     let out_old = c.reserve.new.self.items in
     let out_new = c.carry_out.new.out.items in
-    subst (λ (s : Content). IfOk c.carry_out.result (λ done. ForksWhere done statement w s.entries
+    subst (λ (s : EngineContent).
+    IfOk c.carry_out.result (λ done. ForksWhere done statement w s.entries
     new)) c.self.view_is
     (ok-of (λ done. IsCarriedOut made w c.args.line mid new done told_mid told_new out_old out_new)
     (λ done. ForksWhere done statement w first new) c.carry_out.result
@@ -153,7 +156,8 @@ returns-clause-upgrades g c =
     let told_new = g.F.Files.content c.carry_out.new.files in
     let out_old = c.reserve.new.self.items in
     let out_new = c.carry_out.new.out.items in
-    subst (λ (s : Content). IfOk c.carry_out.result (λ done. UpgradesWhere done statement w s new)) c.self.view_is
+    subst (λ (s : EngineContent).
+    IfOk c.carry_out.result (λ done. UpgradesWhere done statement w s new)) c.self.view_is
     (ok-of (λ done. IsCarriedOut made w c.args.line mid.entries new.entries done told_mid told_new
     out_old out_new)
     (λ done. UpgradesWhere done statement w first new) c.carry_out.result
@@ -173,7 +177,8 @@ returns-clause-tops g c =
     let told_new = g.F.Files.content c.carry_out.new.files in
     let out_old = c.reserve.new.self.items in
     let out_new = c.carry_out.new.out.items in
-    subst (λ (s : Content). IfOk c.carry_out.result (λ done. TopsWhere done statement w s new)) c.self.view_is
+    subst (λ (s : EngineContent).
+    IfOk c.carry_out.result (λ done. TopsWhere done statement w s new)) c.self.view_is
     (ok-of (λ done. IsCarriedOut made w c.args.line mid.entries new.entries done told_mid told_new
     out_old out_new)
     (λ done. TopsWhere done statement w first new) c.carry_out.result
@@ -184,7 +189,7 @@ returns-clause-tops g c =
 
 pub returns-clause-some : goal.returns-clause-some
 returns-clause-some g c =
-    on_ok c.carry_out.result (subst (λ (s : Content). HashesSome c.args.statement.now
+    on_ok c.carry_out.result (subst (λ (s : EngineContent). HashesSome c.args.statement.now
     c.args.writer.0 s (g.H.PairHash.pairs c.args.hasher.now)
     (g.H.PairHash.pairs c.decide.new.hasher)) c.self.view_is c.in_ok-decision.ensures.some)
 
@@ -209,12 +214,14 @@ returns-clause-roots g c =
 
 pub returns-in-Compact-clause-found : goal.returns-in-Compact-clause-found
 returns-in-Compact-clause-found g c =
-    subst (λ (s : Statement). Finds g.H.PairHash.pair_of c.args.self.now c.args.writer.0 s
+    subst (λ (s : Statement).
+    StatementFindsFile g.H.PairHash.pair_of c.args.self.now c.args.writer.0 s
     (g.F.Files.content c.args.files.now)) (sym c.in-Compact.is)
     (λ held told versions stands asks. refl)
 
 pub returns-clause-found : goal.returns-clause-found
 returns-clause-found g c =
-    on_ok c.carry_out.result (subst (λ (s : Content). Finds g.H.PairHash.pair_of s
+    on_ok c.carry_out.result
+    (subst (λ (s : EngineContent). StatementFindsFile g.H.PairHash.pair_of s
     c.args.writer.0 c.args.statement.now (g.F.Files.content c.args.files.now)) c.self.view_is
     c.in_ok-decision.ensures.found)

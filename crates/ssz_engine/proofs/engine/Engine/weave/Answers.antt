@@ -3,7 +3,7 @@ use Rattle.std.specs.Prelude.{Err}
 use Rattle.ssz_outside.specs.declared.status.Status.{Status}
 use Rattle.ssz_script.specs.Lines.{statements_in}
 use Rattle.ssz_engine.specs.Compacting.{NoneCompacts}
-use Rattle.ssz_engine.specs.Points.{finished}
+use Rattle.ssz_engine.specs.Points.{finished_status}
 use Rattle.ssz_engine.specs.Scripts.{AreNamedReadable, Scene, scene}
 use Rattle.ssz_engine.specs.Weaves.{EndsWeave, IsolatesWriters}
 use Rattle.ssz_engine.proofs.Isolating.{ends_isolated}
@@ -31,7 +31,7 @@ returns-in-Ok-clause-isolated g c =
     subst (λ (ended : Status). IsolatesWriters g.H.PairHash.pair_of c.args.base.now
     c.args.scripts.now ended before after) (sym c.status_after.ensures)
     (ends_isolated g.H.PairHash.pair_of c.args.base.now c.args.order.now c.args.scripts.now
-    (finished c.run_weave.new.refused) before after c.requires.few
+    (finished_status c.run_weave.new.refused) before after c.requires.few
     (weave_done g.H.PairHash.pair_of c.args.base.now c.args.order.now c.args.scripts.now before
     after c.run_weave.new.refused c.in-Ok.ensures.goes))
 

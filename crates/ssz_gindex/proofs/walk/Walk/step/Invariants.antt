@@ -1,11 +1,11 @@
 use Rattle.std.proofs.Common.{◌≤◌, List, ℕ, length}
-use Rattle.ssz_gindex.specs.Walk.{Walks, top}
+use Rattle.ssz_gindex.specs.Walk.{WalksHelpers, top}
 use Rattle.ssz_gindex.proofs.walk.Walk.step.Given as goal
 
 abbrev pub invariant-loop-node : goal.invariant-loop-node
 invariant-loop-node l = record {
-  walks : (indices found : List ℕ) → Walks indices l.fn.self.waiting found
-      → Walks indices l.self.waiting found;
+  walks : (indices found : List ℕ) → WalksHelpers indices l.fn.self.waiting found
+      → WalksHelpers indices l.self.waiting found;
   up : top l.self.waiting ≤ top l.fn.self.waiting;
 }
 

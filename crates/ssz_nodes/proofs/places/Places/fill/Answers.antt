@@ -3,7 +3,7 @@ use Rattle.std.proofs.Math.Nat.{pow-le-pow_right}
 use Rattle.std.specs.Int.{trailing_zeros, w64}
 use Rattle.ssz_arena.specs.declared.node.NodeId.{NodeId}
 use Rattle.ssz_arena.specs.Content.{tree_of}
-use Rattle.ssz_nodes.specs.Ahead.{Ahead, AreNodes, Holds, Stand, node_of}
+use Rattle.ssz_nodes.specs.Ahead.{Ahead, AheadAreNodes, AheadHolds, Stand, ahead_node}
 use Rattle.ssz_nodes.proofs.Ending.{Ends, ends, ends_within, at_least}
 use Rattle.ssz_nodes.proofs.Taking.{Opened, Opening, Opening-start, Opening-more, Holds-filled}
 use Rattle.ssz_nodes.proofs.places.Places.fill.Goals as goal
@@ -24,7 +24,7 @@ ends_there ahead now same some few =
 pub loop-below-init : goal.loop-below-init
 loop-below-init g c =
     let is = ends_there _ _ c.self.view_is c.requires.some c.self.invariant.0 in
-    let all = subst (AreNodes c.args.arena.now) (sym c.self.view_is) c.requires.nodes in (
+    let all = subst (AheadAreNodes c.args.arena.now) (sym c.self.view_is) c.requires.nodes in (
       omega (arith, c.min-low.ensures),
       refl,
       refl,
@@ -74,7 +74,7 @@ returns-clause-holds g c = λ trees held.
     let row = places_of c.min-low.result _ within (ends_within _ _ c.self.invariant.0 is) in
     let here : c.loop-below.below ≡ c.min-low.result =
     omega (arith, c.loop-below.invariant.0, c.loop-below-test.false) in
-    let first : node_of (slice_set c.loop-below.self-inside.row 0 c.loop-below.node) 0
+    let first : ahead_node (slice_set c.loop-below.self-inside.row 0 c.loop-below.node) 0
     ≡ c.loop-below.node = get_or-set_same c.loop-below.self-inside.row 0 c.loop-below.node
     (record { 0 = 0 }) (omega (
       arith,
@@ -82,14 +82,14 @@ returns-clause-holds g c = λ trees held.
       ap (λ (ns : List NodeId). length ns) c.loop-below.invariant.2,
     )) in
     let left : c.loop-below.self-inside.left ≡ c.self.inside.left = c.loop-below.invariant.1 in
-    subst (λ n. Holds c.args.arena.now trees (record {
+    subst (λ n. AheadHolds c.args.arena.now trees (record {
       row = c.spread.new.row;
       from = 0;
       to = n;
       left = c.loop-below.self-inside.left - n;
       nodes = c.loop-below.self-inside.nodes;
     })) (sym row)
-    (subst (λ n. Holds c.args.arena.now trees (record {
+    (subst (λ n. AheadHolds c.args.arena.now trees (record {
       row = c.spread.new.row;
       from = 0;
       to = 2 ^ c.min-low.result;
@@ -107,4 +107,4 @@ returns-clause-holds g c = λ trees held.
     (subst (λ n. Stand c.args.arena.now ts n c.self.inside.nodes) (sym left) stand)))
     (λ ts whole i below. c.spread.ensures.places ts
     (ap (tree_of c.args.arena.now) first ∙ whole) i below)
-    (subst (Holds c.args.arena.now trees) (sym c.self.view_is) held)))
+    (subst (AheadHolds c.args.arena.now trees) (sym c.self.view_is) held)))

@@ -2,7 +2,7 @@ use Rattle.std.proofs.Common.{◌≡◌, ◌≤◌, ◌^◌, ◌*◌, ◌%◌, r
 use Rattle.std.proofs.Math.Nat.{pow-le-pow_right}
 use Rattle.std.proofs.lemmas.List.{get_or-replicate}
 use Rattle.ssz_arena.specs.Content.{IsNodeOf}
-use Rattle.ssz_nodes.specs.Ahead.{Holds}
+use Rattle.ssz_nodes.specs.Ahead.{AheadHolds}
 use Rattle.ssz_nodes.proofs.Taking.{Holds-whole}
 use Rattle.ssz_nodes.proofs.places.Places.new.Goals as goal
 
@@ -17,7 +17,7 @@ returns-clause-holds c = λ arena trees few is.
     let shallow : c.args.top.depth ≤ 63 = omega (arith, c.requires) in
     let small : 2 ^ c.args.top.depth ≤ 2 ^ 63 = pow-le-pow_right (omega arith) shallow in
     let same : 2 ^ c.args.top.depth ≡ 1 * 2 ^ c.args.top.depth % 2 ^ 64 = omega arith in
-    subst (λ n. Holds arena trees (record {
+    subst (λ n. AheadHolds arena trees (record {
       row = replicate 128 c.args.top.node;
       from = 0;
       to = 0;

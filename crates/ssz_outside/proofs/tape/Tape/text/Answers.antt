@@ -1,5 +1,5 @@
 use Rattle.std.proofs.Common.{sym, ap, ◌∙◌}
-use Rattle.ssz_outside.specs.Pieces.{text_of}
+use Rattle.ssz_outside.specs.Pieces.{text_of_pieces}
 use Rattle.ssz_outside.proofs.Cutting.{concat-cut}
 use Rattle.ssz_outside.proofs.tape.Tape.text.Goals as goal
 
@@ -7,4 +7,4 @@ pub returns : goal.returns
 returns c =
     c.deref.ensures.value
     ∙ sym (concat-cut c.self.inside.lengths.items c.self.inside.text.items c.self.invariant)
-    ∙ ap text_of c.self.view_is
+    ∙ ap text_of_pieces c.self.view_is

@@ -1,5 +1,5 @@
 use Rattle.std.proofs.Common.{ℕ, arith, get_or, ap, ◌∙◌}
-use Rattle.ssz_schema.specs.Inside.{IsEntry}
+use Rattle.ssz_schema.specs.Inside.{IsSchemaEntry}
 use Rattle.ssz_schema.specs.Unfolding.{type_of}
 use Rattle.ssz_schema.proofs.Entries.{count_is, entry_is}
 use Rattle.ssz_schema.proofs.SmallLemmas.{small_facts}
@@ -14,7 +14,7 @@ index-requires-2 c = omega (
 
 pub returns : goal.returns
 returns c =
-    let is : IsEntry c.args.self.now c.args.id c.index-2.result.now =
+    let is : IsSchemaEntry c.args.self.now c.args.id c.index-2.result.now =
     entry_is c.self.inside c.args.self.now c.self.view_is c.self.invariant c.args.id
     c.index-2.result.now c.requires
     (c.index-2.ensures ∙ ap (λ (i : ℕ). get_or c.self.inside.entries.items i c.index-2.result.now)

@@ -1,8 +1,8 @@
 use Rattle.std.proofs.Common.{refl, ap, ◌∙◌, arith}
 use Rattle.ssz_schema.specs.Unfolding.{type_of}
 use Rattle.ssz_value.proofs.Agree.{IsInput}
-use Rattle.ssz_slices.specs.Inside.{part_of}
-use Rattle.ssz_slices.specs.Part.{Part, reached}
+use Rattle.ssz_slices.specs.Inside.{part_inside}
+use Rattle.ssz_slices.specs.Part.{Part, part_reached}
 use Rattle.ssz_slices.proofs.Along.{along-next, along-done, legal_next}
 use Rattle.ssz_slices.proofs.slice.Slice.at.Goals as goal
 
@@ -15,7 +15,7 @@ loop-step-preserved c =
       known = c.in-Some.ensures.known c.in-Some.next refl;
       legal = legal_next types c.loop-step.id c.in-Some.next c.step-item.result
           c.step_type.result c.loop-step.invariant.legal c.step_type.ensures.exact c.in-Some.is;
-      along = along-next types (part_of c.self.inside) c.args.path.now c.loop-step.id
+      along = along-next types (part_inside c.self.inside) c.args.path.now c.loop-step.id
           c.in-Some.next c.loop-step.step-index c.loop-step.held c.step_from-held.result
           c.step-item.result c.step_type.result c.loop-step.invariant.legal input
           c.loop-step.invariant.along c.loop-step-test.true c.step-item.is
@@ -27,7 +27,7 @@ returns-in-Some-held c =
     let types = c.self.inside.schema.now in
     let input : IsInput c.self.inside.input.now =
     record { bytes = c.self.invariant.bytes; short = c.self.invariant.short } in
-    along-done types.format (part_of c.self.inside) c.args.path.now
+    along-done types.format (part_inside c.self.inside) c.args.path.now
     (type_of types c.loop-step.id) c.loop-step.step-index c.in-Some-held.held c.loop-step.held
     c.loop-step.invariant.legal input c.loop-step.invariant.along (omega arith) c.in-Some-held.is
-    ∙ ap (λ (whole : Part). reached whole c.args.path.now) c.self.view_is
+    ∙ ap (λ (whole : Part). part_reached whole c.args.path.now) c.self.view_is

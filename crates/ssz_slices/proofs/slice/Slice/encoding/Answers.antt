@@ -1,6 +1,6 @@
 use Rattle.std.proofs.Common.{ap, ◌∙◌}
 use Rattle.ssz_schema.specs.Unfolding.{type_of}
-use Rattle.ssz_value.specs.Encoding.{enc}
+use Rattle.ssz_value.specs.Encoding.{serialize}
 use Rattle.ssz_slices.specs.Part.{Part}
 use Rattle.ssz_slices.proofs.Stretches.{stretch_encoded}
 use Rattle.ssz_slices.proofs.slice.Slice.encoding.Goals as goal
@@ -14,4 +14,4 @@ returns-in-Bytes c =
       bytes = c.self.invariant.bytes;
       short = c.self.invariant.short;
     }) c.self.invariant.holds c.in-Bytes.is
-    ∙ ap (λ (p : Part). enc p.form p.value) c.self.view_is
+    ∙ ap (λ (p : Part). serialize p.form p.value) c.self.view_is

@@ -1,9 +1,9 @@
 use Rattle.std.proofs.Common.{[], ◌∷◌, refl, ap, ◌∙◌}
 use Rattle.ssz_schema.specs.declared.path.PathStep.TheVariants.{Field}
 use Rattle.ssz_schema.specs.Unfolding.{type_of}
-use Rattle.ssz_slices.specs.Inside.{part_of}
+use Rattle.ssz_slices.specs.Inside.{part_inside}
 use Rattle.ssz_slices.specs.Held.{held_value, held_span}
-use Rattle.ssz_slices.specs.Part.{Part, reached}
+use Rattle.ssz_slices.specs.Part.{Part, part_reached}
 use Rattle.ssz_slices.proofs.Stretches.{stretch_at}
 use Rattle.ssz_slices.proofs.NamedFields.{IsFound, field_room, field_part}
 use Rattle.ssz_slices.proofs.slice.Slice.field.Goals as goal
@@ -38,7 +38,7 @@ invariant_of-result c =
       form = c.in-Some.ensures.form;
       held = c.in-Some.ensures.held;
     } in
-    let part = field_part types (part_of c.self.inside) c.self.inside.id c.in-Bytes.from
+    let part = field_part types (part_inside c.self.inside) c.self.inside.id c.in-Bytes.from
     c.in-Bytes.to c.as_bytes.result.now c.in-Some.found c.moved.result found refl
     (ap (held_value t b) c.in-Bytes.is) (ap held_span c.in-Bytes.is) c.moved.ensures in
     record {
@@ -63,9 +63,9 @@ returns-in-Some c =
       form = c.in-Some.ensures.form;
       held = c.in-Some.ensures.held;
     } in
-    let part = field_part types (part_of c.self.inside) c.self.inside.id c.in-Bytes.from
+    let part = field_part types (part_inside c.self.inside) c.self.inside.id c.in-Bytes.from
     c.in-Bytes.to c.as_bytes.result.now c.in-Some.found c.moved.result found refl
     (ap (held_value t b) c.in-Bytes.is) (ap held_span c.in-Bytes.is) c.moved.ensures in
-    part.answer ∙ ap (λ name. reached (part_of c.self.inside) (Field name ∷ []))
+    part.answer ∙ ap (λ name. part_reached (part_inside c.self.inside) (Field name ∷ []))
     c.as_bytes.ensures.value
-    ∙ ap (λ (whole : Part). reached whole (Field c.args.name.now ∷ [])) c.self.view_is
+    ∙ ap (λ (whole : Part). part_reached whole (Field c.args.name.now ∷ [])) c.self.view_is

@@ -1,12 +1,12 @@
 use Rattle.std.proofs.Common.{◌≡◌, ◌+◌, ◌-◌, ◌<◌, ◌≤◌, ℕ, refl, sym, ap, subst, ◌∙◌, arith}
 use Rattle.std.specs.Int.{trailing_zeros, w128}
-use Rattle.ssz_chunk.specs.Tree.{grow}
-use Rattle.ssz_arena.specs.Content.{Content, IsNodeOf}
+use Rattle.ssz_chunk.specs.Tree.{merkle_pairs}
+use Rattle.ssz_arena.specs.Content.{ArenaContent, IsNodeOf}
 use Rattle.ssz_merkle.specs.Frontier.{whole_pairs}
 use Rattle.ssz_merkle.proofs.Carrying.{Carries, Carries-finish}
-use Rattle.ssz_tree.specs.Added.{Adds, IsPart}
-use Rattle.ssz_making.specs.Parts.{whole}
-use Rattle.ssz_tree.specs.Stack.{Stack, AreNodes, Holds, node_at}
+use Rattle.ssz_tree.specs.Added.{AddsNodes, IsPartNode}
+use Rattle.ssz_making.specs.Parts.{whole_of}
+use Rattle.ssz_tree.specs.Stack.{Stack, LevelsAreNodes, StackHolds, stack_node}
 use Rattle.ssz_tree.proofs.Adding.{Adds-none, Adds-then, Adds-pair, Adds-within}
 use Rattle.ssz_tree.proofs.Blocks.{IsTop, IsTop-left, IsTop-whole, Joins}
 use Rattle.ssz_tree.proofs.Carrying.{made_by_finish}
@@ -15,26 +15,26 @@ use Rattle.ssz_tree.proofs.builder.Builder.finish.Goals as goal
 use Rattle.ssz_tree.proofs.builder.Builder.finish.Goals.{then-last-level-eq1, else-last-level-eq1}
 
 -- a pair a level from the lowest on
-one_more : (low level : ℕ) (first now end : Content) → low ≤ level
-    → Adds (level - low) (level - low) first now → Adds 1 1 now end
-    → Adds (level + 1 - low) (level + 1 - low) first end
+one_more : (low level : ℕ) (first now end : ArenaContent) → low ≤ level
+    → AddsNodes (level - low) (level - low) first now → AddsNodes 1 1 now end
+    → AddsNodes (level + 1 - low) (level + 1 - low) first end
 one_more low level first now end above before pair =
     let sum : level - low + 1 ≡ level + 1 - low = omega arith in
-    subst (λ n. Adds n n first end) sum (Adds-then _ _ 1 1 first now end before pair)
+    subst (λ n. AddsNodes n n first end) sum (Adds-then _ _ 1 1 first now end before pair)
 
 -- no more than there is room for
 room_for : (now : Stack) (depth pushed low spare : ℕ) → Carries (pushed - 1) low depth
     → now.depth ≡ depth → now.pushed ≡ pushed → 0 < pushed → depth ≤ 126
-    → grow now.depth now.pushed - whole_pairs now.depth now.pushed ≤ spare
+    → merkle_pairs now.depth now.pushed - whole_pairs now.depth now.pushed ≤ spare
     → depth - low ≤ spare
 room_for now depth pushed low spare carries deep count some shallow room =
     let next : pushed - 1 + 1 ≡ pushed = omega arith in
-    let made : depth - low ≡ grow depth pushed - whole_pairs depth pushed =
-    subst (λ n. depth - low ≡ grow depth n - whole_pairs depth n) next
+    let made : depth - low ≡ merkle_pairs depth pushed - whole_pairs depth pushed =
+    subst (λ n. depth - low ≡ merkle_pairs depth n - whole_pairs depth n) next
     (made_by_finish depth (pushed - 1) low carries.before carries.is shallow) in
-    let space : grow depth pushed - whole_pairs depth pushed ≤ spare =
-    subst (λ d. grow d pushed - whole_pairs d pushed ≤ spare) deep
-    (subst (λ n. grow now.depth n - whole_pairs now.depth n ≤ spare) count room) in
+    let space : merkle_pairs depth pushed - whole_pairs depth pushed ≤ spare =
+    subst (λ d. merkle_pairs d pushed - whole_pairs d pushed ≤ spare) deep
+    (subst (λ n. merkle_pairs now.depth n - whole_pairs now.depth n ≤ spare) count room) in
     omega (arith, made, space)
 
 pub bounds-self-inside-first : goal.bounds-self-inside-first
@@ -53,8 +53,8 @@ loop-level-init g c =
     (omega (arith, c.if-self-eq0.false)) refl in
     let next : c.self.inside.pushed ≡ c.self.inside.pushed - 1 + 1 =
     omega (arith, c.if-self-eq0.false) in
-    let nodes : AreNodes c.args.arena.now c.self.inside.nodes =
-    subst (λ (s : Stack). AreNodes c.args.arena.now s.nodes) (sym c.self.view_is)
+    let nodes : LevelsAreNodes c.args.arena.now c.self.inside.nodes =
+    subst (λ (s : Stack). LevelsAreNodes c.args.arena.now s.nodes) (sym c.self.view_is)
     c.requires.nodes in
     record {
       inside = nodes.each (trailing_zeros w128 c.self.inside.pushed)
@@ -103,14 +103,14 @@ loop-level-preserved g c =
       | then-last-level-eq1 w ↦
           let e = w.pair-node.ensures in
           let joins : Joins c.loop-level.arena w.pair-node.new.self
-          (node_at c.self.inside.nodes c.loop-level.level) c.loop-level.node w.pair-node.result =
+          (stack_node c.self.inside.nodes c.loop-level.level) c.loop-level.node w.pair-node.result =
           record { node = e.node; tree = e.tree; todo = e.todo } in
           let adds = one_more _ _ _ _ _ c.loop-level.auto.level c.loop-level.invariant.adds
           (Adds-pair c.loop-level.arena _ e.keeps e.same e.unhashed e.count e.spare) in
           record {
             inside = subst (λ a. IsNodeOf a c.if-last-level-eq1.node) (sym w.arena-is)
                 (subst (λ n. IsNodeOf w.pair-node.new.self n) (sym w.node-is) e.node);
-            adds = subst (λ a. Adds _ _ c.args.arena.now a) (sym w.arena-is) adds;
+            adds = subst (λ a. AddsNodes _ _ c.args.arena.now a) (sym w.arena-is) adds;
             top = λ parts held. subst (λ a. IsTop a _ _ parts c.if-last-level-eq1.node)
                 (sym w.arena-is)
                 (subst (λ n. IsTop w.pair-node.new.self _ _ parts n) (sym w.node-is)
@@ -131,7 +131,7 @@ loop-level-preserved g c =
             inside = subst (λ a. IsNodeOf a c.if-last-level-eq1.node) (sym w.arena-is)
                 (subst (λ n. IsNodeOf w.pair-node-else-last-level-eq1.new.self n) (sym w.node-is)
                 e.node);
-            adds = subst (λ a. Adds _ _ c.args.arena.now a) (sym w.arena-is) adds;
+            adds = subst (λ a. AddsNodes _ _ c.args.arena.now a) (sym w.arena-is) adds;
             top = λ parts held. subst (λ a. IsTop a _ _ parts c.if-last-level-eq1.node)
                 (sym w.arena-is)
                 (subst (λ n. IsTop w.pair-node-else-last-level-eq1.new.self _ _ parts n)
@@ -146,19 +146,19 @@ loop-level-preserved g c =
 
 pub returns-clause-part : goal.returns-clause-part
 returns-clause-part g c = λ parts held.
-    let known : Holds c.args.arena.now parts
+    let known : StackHolds c.args.arena.now parts
     (record {
       depth = c.self.inside.depth;
       pushed = c.self.inside.pushed;
       nodes = c.self.inside.nodes;
     }) =
-    subst (Holds c.args.arena.now parts) (sym c.self.view_is) held in
+    subst (StackHolds c.args.arena.now parts) (sym c.self.view_is) held in
     let carries : Carries (c.self.inside.pushed - 1) (trailing_zeros w128 c.self.inside.pushed)
     c.self.inside.depth =
     Carries-finish c.self.inside.depth c.self.inside.pushed _ c.self.invariant.1 c.self.invariant.0
     (omega (arith, c.if-self-eq0.false)) refl in
     let last : c.loop-level.level ≡ c.self.inside.depth = omega (arith, carries.within) in
-    subst (λ (s : Stack). IsPart c.loop-level.arena (whole s.depth parts) c.loop-level.node)
+    subst (λ (s : Stack). IsPartNode c.loop-level.arena (whole_of s.depth parts) c.loop-level.node)
     c.self.view_is
     (IsTop-whole c.loop-level.arena (c.self.inside.pushed - 1) c.self.inside.depth parts
     c.loop-level.node (omega (arith, c.self.invariant.1, c.if-self-eq0.false))
@@ -175,15 +175,16 @@ returns-clause-adds g c =
     let next : c.self.inside.pushed - 1 + 1 ≡ c.self.inside.pushed =
     omega (arith, c.if-self-eq0.false) in
     let made : c.self.inside.depth - trailing_zeros w128 c.self.inside.pushed
-    ≡ grow c.self.inside.depth c.self.inside.pushed
+    ≡ merkle_pairs c.self.inside.depth c.self.inside.pushed
     - whole_pairs c.self.inside.depth c.self.inside.pushed =
     subst (λ n. c.self.inside.depth - trailing_zeros w128 c.self.inside.pushed
-    ≡ grow c.self.inside.depth n - whole_pairs c.self.inside.depth n) next
+    ≡ merkle_pairs c.self.inside.depth n - whole_pairs c.self.inside.depth n) next
     (made_by_finish c.self.inside.depth (c.self.inside.pushed - 1) _ carries.before carries.is
     c.self.invariant.0) in
-    subst (λ (s : Stack). Adds (grow s.depth s.pushed - whole_pairs s.depth s.pushed)
-    (grow s.depth s.pushed - whole_pairs s.depth s.pushed) c.args.arena.now c.loop-level.arena)
+    subst (λ (s : Stack). AddsNodes (merkle_pairs s.depth s.pushed - whole_pairs s.depth s.pushed)
+    (merkle_pairs s.depth s.pushed - whole_pairs s.depth s.pushed) c.args.arena.now
+    c.loop-level.arena)
     c.self.view_is
-    (subst (λ n. Adds n n c.args.arena.now c.loop-level.arena)
+    (subst (λ n. AddsNodes n n c.args.arena.now c.loop-level.arena)
     (ap (λ n. n - trailing_zeros w128 c.self.inside.pushed) last ∙ made)
     c.loop-level.invariant.adds)

@@ -2,8 +2,8 @@ use Rattle.std.proofs.Common.{◌≡◌, ◌+◌, ◌-◌, ◌<◌, ◌≤◌, �
 use Rattle.std.proofs.Math.Nat.{pow-le-pow_right}
 use Rattle.ssz_merkle.specs.Frontier.{whole_pairs}
 use Rattle.ssz_merkle.proofs.Carrying.{Carries}
-use Rattle.ssz_tree.specs.Added.{Adds}
-use Rattle.ssz_tree.specs.Stack.{Stack, Holds}
+use Rattle.ssz_tree.specs.Added.{AddsNodes}
+use Rattle.ssz_tree.specs.Stack.{Stack, StackHolds}
 use Rattle.ssz_tree.proofs.Adding.{Adds-none, Adds-then, Adds-pair}
 use Rattle.ssz_tree.proofs.Blocks.{IsTop, IsTop-push}
 use Rattle.ssz_tree.proofs.Carrying.{Carries-push, made_by_push}
@@ -86,13 +86,13 @@ overflow_add-self g c =
 
 pub returns-clause-holds : goal.returns-clause-holds
 returns-clause-holds g c = λ parts part held is.
-    let known : Holds c.args.arena.now parts
+    let known : StackHolds c.args.arena.now parts
     (record {
       depth = c.self.inside.depth;
       pushed = c.self.inside.pushed;
       nodes = c.self.inside.nodes;
     }) =
-    subst (Holds c.args.arena.now parts) (sym c.self.view_is) held in
+    subst (StackHolds c.args.arena.now parts) (sym c.self.view_is) held in
     let carries : Carries c.self.inside.pushed c.trailing_ones-whole.result c.self.inside.depth =
     Carries-push _ _ _ c.self.inside.nodes _ c.self.view_is c.requires.below c.self.invariant.0
     c.trailing_ones-whole.ensures in
@@ -114,8 +114,9 @@ returns-clause-adds g c =
     let last : c.loop-level.level ≡ c.trailing_ones-whole.result = omega arith in
     let made = made_by_push c.self.inside.depth c.self.inside.pushed c.trailing_ones-whole.result
     carries.before carries.is room (omega (arith, carries.within, c.self.invariant.0)) in
-    subst (λ (s : Stack). Adds (whole_pairs s.depth (s.pushed + 1) - whole_pairs s.depth s.pushed)
+    subst (λ (s : Stack).
+    AddsNodes (whole_pairs s.depth (s.pushed + 1) - whole_pairs s.depth s.pushed)
     (whole_pairs s.depth (s.pushed + 1) - whole_pairs s.depth s.pushed) c.args.arena.now
     c.loop-level.arena) c.self.view_is
-    (subst (λ n. Adds n n c.args.arena.now c.loop-level.arena) (last ∙ made)
+    (subst (λ n. AddsNodes n n c.args.arena.now c.loop-level.arena) (last ∙ made)
     c.loop-level.invariant.adds)

@@ -1,5 +1,5 @@
 use Rattle.std.proofs.Common.{sym, subst}
-use Rattle.ssz_chunk.specs.Tree.{grow}
+use Rattle.ssz_chunk.specs.Tree.{merkle_pairs}
 use Rattle.ssz_making.proofs.Placing.{none_more}
 use Rattle.ssz_tree.proofs.Summing.{Sums, sums_alike}
 use Rattle.ssz_tree.proofs.counting.CountingMaker.repeat.Goals as goal
@@ -11,4 +11,5 @@ returns-clause-pushed c = λ start first then d n parts alike one is all long be
 
 pub returns-then-more-eq0-clause-pushed : goal.returns-then-more-eq0-clause-pushed
 returns-then-more-eq0-clause-pushed c = λ start first then d n parts alike one is all long before.
-    subst (λ ps. Sums (grow d n) ps c.args.rows.now) (sym (none_more parts alike long)) before
+    subst (λ ps. Sums (merkle_pairs d n) ps c.args.rows.now)
+    (sym (none_more parts alike long)) before

@@ -1,7 +1,7 @@
 use Rattle.std.proofs.Common.{◌≡◌, ◌<◌, Bool, false, eqb, List, [], ◌∷◌, length, sym, subst, arith}
 use Rattle.ssz_schema.specs.Unfolding.{type_of}
 use Rattle.ssz_walk.specs.Found.{spot_of}
-use Rattle.ssz_views.specs.Looking.{Looking, CanLie, Misses, Reaches}
+use Rattle.ssz_views.specs.Looking.{Looking, CanLie, Misses, ViewReaches}
 use Rattle.ssz_views.proofs.Reaching.{CanLie-found, Reaches-found, Reaches-none, Misses-lost, view_of}
 use Rattle.ssz_views.proofs.view.View.at.Goals as goal
 
@@ -42,8 +42,8 @@ returns-in-Ok-clause-reached g c =
     } in
     let some : 0 < length c.args.path.now = some_path c.args.path.now
     (c.is_empty.ensures) c.if-is_empty.false in
-    subst (Reaches c.args.self.now c.args.path.now) (sym c.to.ensures)
-    (subst (λ (view : Looking). Reaches view c.args.path.now (view_of view c.in-Ok.place))
+    subst (ViewReaches c.args.self.now c.args.path.now) (sym c.to.ensures)
+    (subst (λ (view : Looking). ViewReaches view c.args.path.now (view_of view c.in-Ok.place))
     c.self.view_is
     (Reaches-found inside c.args.path.now c.self.invariant some c.in-Ok.place
     c.self.inside.schema.now.format c.ty-legal.ensures.legal c.in-Ok.ensures.found))

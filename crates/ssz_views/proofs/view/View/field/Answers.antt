@@ -2,7 +2,7 @@ use Rattle.std.proofs.Common.{[], ◌∷◌, sym, subst, lit<}
 use Rattle.ssz_schema.specs.declared.path.PathStep.TheVariants.{Field}
 use Rattle.ssz_schema.specs.Unfolding.{type_of}
 use Rattle.ssz_walk.specs.Found.{spot_of, IsFound, IsLost}
-use Rattle.ssz_views.specs.Looking.{Looking, CanLie, Misses, Reaches}
+use Rattle.ssz_views.specs.Looking.{Looking, CanLie, Misses, ViewReaches}
 use Rattle.ssz_views.proofs.Reaching.{CanLie-found, Reaches-found, Misses-lost, view_of}
 use Rattle.ssz_views.proofs.view.View.field.Goals as goal
 
@@ -31,8 +31,8 @@ returns-in-Ok-clause-reached g c =
       node = c.self.inside.node;
       lies = spot_of c.self.inside.spot;
     } in
-    subst (Reaches c.args.self.now (Field c.args.name.now ∷ [])) (sym c.to.ensures)
-    (subst (λ (view : Looking). Reaches view (Field c.args.name.now ∷ [])
+    subst (ViewReaches c.args.self.now (Field c.args.name.now ∷ [])) (sym c.to.ensures)
+    (subst (λ (view : Looking). ViewReaches view (Field c.args.name.now ∷ [])
     (view_of view c.in-Ok.field)) c.self.view_is
     (Reaches-found inside (Field c.args.name.now ∷ []) c.self.invariant (lit< tt) c.in-Ok.field
     c.self.inside.schema.now.format c.ty-legal.ensures.legal

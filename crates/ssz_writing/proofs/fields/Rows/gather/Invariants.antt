@@ -2,7 +2,7 @@ use Rattle.std.proofs.Common.{◌≡◌, ℕ, ◌<◌, List, length}
 use Rattle.std.specs.List.{All}
 use Rattle.ssz_chunk.specs.Tree.{Tree}
 use Rattle.ssz_arena.specs.Content.{IsNodeOf}
-use Rattle.ssz_nodes.specs.Ahead.{AreNodes}
+use Rattle.ssz_nodes.specs.Ahead.{AheadAreNodes}
 use Rattle.ssz_writing.specs.Rows.{HoldsRows, row_at}
 use Rattle.ssz_writing.proofs.Gathering.{Gathered}
 use Rattle.ssz_writing.proofs.fields.Rows.gather.Given as goal
@@ -13,7 +13,7 @@ invariant-loop-k g l =
     × (length l.self-inside.rows ≡ 32)
     × ((i : ℕ) → i < length l.self-inside.rows
     → All (IsNodeOf l.arena) (row_at l.self-inside.rows i))
-    × AreNodes l.arena l.self-inside.places
+    × AheadAreNodes l.arena l.self-inside.places
     × ((trees : List Tree) → HoldsRows l.arena trees (record {
       depth = l.initial.self-inside.depth;
       rows = l.initial.self-inside.rows;

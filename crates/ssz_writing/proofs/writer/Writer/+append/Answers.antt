@@ -4,12 +4,12 @@ use Rattle.ssz_schema.specs.Types.{container, vector, list, bitvector, bitlist, 
 use Rattle.ssz_schema.specs.Sizes.{basic_size, depth, fixed_size, head_size, is_variable, part_sizes}
 use Rattle.ssz_schema.specs.Unfolding.{type_of, tree_over, fields_over, options_over, AreBelow}
 use Rattle.ssz_schema.specs.Legal.{IsLegal}
-use Rattle.ssz_value.specs.Encoding.{enc, heads, bodies, field_encodings, joined_alike}
+use Rattle.ssz_value.specs.Encoding.{serialize, heads, bodies, field_encodings, joined_alike}
 use Rattle.ssz_value.proofs.PartLemmas.{Part}
 use Rattle.ssz_packing.proofs.Options.{below_at}
 use Rattle.ssz_arena.specs.Content.{tree_of}
-use Rattle.ssz_nodes.specs.Shown.{Extends, ForElements, ForValue}
-use Rattle.ssz_writing.specs.Offsets.{Adds, Fills, FillsAll, room_of, rooms}
+use Rattle.ssz_nodes.specs.Shown.{ExtendsBytes, ForElements, ForValue}
+use Rattle.ssz_writing.specs.Offsets.{AddsBytes, Fills, FillsAll, room_of, rooms}
 use Rattle.ssz_nodes.proofs.Formed.{union_few}
 use Rattle.ssz_nodes.proofs.Chunked.{Extends-same, Extends-trans, on_ok}
 use Rattle.ssz_nodes.proofs.Walked.{at_place}
@@ -40,14 +40,14 @@ append_heads-loop-i-preserved g t c = (
       (type_of c.args.self.now.schema.now c.args.elem) vs
       c.loop-i._i
       (c.args.out.now.items ++ rooms (alike (type_of c.args.self.now.schema.now c.args.elem) vs)
-      (map (enc (type_of c.args.self.now.schema.now c.args.elem)) vs))
+      (map (serialize (type_of c.args.self.now.schema.now c.args.elem)) vs))
       c.loop-i.out.items c.append_value.new.out.items c.loop-i.places c.next-part.new.self
       c.next-part.result (c.loop-i.invariant.2 vs are)
       (omega (arith, are.many, c.loop-i-test.true))
       (record { tree = c.next-part.ensures.tree; rest = c.next-part.ensures.rest })
       (λ v h. c.in_ok-append_value.ensures.value v h ∙ ap (λ xs. c.loop-i.out.items ++ xs)
       (fixed_room (fixed_size (type_of c.args.self.now.schema.now c.args.elem))
-      (enc (type_of c.args.self.now.schema.now c.args.elem) v)
+      (serialize (type_of c.args.self.now.schema.now c.args.elem) v)
       (sym c.is_variable.ensures ∙ c.if-is_variable.false))),
 )
 
@@ -73,10 +73,10 @@ append_bodies-loop-i-preserved g t c = (
   λ vs are front at is. BodiesSoFar-more c.args.self.now.arena.now
       (type_of c.args.self.now.schema.now c.args.elem) vs c.loop-i._i c.args.start c.loop-i.room _
       (front ++ heads (alike (type_of c.args.self.now.schema.now c.args.elem) vs)
-      (map (enc (type_of c.args.self.now.schema.now c.args.elem)) vs)
+      (map (serialize (type_of c.args.self.now.schema.now c.args.elem)) vs)
       (length c.args.out.now.items - c.args.start)
       ++ bodies (alike (type_of c.args.self.now.schema.now c.args.elem) vs)
-      (map (enc (type_of c.args.self.now.schema.now c.args.elem)) vs))
+      (map (serialize (type_of c.args.self.now.schema.now c.args.elem)) vs))
       c.loop-i.out.items c.append_body.new.out.items c.loop-i.places c.next-part.new.self
       c.next-part.result (c.loop-i.invariant.3 vs are front at is)
       (omega (arith, are.many, c.loop-i-test.true))
@@ -103,7 +103,7 @@ append_field_head-returns-in-Some-clause-value g t c = λ v h.
     (tree_of c.args.self.now.arena.now c.args.top.node)
     (tree_of c.args.self.now.arena.now c.node_of_place-part.result) h
     c.node_of_place-part.ensures.tree in
-    subst (λ size. Adds (room_of size (enc ty v)) c.args.out.now.items
+    subst (λ size. AddsBytes (room_of size (serialize ty v)) c.args.out.now.items
     c.append_value.new.out.items c.append_value.result)
     (sym c.in-Some.is ∙ c.fixed_size.ensures.exact) (c.append_value.ensures.value v stands)
 
@@ -115,7 +115,8 @@ append_field_body-returns-in-None-clause-value g t c = λ v h.
     (tree_of c.args.self.now.arena.now c.args.top.node)
     (tree_of c.args.self.now.arena.now c.node_of_place-part.result) h
     c.node_of_place-part.ensures.tree in
-    subst (λ size. Fills size (enc ty v) c.args.slot.start c.args.slot.room c.args.out.now.items
+    subst (λ size. Fills size
+    (serialize ty v) c.args.slot.start c.args.slot.room c.args.out.now.items
     c.append_body.new.out.items c.append_body.result)
     (sym c.in-None.is ∙ c.fixed_size.ensures.exact) (c.append_body.ensures.value v stands)
 
@@ -186,7 +187,7 @@ append_bodies-returns-in-Some-clause-value g t c = λ vs are front at is.
     is ∙ fixed_filled (fixed_size (type_of c.args.self.now.schema.now c.args.elem))
     c.in-Some.field-0
     (length vs) (length c.args.out.now.items - c.args.start)
-    (map (enc (type_of c.args.self.now.schema.now c.args.elem)) vs) front
+    (map (serialize (type_of c.args.self.now.schema.now c.args.elem)) vs) front
     (sym c.fixed_size.ensures.exact ∙ c.in-Some.is)
 
 pub append_chosen-returns-in-Some-Some-clause-value :
@@ -268,8 +269,9 @@ pub append_sequence-returns-in_ok-append_heads-in-None-clause-value :
 append_sequence-returns-in_ok-append_heads-in-None-clause-value g t c = λ vs are.
     let start : c.len-start.result ≡ length c.make_room.new.out.items =
     omega (arith, c.len-start.ensures, c.make_room.new.out.ok.0) in
-    subst (λ old. Adds (joined_alike (fixed_size (type_of c.args.self.now.schema.now c.args.elem))
-    (map (enc (type_of c.args.self.now.schema.now c.args.elem)) vs)) old
+    subst (λ old. AddsBytes
+    (joined_alike (fixed_size (type_of c.args.self.now.schema.now c.args.elem))
+    (map (serialize (type_of c.args.self.now.schema.now c.args.elem)) vs)) old
     c.append_bodies.new.out.items
     c.append_bodies.result) c.make_room.ensures
     (on_ok c.append_bodies.result
@@ -315,7 +317,7 @@ append_value-returns-in-Bitvector-clause-value g t c =
     let form : bitvector c.in-Bitvector.n ≡ type_of c.args.self.now.schema.now c.args.id =
     ap (tree_over c.args.self.now.schema.now.trees) (sym c.in-Bitvector.is) ∙ c.ty.ensures.form in
     subst (λ ty. ForValue ty (tree_of c.args.self.now.arena.now c.args.node)
-    (λ v. Adds (enc ty v) c.args.out.now.items c.append_packed.new.out.items
+    (λ v. AddsBytes (serialize ty v) c.args.out.now.items c.append_packed.new.out.items
     c.append_packed.result)) form
     (bitvector_adds c.in-Bitvector.n c.depth-depth.result ((c.from.result + 7) / 8)
     (tree_of c.args.self.now.arena.now c.args.node) c.args.out.now.items
@@ -328,7 +330,7 @@ append_value-returns-in-Bitlist-clause-value g t c =
     let form : bitlist c.in-Bitlist.field-0 ≡ type_of c.args.self.now.schema.now c.args.id =
     ap (tree_over c.args.self.now.schema.now.trees) (sym c.in-Bitlist.is) ∙ c.ty.ensures.form in
     subst (λ ty. ForValue ty (tree_of c.args.self.now.arena.now c.args.node)
-    (λ v. Adds (enc ty v) c.args.out.now.items c.append_bitlist.new.out.items
+    (λ v. AddsBytes (serialize ty v) c.args.out.now.items c.append_bitlist.new.out.items
     c.append_bitlist.result)) form
     (bitlist_adds c.args.self.now.schema.now.format c.in-Bitlist.field-0 c.depth-depth.result
     (tree_of c.args.self.now.arena.now c.args.node) c.args.out.now.items
@@ -343,7 +345,7 @@ append_value-returns-in-Vector-clause-value g t c =
     ≡ type_of c.args.self.now.schema.now c.args.id =
     ap (tree_over c.args.self.now.schema.now.trees) (sym c.in-Vector.is) ∙ c.ty.ensures.form in
     subst (λ ty. ForValue ty (tree_of c.args.self.now.arena.now c.args.node)
-    (λ v. Adds (enc ty v) c.args.out.now.items c.append_sequence.new.out.items
+    (λ v. AddsBytes (serialize ty v) c.args.out.now.items c.append_sequence.new.out.items
     c.append_sequence.result)) form
     (vector_adds (type_of c.args.self.now.schema.now c.in-Vector.elem) c.in-Vector.n
     c.depth-depth.result
@@ -358,7 +360,7 @@ append_value-returns-in-List-clause-value g t c =
     ≡ type_of c.args.self.now.schema.now c.args.id =
     ap (tree_over c.args.self.now.schema.now.trees) (sym c.in-List.is) ∙ c.ty.ensures.form in
     subst (λ ty. ForValue ty (tree_of c.args.self.now.arena.now c.args.node)
-    (λ v. Adds (enc ty v) c.args.out.now.items c.append_sequence-in-List.new.out.items
+    (λ v. AddsBytes (serialize ty v) c.args.out.now.items c.append_sequence-in-List.new.out.items
     c.append_sequence-in-List.result)) form
     (list_adds c.args.self.now.schema.now.format (type_of c.args.self.now.schema.now c.in-List.elem)
     c.in-List.field-1 c.depth-depth.result c.mixed_in-count.result.1
@@ -381,7 +383,7 @@ append_value-returns-in-Container-clause-value g t c =
     ∙ ap (tree_over c.args.self.now.schema.now.trees) (sym c.in-Container.is) ∙ c.ty.ensures.form in
     let legal = subst (IsLegal c.args.self.now.schema.now.format) (sym form) c.ty.ensures.legal in
     subst (λ ty. ForValue ty (tree_of c.args.self.now.arena.now c.args.node)
-    (λ v. Adds (enc ty v) c.args.out.now.items c.append_fields.new.out.items
+    (λ v. AddsBytes (serialize ty v) c.args.out.now.items c.append_fields.new.out.items
     c.append_fields.result)) form
     (container_adds (fields_over c.args.self.now.schema.now.trees
     c.as_slice-in-Container.result.now)
@@ -464,7 +466,7 @@ append_containers-loop-i-preserved g t c = (
       (c.in_ok-append_row_heads.ensures.value node row) v h
       ∙ ap (λ xs. c.loop-i.out.items ++ xs)
       (fixed_room (fixed_size (type_of c.args.self.now.schema.now c.args.few.now.id))
-      (enc (type_of c.args.self.now.schema.now c.args.few.now.id) v) c.requires.fixed)),
+      (serialize (type_of c.args.self.now.schema.now c.args.few.now.id) v) c.requires.fixed)),
 )
 
 pub append_row-returns-clause-value : goal.append_row-returns-clause-value
@@ -473,7 +475,7 @@ append_row-returns-clause-value g t c = λ node row.
     let legal = subst (IsLegal c.args.self.now.schema.now.format) form c.ty-legal.ensures.legal in
     let start : c.len-start.result ≡ length c.args.out.now.items =
     omega (arith, c.len-start.ensures, c.args.out.now.ok.0) in
-    subst (λ ty. ForValue ty node (λ v. Adds (enc ty v) c.args.out.now.items
+    subst (λ ty. ForValue ty node (λ v. AddsBytes (serialize ty v) c.args.out.now.items
     c.append_row_bodies.new.out.items c.append_row_bodies.result)) (sym form)
     (container_adds (fields_over c.args.self.now.schema.now.trees c.args.few.now.fields.now)
     (depth (type_of c.args.self.now.schema.now c.args.few.now.id)) node c.args.out.now.items
@@ -545,7 +547,8 @@ append_row_bodies-returns-clause-value g t c = λ format legal node row vs are f
 pub append_row_body-returns-clause-value : goal.append_row_body-returns-clause-value
 append_row_body-returns-clause-value g t c = λ node row v h front back at is.
     on_ok c.append_row.result
-    (λ added. added ∙ ap (λ xs. xs ++ enc (type_of c.args.self.now.schema.now c.args.few.now.id) v)
+    (λ added. added ∙ ap (λ xs.
+    xs ++ serialize (type_of c.args.self.now.schema.now c.args.few.now.id) v)
     (c.in_ok-put_end.ensures.put front back at is))
     (c.append_row.ensures.value node row v h)
 
@@ -574,10 +577,10 @@ append_rows-loop-i-preserved g t c = (
       (depth (type_of c.args.self.now.schema.now c.args.few.now.id)) vs c.loop-i._i c.args.start
       c.loop-i.room _
       (front ++ heads (alike (type_of c.args.self.now.schema.now c.args.few.now.id) vs)
-      (map (enc (type_of c.args.self.now.schema.now c.args.few.now.id)) vs)
+      (map (serialize (type_of c.args.self.now.schema.now c.args.few.now.id)) vs)
       (length c.args.out.now.items - c.args.start)
       ++ bodies (alike (type_of c.args.self.now.schema.now c.args.few.now.id) vs)
-      (map (enc (type_of c.args.self.now.schema.now c.args.few.now.id)) vs))
+      (map (serialize (type_of c.args.self.now.schema.now c.args.few.now.id)) vs))
       c.loop-i.out.items c.append_row_body.new.out.items c.loop-i.rows c.next-row.new.self
       c.next-row.result.nodes (c.loop-i.invariant.4 vs are front at is)
       (omega (arith, are.many, c.loop-i-test.true)) c.requires.variable
@@ -768,19 +771,19 @@ append_sequence-returns-in-Some-clause-kept g t c = c.append_packed.ensures.kept
 pub append_sequence-returns-in_err-make_room-in-None-clause-kept :
     goal.append_sequence-returns-in_err-make_room-in-None-clause-kept
 append_sequence-returns-in_err-make_room-in-None-clause-kept g t c =
-    subst (Extends c.args.out.now.items) (sym c.make_room.ensures)
+    subst (ExtendsBytes c.args.out.now.items) (sym c.make_room.ensures)
     (Extends-same c.args.out.now.items)
 
 pub append_sequence-returns-in_err-append_heads-in-None-clause-kept :
     goal.append_sequence-returns-in_err-append_heads-in-None-clause-kept
 append_sequence-returns-in_err-append_heads-in-None-clause-kept g t c =
-    subst (λ old. Extends old c.append_heads.new.out.items) c.make_room.ensures
+    subst (λ old. ExtendsBytes old c.append_heads.new.out.items) c.make_room.ensures
     c.append_heads.ensures.kept
 
 pub append_sequence-returns-in_ok-append_heads-in-None-clause-kept :
     goal.append_sequence-returns-in_ok-append_heads-in-None-clause-kept
 append_sequence-returns-in_ok-append_heads-in-None-clause-kept g t c =
-    subst (λ old. Extends old c.append_bodies.new.out.items) c.make_room.ensures
+    subst (λ old. ExtendsBytes old c.append_bodies.new.out.items) c.make_room.ensures
     (c.append_bodies.ensures.kept c.make_room.new.out.items
     (omega (arith, c.len-start.ensures, c.make_room.new.out.ok.0)) c.append_heads.ensures.kept)
 
@@ -888,7 +891,7 @@ append_heads-returns-in-Some-clause-value g t c =
     let types = c.args.self.now.schema.now in
     subst (λ id. ForElements (type_of types id) c.args.top.depth c.args.count
     (tree_of c.args.self.now.arena.now c.args.top.node)
-    (λ vs. Adds (rooms (alike (type_of types id) vs) (map (enc (type_of types id)) vs))
+    (λ vs. AddsBytes (rooms (alike (type_of types id) vs) (map (serialize (type_of types id)) vs))
     c.args.out.now.items c.append_containers.new.out.items c.append_containers.result))
     (c.of.ensures.same c.in-Some.few c.in-Some.is) c.append_containers.ensures.value
 
@@ -911,6 +914,7 @@ append_bodies-returns-in-Some-of-clause-value g t c =
     let types = c.args.self.now.schema.now in
     subst (λ id. ForElements (type_of types id) c.args.top.depth c.args.count
     (tree_of c.args.self.now.arena.now c.args.top.node)
-    (λ vs. FillsAll (alike (type_of types id) vs) (map (enc (type_of types id)) vs) c.args.start
+    (λ vs. FillsAll (alike (type_of types id) vs)
+    (map (serialize (type_of types id)) vs) c.args.start
     c.args.out.now.items c.append_rows.new.out.items c.append_rows.result))
     (c.of.ensures.same c.in-Some-of.few c.in-Some-of.is) c.append_rows.ensures.value

@@ -5,11 +5,11 @@ use Rattle.ssz_schema.specs.Unfolding.{type_of, fields_over}
 use Rattle.ssz_schema.specs.declared.format.Format.{Format}
 use Rattle.ssz_schema.specs.Legal.{AreLegalFields}
 use Rattle.ssz_value.specs.Values.{SszValue}
-use Rattle.ssz_value.specs.Encoding.{enc, heads, bodies, field_encodings}
+use Rattle.ssz_value.specs.Encoding.{serialize, heads, bodies, field_encodings}
 use Rattle.ssz_arena.specs.Content.{tree_of}
-use Rattle.ssz_nodes.specs.Ahead.{AreNodes}
+use Rattle.ssz_nodes.specs.Ahead.{AheadAreNodes}
 use Rattle.ssz_writing.specs.Rows.{AreRows, IsRowOf}
-use Rattle.ssz_nodes.specs.Shown.{AreElements, AreFields, Extends}
+use Rattle.ssz_nodes.specs.Shown.{AreElements, AreFieldsIn, ExtendsBytes}
 use Rattle.ssz_writing.specs.Offsets.{KeepsUpTo, rooms}
 use Rattle.ssz_writing.proofs.Written.{alike, HeadsSoFar, BodiesSoFar}
 use Rattle.ssz_writing.proofs.RowsWritten.{RowsSoFar, RowBodiesSoFar}
@@ -75,18 +75,18 @@ decreases-append_sequence g l = 16 * l.elem + 10
 
 abbrev pub invariant-append_heads-loop-i : goal.invariant-append_heads-loop-i
 invariant-append_heads-loop-i g l =
-    AreNodes l.self.arena.now l.places
-    × Extends l.initial.out.items l.out.items
+    AheadAreNodes l.self.arena.now l.places
+    × ExtendsBytes l.initial.out.items l.out.items
     × ((vs : List SszValue)
     → AreElements (type_of l.self.schema.now l.elem) l.fn.top.depth l.count vs
     (tree_of l.self.arena.now l.fn.top.node)
     → HeadsSoFar l.self.arena.now (type_of l.self.schema.now l.elem) vs l._i
     (l.initial.out.items ++ rooms (alike (type_of l.self.schema.now l.elem) vs)
-    (map (enc (type_of l.self.schema.now l.elem)) vs)) l.out.items l.places)
+    (map (serialize (type_of l.self.schema.now l.elem)) vs)) l.out.items l.places)
 
 abbrev pub invariant-append_bodies-loop-i : goal.invariant-append_bodies-loop-i
 invariant-append_bodies-loop-i g l =
-    AreNodes l.self.arena.now l.places
+    AheadAreNodes l.self.arena.now l.places
     × (l.start ≤ l.room)
     × KeepsUpTo l.start l.initial.out.items l.out.items
     × ((vs : List SszValue)
@@ -94,19 +94,19 @@ invariant-append_bodies-loop-i g l =
     (tree_of l.self.arena.now l.fn.top.node)
     → (front : List ℕ) → length front ≡ l.start
     → l.initial.out.items ≡ front ++ rooms (alike (type_of l.self.schema.now l.elem) vs)
-    (map (enc (type_of l.self.schema.now l.elem)) vs)
+    (map (serialize (type_of l.self.schema.now l.elem)) vs)
     → BodiesSoFar l.self.arena.now (type_of l.self.schema.now l.elem) vs l._i l.start l.room
     (front ++ heads (alike (type_of l.self.schema.now l.elem) vs)
-    (map (enc (type_of l.self.schema.now l.elem)) vs) (length l.initial.out.items - l.start)
+    (map (serialize (type_of l.self.schema.now l.elem)) vs) (length l.initial.out.items - l.start)
     ++ bodies (alike (type_of l.self.schema.now l.elem) vs)
-    (map (enc (type_of l.self.schema.now l.elem)) vs))
+    (map (serialize (type_of l.self.schema.now l.elem)) vs))
     l.out.items l.places)
 
 abbrev pub invariant-append_field_heads-loop-i : goal.invariant-append_field_heads-loop-i
 invariant-append_field_heads-loop-i g l =
-    Extends l.initial.out.items l.out.items
+    ExtendsBytes l.initial.out.items l.out.items
     × ((vs : List SszValue)
-    → AreFields (fields_over l.self.schema.now.trees l.fields) l.fn.top.depth vs
+    → AreFieldsIn (fields_over l.self.schema.now.trees l.fields) l.fn.top.depth vs
     (tree_of l.self.arena.now l.fn.top.node)
     → FieldHeads l.self.schema.now.trees l.fields l.i l.fn.top.depth
     (l.initial.out.items ++ rooms (part_sizes (fields_over l.self.schema.now.trees l.fields))
@@ -119,7 +119,7 @@ invariant-append_field_bodies-loop-i g l =
     × KeepsUpTo l.start l.initial.out.items l.out.items
     × ((format : Format) → AreLegalFields format (fields_over l.self.schema.now.trees l.fields)
     → (vs : List SszValue)
-    → AreFields (fields_over l.self.schema.now.trees l.fields) l.fn.top.depth vs
+    → AreFieldsIn (fields_over l.self.schema.now.trees l.fields) l.fn.top.depth vs
     (tree_of l.self.arena.now l.fn.top.node)
     → (front : List ℕ) → length front ≡ l.start
     → l.initial.out.items ≡ front ++ rooms (part_sizes
@@ -137,21 +137,21 @@ abbrev pub invariant-append_containers-loop-i : goal.invariant-append_containers
 invariant-append_containers-loop-i g l =
     AreRows l.self.arena.now l.rows
     × (l.rows.depth ≡ depth (type_of l.self.schema.now l.few.id))
-    × Extends l.initial.out.items l.out.items
+    × ExtendsBytes l.initial.out.items l.out.items
     × ((vs : List SszValue)
     → AreElements (type_of l.self.schema.now l.few.id) l.fn.top.depth l.count vs
     (tree_of l.self.arena.now l.fn.top.node)
     → RowsSoFar l.self.arena.now (type_of l.self.schema.now l.few.id) vs l._i
     (l.initial.out.items ++ rooms (alike (type_of l.self.schema.now l.few.id) vs)
-    (map (enc (type_of l.self.schema.now l.few.id)) vs)) l.out.items l.rows)
+    (map (serialize (type_of l.self.schema.now l.few.id)) vs)) l.out.items l.rows)
 
 abbrev pub invariant-append_row_heads-loop-i : goal.invariant-append_row_heads-loop-i
 invariant-append_row_heads-loop-i g l =
-    Extends l.initial.out.items l.out.items
+    ExtendsBytes l.initial.out.items l.out.items
     × ((node : Tree) → IsRowOf l.self.arena.now (depth (type_of l.self.schema.now l.few.id)) node
     l.row.nodes
     → (vs : List SszValue)
-    → AreFields (fields_over l.self.schema.now.trees l.few.fields.now)
+    → AreFieldsIn (fields_over l.self.schema.now.trees l.few.fields.now)
     (depth (type_of l.self.schema.now l.few.id)) vs node
     → FieldHeads l.self.schema.now.trees l.few.fields.now l.i
     (depth (type_of l.self.schema.now l.few.id))
@@ -168,7 +168,7 @@ invariant-append_row_bodies-loop-i g l =
     → (node : Tree) → IsRowOf l.self.arena.now (depth (type_of l.self.schema.now l.few.id)) node
     l.row.nodes
     → (vs : List SszValue)
-    → AreFields (fields_over l.self.schema.now.trees l.few.fields.now)
+    → AreFieldsIn (fields_over l.self.schema.now.trees l.few.fields.now)
     (depth (type_of l.self.schema.now l.few.id)) vs node
     → (front : List ℕ) → length front ≡ l.start
     → l.initial.out.items ≡ front ++ rooms (part_sizes
@@ -193,10 +193,10 @@ invariant-append_rows-loop-i g l =
     (tree_of l.self.arena.now l.fn.top.node)
     → (front : List ℕ) → length front ≡ l.start
     → l.initial.out.items ≡ front ++ rooms (alike (type_of l.self.schema.now l.few.id) vs)
-    (map (enc (type_of l.self.schema.now l.few.id)) vs)
+    (map (serialize (type_of l.self.schema.now l.few.id)) vs)
     → RowBodiesSoFar l.self.arena.now (type_of l.self.schema.now l.few.id) vs l._i l.start l.room
     (front ++ heads (alike (type_of l.self.schema.now l.few.id) vs)
-    (map (enc (type_of l.self.schema.now l.few.id)) vs) (length l.initial.out.items - l.start)
+    (map (serialize (type_of l.self.schema.now l.few.id)) vs) (length l.initial.out.items - l.start)
     ++ bodies (alike (type_of l.self.schema.now l.few.id) vs)
-    (map (enc (type_of l.self.schema.now l.few.id)) vs))
+    (map (serialize (type_of l.self.schema.now l.few.id)) vs))
     l.out.items l.rows)

@@ -1,0 +1,166 @@
+// One line of a script.
+ghost use Rattle.std.specs.Prelude.{◌≡◌, ◌≤◌, ◌+◌, ◌∷◌, ◌++◌, [], false, Some, None, Err, IfOk, IfErr, IfSome, OnOk, OnErr};
+ghost use Rattle.ssz_arena.specs.Content.{unhashed};
+ghost use Rattle.ssz_outside.specs.Job.{IsFinished};
+ghost use Rattle.ssz_script.specs.Texts.{reply_line};
+ghost use Rattle.ssz_script.specs.declared.reply.TheConstants.Reply.{SYNTAX};
+ghost use Rattle.ssz_machine.specs.Plays.{line_prefix, mark, says};
+ghost use Rattle.ssz_engine.specs.Lines.{CountsPrint, DoesLine, LeavesOthers, PrintsLine, ended_by, Tries};
+ghost use Rattle.ssz_decisions.specs.Standing.{StaysFor};
+ghost use Rattle.ssz_engine.specs.Steps.{is_refusal};
+ghost use Rattle.ssz_decisions.specs.Roots.{LeavesHashed, HashesSome};
+ghost use Rattle.ssz_engine.specs.Tops.{TopsWhere};
+ghost use Rattle.ssz_engine.specs.Points.{Runs};
+ghost use Rattle.ssz_engine.specs.Scripts.{point, scene};
+
+use super::engine::Engine;
+use ssz_chunk::PairHash;
+use ssz_decisions::{EngineFault, Outcome};
+use ssz_machine::Place;
+use ssz_outside::{Files, PutFault, Sink, Status};
+use ssz_script::{Reply, ScriptStatement, reply_text};
+use ssz_versions::Writer;
+use std::alloc::AllocError;
+
+/// The writer of the script that a weave begins with.
+pub(crate) const BASE: Writer = Writer(255);
+
+// Appends the mark of a writer's lines in a weave.
+fn push_mark(writer: Writer, out: &mut Vec<u8>) -> Result<(), AllocError>
+    ensures { OnOk result (out.new.items ≡ out.old.items ++ mark writer.0) }
+{
+    if writer == BASE {
+        return out.extend_from_slice(b"base: ");
+    }
+    let number = writer.0.to_string(*out.allocator())?;
+    out.extend_from_slice(number.as_bytes())?;
+    out.extend_from_slice(b": ")
+}
+
+// Appends what stands before a reply to a writer.
+fn push_front(place: Place, writer: Writer, out: &mut Vec<u8>) -> Result<(), AllocError>
+    ensures { OnOk result (out.new.items ≡ out.old.items ++ line_prefix place writer.0) }
+{
+    match place {
+        Place::Run => Ok(()),
+        Place::Weave => push_mark(writer, out),
+    }
+}
+
+// Appends the line that refuses what is no statement. Fails for want of memory.
+fn refuse(line: u64, out: &mut Vec<u8>) -> Result<Outcome, AllocError>
+    ensures refused { IfOk result (λ made. made ≡ Outcome.Refused) }
+    ensures text { OnOk result
+        (out.new.items ≡ out.old.items ++ reply_line (Reply.Refused line SYNTAX None)) }
+{
+    let refused = Reply::Refused {
+        line,
+        code: Reply::SYNTAX,
+        fault: None,
+    };
+    reply_text(&refused, out)?;
+    Ok(Outcome::Refused)
+}
+
+/// Does what a line of a writer says, and appends the line of the reply. A literal of 2^32 bytes or
+/// more is want of memory.
+pub(crate) fn reply_to<F: Files, H: PairHash>(
+    engine: &mut Engine<H>,
+    place: Place,
+    writer: Writer,
+    line: &ScriptStatement,
+    files: &mut F,
+    hasher: &mut H,
+    out: &mut Vec<u8>,
+) -> Result<Outcome, EngineFault>
+    ensures tries { Tries ((line.now.line, line.now.statement) ∷ []) result
+        (point F.Files H.PairHash engine.old files.old hasher.old)
+        (point F.Files H.PairHash engine.new files.new hasher.new) }
+    ensures hashed { H.pairs hasher.new ≤ H.pairs hasher.old + unhashed engine.old.arena }
+    ensures does { DoesLine H.pair_of place writer.0 (line.now.line, line.now.statement) result
+        (point F.Files H.PairHash engine.old files.old hasher.old)
+        (point F.Files H.PairHash engine.new files.new hasher.new) out.old.items out.new.items }
+    ensures others { LeavesOthers writer.0 engine.old.entries engine.new.entries }
+    ensures stays { OnErr result (StaysFor engine.old engine.new) }
+    ensures roots { IfOk result (λ made. IfSome line.now.statement (λ statement.
+        LeavesHashed statement writer.0 engine.new)) }
+    ensures tops { IfOk result (λ made. IfSome line.now.statement (λ statement.
+        TopsWhere made statement writer.0 engine.old engine.new)) }
+    ensures some { OnOk result (IfSome line.now.statement (λ statement.
+        HashesSome statement writer.0 engine.old (H.pairs hasher.old) (H.pairs hasher.new))) }
+{
+    let Some(statement) = &line.statement else {
+        return Ok(refuse(line.line, out)?);
+    };
+    if !statement.has_short_literal() {
+        return Err(EngineFault::Memory);
+    }
+    engine.step(writer, place, line.line, statement, files, hasher, out)
+}
+
+/// The status of a run that a line ended.
+pub(crate) fn status_of(fault: EngineFault) -> Status
+    ensures value { result ≡ ended_by fault }
+    ensures stops { ¬ IsFinished result }
+{
+    match fault {
+        EngineFault::Read => Status::ReadFault,
+        EngineFault::Write => Status::WriteFault,
+        EngineFault::Memory => Status::Memory,
+    }
+}
+
+/// Prints a line in one piece.
+pub(crate) fn print<S: Sink>(line: &[u8], out: &mut S) -> Result<(), Status>
+    ensures pieces { PrintsLine result line.now (S.pieces out.old) (S.pieces out.new) }
+    ensures counts { CountsPrint result (S.faults out.old) (S.faults out.new) }
+    ensures memory { result ≡ Err Status.Memory → S.ample out.old ≡ false }
+    ensures ample { S.ample out.new ≡ S.ample out.old }
+    ensures stops { IfErr result (λ ended. ¬ IsFinished ended) }
+{
+    match out.put(line) {
+        Ok(()) => Ok(()),
+        Err(PutFault::Failed) => Err(Status::WriteFault),
+        Err(PutFault::Memory) => Err(Status::Memory),
+    }
+}
+
+// Whether a line was refused.
+fn is_refusal(made: Outcome) -> bool
+    ensures { result ≡ is_refusal made }
+{
+    match made {
+        Outcome::Accepted => false,
+        Outcome::Refused => true,
+    }
+}
+
+/// Does a line of a writer and prints its reply. `refused` becomes true where the line is refused.
+pub(crate) fn run_line<F: Files, S: Sink, H: PairHash>(
+    engine: &mut Engine<H>,
+    place: Place,
+    writer: Writer,
+    line: &ScriptStatement,
+    files: &mut F,
+    out: &mut S,
+    hasher: &mut H,
+    refused: &mut bool,
+) -> Result<(), Status>
+    ensures runs { Runs H.pair_of place (says writer.0 (line.now.line, line.now.statement) ∷ [])
+        result refused.old refused.new
+        (scene F.Files S.Sink H.PairHash engine.old files.old out.old hasher.old)
+        (scene F.Files S.Sink H.PairHash engine.new files.new out.new hasher.new) }
+    ensures others { LeavesOthers writer.0 engine.old.entries engine.new.entries }
+{
+    let mut text = Vec::new(engine.store.alloc);
+    if push_front(place, writer, &mut text).is_err() {
+        return Err(Status::Memory);
+    }
+    match reply_to(engine, place, writer, line, files, hasher, &mut text) {
+        Ok(made) => {
+            *refused = is_refusal(made) | *refused;
+            print(text.as_slice(), out)
+        }
+        Err(fault) => Err(status_of(fault)),
+    }
+}
