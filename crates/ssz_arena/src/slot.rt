@@ -1,7 +1,8 @@
 // Where a node is kept, in 40 bytes.
-ghost use Rattle.std.specs.Prelude.{◌≡◌, Some};
+ghost use Rattle.std.specs.Prelude.{◌≡◌, false, None, Some, IfNone, IfSome};
 ghost use Rattle.ssz_chunk.specs.declared.Chunk.{Chunk};
 ghost use Rattle.ssz_arena.specs.Batches.{left_child, right_child};
+ghost use Rattle.ssz_arena.specs.declared.node.Node.TheVariants.{Pair};
 ghost use Rattle.ssz_arena.specs.Content.{is_unhashed};
 ghost use Rattle.ssz_arena.specs.Slots.{IsShort, chunk_of};
 
@@ -96,6 +97,22 @@ impl Slot {
             return true;
         }
         false
+    }
+
+    // The children of a pair that has no root yet.
+    #[inline(always)]
+    pub(crate) fn due_children(&self) -> Option<(NodeId, NodeId)>
+        ensures some { IfSome result (λ kids. self.now ≡ Pair kids.0 kids.1 None) }
+        ensures short { IfSome result (λ kids. IsShort (Pair kids.0 kids.1 None)) }
+        ensures none { IfNone result (is_unhashed self.now ≡ false) }
+    {
+        if self.left >= MARK {
+            return None;
+        }
+        if self.right >= MARK {
+            return Some((NodeId(self.left), NodeId(self.right - MARK)));
+        }
+        None
     }
 
     // The children of a pair.
