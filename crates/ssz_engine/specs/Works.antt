@@ -86,9 +86,9 @@ pub record AreBroken (turns : List Turn) (fault : EngineFault) (before after : P
     pub done : List Turn
     pub next : Turn
     pub left : List Turn
-    pub all : turns ≡ turn_done ++ next ∷ left
+    pub all : turns ≡ done ++ next ∷ left
     pub stands : StandsFor after.engine next.before.versions
-    pub paid : after.hashed ≤ before.hashed + unhashed before.engine.arena + charges turn_done
+    pub paid : after.hashed ≤ before.hashed + unhashed before.engine.arena + charges done
 
 -- They were made, with an answer of which this is so, or there was no memory for them.
 abbrev pub Works : {T : Type 0} → Result T EngineFault → Worked → (T → Type 0) → Point → Point
@@ -125,9 +125,9 @@ before_of last (turn ∷ turns) = turn.before
 pub record StopsAmong (turns : List Turn) (last : State) (owed : ℕ) (after : Scene) : Type 0 where
   pub done : List Turn
   pub left : List Turn
-  pub all : turns ≡ turn_done ++ left
+  pub all : turns ≡ done ++ left
   pub stands : StandsFor after.engine (before_of last left).versions
-  pub paid : after.hashed ≤ owed + charges turn_done
+  pub paid : after.hashed ≤ owed + charges done
 
 -- A work from a first state ended, as its job does.
 pub record EndsWorkFrom (rules : Rules) (type_name : Name) (seed count : ℕ) (first : State)
