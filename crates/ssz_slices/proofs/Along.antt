@@ -17,7 +17,6 @@ use Rattle.ssz_value.specs.Reading.{value_in}
 use Rattle.ssz_value.specs.Sizes.{size}
 use Rattle.ssz_value.specs.Parts.{part, step_part, or_absent}
 use Rattle.ssz_value.proofs.Agree.{IsInput, IsInput-range}
-use Rattle.ssz_places.proofs.PathLaws.{step_legal}
 use Rattle.ssz_slices.specs.declared.held.Held.{Held}
 use Rattle.ssz_slices.specs.declared.held.Held.TheVariants.{Bytes, Bit, Count}
 use Rattle.ssz_value.specs.declared.path_fault.PathFault.{PathFault}
@@ -273,31 +272,20 @@ rest_at path i step below is =
     ∙ ap₂ (λ s ss. s ∷ ss) (sym is)
     (ap (λ n. drop n path) (let next : suc i ≡ i + 1 = omega arith in next))
 
--- the type that a schema answers at a step is legal
-pub legal_next : (types : Types) (id next : ℕ) (step : PathStep) (found : Option ℕ)
-    → IsLegal types.format (type_of types id)
-    → option_map (type_of types) found ≡ step_type (type_of types id) step → found ≡ Some next
-    → IsLegal types.format (type_of types next)
-legal_next types id next step found legal exact is =
-    step_legal types.format (type_of types id) step (type_of types next) legal
-    (sym exact ∙ ap (option_map (type_of types)) is)
-
--- the step of a path that a schema answers
+-- the next step of a path, that fits
 pub along-next : (types : Types) (whole : Part) (path : Path) (id next i : ℕ)
-    (held answer : Option Held) (step : PathStep) (found : Option ℕ)
+    (held answer : Option Held) (step : PathStep)
     → IsLegal types.format (type_of types id) → IsInput whole.input
     → IsAlong whole path (type_of types id) held (drop i path) → i < length path
-    → step ≡ get_or path i step
-    → option_map (type_of types) found ≡ step_type (type_of types id) step → found ≡ Some next
+    → step ≡ get_or path i step → step_type (type_of types id) step ≡ Some (type_of types next)
     → answer ≡ held_from (type_of types id) whole.input step held
     → IsAlong whole path (type_of types next) answer (drop (i + 1) path)
-along-next types whole path id next i held answer step found legal input along below item exact is
-    answered =
+along-next types whole path id next i held answer step legal input along below item fits answered =
     let t = type_of types id in
     let here = subst (IsAlong whole path t held) (rest_at path i step below item) along in
     subst (λ h. IsAlong whole path (type_of types next) h (drop (i + 1) path)) (sym answered)
     (along-step types.format whole path t (type_of types next) held step (drop (i + 1) path) legal
-    input here (sym exact ∙ ap (option_map (type_of types)) is))
+    input here fits)
 
 pub present_holds : (whole : Part) (path : Path) (t : SszType) (held : Option Held) (rest : Path)
     → IsAlong whole path t held rest → IfSome held (HeldHasType t whole.input)

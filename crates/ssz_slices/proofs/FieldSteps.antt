@@ -1,21 +1,20 @@
--- The field of a name, among the fields of a type of a schema.
-use Rattle.std.proofs.Common.{ℕ, ◌<◌, ◌≡◌, Bool, cond, List, length, get_or, Some, None, Vec, Global, bytes_eq, is_some, sym, ap, ◌∙◌, subst}
-use Rattle.std.specs.List.{AllByRecursion, position_from}
+-- The fields of a type of a schema, by their numbers.
+use Rattle.std.proofs.Common.{ℕ, suc, ◌<◌, ◌≡◌, cond, List, [], ◌∷◌, length, Some, None, Vec, Global, is_some, refl, sym, ap, ◌∙◌, subst}
+use Rattle.std.specs.List.{AllByRecursion}
+use Rattle.ssz_schema.specs.declared.lead.Lead.{Lead}
 use Rattle.ssz_schema.specs.declared.path.PathStep.TheVariants.{Field}
 use Rattle.ssz_schema.specs.declared.ty.Ty.{Ty}
 use Rattle.ssz_schema.specs.declared.ty.Ty.TheVariants.{Container}
-use Rattle.ssz_schema.specs.Types.{container}
+use Rattle.ssz_schema.specs.Types.{SszType, uint, boolean, container, vector, list, bitvector, bitlist, union}
 use Rattle.ssz_schema.specs.Sizes.{part_sizes}
-use Rattle.ssz_schema.specs.Unfolding.{Types, type_tree_at, type_of, tree_over, fields_over, AreBelow}
+use Rattle.ssz_schema.specs.Unfolding.{Types, type_of, tree_over, fields_over, AreBelow}
 use Rattle.ssz_schema.specs.Paths.{step_type, field_number}
-use Rattle.ssz_schema.proofs.StepLemmas.{found_field, missing_field}
+use Rattle.ssz_schema.specs.Steps.{lead_number, IsLead}
 use Rattle.ssz_value.specs.Faults.{first_fault, head_fault, fields_fault, scopes}
 use Rattle.ssz_value.proofs.Agree.{no_faults}
-use Rattle.ssz_value.proofs.PartLemmas.{Part, part_known, known_weaker}
-use Rattle.ssz_slices.specs.Held.{held_at_step, stretch, field_range}
-
-abbrev pub has_name : List ℕ → Part → Bool
-has_name name part = bytes_eq part.0 name
+use Rattle.ssz_value.proofs.PartLemmas.{Part, sizes_of, known_weaker}
+use Rattle.ssz_slices.specs.Held.{held_at_step, stretch, field_sizes, field_range}
+use Rattle.ssz_slices.proofs.FieldParts.{field_below}
 
 -- these are the fields of the type
 pub record AreFieldsOf (types : Types) (id : ℕ) (parts : List Part) : Type 0 where
@@ -40,53 +39,57 @@ head_of types id parts b are h =
     (no_faults (head_fault (part_sizes fs) 0 b) (fields_fault fs 0 (scopes (part_sizes fs) 0 b))
     (ap (λ t. first_fault t 0 b) are.type ∙ h)).0
 
-pub found_below : (types : Types) (parts : List Part) (name : List ℕ) (k : ℕ)
-    → Some k ≡ position_from (has_name name) 0 parts → k < length parts
-found_below types parts name k at = (found_field types.trees parts name k (sym at)).below
+many_sizes : (trees : List SszType) (parts : List Part)
+    → length (sizes_of trees parts) ≡ length parts
+many_sizes trees [] = refl
+many_sizes trees (p ∷ parts) = ap suc (many_sizes trees parts)
 
-pub found_known : (types : Types) (id : ℕ) (parts : List Part) (k : ℕ) (part : Part)
-    → AreFieldsOf types id parts → k < length parts → part ≡ get_or parts k part
-    → (get_or parts k part).1 < length types.trees
-found_known types id parts k part are below is =
-    subst (λ (p : Part). p.1 < length types.trees) is
-    (part_known (length types.trees) parts k part below is are.known)
+pub sizes_are : (types : Types) (id : ℕ) (parts : List Part) → AreFieldsOf types id parts
+    → part_sizes (fields_over types.trees parts) ≡ field_sizes (type_of types id)
+sizes_are types id parts are = ap field_sizes are.type
 
-pub found_type : (types : Types) (id : ℕ) (parts : List Part) (name : List ℕ) (k : ℕ)
-    (part : Part) → AreFieldsOf types id parts
-    → Some k ≡ position_from (has_name name) 0 parts → part ≡ get_or parts k part
-    → Some (type_of types (get_or parts k part).1) ≡ step_type (type_of types id) (Field name)
-found_type types id parts name k part are at is =
-    ap (λ (p : Part). Some (type_tree_at types.trees p.1)) (sym is)
-    ∙ sym ((found_field types.trees parts name k (sym at)).type part is)
-    ∙ ap (λ t. step_type t (Field name)) are.type
+pub number_below : (types : Types) (id : ℕ) (parts : List Part) (k : ℕ)
+    → AreFieldsOf types id parts → k < length (field_sizes (type_of types id)) → k < length parts
+number_below types id parts k are below =
+    subst (λ n. k < n) (sym (ap length (sizes_are types id parts are))
+    ∙ many_sizes types.trees parts) below
 
-pub found_held : (types : Types) (id : ℕ) (parts : List Part) (name : List ℕ) (k : ℕ)
-    (part : Part) (range : ℕ × ℕ) (b : List ℕ) → AreFieldsOf types id parts
-    → Some k ≡ position_from (has_name name) 0 parts → part ≡ get_or parts k part
-    → range ≡ field_range (part_sizes (fields_over types.trees parts)) k b
-    → Some (stretch range) ≡ held_at_step (type_of types id) b (Field name)
-found_held types id parts name k part range b are at is there =
-    let fs = fields_over types.trees parts in
-    let here = found_field types.trees parts name k (sym at) in
-    ap (λ r. Some (stretch r)) (there ∙ ap (λ n. field_range (part_sizes fs) n b) (sym here.number))
-    ∙ ap (λ o. cond (is_some o)
-    (Some (stretch (field_range (part_sizes fs) (field_number fs name) b))) None)
-    (sym (here.type part is))
-    ∙ ap (λ t. held_at_step t b (Field name)) are.type
+-- a step to a field leads to one of them
+named_below : (t u : SszType) (name : List ℕ) → step_type t (Field name) ≡ Some u
+    → lead_number (Field name) t < length (field_sizes t)
+named_below (container fs) u name e = field_below fs name u e
+named_below (uint w) u name e = cc
+named_below boolean u name e = cc
+named_below (vector elem n) u name e = cc
+named_below (list elem limit) u name e = cc
+named_below (bitvector n) u name e = cc
+named_below (bitlist limit) u name e = cc
+named_below (union os) u name e = cc
 
-pub missing_type : (types : Types) (id : ℕ) (parts : List Part) (name : List ℕ)
-    → AreFieldsOf types id parts → None ≡ position_from (has_name name) 0 parts
-    → None ≡ step_type (type_of types id) (Field name)
-missing_type types id parts name are at =
-    sym (missing_field types.trees parts name (sym at))
-    ∙ ap (λ t. step_type t (Field name)) are.type
-
-pub missing_held : (types : Types) (id : ℕ) (parts : List Part) (name : List ℕ) (b : List ℕ)
-    → AreFieldsOf types id parts → None ≡ position_from (has_name name) 0 parts
-    → None ≡ held_at_step (type_of types id) b (Field name)
-missing_held types id parts name b are at =
-    let fs = fields_over types.trees parts in
+named_held : (t u : SszType) (name b : List ℕ) → step_type t (Field name) ≡ Some u
+    → Some (stretch (field_range (field_sizes t) (lead_number (Field name) t) b))
+    ≡ held_at_step t b (Field name)
+named_held (container fs) u name b e =
     ap (λ o. cond (is_some o)
-    (Some (stretch (field_range (part_sizes fs) (field_number fs name) b))) None)
-    (sym (missing_field types.trees parts name (sym at)))
-    ∙ ap (λ t. held_at_step t b (Field name)) are.type
+    (Some (stretch (field_range (part_sizes fs) (field_number fs name) b))) None) (sym e)
+named_held (uint w) u name b e = cc
+named_held boolean u name b e = cc
+named_held (vector elem n) u name b e = cc
+named_held (list elem limit) u name b e = cc
+named_held (bitvector n) u name b e = cc
+named_held (bitlist limit) u name b e = cc
+named_held (union os) u name b e = cc
+
+pub led_below : (types : Types) (id : ℕ) (name : List ℕ) (lead : Lead)
+    → IsLead types id (Field name) lead → lead.number < length (field_sizes (type_of types id))
+led_below types id name lead led =
+    subst (λ k. k < length (field_sizes (type_of types id))) (sym led.number)
+    (named_below (type_of types id) (type_of types lead.part) name led.typed)
+
+pub led_held : (types : Types) (id : ℕ) (name b : List ℕ) (lead : Lead)
+    → IsLead types id (Field name) lead
+    → Some (stretch (field_range (field_sizes (type_of types id)) lead.number b))
+    ≡ held_at_step (type_of types id) b (Field name)
+led_held types id name b lead led =
+    ap (λ k. Some (stretch (field_range (field_sizes (type_of types id)) k b))) led.number
+    ∙ named_held (type_of types id) (type_of types lead.part) name b led.typed

@@ -1,5 +1,5 @@
 -- What a slice holds of its part, and where a step leads from it.
-use Rattle.std.specs.Prelude.{ℕ, ◌≡◌, ◌+◌, ◌-◌, ◌*◌, ◌/◌, ◌%◌, ◌^◌, ◌==◌, ◌<◌, ◌≤◌, nat_lt, if◌then◌else◌, is_some, List, length, replicate, take, drop, slice_range, slice_index, slice_index_or, Option, Some, None, option_map}
+use Rattle.std.specs.Prelude.{ℕ, ◌≡◌, ◌+◌, ◌-◌, ◌*◌, ◌/◌, ◌%◌, ◌^◌, ◌==◌, ◌<◌, ◌≤◌, nat_lt, if◌then◌else◌, is_some, List, [], length, replicate, take, drop, slice_range, slice_index, slice_index_or, Option, Some, None, option_map}
 use Rattle.ssz_schema.specs.declared.path.PathStep.{PathStep}
 use Rattle.ssz_schema.specs.declared.path.PathStep.TheVariants.{Field, Index, Len, Selector, Option as Chosen}
 use Rattle.ssz_schema.specs.declared.width.Width.TheVariants.{W64}
@@ -45,6 +45,11 @@ HeldHasType t b (Count n) = t ≡ uint W64
 
 abbrev pub stretch : ℕ × ℕ → Held
 stretch range = Bytes range.0 range.1
+
+-- the sizes of the fields of a container
+abbrev pub field_sizes : SszType → List (Option ℕ)
+field_sizes (container fs) = part_sizes fs
+field_sizes _ = []
 
 -- from where to where field k lies, where parts of these sizes are the fields
 abbrev pub field_range : List (Option ℕ) → ℕ → List ℕ → ℕ × ℕ

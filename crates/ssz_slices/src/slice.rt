@@ -92,11 +92,11 @@ impl<'s, 'b> Slice<'s, 'b> {
         let mut id = self.id;
         let mut held = Some(self.held);
         for step in path {
-            let Some(next) = self.schema.step_type(id, step) else {
+            let Some(lead) = self.schema.lead(id, step) else {
                 return Err(PathFault::BadPath);
             };
-            held = step_from(self.schema, id, step, self.input, held);
-            id = next;
+            held = step_from(self.schema, id, step, &lead, self.input, held);
+            id = lead.part;
         }
         match held {
             Some(held) => Ok(Slice {
@@ -116,15 +116,16 @@ impl<'s, 'b> Slice<'s, 'b> {
         let Held::Bytes(from, to) = self.held else {
             return Err(PathFault::BadPath);
         };
-        match field_part(self.schema, self.id, name.as_bytes(), &self.input[from..to]) {
-            Some(found) => Ok(Slice {
-                schema: self.schema,
-                id: found.0,
-                input: self.input,
-                held: moved(found.1, from),
-            }),
-            None => Err(PathFault::BadPath),
-        }
+        let Some(lead) = self.schema.field_lead(self.id, name.as_bytes()) else {
+            return Err(PathFault::BadPath);
+        };
+        let part = field_part(self.schema, self.id, lead.number, &self.input[from..to]);
+        Ok(Slice {
+            schema: self.schema,
+            id: lead.part,
+            input: self.input,
+            held: moved(part, from),
+        })
     }
 
     /// The element or bit of this number. BadPath where it is not below the length of a vector or
