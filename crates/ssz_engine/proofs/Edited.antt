@@ -1,6 +1,7 @@
 -- What an edit of a version answers, by what the edit of its node answered.
 use Rattle.std.specs.Prelude.{OnErr}
 use Rattle.std.proofs.Common.{Bor, ◌≡◌, ◌≤◌, ◌+◌, ◌*◌, length, ℕ, List, Some, Result, Ok, Err, IfOk, refl, sym, ap, subst, ◌∙◌, arith}
+use Rattle.std.specs.declared.alloc.AllocError.{AllocError}
 use Rattle.ssz_bytes.specs.declared.fault.Fault.{Fault}
 use Rattle.ssz_schema.specs.Types.{SszType}
 use Rattle.ssz_schema.specs.Unfolding.{Types, type_of}
@@ -24,7 +25,6 @@ use Rattle.ssz_decisions.specs.Decisions.{AnswersWith}
 use Rattle.ssz_engine.specs.Finished.{finished_edit, FinishesEdit}
 use Rattle.ssz_decisions.specs.Standing.{AreVersions, Match}
 use Rattle.ssz_decisions.specs.declared.decision.Decision.{Decision}
-use Rattle.ssz_decisions.specs.declared.fault.EngineFault.{EngineFault}
 use Rattle.ssz_decisions.specs.declared.decision.Decision.TheVariants.{BadBytes, Edited, Refused}
 use Rattle.ssz_decisions.proofs.Brought.{over}
 use Rattle.ssz_decisions.proofs.Showing.{held-there, tree-stands}
@@ -221,14 +221,14 @@ pub finished-answers : (pair_of : PairOf) (types : Types) (most : ℕ) (entries 
     → (edited : Result NodeId EditFault) → OnErr edited (new.nodes ≡ old.nodes)
     → ((value : SszValue) → IsTreeOf (type_of types held.0) value (tree_of old held.1)
     → AnswersEdit (type_of types held.0) old new held.1 (charge value) (edit value) edited)
-    → (result : Result Decision EngineFault) → FinishesEdit name edited result
+    → (result : Result Decision AllocError) → FinishesEdit name edited result
     → IfOk result (AnswersWith pair_of (row name) (puts name) writer
     (over types most entries base old) (over types most entries base new))
 finished-answers pair_of types most entries base old new writer name held row edit charge is_row
     all there edited same done result (v, is, made) =
     subst (λ (n : List ℕ). IfOk result (AnswersWith pair_of (row n) (puts n) writer
     (over types most entries base old) (over types most entries base new))) is
-    (subst (λ (r : Result Decision EngineFault). IfOk r (AnswersWith pair_of (row v.now)
+    (subst (λ (r : Result Decision AllocError). IfOk r (AnswersWith pair_of (row v.now)
     (puts v.now) writer (over types most entries base old) (over types most entries base new)))
     (sym made)
     (finish-answers pair_of types most entries base old new writer v held (row v.now) edit charge

@@ -1,5 +1,6 @@
 -- An edit that makes the pair at the top anew leaves it to be hashed.
 use Rattle.std.proofs.Common.{Bor, ◌≡◌, ◌<◌, ◌≤◌, ◌∙◌, refl, ℕ, List, Option, Some, Result, Ok, Err, IfOk, sym, ap, subst, arith}
+use Rattle.std.specs.declared.alloc.AllocError.{AllocError}
 use Rattle.ssz_outside.specs.Content.{Content as Files}
 use Rattle.ssz_schema.specs.Paths.{Path}
 use Rattle.ssz_schema.specs.Unfolding.{Types, type_of}
@@ -20,7 +21,6 @@ use Rattle.ssz_decisions.specs.Carried.{IsCarriedOut}
 use Rattle.ssz_engine.specs.Tops.{HasDue, IsDue, MakesTop, Tops, TopsWhere}
 use Rattle.ssz_decisions.specs.declared.decision.Decision.{Decision}
 use Rattle.ssz_decisions.specs.declared.decision.Decision.TheVariants as decision
-use Rattle.ssz_decisions.specs.declared.fault.EngineFault.{EngineFault}
 use Rattle.ssz_decisions.specs.declared.outcome.Outcome.{Outcome}
 use Rattle.ssz_decisions.specs.declared.outcome.Outcome.TheVariants.{Accepted, Refused}
 use Rattle.ssz_decisions.proofs.Entries.{held-there-now, some_held}
@@ -108,10 +108,10 @@ finished-due arena v (Err edit_fault.Empty) due = tt
 finished-due arena v (Err edit_fault.BadSelector) due = tt
 
 pub finishes-due : (arena : Nodes) (name : Name) (edited : Result NodeId EditFault)
-    (result : Result Decision EngineFault) → IfOk edited (λ made. 0 < todo arena made)
+    (result : Result Decision AllocError) → IfOk edited (λ made. 0 < todo arena made)
     → FinishesEdit name edited result → IfOk result (IsDue arena)
 finishes-due arena name edited result due finishes =
-    subst (λ (r : Result Decision EngineFault). IfOk r (IsDue arena)) (sym finishes.2)
+    subst (λ (r : Result Decision AllocError). IfOk r (IsDue arena)) (sym finishes.2)
     (finished-due arena finishes.0 edited due)
 
 module _ (types : Types) (arena : Nodes) (entries : Entries) (writer : ℕ) (v : Name) (path : Path)

@@ -1,6 +1,7 @@
 -- A statement that was not done adds no node.
 use Rattle.std.proofs.Common.{Bor, ◌≡◌, ◌∙◌, ℕ, List, length, Option, Result, Ok, Err, sym, ap, subst}
 use Rattle.std.specs.Prelude.{OnErr}
+use Rattle.std.specs.declared.alloc.AllocError.{AllocError}
 use Rattle.ssz_outside.specs.Content.{Content as Files}
 use Rattle.ssz_value.specs.declared.edit_fault.EditFault.{EditFault}
 use Rattle.ssz_value.specs.declared.edit_fault.EditFault.TheVariants as fault
@@ -17,7 +18,6 @@ use Rattle.ssz_decisions.specs.Carried.{CanLack}
 use Rattle.ssz_engine.specs.Steps.{Decides}
 use Rattle.ssz_decisions.specs.declared.decision.Decision.{Decision}
 use Rattle.ssz_decisions.specs.declared.decision.Decision.TheVariants as decision
-use Rattle.ssz_decisions.specs.declared.fault.EngineFault.{EngineFault}
 
 -- a decision that may lack memory made none
 none-made : (made : Decision) (charge : ℕ) (old new : Nodes) → CanLack made
@@ -52,11 +52,11 @@ on-err P (Err e) is = is
 -- an edit that was not made added none
 pub edit-whole : (seen : EngineContent) (new : Nodes) (name : List ℕ)
     (edited : Result NodeId EditFault)
-    (result : Result Decision EngineFault) → FinishesEdit name edited result
+    (result : Result Decision AllocError) → FinishesEdit name edited result
     → OnErr edited (new.nodes ≡ seen.arena.nodes)
     → OnErr result (node_count new ≡ node_count seen.arena)
 edit-whole seen new name edited result is same =
-    subst (λ (r : Result Decision EngineFault).
+    subst (λ (r : Result Decision AllocError).
     OnErr r (node_count new ≡ node_count seen.arena)) (sym is.2) (by is.0 edited same)
   where
     by : (v : Bor (List ℕ)) (e : Result NodeId EditFault)

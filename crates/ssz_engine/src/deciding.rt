@@ -1,4 +1,4 @@
-ghost use Rattle.std.specs.Prelude.{◌≡◌, ◌≢◌, ◌+◌, ◌-◌, ◌≤◌, ℕ, List, Some, None, Err, false, IfOk, IfErr, OnOk, OnErr};
+ghost use Rattle.std.specs.Prelude.{◌≡◌, ◌≢◌, ◌+◌, ◌-◌, ◌≤◌, ℕ, List, Some, None, Err, false, IfOk, OnOk, OnErr};
 ghost use Rattle.ssz_arena.specs.Content.{unhashed, node_count};
 ghost use Rattle.ssz_outside.specs.Content.{CanRead};
 ghost use Rattle.ssz_script.specs.Literals.{HasShortLiteral};
@@ -24,6 +24,7 @@ use ssz_machine::Place;
 use ssz_outside::Files;
 use ssz_script::Statement;
 use ssz_versions::Writer;
+use std::alloc::AllocError;
 
 /// Finds what a statement other than `compact` comes to. Nothing is changed but that the arena may
 /// have more nodes and roots. A new statement joins here.
@@ -72,18 +73,18 @@ pub(crate) fn decide<'a, F: Files, H: PairHash>(
     match statement {
         Statement::Load(v, t, file) => { load(store, writer, v, t, file, Form::Encoding, files) }
         Statement::LoadJson(v, t, file) => load(store, writer, v, t, file, Form::Json, files),
-        _ => decide_alone(store, writer, place, statement, hasher),
+        _ => Ok(decide_alone(store, writer, place, statement, hasher)?),
     }
 }
 
-/// The same of a statement that reads no file.
+/// The same of a statement that reads no file. Fails for want of memory.
 fn decide_alone<'a, H: PairHash>(
     store: &mut Store<H>,
     writer: Writer,
     place: Place,
     statement: &'a Statement,
     hasher: &mut H,
-) -> Result<Decision<'a>, EngineFault>
+) -> Result<Decision<'a>, AllocError>
     requires short { HasShortLiteral statement.now }
     requires alone { file_read statement.now ≡ None }
     requires other { is_compact statement.now ≡ false }
@@ -91,7 +92,6 @@ fn decide_alone<'a, H: PairHash>(
     ensures decides { IfOk result (DecidesAlone H.pair_of place statement.now writer.0
         (H.pairs hasher.old - store.old.base) store.old store.new
         (H.pairs hasher.old) (H.pairs hasher.new)) }
-    ensures memory { IfErr result (λ fault. fault ≡ EngineFault.Memory) }
     ensures whole { OnErr result (node_count store.new.arena ≡ node_count store.old.arena) }
     ensures rises { H.pairs hasher.old ≤ H.pairs hasher.new }
     ensures hashed { H.pairs hasher.new ≤ H.pairs hasher.old + unhashed store.old.arena }
@@ -107,18 +107,18 @@ fn decide_alone<'a, H: PairHash>(
     ensures roots { IfOk result (λ made. LeavesHashed statement.now writer.0 store.new) }
 {
     match statement {
-        Statement::New(v, t) => Ok(new(store, writer, v, t)?),
-        Statement::Lit(v, t, literal) => Ok(lit(store, writer, v, t, literal.as_slice())?),
-        Statement::Fork(v, w) => Ok(fork(store, writer, v, w)?),
+        Statement::New(v, t) => new(store, writer, v, t),
+        Statement::Lit(v, t, literal) => lit(store, writer, v, t, literal.as_slice()),
+        Statement::Fork(v, w) => fork(store, writer, v, w),
         Statement::Drop(v) => Ok(drop(store, writer, v)),
-        Statement::List => Ok(list(store, writer)?),
+        Statement::List => list(store, writer),
         Statement::Root(v) => Ok(root(store, writer, v, hasher)),
-        Statement::Gindex(t, path) => Ok(gindex(store, writer, t, path)?),
+        Statement::Gindex(t, path) => gindex(store, writer, t, path),
         Statement::Hashes => Ok(hashes(store, writer, place, hasher)),
-        Statement::Save(v, file) => Ok(save(store, writer, place, v, file)?),
-        Statement::Bytes(v, path) => Ok(bytes(store, writer, v, path)?),
-        Statement::Json(v, path) => Ok(json(store, writer, v, path)?),
-        Statement::Len(v, path) => Ok(len(store, writer, v, path)?),
+        Statement::Save(v, file) => save(store, writer, place, v, file),
+        Statement::Bytes(v, path) => bytes(store, writer, v, path),
+        Statement::Json(v, path) => json(store, writer, v, path),
+        Statement::Len(v, path) => len(store, writer, v, path),
         Statement::Set(v, path, literal) => { set(store, writer, v, path, literal.as_slice()) }
         Statement::Append(v, path, literal) => {
             append(store, writer, v, path, literal.as_slice())
@@ -127,8 +127,8 @@ fn decide_alone<'a, H: PairHash>(
         Statement::Choose(v, path, selector, literal) => {
             choose(store, writer, v, path, *selector, literal)
         }
-        Statement::Prove(v, indices) => Ok(prove(store, writer, v, indices, hasher)?),
-        Statement::Upgrade(v, w, t) => Ok(upgrade(store, writer, v, w, t)?),
+        Statement::Prove(v, indices) => prove(store, writer, v, indices, hasher),
+        Statement::Upgrade(v, w, t) => upgrade(store, writer, v, w, t),
         Statement::Load(_, _, _) | Statement::LoadJson(_, _, _) | Statement::Compact => {
             unreachable!()
         }

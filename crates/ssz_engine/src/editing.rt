@@ -2,7 +2,7 @@
 //!
 //! Each opens the place that it edits first (ssz_edit), so that its literal is read only where no
 //! test refuses it. A literal without a fault then becomes nodes there, with no value made.
-ghost use Rattle.std.specs.Prelude.{ℕ, ◌≡◌, ◌<◌, ◌^◌, Some, None, length, IfOk, IfErr, IfSome, OnErr};
+ghost use Rattle.std.specs.Prelude.{ℕ, ◌≡◌, ◌<◌, ◌^◌, Some, None, length, IfOk, IfSome, OnErr};
 ghost use Rattle.ssz_schema.specs.Paths.{Path};
 ghost use Rattle.ssz_arena.specs.Content.{node_count};
 ghost use Rattle.ssz_versions.specs.Content.{held_at};
@@ -19,7 +19,7 @@ use ssz_arena::NodeId;
 use ssz_bytes::ByteRun;
 use ssz_chunk::PairHash;
 use ssz_codec::check;
-use ssz_decisions::{Decision, EngineFault, Store, code_of_edit, way_from};
+use ssz_decisions::{Decision, Store, code_of_edit, way_from};
 use ssz_edit::{
     Choice, Given, given_of, open_choice, open_end, open_part, put_choice, put_element, put_part,
 };
@@ -27,36 +27,36 @@ use ssz_line::Steps;
 use ssz_script::Identifier;
 use ssz_value::EditFault;
 use ssz_versions::Writer;
+use std::alloc::AllocError;
 
-// What an edit of a version's node comes to.
+// What an edit of a version's node comes to. Fails for want of memory.
 fn finish<'a>(
     v: &'a Identifier,
     edited: Result<NodeId, EditFault>,
-) -> Result<Decision<'a>, EngineFault>
+) -> Result<Decision<'a>, AllocError>
     ensures { FinishesEdit v.now edited result }
 {
     match edited {
         Ok(node) => Ok(Decision::Edited(v, node)),
-        Err(EditFault::Memory) => Err(EngineFault::Memory),
+        Err(EditFault::Memory) => Err(AllocError),
         Err(fault) => Ok(Decision::Refused(code_of_edit(fault))),
     }
 }
 
-/// `set V P LIT`.
+/// `set V P LIT`. Fails for want of memory.
 pub(crate) fn set<'a, H: PairHash>(
     store: &mut Store<H>,
     writer: Writer,
     v: &'a Identifier,
     path: &Steps,
     literal: &[u8],
-) -> Result<Decision<'a>, EngineFault>
+) -> Result<Decision<'a>, AllocError>
     requires { length literal.now < 2 ^ 32 }
     ensures grows { Grows store.old store.new }
     ensures answers { IfOk result (AnswersWith H.pair_of
         (λ rules versions. set versions v.now path.now literal.now) (puts v.now) writer.0
         store.old store.new) }
     ensures tops { IfOk result (SetsTop v.now path.now writer.0 store.old store.new) }
-    ensures memory { IfErr result (λ fault. fault ≡ EngineFault.Memory) }
     ensures whole { OnErr result (node_count store.new.arena ≡ node_count store.old.arena) }
 {
     let way = match way_from(store, writer, v, path)? {
@@ -76,21 +76,20 @@ pub(crate) fn set<'a, H: PairHash>(
     Ok(Decision::Edited(v, node))
 }
 
-/// `append V P LIT`.
+/// `append V P LIT`. Fails for want of memory.
 pub(crate) fn append<'a, H: PairHash>(
     store: &mut Store<H>,
     writer: Writer,
     v: &'a Identifier,
     path: &Steps,
     literal: &[u8],
-) -> Result<Decision<'a>, EngineFault>
+) -> Result<Decision<'a>, AllocError>
     requires { length literal.now < 2 ^ 32 }
     ensures grows { Grows store.old store.new }
     ensures answers { IfOk result (AnswersWith H.pair_of
         (λ rules versions. append versions v.now path.now literal.now) (puts v.now) writer.0
         store.old store.new) }
     ensures tops { IfOk result (IsDue store.new.arena) }
-    ensures memory { IfErr result (λ fault. fault ≡ EngineFault.Memory) }
     ensures whole { OnErr result (node_count store.new.arena ≡ node_count store.old.arena) }
 {
     let way = match way_from(store, writer, v, path)? {
@@ -111,19 +110,18 @@ pub(crate) fn append<'a, H: PairHash>(
     Ok(Decision::Edited(v, node))
 }
 
-/// `pop V P`.
+/// `pop V P`. Fails for want of memory.
 pub(crate) fn pop<'a, H: PairHash>(
     store: &mut Store<H>,
     writer: Writer,
     v: &'a Identifier,
     path: &Steps,
-) -> Result<Decision<'a>, EngineFault>
+) -> Result<Decision<'a>, AllocError>
     ensures grows { Grows store.old store.new }
     ensures answers { IfOk result (AnswersWith H.pair_of
         (λ rules versions. pop versions v.now path.now) (puts v.now) writer.0
         store.old store.new) }
     ensures tops { IfOk result (IsDue store.new.arena) }
-    ensures memory { IfErr result (λ fault. fault ≡ EngineFault.Memory) }
     ensures whole { OnErr result (node_count store.new.arena ≡ node_count store.old.arena) }
 {
     let way = match way_from(store, writer, v, path)? {
@@ -137,7 +135,7 @@ pub(crate) fn pop<'a, H: PairHash>(
     finish(v, made)
 }
 
-/// `choose V P SEL [LIT]`.
+/// `choose V P SEL [LIT]`. Fails for want of memory.
 pub(crate) fn choose<'a, H: PairHash>(
     store: &mut Store<H>,
     writer: Writer,
@@ -145,14 +143,13 @@ pub(crate) fn choose<'a, H: PairHash>(
     path: &Steps,
     selector: u8,
     literal: &Option<ByteRun>,
-) -> Result<Decision<'a>, EngineFault>
+) -> Result<Decision<'a>, AllocError>
     requires { IfSome literal.now (λ bytes. length bytes < 2 ^ 32) }
     ensures grows { Grows store.old store.new }
     ensures answers { IfOk result (AnswersWith H.pair_of
         (λ rules versions. choose versions v.now path.now selector literal.now) (puts v.now)
         writer.0 store.old store.new) }
     ensures tops { IfOk result (IsDue store.new.arena) }
-    ensures memory { IfErr result (λ fault. fault ≡ EngineFault.Memory) }
     ensures whole { OnErr result (node_count store.new.arena ≡ node_count store.old.arena) }
 {
     let way = match way_from(store, writer, v, path)? {
@@ -184,7 +181,7 @@ fn choose_literal<'a, H: PairHash>(
     node: NodeId,
     choice: &Choice,
     literal: &[u8],
-) -> Result<Decision<'a>, EngineFault>
+) -> Result<Decision<'a>, AllocError>
     requires choice { HasUnion store.old.types store.old.arena node choice.now }
     requires short { length literal.now < 2 ^ 32 }
     ensures grows { Grows store.old store.new }
@@ -195,7 +192,6 @@ fn choose_literal<'a, H: PairHash>(
         (λ rules versions. choose versions v.now path k (Some literal.now)) (puts v.now) writer
         store.old store.new) }
     ensures tops { IfOk result (IsDue store.new.arena) }
-    ensures memory { IfErr result (λ fault. fault ≡ EngineFault.Memory) }
     ensures whole { OnErr result (node_count store.new.arena ≡ node_count store.old.arena) }
 {
     if let Some(fault) = option_fault(&store.schema, choice.option, literal) {
@@ -212,7 +208,7 @@ fn choose_default<'a, H: PairHash>(
     v: &'a Identifier,
     node: NodeId,
     choice: &Choice,
-) -> Result<Decision<'a>, EngineFault>
+) -> Result<Decision<'a>, AllocError>
     requires { HasUnion store.old.types store.old.arena node choice.now }
     ensures grows { Grows store.old store.new }
     ensures answers { (writer id k : ℕ) (path : Path)
@@ -222,7 +218,6 @@ fn choose_default<'a, H: PairHash>(
         (λ rules versions. choose versions v.now path k None) (puts v.now) writer
         store.old store.new) }
     ensures tops { IfOk result (IsDue store.new.arena) }
-    ensures memory { IfErr result (λ fault. fault ≡ EngineFault.Memory) }
     ensures whole { OnErr result (node_count store.new.arena ≡ node_count store.old.arena) }
 {
     let default = option_default(store.alloc, &store.schema, choice.option)?;

@@ -1,52 +1,21 @@
-use Rattle.std.proofs.Common.{◌≡◌, ◌-◌, refl, sym, subst}
+use Rattle.std.proofs.Common.{◌-◌, refl, sym, subst}
 use Rattle.ssz_machine.specs.Making.{load, loadjson}
 use Rattle.ssz_machine.specs.Changes.{puts}
 use Rattle.std.specs.Prelude.{OnOk}
 use Rattle.ssz_script.specs.declared.statement.Statement.{Statement}
 use Rattle.ssz_engine.specs.Steps.{CanAsk, StatementFindsFile}
 use Rattle.ssz_engine.proofs.EngineSteps.{finds_alone}
-use Rattle.ssz_decisions.proofs.Results.{on_ok}
-use Rattle.ssz_decisions.specs.declared.fault.EngineFault.TheVariants.{Read, Write, Memory}
-use Rattle.ssz_engine.proofs.Found.{counts-none, decides-ok, loads-ok, memory-alone}
+use Rattle.ssz_engine.proofs.Found.{decides, loads-ok}
 use Rattle.ssz_engine.proofs.deciding.decide.Goals as goal
 
-no-read : Read ≡ Memory → ⊥
-no-read e = cc
-
-no-write : Write ≡ Memory → ⊥
-no-write e = cc
-
-pub returns-in_default-clause-decides : goal.returns-in_default-clause-decides
-returns-in_default-clause-decides g c =
-    decides-ok g.H.PairHash.pair_of c.args.place
+pub returns-in_ok-decide_alone-in_default-clause-decides : goal.returns-in_ok-decide_alone-in_default-clause-decides
+returns-in_ok-decide_alone-in_default-clause-decides g c =
+    decides g.H.PairHash.pair_of c.args.place
     (g.H.PairHash.pairs c.args.hasher.now - c.args.store.now.base) c.args.writer.0
     c.args.store.now c.decide_alone.new.store (g.H.PairHash.pairs c.args.hasher.now)
     (g.H.PairHash.pairs c.decide_alone.new.hasher) c.args.statement.now
-    (g.F.Files.content c.args.files.now) c.decide_alone.result c.decide_alone.ensures.decides
-
-pub returns-in_default-clause-asked : goal.returns-in_default-clause-asked
-returns-in_default-clause-asked g c = λ e.
-    absurd (no-read (memory-alone c.decide_alone.result Read c.decide_alone.ensures.memory e))
-
-pub returns-in_default-clause-no_write : goal.returns-in_default-clause-no_write
-returns-in_default-clause-no_write g c = λ e.
-    no-write (memory-alone c.decide_alone.result Write c.decide_alone.ensures.memory e)
-
-pub returns-in_default-clause-fails : goal.returns-in_default-clause-fails
-returns-in_default-clause-fails g c = λ name is readable e.
-    no-read (memory-alone c.decide_alone.result Read c.decide_alone.ensures.memory e)
-
-pub returns-in_default-clause-present : goal.returns-in_default-clause-present
-returns-in_default-clause-present g c = λ name is readable e.
-    no-read (memory-alone c.decide_alone.result Read c.decide_alone.ensures.memory e)
-
-pub returns-in_default-clause-asks : goal.returns-in_default-clause-asks
-returns-in_default-clause-asks g c = λ none e.
-    no-read (memory-alone c.decide_alone.result Read c.decide_alone.ensures.memory e)
-
-pub returns-in_default-clause-gets : goal.returns-in_default-clause-gets
-returns-in_default-clause-gets g c =
-    counts-none c.decide_alone.result _ c.decide_alone.ensures.memory
+    (g.F.Files.content c.args.files.now) c.in_ok-decide_alone-in_default.field-0
+    c.in_ok-decide_alone-in_default.ensures.decides
 
 pub returns-in-Load-clause-decides : goal.returns-in-Load-clause-decides
 returns-in-Load-clause-decides g c =
@@ -58,12 +27,12 @@ returns-in-Load-clause-decides g c =
     (puts c.in-Load.v) c.args.statement.now _ c.load.result c.in-Load.is (λ files. refl) refl refl
     c.load.ensures.answers
 
-pub returns-in_default-clause-found : goal.returns-in_default-clause-found
-returns-in_default-clause-found g c =
-    on_ok c.decide_alone.result (finds_alone g.H.PairHash.pair_of c.args.store.now
+pub returns-in_ok-decide_alone-in_default-clause-found : goal.returns-in_ok-decide_alone-in_default-clause-found
+returns-in_ok-decide_alone-in_default-clause-found g c =
+    finds_alone g.H.PairHash.pair_of c.args.store.now
     c.args.writer.0 c.args.statement.now (g.F.Files.content c.args.files.now)
     (λ v t file is. c.in_default.not-Load v t file is)
-    (λ v t file is. c.in_default.not-LoadJson v t file is))
+    (λ v t file is. c.in_default.not-LoadJson v t file is)
 
 pub returns-in-Load-clause-found : goal.returns-in-Load-clause-found
 returns-in-Load-clause-found g c =

@@ -1,53 +1,72 @@
-use Rattle.std.proofs.Common.{◌-◌, IfOk, List, ℕ, refl, subst}
+use Rattle.std.proofs.Common.{◌-◌, IfOk, List, ℕ, Result, Ok, Err, refl, subst}
+use Rattle.std.specs.declared.alloc.AllocError.{AllocError}
+use Rattle.ssz_outside.specs.Content.{Content as Files}
+use Rattle.ssz_machine.specs.Making.{fork, lit, list, new, upgrade}
 use Rattle.ssz_machine.specs.Editing.{append, choose, pop, set}
-use Rattle.ssz_machine.specs.Changes.{puts}
-use Rattle.ssz_decisions.specs.Decisions.{AnswersWith}
-use Rattle.ssz_engine.proofs.Found.{alone, alone-ok, anew, with-ok}
+use Rattle.ssz_machine.specs.Asking.{bytes, gindex, json_row, len, prove, save}
+use Rattle.ssz_machine.specs.Changes.{nothing, puts}
+use Rattle.ssz_decisions.specs.Decisions.{AnswersAnew, AnswersRow, AnswersWith}
+use Rattle.ssz_decisions.specs.declared.decision.Decision.{Decision}
+use Rattle.ssz_engine.proofs.Found.{alone, alone-ok, anew-ok, anew-with, with-ok}
 use Rattle.ssz_engine.proofs.deciding.decide_alone.Goals as goal
 
-pub returns-in_ok-new-in-New-clause-decides : goal.returns-in_ok-new-in-New-clause-decides
-returns-in_ok-new-in-New-clause-decides g c =
-    anew g.H.PairHash.pair_of c.args.place
+pub returns-in-New-clause-decides : goal.returns-in-New-clause-decides
+returns-in-New-clause-decides g c =
+    anew-ok g.H.PairHash.pair_of c.args.place
     (g.H.PairHash.pairs c.args.hasher.now - c.args.store.now.base) c.args.writer.0
     c.args.store.now c.new.new.store (g.H.PairHash.pairs c.args.hasher.now)
-    (g.H.PairHash.pairs c.args.hasher.now) c.args.statement.now _ _ c.in-New.is refl
-    (λ files. (
-      c.in_ok-new-in-New.ensures.answers.0 (g.H.PairHash.pairs c.args.hasher.now),
-      c.in_ok-new-in-New.ensures.answers.1,
-    ))
+    (g.H.PairHash.pairs c.args.hasher.now) c.args.statement.now _ c.new.result c.in-New.is refl
+    (anew-with g.H.PairHash.pair_of (λ rules versions. new rules versions c.in-New.v c.in-New.t)
+    (puts c.in-New.v) c.args.writer.0 c.args.store.now c.new.new.store
+    (g.H.PairHash.pairs c.args.hasher.now) c.new.result c.new.ensures.answers)
 
-pub returns-in_ok-lit-in-Lit-clause-decides : goal.returns-in_ok-lit-in-Lit-clause-decides
-returns-in_ok-lit-in-Lit-clause-decides g c =
-    let answers = rw c.as_slice.ensures.value at c.in_ok-lit-in-Lit.ensures.answers in
-    anew g.H.PairHash.pair_of c.args.place
+pub returns-in-Lit-clause-decides : goal.returns-in-Lit-clause-decides
+returns-in-Lit-clause-decides g c =
+    anew-ok g.H.PairHash.pair_of c.args.place
     (g.H.PairHash.pairs c.args.hasher.now - c.args.store.now.base) c.args.writer.0
     c.args.store.now c.lit.new.store (g.H.PairHash.pairs c.args.hasher.now)
-    (g.H.PairHash.pairs c.args.hasher.now) c.args.statement.now _ _ c.in-Lit.is refl
-    (λ files. (answers.0 (g.H.PairHash.pairs c.args.hasher.now), answers.1))
+    (g.H.PairHash.pairs c.args.hasher.now) c.args.statement.now _ c.lit.result c.in-Lit.is refl
+    (anew-with g.H.PairHash.pair_of (λ rules versions. lit rules versions c.in-Lit.v c.in-Lit.t
+    c.in-Lit.literal)
+    (puts c.in-Lit.v) c.args.writer.0 c.args.store.now c.lit.new.store
+    (g.H.PairHash.pairs c.args.hasher.now) c.lit.result
+    (subst (λ (bytes : List ℕ). IfOk c.lit.result (AnswersAnew g.H.PairHash.pair_of
+    (λ rules versions. lit rules versions c.in-Lit.v c.in-Lit.t bytes)
+    (puts c.in-Lit.v) c.args.writer.0 c.args.store.now c.lit.new.store))
+    c.as_slice.ensures.value c.lit.ensures.answers))
 
-pub returns-in_ok-list-in-List-clause-decides : goal.returns-in_ok-list-in-List-clause-decides
-returns-in_ok-list-in-List-clause-decides g c =
-    alone g.H.PairHash.pair_of c.args.place
+pub returns-in-List-clause-decides : goal.returns-in-List-clause-decides
+returns-in-List-clause-decides g c =
+    alone-ok g.H.PairHash.pair_of c.args.place
     (g.H.PairHash.pairs c.args.hasher.now - c.args.store.now.base) c.args.writer.0
     c.args.store.now c.args.store.now (g.H.PairHash.pairs c.args.hasher.now)
-    (g.H.PairHash.pairs c.args.hasher.now) c.args.statement.now _ _ c.in-List.is refl
-    (λ files. c.in_ok-list-in-List.ensures (g.H.PairHash.pairs c.args.hasher.now))
+    (g.H.PairHash.pairs c.args.hasher.now) c.args.statement.now _ c.list.result c.in-List.is refl
+    (with-ok g.H.PairHash.pair_of (λ rules versions. list versions) nothing c.args.writer.0
+    c.args.store.now c.args.store.now (g.H.PairHash.pairs c.args.hasher.now) c.list.result
+    c.list.ensures)
 
-pub returns-in_ok-upgrade-in-Upgrade-clause-decides : goal.returns-in_ok-upgrade-in-Upgrade-clause-decides
-returns-in_ok-upgrade-in-Upgrade-clause-decides g c =
-    alone g.H.PairHash.pair_of c.args.place
+pub returns-in-Upgrade-clause-decides : goal.returns-in-Upgrade-clause-decides
+returns-in-Upgrade-clause-decides g c =
+    alone-ok g.H.PairHash.pair_of c.args.place
     (g.H.PairHash.pairs c.args.hasher.now - c.args.store.now.base) c.args.writer.0
     c.args.store.now c.upgrade.new.store (g.H.PairHash.pairs c.args.hasher.now)
-    (g.H.PairHash.pairs c.args.hasher.now) c.args.statement.now _ _ c.in-Upgrade.is refl
-    (λ files. c.in_ok-upgrade-in-Upgrade.ensures.answers (g.H.PairHash.pairs c.args.hasher.now))
+    (g.H.PairHash.pairs c.args.hasher.now) c.args.statement.now _ c.upgrade.result c.in-Upgrade.is
+    refl
+    (with-ok g.H.PairHash.pair_of (λ rules versions. upgrade rules versions c.in-Upgrade.v
+    c.in-Upgrade.w c.in-Upgrade.t)
+    (puts c.in-Upgrade.w) c.args.writer.0 c.args.store.now c.upgrade.new.store
+    (g.H.PairHash.pairs c.args.hasher.now) c.upgrade.result c.upgrade.ensures.answers)
 
-pub returns-in_ok-fork-in-Fork-clause-decides : goal.returns-in_ok-fork-in-Fork-clause-decides
-returns-in_ok-fork-in-Fork-clause-decides g c =
-    alone g.H.PairHash.pair_of c.args.place
+pub returns-in-Fork-clause-decides : goal.returns-in-Fork-clause-decides
+returns-in-Fork-clause-decides g c =
+    alone-ok g.H.PairHash.pair_of c.args.place
     (g.H.PairHash.pairs c.args.hasher.now - c.args.store.now.base) c.args.writer.0
     c.args.store.now c.args.store.now (g.H.PairHash.pairs c.args.hasher.now)
-    (g.H.PairHash.pairs c.args.hasher.now) c.args.statement.now _ _ c.in-Fork.is refl
-    (λ files. c.in_ok-fork-in-Fork.ensures.answers (g.H.PairHash.pairs c.args.hasher.now))
+    (g.H.PairHash.pairs c.args.hasher.now) c.args.statement.now _ c.fork.result c.in-Fork.is refl
+    (with-ok g.H.PairHash.pair_of
+    (λ rules versions. fork versions c.in-Fork.v c.in-Fork.w) (puts c.in-Fork.w)
+    c.args.writer.0 c.args.store.now c.args.store.now (g.H.PairHash.pairs c.args.hasher.now)
+    c.fork.result c.fork.ensures.answers)
 
 pub returns-in-Drop-clause-decides : goal.returns-in-Drop-clause-decides
 returns-in-Drop-clause-decides g c =
@@ -73,53 +92,79 @@ returns-in-Root-clause-decides g c =
     (g.H.PairHash.pairs c.root.new.hasher) c.args.statement.now _ _ c.in-Root.is refl
     (λ files. c.root.ensures.answers)
 
-pub returns-in_ok-gindex-in-Gindex-clause-decides : goal.returns-in_ok-gindex-in-Gindex-clause-decides
-returns-in_ok-gindex-in-Gindex-clause-decides g c =
-    alone g.H.PairHash.pair_of c.args.place
+pub returns-in-Gindex-clause-decides : goal.returns-in-Gindex-clause-decides
+returns-in-Gindex-clause-decides g c =
+    alone-ok g.H.PairHash.pair_of c.args.place
     (g.H.PairHash.pairs c.args.hasher.now - c.args.store.now.base) c.args.writer.0
     c.args.store.now c.args.store.now (g.H.PairHash.pairs c.args.hasher.now)
-    (g.H.PairHash.pairs c.args.hasher.now) c.args.statement.now _ _ c.in-Gindex.is refl
-    (λ files. c.in_ok-gindex-in-Gindex.ensures (g.H.PairHash.pairs c.args.hasher.now))
+    (g.H.PairHash.pairs c.args.hasher.now) c.args.statement.now _ c.gindex.result c.in-Gindex.is
+    refl
+    (with-ok g.H.PairHash.pair_of
+    (λ rules versions. gindex rules versions c.in-Gindex.t c.in-Gindex.path) nothing
+    c.args.writer.0 c.args.store.now c.args.store.now (g.H.PairHash.pairs c.args.hasher.now)
+    c.gindex.result c.gindex.ensures)
 
-pub returns-in_ok-save-in-Save-clause-decides : goal.returns-in_ok-save-in-Save-clause-decides
-returns-in_ok-save-in-Save-clause-decides g c =
-    alone g.H.PairHash.pair_of c.args.place
+pub returns-in-Save-clause-decides : goal.returns-in-Save-clause-decides
+returns-in-Save-clause-decides g c =
+    alone-ok g.H.PairHash.pair_of c.args.place
     (g.H.PairHash.pairs c.args.hasher.now - c.args.store.now.base) c.args.writer.0
     c.args.store.now c.args.store.now (g.H.PairHash.pairs c.args.hasher.now)
-    (g.H.PairHash.pairs c.args.hasher.now) c.args.statement.now _ _ c.in-Save.is refl
-    (λ files. c.in_ok-save-in-Save.ensures (g.H.PairHash.pairs c.args.hasher.now))
+    (g.H.PairHash.pairs c.args.hasher.now) c.args.statement.now _ c.save.result c.in-Save.is refl
+    (with-ok g.H.PairHash.pair_of
+    (λ rules versions. save rules c.args.place versions c.in-Save.v c.in-Save.file) nothing
+    c.args.writer.0 c.args.store.now c.args.store.now (g.H.PairHash.pairs c.args.hasher.now)
+    c.save.result c.save.ensures)
 
-pub returns-in_ok-bytes-in-Bytes-clause-decides : goal.returns-in_ok-bytes-in-Bytes-clause-decides
-returns-in_ok-bytes-in-Bytes-clause-decides g c =
-    alone g.H.PairHash.pair_of c.args.place
+pub returns-in-Bytes-clause-decides : goal.returns-in-Bytes-clause-decides
+returns-in-Bytes-clause-decides g c =
+    alone-ok g.H.PairHash.pair_of c.args.place
     (g.H.PairHash.pairs c.args.hasher.now - c.args.store.now.base) c.args.writer.0
     c.args.store.now c.args.store.now (g.H.PairHash.pairs c.args.hasher.now)
-    (g.H.PairHash.pairs c.args.hasher.now) c.args.statement.now _ _ c.in-Bytes.is refl
-    (λ files. c.in_ok-bytes-in-Bytes.ensures (g.H.PairHash.pairs c.args.hasher.now))
+    (g.H.PairHash.pairs c.args.hasher.now) c.args.statement.now _ c.bytes.result c.in-Bytes.is refl
+    (with-ok g.H.PairHash.pair_of
+    (λ rules versions. bytes rules versions c.in-Bytes.v c.in-Bytes.path) nothing
+    c.args.writer.0 c.args.store.now c.args.store.now (g.H.PairHash.pairs c.args.hasher.now)
+    c.bytes.result c.bytes.ensures)
 
-pub returns-in_ok-json-in-Json-clause-decides : goal.returns-in_ok-json-in-Json-clause-decides
-returns-in_ok-json-in-Json-clause-decides g c =
-    alone g.H.PairHash.pair_of c.args.place
+pub returns-in-Json-clause-decides : goal.returns-in-Json-clause-decides
+returns-in-Json-clause-decides g c =
+    alone-ok g.H.PairHash.pair_of c.args.place
     (g.H.PairHash.pairs c.args.hasher.now - c.args.store.now.base) c.args.writer.0
     c.args.store.now c.args.store.now (g.H.PairHash.pairs c.args.hasher.now)
-    (g.H.PairHash.pairs c.args.hasher.now) c.args.statement.now _ _ c.in-Json.is refl
-    (λ files. c.in_ok-json-in-Json.ensures (g.H.PairHash.pairs c.args.hasher.now))
+    (g.H.PairHash.pairs c.args.hasher.now) c.args.statement.now _ c.json.result c.in-Json.is refl
+    (with-ok g.H.PairHash.pair_of
+    (λ rules versions. json_row rules versions c.in-Json.v c.in-Json.path) nothing
+    c.args.writer.0 c.args.store.now c.args.store.now (g.H.PairHash.pairs c.args.hasher.now)
+    c.json.result c.json.ensures)
 
-pub returns-in_ok-len-in-Len-clause-decides : goal.returns-in_ok-len-in-Len-clause-decides
-returns-in_ok-len-in-Len-clause-decides g c =
-    alone g.H.PairHash.pair_of c.args.place
+pub returns-in-Len-clause-decides : goal.returns-in-Len-clause-decides
+returns-in-Len-clause-decides g c =
+    alone-ok g.H.PairHash.pair_of c.args.place
     (g.H.PairHash.pairs c.args.hasher.now - c.args.store.now.base) c.args.writer.0
     c.args.store.now c.args.store.now (g.H.PairHash.pairs c.args.hasher.now)
-    (g.H.PairHash.pairs c.args.hasher.now) c.args.statement.now _ _ c.in-Len.is refl
-    (λ files. c.in_ok-len-in-Len.ensures (g.H.PairHash.pairs c.args.hasher.now))
+    (g.H.PairHash.pairs c.args.hasher.now) c.args.statement.now _ c.len.result c.in-Len.is refl
+    (with-ok g.H.PairHash.pair_of
+    (λ rules versions. len versions c.in-Len.v c.in-Len.path) nothing
+    c.args.writer.0 c.args.store.now c.args.store.now (g.H.PairHash.pairs c.args.hasher.now)
+    c.len.result c.len.ensures)
 
-pub returns-in_ok-prove-in-Prove-clause-decides : goal.returns-in_ok-prove-in-Prove-clause-decides
-returns-in_ok-prove-in-Prove-clause-decides g c =
-    alone g.H.PairHash.pair_of c.args.place
+-- what is so, is so whatever the files hold
+whatever-files : (P : Decision → Type 0) (r : Result Decision AllocError) → IfOk r P
+    → IfOk r (λ made. (files : Files) → P made)
+whatever-files P (Ok made) h = λ files. h
+whatever-files P (Err fault) h = h
+
+pub returns-in-Prove-clause-decides : goal.returns-in-Prove-clause-decides
+returns-in-Prove-clause-decides g c =
+    alone-ok g.H.PairHash.pair_of c.args.place
     (g.H.PairHash.pairs c.args.hasher.now - c.args.store.now.base) c.args.writer.0
     c.args.store.now c.prove.new.store (g.H.PairHash.pairs c.args.hasher.now)
-    (g.H.PairHash.pairs c.prove.new.hasher) c.args.statement.now _ _ c.in-Prove.is refl
-    (λ files. c.in_ok-prove-in-Prove.ensures.answers)
+    (g.H.PairHash.pairs c.prove.new.hasher) c.args.statement.now _ c.prove.result c.in-Prove.is refl
+    (whatever-files (AnswersRow g.H.PairHash.pair_of
+    (λ rules versions. prove rules versions c.in-Prove.v c.in-Prove.indices) nothing
+    c.args.writer.0 c.args.store.now c.prove.new.store
+    (g.H.PairHash.pairs c.args.hasher.now) (g.H.PairHash.pairs c.prove.new.hasher))
+    c.prove.result c.prove.ensures.answers)
 
 pub returns-in-Set-clause-decides : goal.returns-in-Set-clause-decides
 returns-in-Set-clause-decides g c =
