@@ -1,48 +1,21 @@
 -- What the answers of an engine make of the statements of a session.
-use Rattle.std.proofs.Common.{◌≡◌, ◌-◌, ℕ, Bool, true, false, Some, None, refl, sym, ap, subst}
+use Rattle.std.proofs.Common.{◌≡◌, ◌-◌, ℕ, Bool, true, false, Some, refl, sym, ap, subst}
 use Rattle.std.specs.Prelude.{Result, Ok, Err, IfOk, IfErr, OnErr, is_some}
 use Rattle.ssz_chunk.specs.Chunk.{sha_pair}
 use Rattle.ssz_arena.specs.Content.{KeepsNodes}
 use Rattle.ssz_script.specs.declared.reply.Reply.{Reply}
 use Rattle.ssz_script.specs.declared.statement.Statement.{Statement}
-use Rattle.ssz_script.specs.declared.statement.Statement.TheVariants as says
 use Rattle.ssz_machine.specs.declared.place.Place.TheVariants as place
 use Rattle.ssz_engine.specs.Answered.{DoesAnswer, IsTurn}
 use Rattle.ssz_engine.specs.Compacting.{is_compact}
 use Rattle.ssz_decisions.specs.Content.{EngineContent as Engine}
-use Rattle.ssz_engine.specs.Steps.{IsShort, KeepsEngine, SavesPart, Stops, turn_at}
+use Rattle.ssz_engine.specs.Steps.{KeepsEngine, SavesPart, Stops, turn_at}
 use Rattle.ssz_decisions.specs.declared.fault.EngineFault.{EngineFault}
 use Rattle.ssz_decisions.specs.declared.fault.EngineFault.TheVariants.{Read, Write, Memory}
 use Rattle.ssz_engine.proofs.Moving.{kept-whole}
-use Rattle.ssz_said.specs.Statements.{HasShortLiteral}
 use Rattle.ssz_c.specs.Session.{LineScene, no_files}
 use Rattle.ssz_c.specs.Answering.{StatementReaches}
 use Rattle.ssz_c.proofs.LineSteps.{stands-kept}
-
--- a literal that is short makes its statement short for the engine
-pub short : (statement : Statement) → HasShortLiteral statement → IsShort statement
-short (says.New v t) literal_is = tt
-short (says.Lit v t literal) literal_is = literal_is
-short (says.Load v t file) literal_is = tt
-short (says.Fork v w) literal_is = tt
-short (says.Drop v) literal_is = tt
-short says.List literal_is = tt
-short (says.Set v path literal) literal_is = literal_is
-short (says.Append v path literal) literal_is = literal_is
-short (says.Pop v path) literal_is = tt
-short (says.Choose v path k None) literal_is = tt
-short (says.Choose v path k (Some literal)) literal_is = literal_is
-short (says.Root v) literal_is = tt
-short (says.Bytes v path) literal_is = tt
-short (says.Len v path) literal_is = tt
-short (says.Save v file) literal_is = tt
-short (says.Gindex t path) literal_is = tt
-short (says.Prove v indices) literal_is = tt
-short says.Hashes literal_is = tt
-short (says.Upgrade v w t) literal_is = tt
-short (says.Json v path) literal_is = tt
-short (says.LoadJson v t file) literal_is = tt
-short says.Compact literal_is = tt
 
 module _ (scene : LineScene) (statement : Statement) (new : Engine) (after : ℕ)
     (keeps : KeepsEngine scene.engine new) where

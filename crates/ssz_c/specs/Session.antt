@@ -7,6 +7,7 @@ use Rattle.ssz_outside.specs.Outcome.{next_count}
 use Rattle.ssz_schema.specs.Unfolding.{Types}
 use Rattle.ssz_script.specs.declared.statement.Statement.{Statement}
 use Rattle.ssz_script.specs.Grammar.{statements, line_of}
+use Rattle.ssz_script.specs.Literals.{HasShortLiteral}
 use Rattle.ssz_script.specs.declared.reply.Reply.TheVariants as says
 use Rattle.ssz_script.specs.declared.reply.TheConstants.Reply.{SYNTAX}
 use Rattle.ssz_script.specs.Texts.{reply_line}
@@ -15,7 +16,7 @@ use Rattle.ssz_machine.specs.State.{Versions}
 use Rattle.ssz_machine.specs.Machine.{Turn, step, reply_of, state_of, is_refused, save_of}
 use Rattle.ssz_decisions.specs.Content.{EngineContent as Engine, rules_of}
 use Rattle.ssz_decisions.specs.Standing.{StandsFor}
-use Rattle.ssz_engine.specs.Steps.{CanAsk, IsShort, KeepsEngine}
+use Rattle.ssz_engine.specs.Steps.{CanAsk, KeepsEngine}
 use Rattle.ssz_decisions.specs.declared.outcome.Outcome.{Outcome as Ended}
 use Rattle.ssz_decisions.specs.declared.outcome.Outcome.TheVariants as outcome
 use Rattle.ssz_decisions.specs.declared.fault.EngineFault.{EngineFault}
@@ -91,7 +92,7 @@ StatementDoes Unread statement scene engine reply =
 StatementDoes Unwritten statement scene engine reply =
     Saves scene statement × Rests scene engine reply
 StatementDoes TooLong statement scene engine reply =
-    (¬ IsShort statement) × Rests scene engine reply
+    (¬ HasShortLiteral statement) × Rests scene engine reply
 StatementDoes Memory statement scene engine reply = Rests scene engine reply
 
 -- what a statement's line came to, by how its step ended

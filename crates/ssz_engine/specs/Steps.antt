@@ -10,7 +10,6 @@ use Rattle.ssz_forms.specs.Upgrades.{upgrade_charge}
 use Rattle.ssz_proof.specs.Calculation.{PairOf}
 use Rattle.ssz_script.specs.declared.statement.Statement.{Statement}
 use Rattle.ssz_script.specs.declared.statement.Statement.TheVariants.{New, Lit, Load, LoadJson, Fork, Upgrade}
-pub use Rattle.ssz_script.specs.Literals.{HasShortLiteral as IsShort}
 use Rattle.ssz_script.specs.Texts.{reply_line}
 use Rattle.ssz_versions.specs.Content.{Entries, Held, held_at, with_held, without_held}
 use Rattle.ssz_machine.specs.declared.place.Place.{Place}

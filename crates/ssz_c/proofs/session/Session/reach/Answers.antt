@@ -1,5 +1,5 @@
 use Rattle.ssz_c.specs.Answering.{scene_at}
-use Rattle.ssz_c.proofs.ReachSteps.{reaches, short}
+use Rattle.ssz_c.proofs.ReachSteps.{reaches}
 use Rattle.ssz_c.proofs.session.Session.reach.Goals as goal
 
 pub returns-clause-does : goal.returns-clause-does
@@ -8,6 +8,3 @@ returns-clause-does c =
     reaches (scene_at c.args.self.now) c.args.statement.now c.answer.new.self
     c.answer.new.hasher answer.keeps c.answer.result answer.ok answer.stops answer.err
     answer.nodes answer.intact
-
-pub answer-requires : goal.answer-requires
-answer-requires c = short c.args.statement.now c.requires
