@@ -1,16 +1,15 @@
 -- An edit along a path, at its first step.
-use Rattle.std.proofs.Common.{ℕ, ◌≡◌, ◌<◌, ◌≤◌, ◌-◌, Bool, true, false, List, [], ◌∷◌, length, set, take, drop, get_or, slice_get, Vec, Global, Option, Some, None, option_map, Result, Ok, Err, refl, sym, ap, ap₂, subst, ◌∙◌, cond, eq-eqb}
+use Rattle.std.proofs.Common.{ℕ, ◌≡◌, ◌<◌, ◌≤◌, Bool, true, false, List, [], ◌∷◌, length, set, get_or, slice_get, Vec, Global, Option, Some, None, option_map, Result, Ok, Err, refl, sym, ap, ap₂, subst, ◌∙◌, cond, eq-eqb}
 use Rattle.std.specs.Prelude.{OnErr, IfSome, is_some, option_and_then}
 use Rattle.std.specs.declared.boxed.Box.{Box}
-use Rattle.std.proofs.lemmas.List.{take_rest}
-use Rattle.std.proofs.lemmas.Option.{none-some, same_Some, slice_get-get_or, slice_get_past}
+use Rattle.std.proofs.lemmas.Option.{slice_get-get_or, slice_get_past}
 use Rattle.std.proofs.Math.Seq.{map-set_same}
 use Rattle.ssz_schema.specs.declared.path.PathStep.{PathStep}
 use Rattle.ssz_schema.specs.declared.path.PathStep.TheVariants.{Index, Option as Chosen}
 use Rattle.ssz_schema.specs.declared.width.Width.{Width}
 use Rattle.ssz_schema.specs.declared.width.Width.TheVariants.{W8}
 use Rattle.ssz_schema.specs.Types.{SszType, uint, boolean}
-use Rattle.ssz_schema.specs.Unfolding.{Types, type_of}
+use Rattle.ssz_schema.specs.Unfolding.{Types}
 use Rattle.ssz_schema.specs.Paths.{Path, path_type, step_type}
 use Rattle.ssz_value.specs.declared.value.Value.{Value, out-Value}
 use Rattle.ssz_value.specs.declared.value.Value.TheViews.{roll-Value, roll-out-Value}
@@ -20,7 +19,7 @@ use Rattle.ssz_value.specs.declared.edit_fault.EditFault.{EditFault}
 use Rattle.ssz_value.specs.declared.edit_fault.EditFault.TheVariants.{BadPath, Absent, NotThat, Full, Empty, BadSelector, Memory}
 use Rattle.ssz_value.specs.Values.{SszValue, number, truth, sequence, bits, values, chosen, Fits}
 use Rattle.ssz_value.specs.Parts.{numbered, part_at}
-use Rattle.ssz_value.specs.Edits.{Edited, given, replaced_at, replaced_in, changed}
+use Rattle.ssz_value.specs.Edits.{Edited, given, replaced_at, replaced_in, changed, edited}
 use Rattle.ssz_value.specs.Standing.{value_of, IsValue}
 use Rattle.ssz_value.proofs.ValueLemmas.{uint_is, wide_is, flag_is, seq_is, bytes_are, bits_are, chosen_is}
 use Rattle.ssz_plain.specs.declared.leading.Place.{Place}
@@ -28,8 +27,9 @@ use Rattle.ssz_plain.specs.declared.leading.Lead.{Lead}
 use Rattle.ssz_plain.specs.Leading.{IsLead, LeadsBy, step_to}
 use Rattle.ssz_plain.specs.declared.edit.Edit.{Edit}
 use Rattle.ssz_plain.specs.declared.edit.Edit.TheVariants.{Set, Append, Pop, Choose}
-use Rattle.ssz_plain.specs.Making.{edit_of, SuitsEdit, SuitsPath, ChangeTells, ChangeLeaves, EditsValue, put_at, new_byte, new_bit, value_number, truth_of}
+use Rattle.ssz_plain.specs.Making.{edit_of, SuitsEdit, SuitsPath, refusal, ChangeTells, ChangeLeaves, EditsValue, put_at, new_byte, new_bit, value_number, truth_of}
 use Rattle.ssz_plain.proofs.Alike.{turned, alike, tells_alike, may_want, item_alike, replaced_alike, put_alike}
+use Rattle.ssz_plain.proofs.Endings.{number_misfits, truth_misfits}
 use Rattle.ssz_plain.proofs.Forms.{each_bit, left_put}
 use Rattle.ssz_plain.proofs.Made.{made_of}
 use Rattle.ssz_plain.proofs.Steps.{part_of_seq, IsPartOfBytes, part_of_bytes, IsPartOfBits, part_of_bits, part_of_union, IsCount}
@@ -66,17 +66,6 @@ no_inner v k no_union = go (out-Value v) (roll-out-Value v)
     go (BitsF run) e = ap (λ w. part_at (Chosen k) (value_of w)) (sym e ∙ rolls-Bits run)
         ∙ ap (part_at (Chosen k)) (bits_are run)
     go (UnionF n o) e = absurd (no_union n o (sym e ∙ rolls-Union n o))
-
--- a number and a bit have no parts
-pub end_of_number : (w : Width) (rest : Path) (x : SszType) → path_type (uint w) rest ≡ Some x
-    → (rest ≡ []) × (uint w ≡ x)
-end_of_number w [] x e = (refl, same_Some (uint w) x e)
-end_of_number w (step ∷ rest) x e = absurd (none-some x e)
-
-pub end_of_bit : (rest : Path) (x : SszType) → path_type boolean rest ≡ Some x
-    → (rest ≡ []) × (boolean ≡ x)
-end_of_bit [] x e = (refl, same_Some boolean x e)
-end_of_bit (step ∷ rest) x e = absurd (none-some x e)
 
 -- edits of a byte and of a bit
 
@@ -121,56 +110,90 @@ number_refused (Append new) w n at v refused = refl
 number_refused Pop w n at v refused = refl
 number_refused (Choose k inner) w n at v refused = refl
 
+-- a path that does not fit is refused first, whether the part is there or not
+misfit_first : (at : PathStep) (whole : SszValue) (change : SszValue → Edited)
+    (found : Option SszType) (there : Option SszValue)
+    → cond (is_some found) (given there Absent (λ y. replaced_in at whole (change y)))
+    (Err BadPath)
+    ≡ given there (cond (is_some found) Absent BadPath)
+    (λ y. replaced_in at whole (cond (is_some found) (change y) (Err BadPath)))
+misfit_first at whole change (Some x) there = refl
+misfit_first at whole change None (Some y) = refl
+misfit_first at whole change None None = refl
+
+count_refused : (edit : Edit) (w : Width) (n : ℕ) (at : PathStep) (v : SszValue)
+    → ((x : SszValue) → replaced_at at v x ≡ Err NotThat) → (rest : Path)
+    → replaced_in at v (edited (edit_of edit) (uint w) (number n) rest)
+    ≡ Err (refusal (uint w) rest NotThat)
+count_refused edit w n at v never [] = number_refused edit w n at v never
+count_refused edit w n at v never (step ∷ rest) = refl
+
+-- a path that does not fit
+misfit : (may : Bool) (t : SszType) (edit : Edit) (v : Value) (path : Path)
+    → path_type t path ≡ None → IsValue t v
+    → EditsValue may t (edited (edit_of edit) t (value_of v) path) v v (Err BadPath)
+misfit may t edit v path none value = record {
+  fits = value;
+  leaves = record {
+    tells = told_fault may BadPath (value_of v) _
+        (ap (λ o. cond (is_some o) (changed (edit_of edit) t (value_of v) path) (Err BadPath)) none);
+    kept = refl;
+  };
+}
+
 module _ (t u : SszType) (edit : Edit) (v : Value) (step : PathStep) (rest path : Path)
     (at : PathStep) (path_is : path ≡ step ∷ rest) (typed : step_type t step ≡ Some u)
     (at_is : numbered t step ≡ at) (value : IsValue t v) (suits : SuitsPath t path edit) where
   -- what the edit of the part comes to for the whole
   abbrev onward : SszType → Path → SszValue → Edited
-  onward s more whole = given (part_at at whole) Absent
-      (λ y. replaced_in at whole (changed (edit_of edit) s y more))
+  onward s more whole = given (part_at at whole) (refusal s more Absent)
+      (λ y. replaced_in at whole (edited (edit_of edit) s y more))
 
-  led : changed (edit_of edit) t (value_of v) path ≡ onward u rest (value_of v)
-  led = ap (changed (edit_of edit) t (value_of v)) path_is
-      ∙ ap (λ o. given o BadPath (λ x. given (part_at (numbered t step) (value_of v)) Absent
-      (λ y. replaced_in (numbered t step) (value_of v) (changed (edit_of edit) x y rest)))) typed
-      ∙ ap (λ s. given (part_at s (value_of v)) Absent
-      (λ y. replaced_in s (value_of v) (changed (edit_of edit) u y rest))) at_is
+  fitting : path_type t path ≡ path_type u rest
+  fitting = ap (path_type t) path_is ∙ ap (option_and_then (λ x. path_type x rest)) typed
+
+  led : edited (edit_of edit) t (value_of v) path ≡ onward u rest (value_of v)
+  led = ap (edited (edit_of edit) t (value_of v)) path_is
+      ∙ ap (λ o. cond (is_some (option_and_then (λ x. path_type x rest) o))
+      (given o BadPath (λ x. given (part_at (numbered t step) (value_of v)) Absent
+      (λ y. replaced_in (numbered t step) (value_of v) (changed (edit_of edit) x y rest))))
+      (Err BadPath)) typed
+      ∙ ap (λ s. cond (is_some (path_type u rest)) (given (part_at s (value_of v)) Absent
+      (λ y. replaced_in s (value_of v) (changed (edit_of edit) u y rest))) (Err BadPath)) at_is
+      ∙ misfit_first at (value_of v) (λ y. changed (edit_of edit) u y rest) (path_type u rest)
+      (part_at at (value_of v))
 
   -- the rest of the path leads on from the part
   pub onward_suits : SuitsPath u rest edit
-  onward_suits = record {
-    type = suits.type;
-    typed = ap (option_and_then (λ x. path_type x rest)) (sym typed)
-        ∙ ap (path_type t) (sym path_is) ∙ suits.typed;
-    suits = suits.suits;
-  }
+  onward_suits = subst (λ o. IfSome o (λ x. SuitsEdit x edit)) fitting suits
 
   refused : (may : Bool) (fault : EditFault) → onward u rest (value_of v) ≡ Err fault
-      → EditsValue may t (changed (edit_of edit) t (value_of v) path) v v (Err fault)
+      → EditsValue may t (edited (edit_of edit) t (value_of v) path) v v (Err fault)
   refused may fault e = record {
     fits = value;
     leaves = record { tells = told_fault may fault (value_of v) _ (led ∙ e); kept = refl };
   }
 
   -- no part is there
-  pub absent : (may : Bool) → part_at at (value_of v) ≡ None
-      → EditsValue may t (changed (edit_of edit) t (value_of v) path) v v (Err Absent)
-  absent may none = refused may Absent (ap (λ o. given o Absent
-      (λ y. replaced_in at (value_of v) (changed (edit_of edit) u y rest))) none)
+  pub absent : (may : Bool) → part_at at (value_of v) ≡ None → (fault : EditFault)
+      → fault ≡ refusal u rest Absent
+      → EditsValue may t (edited (edit_of edit) t (value_of v) path) v v (Err fault)
+  absent may none fault told = refused may fault (ap (λ o. given o (refusal u rest Absent)
+      (λ y. replaced_in at (value_of v) (edited (edit_of edit) u y rest))) none
+      ∙ ap (λ f. Err f) (sym told))
 
   -- a length or a selector
   pub counted : (may : Bool) → IsCount at u (value_of v)
-      → ((x : SszValue) → replaced_at at (value_of v) x ≡ Err NotThat)
-      → EditsValue may t (changed (edit_of edit) t (value_of v) path) v v (Err NotThat)
-  unfolding onward_suits
-  counted may is never =
-      let end = end_of_number is.width rest suits.type
-      (ap (λ s. path_type s rest) (sym is.type) ∙ onward_suits.typed) in
-      refused may NotThat
-      (ap₂ (λ s more. onward s more (value_of v)) is.type end.0
-      ∙ ap (λ o. given o Absent
-      (λ y. replaced_in at (value_of v) (edit_of edit (uint is.width) y))) is.there
-      ∙ number_refused edit is.width is.count at (value_of v) never)
+      → ((x : SszValue) → replaced_at at (value_of v) x ≡ Err NotThat) → (fault : EditFault)
+      → fault ≡ refusal u rest NotThat
+      → EditsValue may t (edited (edit_of edit) t (value_of v) path) v v (Err fault)
+  counted may is never fault told =
+      refused may fault
+      (ap (λ s. onward s rest (value_of v)) is.type
+      ∙ ap (λ o. given o (refusal (uint is.width) rest Absent)
+      (λ y. replaced_in at (value_of v) (edited (edit_of edit) (uint is.width) y rest))) is.there
+      ∙ count_refused edit is.width is.count at (value_of v) never rest
+      ∙ ap (λ s. Err (refusal s rest NotThat)) (sym is.type) ∙ ap (λ f. Err f) (sym told))
 
   -- the part is edited, and put in its place
   pub inner : (may : Bool) (w part left : Value) (answer : Result Unit EditFault)
@@ -178,15 +201,15 @@ module _ (t u : SszType) (edit : Edit) (v : Value) (step : PathStep) (rest path 
       → replaced_at at (value_of v) (value_of left) ≡ Ok (value_of w)
       → (value_of left ≡ value_of part → value_of w ≡ value_of v)
       → (IsValue u left → IsValue t w)
-      → EditsValue may u (changed (edit_of edit) u (value_of part) rest) part left answer
-      → EditsValue may t (changed (edit_of edit) t (value_of v) path) v w answer
+      → EditsValue may u (edited (edit_of edit) u (value_of part) rest) part left answer
+      → EditsValue may t (edited (edit_of edit) t (value_of v) path) v w answer
   inner may w part left answer there placed same fits made = record {
     fits = fits made.fits;
     leaves = record {
-      tells = subst (ChangeTells may answer (value_of w)) (sym (led ∙ ap (λ o. given o Absent
-          (λ y. replaced_in at (value_of v) (changed (edit_of edit) u y rest))) there))
+      tells = subst (ChangeTells may answer (value_of w)) (sym (led ∙ ap (λ o. given o (refusal u rest Absent)
+          (λ y. replaced_in at (value_of v) (edited (edit_of edit) u y rest))) there))
           (tells_alike may answer (value_of left) (value_of w)
-          (changed (edit_of edit) u (value_of part) rest) _
+          (edited (edit_of edit) u (value_of part) rest) _
           (λ e. ap (replaced_in at (value_of v)) e ∙ placed)
           (λ fault e. ap (replaced_in at (value_of v)) e) made.leaves.tells);
       kept = kept answer made.leaves.kept;
@@ -207,7 +230,7 @@ module _ (t u : SszType) (edit : Edit) (v : Value) (step : PathStep) (rest path 
       → ((x : X) → turned to new ≡ edit_of edit s (to x))
       → value_of v ≡ f run → value_of w ≡ f left → IsValue t w
       → ChangeLeaves false (put_at i new run) run left answer
-      → EditsValue may t (changed (edit_of edit) t (value_of v) path) v w answer
+      → EditsValue may t (edited (edit_of edit) t (value_of v) path) v w answer
   in_run f to may w i run left new answer s index type end item replaced same is now fits leaves =
       subst (λ (e : Edited). EditsValue may t e v w answer)
       (sym (led ∙ ap₂ (λ x more. onward x more (value_of v)) type end))
@@ -224,8 +247,8 @@ module _ (t u : SszType) (edit : Edit) (v : Value) (step : PathStep) (rest path 
   pub item_changed : (may : Bool) (w : Value) (parts new : Vec Value Global) (part left : Value)
       (answer : Result Unit EditFault) → v ≡ Seq parts → w ≡ Seq new → i < length parts.items
       → part ≡ get_or parts.items i part → new.items ≡ set parts.items i left
-      → EditsValue may u (changed (edit_of edit) u (value_of part) rest) part left answer
-      → EditsValue may t (changed (edit_of edit) t (value_of v) path) v w answer
+      → EditsValue may u (edited (edit_of edit) u (value_of part) rest) part left answer
+      → EditsValue may t (edited (edit_of edit) t (value_of v) path) v w answer
   item_changed may w parts new part left answer is now inside there placed made =
       let was : value_of v ≡ alike value_of parts.items = ap value_of is ∙ seq_is parts in
       let after : value_of w ≡ alike value_of (set parts.items i left) =
@@ -245,14 +268,14 @@ module _ (t u : SszType) (edit : Edit) (v : Value) (step : PathStep) (rest path 
 
   -- no element is there
   pub item_absent : (may : Bool) (w : Value) (parts : Vec Value Global) → v ≡ Seq parts
-      → w ≡ Seq parts → length parts.items ≤ i
-      → EditsValue may t (changed (edit_of edit) t (value_of v) path) v w (Err Absent)
-  item_absent may w parts is now past =
-      subst (λ x. EditsValue may t (changed (edit_of edit) t (value_of v) path) v x (Err Absent))
+      → w ≡ Seq parts → length parts.items ≤ i → (fault : EditFault) → fault ≡ refusal u rest Absent
+      → EditsValue may t (edited (edit_of edit) t (value_of v) path) v w (Err fault)
+  item_absent may w parts is now past fault told =
+      subst (λ x. EditsValue may t (edited (edit_of edit) t (value_of v) path) v x (Err fault))
       (is ∙ sym now) (absent t u edit v step rest path (Index i) path_is typed at_is value suits may
       (ap (part_at (Index i)) (ap value_of is ∙ seq_is parts)
       ∙ item_alike value_of parts.items i
-      ∙ ap (option_map value_of) (slice_get_past parts.items i past)))
+      ∙ ap (option_map value_of) (slice_get_past parts.items i past)) fault told)
 
   -- the part there is one of its type
   pub item_value : (parts : Vec Value Global) (part : Value) → v ≡ Seq parts
@@ -265,23 +288,29 @@ module _ (t u : SszType) (edit : Edit) (v : Value) (step : PathStep) (rest path 
     bytes_held : IsPartOfBytes t u run
     bytes_held = part_of_bytes t u step i run typed at_is (subst (IsValue t) is value)
 
-    bytes_end : (rest ≡ []) × (uint W8 ≡ suits.type)
-    bytes_end = end_of_number W8 rest suits.type (ap (λ s. path_type s rest) (sym bytes_held.byte)
-        ∙ ap (option_and_then (λ x. path_type x rest)) (sym typed)
-        ∙ ap (path_type t) (sym path_is) ∙ suits.typed)
+    -- the path goes on below it
+    pub byte_misfits : (may : Bool) (w : Value) → w ≡ Bytes run → 1 < length path
+        → EditsValue may t (edited (edit_of edit) t (value_of v) path) v w (Err BadPath)
+    byte_misfits may w now longer =
+        subst (λ x. EditsValue may t (edited (edit_of edit) t (value_of v) path) v x (Err BadPath))
+        (is ∙ sym now) (misfit may t edit v path
+        (ap (path_type t) path_is ∙ ap (option_and_then (λ x. path_type x rest)) typed
+        ∙ ap (λ s. path_type s rest) bytes_held.byte
+        ∙ number_misfits W8 step rest (subst (λ p. 1 < length p) path_is longer)) value)
 
-    pub byte_suits : SuitsEdit (uint W8) edit
-    byte_suits = subst (λ s. SuitsEdit s edit) (sym bytes_end.1) suits.suits
+    pub byte_suits : rest ≡ [] → SuitsEdit (uint W8) edit
+    byte_suits end = subst (λ o. IfSome o (λ x. SuitsEdit x edit)) (ap₂ path_type bytes_held.byte end)
+        (onward_suits t u edit v step rest path (Index i) path_is typed at_is value suits)
 
-    pub byte_changed : (may : Bool) (w : Value) (left : List ℕ) (answer : Result Unit EditFault)
+    pub byte_changed : rest ≡ [] → (may : Bool) (w : Value) (left : List ℕ) (answer : Result Unit EditFault)
         → w ≡ Bytes left → ChangeLeaves false (put_at i (new_byte edit) run) run left answer
-        → EditsValue may t (changed (edit_of edit) t (value_of v) path) v w answer
-    byte_changed may w left answer now leaves =
+        → EditsValue may t (edited (edit_of edit) t (value_of v) path) v w answer
+    byte_changed end may w left answer now leaves =
         let kept = left_put (λ b. b < 256) i (new_byte edit) run left answer bytes_held.bytes
-        (byte_small edit byte_suits) leaves in
+        (byte_small edit (byte_suits end)) leaves in
         in_run t u edit v step rest path (Index i) path_is typed at_is value suits (alike number)
-        number may w i run left (new_byte edit) answer (uint W8) refl bytes_held.byte bytes_end.0
-        (item_alike number run i) (replaced_alike number run i) (byte_edit edit byte_suits)
+        number may w i run left (new_byte edit) answer (uint W8) refl bytes_held.byte end
+        (item_alike number run i) (replaced_alike number run i) (byte_edit edit (byte_suits end))
         (ap value_of is ∙ bytes_are run) (ap value_of now ∙ bytes_are left)
         (subst (IsValue t) (sym now) (bytes_held.put left kept.0 kept.1)) leaves
 
@@ -289,23 +318,29 @@ module _ (t u : SszType) (edit : Edit) (v : Value) (step : PathStep) (rest path 
     bits_held : IsPartOfBits t u run
     bits_held = part_of_bits t u step i run typed at_is (subst (IsValue t) is value)
 
-    bits_end : (rest ≡ []) × (boolean ≡ suits.type)
-    bits_end = end_of_bit rest suits.type (ap (λ s. path_type s rest) (sym bits_held.bit)
-        ∙ ap (option_and_then (λ x. path_type x rest)) (sym typed)
-        ∙ ap (path_type t) (sym path_is) ∙ suits.typed)
+    -- the path goes on below it
+    pub bit_misfits : (may : Bool) (w : Value) → w ≡ Bits run → 1 < length path
+        → EditsValue may t (edited (edit_of edit) t (value_of v) path) v w (Err BadPath)
+    bit_misfits may w now longer =
+        subst (λ x. EditsValue may t (edited (edit_of edit) t (value_of v) path) v x (Err BadPath))
+        (is ∙ sym now) (misfit may t edit v path
+        (ap (path_type t) path_is ∙ ap (option_and_then (λ x. path_type x rest)) typed
+        ∙ ap (λ s. path_type s rest) bits_held.bit
+        ∙ truth_misfits step rest (subst (λ p. 1 < length p) path_is longer)) value)
 
-    pub bit_suits : SuitsEdit boolean edit
-    bit_suits = subst (λ s. SuitsEdit s edit) (sym bits_end.1) suits.suits
+    pub bit_suits : rest ≡ [] → SuitsEdit boolean edit
+    bit_suits end = subst (λ o. IfSome o (λ x. SuitsEdit x edit)) (ap₂ path_type bits_held.bit end)
+        (onward_suits t u edit v step rest path (Index i) path_is typed at_is value suits)
 
-    pub bit_changed : (may : Bool) (w : Value) (left : List Bool) (answer : Result Unit EditFault)
+    pub bit_changed : rest ≡ [] → (may : Bool) (w : Value) (left : List Bool) (answer : Result Unit EditFault)
         → w ≡ Bits left → ChangeLeaves false (put_at i (new_bit edit) run) run left answer
-        → EditsValue may t (changed (edit_of edit) t (value_of v) path) v w answer
-    bit_changed may w left answer now leaves =
+        → EditsValue may t (edited (edit_of edit) t (value_of v) path) v w answer
+    bit_changed end may w left answer now leaves =
         let kept = left_put (λ _. Unit {0}) i (new_bit edit) run left answer (each_bit run)
         (λ b e. tt) leaves in
         in_run t u edit v step rest path (Index i) path_is typed at_is value suits bits truth may w
-        i run left (new_bit edit) answer boolean refl bits_held.bit bits_end.0 refl (λ b. refl)
-        (bit_edit edit bit_suits) (ap value_of is ∙ bits_are run) (ap value_of now ∙ bits_are left)
+        i run left (new_bit edit) answer boolean refl bits_held.bit end refl (λ b. refl)
+        (bit_edit edit (bit_suits end)) (ap value_of is ∙ bits_are run) (ap value_of now ∙ bits_are left)
         (subst (IsValue t) (sym now) (bits_held.put left kept.1)) leaves
 
 -- the value of a union
@@ -318,9 +353,9 @@ module _ (t u : SszType) (edit : Edit) (v : Value) (step : PathStep) (rest path 
 
   pub inner_changed : (may : Bool) (w : Value) (part new : Box Value Global)
       (answer : Result Unit EditFault) → v ≡ Union k (Some part) → w ≡ Union k (Some new)
-      → EditsValue may u (changed (edit_of edit) u (value_of part.value) rest) part.value new.value
+      → EditsValue may u (edited (edit_of edit) u (value_of part.value) rest) part.value new.value
       answer
-      → EditsValue may t (changed (edit_of edit) t (value_of v) path) v w answer
+      → EditsValue may t (edited (edit_of edit) t (value_of v) path) v w answer
   inner_changed may w part new answer is now made =
       let was : value_of v ≡ chosen k (value_of part.value) = ap value_of is ∙ chosen_is k part in
       let after : value_of w ≡ chosen k (value_of new.value) = ap value_of now ∙ chosen_is k new in
@@ -332,17 +367,6 @@ module _ (t u : SszType) (edit : Edit) (v : Value) (step : PathStep) (rest path 
       (ap (λ y. replaced_at (Chosen k) y (value_of new.value)) was ∙ ap (λ y. Ok y) (sym after))
       (λ same. after ∙ ap (chosen k) same ∙ sym was)
       (λ f. subst (IsValue t) (sym now) (of.put new f)) made
-
--- a new value that suits where the path fits suits the path that is found to fit
-pub suited : (types : Types) (t : SszType) (path : Path) (edit : Edit) (found : Option ℕ)
-    → is_some found ≡ true → option_map (type_of types) found ≡ path_type t path
-    → IfSome (path_type t path) (λ u. SuitsEdit u edit) → SuitsPath t path edit
-suited types t path edit None there is h = absurd cc
-suited types t path edit (Some id) there is h = record {
-  type = type_of types id;
-  typed = sym is;
-  suits = subst (λ o. IfSome o (λ u. SuitsEdit u edit)) (sym is) h;
-}
 
 -- the step at the head of the path leads on
 pub leads_by : (types : Types) (id : ℕ) (path : Path) (step : PathStep) (rest : Path)
@@ -356,8 +380,3 @@ leads_by types id path step rest lead place is led at = record {
   typed = led.typed;
   numbered = led.numbered ∙ ap step_to at;
 }
-
--- what follows the first step
-pub rest_is : (path : Path) (step : PathStep) (rest : Path) → path ≡ step ∷ rest
-    → take (length path - 1) (drop 1 path) ≡ rest
-rest_is path step rest is = take_rest path 1 ∙ ap (drop 1) is

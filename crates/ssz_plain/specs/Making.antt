@@ -1,12 +1,12 @@
 -- What an edit makes of a part, and what it leaves of the whole.
-use Rattle.std.specs.Prelude.{ℕ, ◌≡◌, ◌==◌, ◌-◌, nat_lt, if◌then◌else◌, Bool, true, false, List, [], ◌∷◌, ◌++◌, length, take, set, Option, Some, option_map, Result, Ok, Err, OnErr}
+use Rattle.std.specs.Prelude.{ℕ, ◌≡◌, ◌==◌, ◌-◌, nat_lt, if◌then◌else◌, Bool, true, false, List, [], ◌∷◌, ◌++◌, length, take, set, Option, option_map, Result, Ok, Err, OnErr, IfSome, is_some}
 use Rattle.std.specs.declared.boxed.Box.{Box}
 use Rattle.std.specs.Global.{Global}
 use Rattle.ssz_schema.specs.Types.{SszType}
 use Rattle.ssz_schema.specs.Paths.{Path, path_type}
 use Rattle.ssz_value.specs.declared.value.Value.{Value}
 use Rattle.ssz_value.specs.declared.edit_fault.EditFault.{EditFault}
-use Rattle.ssz_value.specs.declared.edit_fault.EditFault.TheVariants.{Absent, NotThat, Full, Empty, Memory}
+use Rattle.ssz_value.specs.declared.edit_fault.EditFault.TheVariants.{BadPath, Absent, NotThat, Full, Empty, Memory}
 use Rattle.ssz_value.specs.Values.{SszValue, number, truth}
 use Rattle.ssz_value.specs.Standing.{value_of, IsValue}
 use Rattle.ssz_value.specs.Suiting.{IsElement, IsInner}
@@ -32,11 +32,13 @@ SuitsEdit t (Append new) = IsElement t new
 SuitsEdit t Pop = Unit {0}
 SuitsEdit t (Choose k inner) = IsInner t k (unboxed inner)
 
--- the path fits the type, and the new value suits the part
-pub record SuitsPath (t : SszType) (path : Path) (edit : Edit) : Type 0 where
-  pub type : SszType
-  pub typed : path_type t path ≡ Some type
-  pub suits : SuitsEdit type edit
+-- the new value suits the part at the path, if the path fits the type
+abbrev pub SuitsPath : SszType → Path → Edit → Type 0
+SuitsPath t path edit = IfSome (path_type t path) (λ u. SuitsEdit u edit)
+
+-- why an edit is refused from which this path leads on: that it does not fit comes first
+abbrev pub refusal : SszType → Path → EditFault → EditFault
+refusal t path fault = if is_some (path_type t path) then fault else BadPath
 
 -- only an element more takes memory
 abbrev pub takes_memory : Edit → Bool

@@ -4,10 +4,10 @@ ghost use Rattle.ssz_schema.specs.declared.width.Width.TheVariants.{W8};
 ghost use Rattle.ssz_schema.specs.Types.{uint, boolean};
 ghost use Rattle.ssz_schema.specs.Unfolding.{type_of};
 ghost use Rattle.ssz_value.specs.Standing.{IsValue, value_of};
-ghost use Rattle.ssz_value.specs.Edits.{changed};
+ghost use Rattle.ssz_value.specs.Edits.{edited};
 ghost use Rattle.ssz_plain.specs.declared.leading.Place.TheVariants.{Item, Inner};
 ghost use Rattle.ssz_plain.specs.Leading.{LeadsBy};
-ghost use Rattle.ssz_plain.specs.Making.{EditsValue, ChangeLeaves, edit_of, takes_memory, SuitsPath, SuitsEdit, put_at, new_byte, new_bit};
+ghost use Rattle.ssz_plain.specs.Making.{EditsValue, ChangeLeaves, edit_of, takes_memory, SuitsPath, SuitsEdit, refusal, put_at, new_byte, new_bit};
 
 use super::edit::Edit;
 use super::leading::{Place, step_lead};
@@ -16,7 +16,8 @@ use ssz_bytes::{BitRun, ByteRun};
 use ssz_schema::{PathStep, Schema, TypeId};
 use ssz_value::{EditFault, Value};
 
-// Makes the edit of the part at the path, which fits the type of the value.
+// Makes the edit of the part at the path. What refuses it asks whether the rest of the path fits, so
+// that a path is walked once.
 #[cycle(change)]
 pub(crate) fn change(
     schema: &Schema,
@@ -29,10 +30,10 @@ pub(crate) fn change(
     requires value { IsValue (type_of schema.now id) value.old }
     requires suits { SuitsPath (type_of schema.now id) path.now edit }
     ensures { let t = type_of schema.now id in
-        EditsValue (takes_memory edit) t (changed (edit_of edit) t (value_of value.old) path.now)
+        EditsValue (takes_memory edit) t (edited (edit_of edit) t (value_of value.old) path.now)
         value.old value.new result }
 {
-    let Some((step, _rest)) = path.split_first() else {
+    let Some((step, rest)) = path.split_first() else {
         return make(schema, id, value, edit);
     };
     // An edit that is refused is let go by a call, else each exit lets go of each of its forms.
@@ -45,11 +46,11 @@ pub(crate) fn change(
         // They cannot be changed alone.
         Place::Length => {
             drop(edit);
-            Err(EditFault::NotThat)
+            Err(refusal(schema, next.id, rest, EditFault::NotThat))
         }
         Place::Selector => {
             drop(edit);
-            Err(EditFault::NotThat)
+            Err(refusal(schema, next.id, rest, EditFault::NotThat))
         }
         Place::Inner(number) => change_inner(schema, id, value, path, (next.id, number), edit),
     }
@@ -70,7 +71,7 @@ fn change_item(
     requires suits { SuitsPath (type_of schema.now id) path.now edit }
     requires led { LeadsBy schema.now id path.now at.0 (Item at.1) }
     ensures { let t = type_of schema.now id in
-        EditsValue (takes_memory edit) t (changed (edit_of edit) t (value_of value.old) path.now)
+        EditsValue (takes_memory edit) t (edited (edit_of edit) t (value_of value.old) path.now)
         value.old value.new result }
 {
     let i = at.1;
@@ -78,15 +79,27 @@ fn change_item(
         Value::Seq(parts) => {
             if i >= parts.len() as u64 {
                 drop(edit);
-                return Err(EditFault::Absent);
+                return Err(refusal(schema, at.0, &path[1..], EditFault::Absent));
             }
             change(schema, at.0, &mut parts[i as usize], &path[1..], edit)
         }
-        Value::Bytes(run) => change_byte(run, i, edit),
-        Value::Bits(run) => change_bit(run, i, edit),
+        Value::Bytes(run) => {
+            if path.len() > 1 {
+                drop(edit);
+                return Err(EditFault::BadPath);
+            }
+            change_byte(run, i, edit)
+        }
+        Value::Bits(run) => {
+            if path.len() > 1 {
+                drop(edit);
+                return Err(EditFault::BadPath);
+            }
+            change_bit(run, i, edit)
+        }
         _ => {
             drop(edit);
-            Err(EditFault::Absent)
+            Err(refusal(schema, at.0, &path[1..], EditFault::Absent))
         }
     }
 }
@@ -106,7 +119,7 @@ fn change_inner(
     requires suits { SuitsPath (type_of schema.now id) path.now edit }
     requires led { LeadsBy schema.now id path.now at.0 (Inner at.1) }
     ensures { let t = type_of schema.now id in
-        EditsValue (takes_memory edit) t (changed (edit_of edit) t (value_of value.old) path.now)
+        EditsValue (takes_memory edit) t (edited (edit_of edit) t (value_of value.old) path.now)
         value.old value.new result }
 {
     let number = at.1;
@@ -114,20 +127,31 @@ fn change_inner(
         Value::Union { selector, inner } => {
             if *selector != number {
                 drop(edit);
-                return Err(EditFault::Absent);
+                return Err(refusal(schema, at.0, &path[1..], EditFault::Absent));
             }
             match inner {
                 Some(part) => change(schema, at.0, part.as_mut(), &path[1..], edit),
                 None => {
                     drop(edit);
-                    Err(EditFault::Absent)
+                    Err(refusal(schema, at.0, &path[1..], EditFault::Absent))
                 }
             }
         }
         _ => {
             drop(edit);
-            Err(EditFault::Absent)
+            Err(refusal(schema, at.0, &path[1..], EditFault::Absent))
         }
+    }
+}
+
+// Why the edit is refused where this path leads on: that it does not fit comes first.
+fn refusal(schema: &Schema, id: TypeId, path: &[PathStep], fault: EditFault) -> EditFault
+    requires { id < length schema.now.trees }
+    ensures { result ≡ refusal (type_of schema.now id) path.now fault }
+{
+    match schema.path_type(id, path) {
+        Some(_) => fault,
+        None => EditFault::BadPath,
     }
 }
 

@@ -31,9 +31,6 @@ pub fn plain_set(
     ensures fits { IsValue (type_of schema.now id) value.new }
     ensures kept { OnErr result (value_of value.new ≡ value_of value.old) }
 {
-    if schema.path_type(id, path).is_none() {
-        return Err(EditFault::BadPath);
-    }
     change(schema, id, value, path, Edit::Set(new))
 }
 
@@ -56,9 +53,6 @@ pub fn plain_append(
     ensures fits { IsValue (type_of schema.now id) value.new }
     ensures kept { OnErr result (value_of value.new ≡ value_of value.old) }
 {
-    if schema.path_type(id, path).is_none() {
-        return Err(EditFault::BadPath);
-    }
     change(schema, id, value, path, Edit::Append(new))
 }
 
@@ -78,9 +72,6 @@ pub fn plain_pop(
     ensures fits { IsValue (type_of schema.now id) value.new }
     ensures kept { OnErr result (value_of value.new ≡ value_of value.old) }
 {
-    if schema.path_type(id, path).is_none() {
-        return Err(EditFault::BadPath);
-    }
     change(schema, id, value, path, Edit::Pop)
 }
 
@@ -107,9 +98,6 @@ pub fn plain_choose(
     ensures fits { IsValue (type_of schema.now id) value.new }
     ensures kept { OnErr result (value_of value.new ≡ value_of value.old) }
 {
-    if schema.path_type(id, path).is_none() {
-        return Err(EditFault::BadPath);
-    }
     let inner = match inner {
         Some(part) => Some(Box::new(alloc, part)?),
         None => None,

@@ -1,7 +1,7 @@
 use Rattle.std.proofs.Common.{sym, ◌∙◌, ap, rules, refl, subst, ◌≡◌, ◌+◌, ◌-◌, ◌<◌, ◌≤◌, Some, length, take, drop, arith}
 use Rattle.std.specs.Vec.{with_item}
 use Rattle.std.specs.Box.{with_value}
-use Rattle.ssz_value.specs.Edits.{changed}
+use Rattle.ssz_value.specs.Edits.{edited}
 use Rattle.ssz_plain.specs.Making.{EditsValue, SuitsPath, edit_of, takes_memory}
 use Rattle.ssz_schema.specs.Unfolding.{type_of}
 use Rattle.ssz_schema.specs.declared.path.PathStep.TheVariants.{Len, Selector, Option as Chosen}
@@ -10,7 +10,8 @@ use Rattle.ssz_value.specs.Standing.{IsValue, value_of}
 use Rattle.ssz_plain.specs.Leading.{step_to, LeadsBy}
 use Rattle.ssz_plain.specs.declared.leading.Place.TheVariants.{Item, Inner}
 use Rattle.ssz_plain.proofs.Steps.{length_there, selector_there}
-use Rattle.ssz_plain.proofs.Changed.{no_inner, absent, counted, onward_suits, item_absent, item_changed, item_value, byte_suits, byte_changed, bit_suits, bit_changed, inner_value, inner_changed, leads_by, rest_is}
+use Rattle.ssz_plain.proofs.Changed.{no_inner, absent, counted, onward_suits, item_absent, item_changed, item_value, byte_suits, byte_changed, bit_suits, bit_changed, byte_misfits, bit_misfits, inner_value, inner_changed, leads_by}
+use Rattle.ssz_plain.proofs.Endings.{refused_on, last_is, rest_is}
 use Rattle.ssz_plain.proofs.changing.+change.Goals as goal
 
 pub change-returns-in-Length : goal.change-returns-in-Length
@@ -19,6 +20,7 @@ change-returns-in-Length t c =
     let at = lead.numbered ∙ ap step_to c.in-Length.is in
     counted _ _ _ _ _ _ _ Len c.in-Some.ensures.cases.0 lead.typed at c.requires.value
     c.requires.suits _ (length_there _ _ _ _ lead.typed at c.requires.value.fits) (λ x. refl)
+    _ c.refusal.ensures
 
 pub change-returns-in-Selector : goal.change-returns-in-Selector
 change-returns-in-Selector t c =
@@ -26,6 +28,7 @@ change-returns-in-Selector t c =
     let at = lead.numbered ∙ ap step_to c.in-Selector.is in
     counted _ _ _ _ _ _ _ Selector c.in-Some.ensures.cases.0 lead.typed at c.requires.value
     c.requires.suits _ (selector_there _ _ _ _ lead.typed at c.requires.value.fits) (λ x. refl)
+    _ c.refusal-in-Selector.ensures
 
 pub change-change_item-requires : goal.change-change_item-requires
 change-change_item-requires t c =
@@ -48,29 +51,41 @@ change_item-change_byte-requires t c =
     let led = c.requires.led in
     byte_suits _ _ _ _ _ _ _ c.args.at.1 led.path_is led.typed
     led.numbered c.requires.value c.requires.suits c.in-Bytes.run'
-    c.in-Bytes.is
+    c.in-Bytes.is (last_is _ _ _ led.path_is (search rules))
 
 pub change_item-change_bit-requires : goal.change_item-change_bit-requires
 change_item-change_bit-requires t c =
     let led = c.requires.led in
     bit_suits _ _ _ _ _ _ _ c.args.at.1 led.path_is led.typed
     led.numbered c.requires.value c.requires.suits c.in-Bits.run'
-    c.in-Bits.is
+    c.in-Bits.is (last_is _ _ _ led.path_is (search rules))
 
-pub change_item-returns-in-Bytes : goal.change_item-returns-in-Bytes
-change_item-returns-in-Bytes t c =
+pub change_item-returns-then-path-gt1 : goal.change_item-returns-then-path-gt1
+change_item-returns-then-path-gt1 t c =
+    let led = c.requires.led in
+    byte_misfits _ _ _ _ _ _ _ c.args.at.1 led.path_is led.typed led.numbered c.requires.value
+    c.requires.suits c.in-Bytes.run' c.in-Bytes.is _ _ (search rules) (search rules)
+
+pub change_item-returns-else-path-gt1 : goal.change_item-returns-else-path-gt1
+change_item-returns-else-path-gt1 t c =
     let led = c.requires.led in
     byte_changed _ _ _ _ _ _ _ c.args.at.1 led.path_is led.typed
     led.numbered c.requires.value c.requires.suits c.in-Bytes.run'
-    c.in-Bytes.is _ _ c.change_byte.new.run _ (search rules)
+    c.in-Bytes.is (last_is _ _ _ led.path_is (search rules)) _ _ c.change_byte.new.run _ (search rules)
     (rw c.in-Bytes.run-is at c.change_byte.ensures)
 
-pub change_item-returns-in-Bits : goal.change_item-returns-in-Bits
-change_item-returns-in-Bits t c =
+pub change_item-returns-then-path-gt1-2 : goal.change_item-returns-then-path-gt1-2
+change_item-returns-then-path-gt1-2 t c =
+    let led = c.requires.led in
+    bit_misfits _ _ _ _ _ _ _ c.args.at.1 led.path_is led.typed led.numbered c.requires.value
+    c.requires.suits c.in-Bits.run' c.in-Bits.is _ _ (search rules) (search rules)
+
+pub change_item-returns-else-path-gt1-2 : goal.change_item-returns-else-path-gt1-2
+change_item-returns-else-path-gt1-2 t c =
     let led = c.requires.led in
     bit_changed _ _ _ _ _ _ _ c.args.at.1 led.path_is led.typed
     led.numbered c.requires.value c.requires.suits c.in-Bits.run'
-    c.in-Bits.is _ _ c.change_bit.new.run _ (search rules)
+    c.in-Bits.is (last_is _ _ _ led.path_is (search rules)) _ _ c.change_bit.new.run _ (search rules)
     (rw c.in-Bits.run-is at c.change_bit.ensures)
 
 pub change_item-change-requires : goal.change_item-change-requires
@@ -100,7 +115,8 @@ change_item-returns-then-i-len t c =
     let past : length c.in-Seq.parts.items ≤ c.args.at.1 = search rules in
     item_absent _ _ _ _ _ _ _ c.args.at.1 led.path_is led.typed
     led.numbered c.requires.value c.requires.suits _ _ c.in-Seq.parts
-    c.in-Seq.is (search rules) past
+    c.in-Seq.is (search rules) past _
+    (refused_on _ _ _ _ _ _ led.path_is c.refusal.ensures)
 
 pub change_item-returns-else-i-len : goal.change_item-returns-else-i-len
 change_item-returns-else-i-len t c =
@@ -113,7 +129,7 @@ change_item-returns-else-i-len t c =
     c.change.new.value _ c.in-Seq.is (rw c.in-Seq.parts-is (search rules)) inside
     (rw c.in-Seq.parts-is at c.index_mut.ensures.value) refl
     (subst (λ more. EditsValue (takes_memory c.args.edit) (type_of c.args.schema.now c.args.at.0)
-    (changed (edit_of c.args.edit) (type_of c.args.schema.now c.args.at.0)
+    (edited (edit_of c.args.edit) (type_of c.args.schema.now c.args.at.0)
     (value_of c.index_mut.result.now) more) c.index_mut.result.now c.change.new.value
     c.change.result) rest c.change.ensures)
 
@@ -159,12 +175,12 @@ change_inner-returns-in-Some t c =
     c.if-selector-number.false)
     (subst (λ part. EditsValue (takes_memory c.args.edit)
     (type_of c.args.schema.now c.args.at.0)
-    (changed (edit_of c.args.edit) (type_of c.args.schema.now c.args.at.0)
+    (edited (edit_of c.args.edit) (type_of c.args.schema.now c.args.at.0)
     (value_of part) led.rest) part c.change.new.value
     c.change.result)
     c.as_mut.ensures.value
     (subst (λ more. EditsValue (takes_memory c.args.edit) (type_of c.args.schema.now c.args.at.0)
-    (changed (edit_of c.args.edit) (type_of c.args.schema.now c.args.at.0)
+    (edited (edit_of c.args.edit) (type_of c.args.schema.now c.args.at.0)
     (value_of c.as_mut.result.now) more) c.as_mut.result.now c.change.new.value c.change.result)
     rest c.change.ensures))
 
@@ -173,4 +189,5 @@ change_inner-returns-in_default t c =
     let led = c.requires.led in
     absent _ _ _ _ _ _ _ (Chosen c.args.at.1) led.path_is led.typed
     led.numbered c.requires.value c.requires.suits _
-    (no_inner c.args.value.now c.args.at.1 c.in_default.not-Union)
+    (no_inner c.args.value.now c.args.at.1 c.in_default.not-Union) _
+    (refused_on _ _ _ _ _ _ led.path_is c.refusal-in_default.ensures)
