@@ -6,6 +6,8 @@
  *     sessions load SCHEMA TYPE FILE TIMES          the file's bytes in, as a version that is then dropped
  *     sessions bytes SCHEMA TYPE FILE TIMES         a version's bytes out, into room that is there
  *     sessions set SCHEMA TYPE FILE TIMES LENGTH    an element of a list of LENGTH numbers set, and the root
+ *     sessions whole SCHEMA TYPE FILE TIMES         a container's only field, a list /l, set by bytes, as balances are in an epoch
+ *     sessions epoch SCHEMA TYPE FILE TIMES         the same, and the root
  *     sessions none SCHEMA TYPE FILE TIMES          the file read and the version made, and no more
  */
 #include <stdio.h>
@@ -18,6 +20,9 @@
 
 /* From an element to the next one: an odd number that leads all over the list. */
 #define FAR 2654435761u
+
+/* The bytes of a container's only offset. */
+#define OFFSET 4
 
 static ssz_schema schema = SSZ_SCHEMA_NONE;
 static ssz_session session = SSZ_SESSION_NONE;
@@ -67,6 +72,10 @@ int main(int count, char **words) {
             done(ssz_session_load(&session, V, type, type_len, value, len, &fault));
         } else if (!strcmp(work, "bytes")) {
             done(ssz_session_bytes(&session, V, (const uint8_t *)"/", 1, room, len, &found, &fault));
+        } else if (!strcmp(work, "whole") || !strcmp(work, "epoch")) {
+            memset(value + OFFSET, (int)(k % 255 + 1), len - OFFSET);
+            done(ssz_session_set(&session, V, (const uint8_t *)"/l", 2, value + OFFSET, len - OFFSET, &fault));
+            if (!strcmp(work, "epoch")) done(ssz_session_root(&session, V, root, &fault));
         } else {
             unsigned long long place = k * FAR % length;
             size_t at = (size_t)snprintf(path, sizeof path, "/%llu", place);
