@@ -115,13 +115,18 @@ impl PairHash for ShaPair {
         sha_of(left, right)
     }
 
-    // As many at a time as there are lanes.
+    // As many at a time as there are lanes; that all are filled stands apart, so that their copies
+    // have a length that the compiler knows.
+    #[inline(always)]
     fn halve(&mut self, chunks: &mut [Chunk]) {
         let count = chunks.len() / 2;
         let mut made = 0;
         'pairs: while made < count {
             let n = LANES.min(count - made);
-            if n < FEW {
+            if n == LANES {
+                make_some(chunks, made, LANES);
+                made += LANES;
+            } else if n < FEW {
                 chunks[made] = sha_of(&chunks[2 * made], &chunks[2 * made + 1]);
                 made += 1;
             } else {

@@ -9,6 +9,7 @@ use super::Chunk;
 use ssz_lanes::{LANES, sha256_pairs};
 
 // So many chunks from a place on, with zeros behind them in the row.
+#[inline(always)]
 fn row_of(chunks: &[Chunk], from: usize, count: usize) -> [[u8; 32]; 2 * LANES]
     requires few { count ≤ 16 }
     requires inside { from + count ≤ length chunks.now }
@@ -22,6 +23,7 @@ fn row_of(chunks: &[Chunk], from: usize, count: usize) -> [[u8; 32]; 2 * LANES]
 }
 
 // Makes the next n pairs at once.
+#[inline(always)]
 pub(crate) fn make_some(chunks: &mut [Chunk], made: usize, n: usize)
     requires few { n ≤ 8 }
     requires inside { 2 * (made + n) ≤ length chunks.old }

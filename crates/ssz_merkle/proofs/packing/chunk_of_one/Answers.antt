@@ -1,0 +1,7 @@
+use Rattle.std.proofs.Common.{ap, sym}
+use Rattle.ssz_merkle.specs.Packing.{padded}
+use Rattle.ssz_merkle.proofs.Padding.{all-values}
+use Rattle.ssz_merkle.proofs.packing.chunk_of_one.Goals as goal
+
+pub returns : goal.returns
+returns c = sym (ap padded (all-values 1 c.args.bytes.now c.requires))
