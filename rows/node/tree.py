@@ -158,9 +158,9 @@ DEFAULTS = [
 
 
 def made_for(node):
-    """The nodes that are made for a tree, and how many of these are pairs; a zero tree is there from the start."""
+    """The nodes that are made for a tree, and how many of these are pairs; zero chunks and zero trees are there from the start."""
     if isinstance(node, bytes):
-        return 1, 0
+        return int(any(node)), 0
     parts = [made_for(part) for part in (node if isinstance(node, Pair) else node.parts)]
     pairs = above(len(parts), 1 if isinstance(node, Pair) else node.depth)
     return sum(nodes for nodes, _ in parts) + pairs, sum(pairs for _, pairs in parts) + pairs

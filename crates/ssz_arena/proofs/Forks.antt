@@ -10,8 +10,8 @@ use Rattle.ssz_arena.specs.Content.{child}
 use Rattle.ssz_arena.specs.Invariant.{IsArena}
 use Rattle.ssz_arena.specs.Filled.{FillsUpTo}
 use Rattle.ssz_arena.specs.Batches.{NodesAreBelow, AreHashed, NodeLeadsTo, id_at, is_due, left_child, node_of, right_child, todo_all}
-use Rattle.ssz_arena.proofs.Nodes.{due, due-cached, due-pair}
-use Rattle.ssz_arena.proofs.Together.{due_found, none_due, todo-cons}
+use Rattle.ssz_arena.proofs.Nodes.{due, due-cached, due-pair, none_due}
+use Rattle.ssz_arena.proofs.Together.{due_found, todo-cons}
 
 -- a pair has at most one pair more to be hashed than its children
 at_most_one_more : (nodes : List Node) (i : ℕ) (left right : NodeId) → left.0 < i → right.0 < i

@@ -20,7 +20,7 @@ use Rattle.ssz_arena.specs.Content.{is_unhashed, child}
 use Rattle.ssz_arena.specs.Invariant.{IsArena}
 use Rattle.ssz_arena.specs.Filled.{FillsUpTo}
 use Rattle.ssz_arena.specs.Batches.{NodesAreBelow, AreDue, AreHashed, HasRoot, IsNodeReady, id_at, is_due, kids, left_child, node_of, right_child, todo_all}
-use Rattle.ssz_arena.proofs.Nodes.{tree, due, due-leaf, due-cached, due-pair, tree-pair}
+use Rattle.ssz_arena.proofs.Nodes.{tree, due, due-pair, none_due, tree-pair}
 
 -- ---- which are due
 
@@ -42,14 +42,6 @@ due_sum nodes ids found is =
     let both : _ = sum_by-filter_both (is_due nodes) (λ id. not (is_due nodes id)) (λ id. refl)
     (λ (id : NodeId). due nodes id.0) ids in
     subst (λ l. todo_all nodes l ≤ todo_all nodes ids) (sym is) (omega (arith, both))
-
--- a node that is not due
-pub none_due : (nodes : List Node) (i : ℕ) (node : Node) → slice_get nodes i ≡ Some node
-    → is_unhashed node ≡ false → due nodes i ≡ 0
-none_due nodes i (Leaf chunk) found not_due = due-leaf nodes i chunk found
-none_due nodes i (Pair left right (Some chunk)) found not_due =
-    due-cached nodes i left right chunk found
-none_due nodes i (Pair left right None) found not_due = cc
 
 -- where the due ones are hashed, all are
 pub due_hashed : (nodes new : List Node) (ids : List NodeId) → NodesAreBelow (length nodes) ids

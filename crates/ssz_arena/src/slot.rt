@@ -2,7 +2,7 @@
 ghost use Rattle.std.specs.Prelude.{◌≡◌, false, None, Some, IfNone, IfSome};
 ghost use Rattle.ssz_chunk.specs.declared.Chunk.{Chunk};
 ghost use Rattle.ssz_arena.specs.Batches.{left_child, right_child};
-ghost use Rattle.ssz_arena.specs.declared.node.Node.TheVariants.{Pair};
+ghost use Rattle.ssz_arena.specs.declared.node.Node.TheVariants.{Leaf, Pair};
 ghost use Rattle.ssz_arena.specs.Content.{is_unhashed};
 ghost use Rattle.ssz_arena.specs.Slots.{IsShort, chunk_of};
 
@@ -42,6 +42,44 @@ impl Model for Slot {
 const _: () = prove!(size_of::<Slot>() == 40);
 
 impl Slot {
+    // A leaf.
+    #[inline(always)]
+    pub(crate) fn leaf(chunk: Chunk) -> Self
+        ensures { result ≡ Leaf chunk }
+    {
+        Slot {
+            chunk,
+            left: MARK,
+            right: 0,
+        }
+    }
+
+    // A pair that has no root yet, of children whose places are below MARK.
+    #[inline(always)]
+    pub(crate) fn pair(left: NodeId, right: NodeId) -> Self
+        requires { IsShort (Pair left right None) }
+        ensures { result ≡ Pair left right None }
+    {
+        Slot {
+            chunk: Chunk::ZERO,
+            left: left.0,
+            right: right.0 + MARK,
+        }
+    }
+
+    // A pair that has its root, of children whose places are below MARK.
+    #[inline(always)]
+    pub(crate) fn with_root(left: NodeId, right: NodeId, chunk: Chunk) -> Self
+        requires { IsShort (Pair left right (Some chunk)) }
+        ensures { result ≡ Pair left right (Some chunk) }
+    {
+        Slot {
+            chunk,
+            left: left.0,
+            right: right.0,
+        }
+    }
+
     // For a node whose children's places are below MARK.
     #[inline(always)]
     pub(crate) fn new(node: Node) -> Self
@@ -49,22 +87,10 @@ impl Slot {
         ensures { result ≡ node }
     {
         match node {
-            Node::Leaf(chunk) => Slot {
-                chunk,
-                left: MARK,
-                right: 0,
-            },
+            Node::Leaf(chunk) => Slot::leaf(chunk),
             Node::Pair(left, right, cached) => match cached {
-                Some(chunk) => Slot {
-                    chunk,
-                    left: left.0,
-                    right: right.0,
-                },
-                None => Slot {
-                    chunk: Chunk::ZERO,
-                    left: left.0,
-                    right: right.0 + MARK,
-                },
+                Some(chunk) => Slot::with_root(left, right, chunk),
+                None => Slot::pair(left, right),
             },
         }
     }

@@ -2,6 +2,7 @@
 use Rattle.std.proofs.Common.{◌≡◌, ℕ, suc, ◌+◌, ◌-◌, ◌^◌, ◌<◌, ◌≤◌, min, List, [], ◌∷◌, length, take, drop, refl, sym, ap, ap₂, subst, ◌∙◌, arith, zero-add, length-drop}
 use Rattle.std.proofs.lemmas.List.{take-map, drop-map, take-append-drop, length-take}
 use Rattle.std.proofs.lemmas.List.Sums.{sum_by-append}
+use Rattle.ssz_chunk.specs.Chunk.{zero_chunk}
 use Rattle.ssz_chunk.specs.Tree.{leaf, pair, merkle_tree, merkle_pairs, zero_tree}
 use Rattle.ssz_chunk.proofs.Growing.{grow-suc}
 use Rattle.ssz_chunk.proofs.Trees.{full-zero, full-suc}
@@ -89,15 +90,6 @@ AreNodes-kept old new nodes keeps all = record {
   each = λ k within. omega (arith, all.each k within, keeps.count);
 }
 
--- a node that was made as a leaf
-pub Makes-leaf : (old new : ArenaContent) (chunk : List ℕ) (node : NodeId) → IsNodeOf new node
-    → tree_of new node ≡ leaf chunk → todo new node ≡ 0 → AddsNodes 1 0 old new
-    → MakesNode old new (chunk_part chunk) node
-Makes-leaf old new chunk node inside tree due adds = record {
-  is = record { node = inside; tree = tree; todo = omega (arith, due) };
-  adds = adds;
-}
-
 -- the full tree of depth 0 over one part is that part
 pub IsPart-one : (arena : ArenaContent) (part : MadePart) (node : NodeId)
     → IsPartNode arena part node
@@ -153,21 +145,22 @@ IsPart-join old new d parts left right node some few is_left is_right inside tre
     }
 
 -- a leaf was made
-pub record MakesLeaf (old new : ArenaContent) (chunk : List ℕ) (id : NodeId) : Type 0 where
-  pub node : IsNodeOf new id
-  pub tree : tree_of new id ≡ leaf chunk
-  pub todo : todo new id ≡ 0
-  pub adds : AddsNodes 1 0 old new
-
 pub makes_leaf : (old new : ArenaContent) (chunk : List ℕ) (id : NodeId) → IsNodeOf new id
     → tree_of new id ≡ leaf chunk → todo new id ≡ 0 → KeepsNodes old new → KeepsTodo old new
     → unhashed new ≡ unhashed old → node_count new ≡ node_count old + 1
-    → new.spare + 1 ≡ old.spare → MakesLeaf old new chunk id
+    → new.spare + 1 ≡ old.spare → MakesNode old new (chunk_part chunk) id
 makes_leaf old new chunk id inside tree due keeps same hashed more less = record {
-  node = inside;
-  tree = tree;
-  todo = due;
+  is = record { node = inside; tree = tree; todo = omega (arith, due) };
   adds = Adds-leaf old new keeps same hashed more less;
+}
+
+-- the zero leaf, which the arena has
+pub makes_zero : (arena : ArenaContent) (id : NodeId) → IsNodeOf arena id
+    → tree_of arena id ≡ zero_tree 0 → todo arena id ≡ 0
+    → MakesNode arena arena (chunk_part zero_chunk) id
+makes_zero arena id inside tree due = record {
+  is = record { node = inside; tree = tree ∙ full-zero []; todo = omega (arith, due) };
+  adds = Adds-within 0 0 1 0 arena arena (Adds-none arena) (omega arith) (omega arith);
 }
 
 -- a pair was made
@@ -189,23 +182,18 @@ makes_pair old new left right id inside tree due keeps same one more less = reco
   adds = Adds-pair old new keeps same one more less;
 }
 
--- the part of a leaf
-pub Makes-chunk : (old new : ArenaContent) (chunk : List ℕ) (id : NodeId)
-    → MakesLeaf old new chunk id → MakesNode old new (chunk_part chunk) id
-Makes-chunk old new chunk id made =
-    Makes-leaf old new chunk id made.node made.tree made.todo made.adds
-
 -- a part, a leaf, and the pair of both
 pub Makes-joined : (old first second new : ArenaContent) (part : MadePart) (chunk : List ℕ)
-    (node number top : NodeId) → MakesNode old first part node → MakesLeaf first second chunk number
+    (node number top : NodeId) → MakesNode old first part node
+    → MakesNode first second (chunk_part chunk) number
     → MakesPair second new node number top → MakesNode old new (joined_leaf part chunk) top
 Makes-joined old first second new part chunk node number top made a b =
     let kept = IsPart-kept first second part node a.adds.keeps made.is in
     record {
       is = record {
         node = b.node;
-        tree = b.tree ∙ ap₂ pair kept.tree a.tree;
-        todo = omega (arith, b.todo, kept.todo, a.todo);
+        tree = b.tree ∙ ap₂ pair kept.tree a.is.tree;
+        todo = omega (arith, b.todo, kept.todo, a.is.todo);
       };
       adds = Adds-within _ _ _ _ old new
           (Adds-then _ _ 1 1 old second new (Adds-then _ _ 1 0 old first second made.adds a.adds)

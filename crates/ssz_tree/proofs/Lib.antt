@@ -16,3 +16,4 @@ pub mod FieldPieces
 pub mod GivenFields
 mod Rooms
 mod Summing
+mod Two

@@ -2,6 +2,7 @@
 ghost use Rattle.std.specs.Prelude.{◌≡◌};
 
 use super::builder::Builder;
+use super::leaves::leaf_node;
 use super::packed::{bits_node, packed_node};
 use super::packed_values::{bit_values_node, packed_values_node};
 use ssz_arena::{Arena, NodeId};
@@ -41,7 +42,7 @@ impl<'a, H: PairHash> Maker for Growing<'a, H> {
         next_room start.arena.now now.arena.now d before rest one rows pushed.1 room };
 
     fn leaf(&mut self, chunk: &Chunk) -> NodeId {
-        self.arena.leaf(*chunk)
+        leaf_node(self.arena, chunk)
     }
 
     fn none(&mut self) -> NodeId {
@@ -49,7 +50,7 @@ impl<'a, H: PairHash> Maker for Growing<'a, H> {
     }
 
     fn join(&mut self, out: NodeId, chunk: &Chunk) -> NodeId {
-        let leaf = self.arena.leaf(*chunk);
+        let leaf = leaf_node(self.arena, chunk);
         self.arena.pair(out, leaf)
     }
 

@@ -10,7 +10,8 @@
 //! of `ssz_making`, with the makers `Counting` and `Growing`. What a call adds to an arena is
 //! defined in `specs/Added.antt`, how many nodes are made for a value in `ssz_making`, and what is
 //! counted for a default in `specs/Shared.antt`. One builder takes nodes one after another and
-//! finishes at a depth; a zero part of a full tree is the arena's own zero tree.
+//! finishes at a depth; a zero part of a full tree is the arena's own zero tree, and so is
+//! a zero chunk.
 //!
 //! A caller that makes more than a value, as an edit does, takes the room for all first
 //! (`nodes_needed` or `bytes_needed`, `reserve_nodes`), and then makes the value's node in it
@@ -24,6 +25,7 @@ mod defaults;
 mod fields;
 mod given;
 mod growing;
+mod leaves;
 mod packed;
 mod packed_values;
 mod room;

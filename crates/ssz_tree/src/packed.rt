@@ -1,4 +1,4 @@
-ghost use Rattle.std.specs.Prelude.{◌+◌, ◌/◌, ◌^◌, ◌<◌, ◌≤◌, length, map};
+ghost use Rattle.std.specs.Prelude.{◌≡◌, ◌+◌, ◌/◌, ◌^◌, ◌<◌, ◌≤◌, length, map};
 ghost use Rattle.ssz_chunk.specs.declared.TheConstants.{LEVELS};
 ghost use Rattle.ssz_chunk.specs.Tree.{merkle_pairs};
 ghost use Rattle.ssz_bytes.specs.Faults.{last_byte};
@@ -8,6 +8,7 @@ ghost use Rattle.ssz_tree.specs.Added.{MakesNode};
 ghost use Rattle.ssz_making.specs.Parts.{whole_of, chunk_part};
 
 use super::builder::Builder;
+use super::leaves::leaf_node;
 use ssz_arena::{Arena, NodeId};
 use ssz_chunk::PairHash;
 use ssz_merkle::chunk_at;
@@ -22,11 +23,25 @@ pub fn packed_node<H: PairHash>(arena: &mut Arena<H>, depth: u32, bytes: &[u8]) 
     ensures { MakesNode arena.old arena.new
         (whole_of depth (map chunk_part (pack bytes.now))) result }
 {
-    // One chunk stands for itself, and needs no builder.
+    // One chunk stands for itself, and needs no builder; nor do two.
     if depth == 0 && !bytes.is_empty() {
-        return arena.leaf(chunk_at(bytes, 0));
+        return leaf_node(arena, &chunk_at(bytes, 0));
+    }
+    if depth == 1 && bytes.len() > 32 {
+        return two_chunks_node(arena, bytes);
     }
     chunks_node(arena, depth, bytes)
+}
+
+// Two chunks, as of a public key, and the pair of both.
+fn two_chunks_node<H: PairHash>(arena: &mut Arena<H>, bytes: &[u8]) -> NodeId
+    requires two { (length bytes.now + 31) / 32 ≡ 2 }
+    requires room { 3 ≤ arena.old.spare }
+    ensures { MakesNode arena.old arena.new (whole_of 1 (map chunk_part (pack bytes.now))) result }
+{
+    let left = leaf_node(arena, &chunk_at(bytes, 0));
+    let right = leaf_node(arena, &chunk_at(bytes, 1));
+    arena.pair(left, right)
 }
 
 // The same, chunk by chunk. Inlined into a maker's call its loop has a register too few.
@@ -42,7 +57,7 @@ fn chunks_node<H: PairHash>(arena: &mut Arena<H>, depth: u32, bytes: &[u8]) -> N
     let count = (bytes.len() + 31) / 32;
     let mut leaves = Builder::new(arena, depth);
     for i in 0..count {
-        let leaf = arena.leaf(chunk_at(bytes, i));
+        let leaf = leaf_node(arena, &chunk_at(bytes, i));
         leaves.push(arena, leaf);
     }
     leaves.finish(arena)
@@ -65,7 +80,7 @@ pub fn bits_node<H: PairHash>(arena: &mut Arena<H>, depth: u32, len: u64, bytes:
     let count = (len + 255) / 256;
     let mut leaves = Builder::new(arena, depth);
     for i in 0..count {
-        let leaf = arena.leaf(bit_chunk_at(bytes, i as usize));
+        let leaf = leaf_node(arena, &bit_chunk_at(bytes, i as usize));
         leaves.push(arena, leaf);
     }
     leaves.finish(arena)

@@ -13,6 +13,7 @@ ghost use Rattle.ssz_making.specs.Parts.{whole_of, chunk_part, AreBasic};
 
 use super::builder::Builder;
 use super::counting::chunk_count;
+use super::leaves::leaf_node;
 use ssz_arena::{Arena, NodeId};
 use ssz_chunk::PairHash;
 use ssz_packing::{bits_chunk, values_chunk};
@@ -39,7 +40,7 @@ pub fn packed_values_node<H: PairHash>(
     let count = chunk_count(size, parts.len());
     let mut leaves = Builder::new(arena, depth);
     for i in 0..count {
-        let leaf = arena.leaf(values_chunk(size, i, parts));
+        let leaf = leaf_node(arena, &values_chunk(size, i, parts));
         leaves.push(arena, leaf);
     }
     leaves.finish(arena)
@@ -57,7 +58,7 @@ pub fn bit_values_node<H: PairHash>(arena: &mut Arena<H>, depth: u32, bits: &[bo
     let count = (bits.len() + 255) / 256;
     let mut leaves = Builder::new(arena, depth);
     for i in 0..count {
-        let leaf = arena.leaf(bits_chunk(bits, i));
+        let leaf = leaf_node(arena, &bits_chunk(bits, i));
         leaves.push(arena, leaf);
     }
     leaves.finish(arena)

@@ -1,7 +1,6 @@
 use Rattle.std.proofs.Common.{◌≡◌, ℕ, ◌+◌, ◌/◌, length, map, arith}
 use Rattle.ssz_value.specs.Trees.{chunks}
 use Rattle.ssz_making.specs.Parts.{chunk_part}
-use Rattle.ssz_tree.proofs.Adding.{makes_leaf, Makes-chunk}
 use Rattle.ssz_making.proofs.Chunks.{chunk-at, length-parts}
 use Rattle.ssz_tree.proofs.Chunks.{chunks-room}
 use Rattle.ssz_tree.proofs.Gathering.{First-start, First-room, First-push, First-more, First-finish, First-done}
@@ -10,8 +9,8 @@ use Rattle.ssz_tree.proofs.packed.chunks_node.Goals as goal
 pub loop-i-init : goal.loop-i-init
 loop-i-init g c = First-start _ _ _ _ c.new-leaves.ensures.depth c.new-leaves.ensures.holds
 
-pub leaf-leaf-requires : goal.leaf-leaf-requires
-leaf-leaf-requires g c =
+pub leaf_node-leaf-requires : goal.leaf_node-leaf-requires
+leaf_node-leaf-requires g c =
     let count : ℕ = (length c.args.bytes.now + 31) / 32 in
     let room = chunks-room c.args.arena.now c.args.depth count c.args.bytes.now c.requires.few
     c.requires.room in
@@ -26,11 +25,7 @@ push-requires-clause-room g c =
     c.requires.room in
     let at = chunk-at count c.loop-i.i c.args.bytes.now c.chunk_at.result.0 c.loop-i-test.true
     c.chunk_at.ensures in
-    let e = c.leaf-leaf.ensures in
-    let made = Makes-chunk _ _ _ _ (makes_leaf c.loop-i.arena c.leaf-leaf.new.self
-    c.chunk_at.result.0 c.leaf-leaf.result
-    e.node e.tree e.todo e.keeps e.same e.unhashed e.count e.spare)
-    in
+    let made = c.leaf_node-leaf.ensures in
     (First-push _ _ _ _ _ _ _ _ _ c.loop-i.invariant at room made).room
 
 pub loop-i-preserved : goal.loop-i-preserved
@@ -38,11 +33,7 @@ loop-i-preserved g c =
     let count : ℕ = (length c.args.bytes.now + 31) / 32 in
     let at = chunk-at count c.loop-i.i c.args.bytes.now c.chunk_at.result.0 c.loop-i-test.true
     c.chunk_at.ensures in
-    let e = c.leaf-leaf.ensures in
-    let made = Makes-chunk _ _ _ _ (makes_leaf c.loop-i.arena c.leaf-leaf.new.self
-    c.chunk_at.result.0 c.leaf-leaf.result
-    e.node e.tree e.todo e.keeps e.same e.unhashed e.count e.spare)
-    in
+    let made = c.leaf_node-leaf.ensures in
     First-more _ _ _ _ _ _ _ _ _ _ _ c.loop-i.invariant at made c.push.ensures.depth
     c.push.ensures.holds c.push.ensures.adds
 

@@ -2,7 +2,7 @@ use Rattle.std.proofs.Common.{◌≡◌, ◌∙◌, ℕ, ◌<◌, refl, ◌+◌,
 use Rattle.ssz_value.specs.Trees.{chunks}
 use Rattle.ssz_packing.proofs.BitValues.{bytes_of_bits, bits_chunk_is, pack_bits-chunks}
 use Rattle.ssz_making.specs.Parts.{whole_of, chunk_part}
-use Rattle.ssz_tree.proofs.Adding.{makes_leaf, Makes-chunk, Makes-same}
+use Rattle.ssz_tree.proofs.Adding.{Makes-same}
 use Rattle.ssz_making.proofs.Chunks.{chunk-at, length-parts}
 use Rattle.ssz_tree.proofs.Chunks.{chunks-room}
 use Rattle.ssz_tree.proofs.Gathering.{First-start, First-room, First-push, First-more, First-finish, First-done}
@@ -11,8 +11,8 @@ use Rattle.ssz_tree.proofs.packed_values.bit_values_node.Goals as goal
 pub loop-i-init : goal.loop-i-init
 loop-i-init g c = First-start _ _ _ _ c.new-leaves.ensures.depth c.new-leaves.ensures.holds
 
-pub leaf-leaf-requires : goal.leaf-leaf-requires
-leaf-leaf-requires g c =
+pub leaf_node-leaf-requires : goal.leaf_node-leaf-requires
+leaf_node-leaf-requires g c =
     let count : ℕ = (length c.args.bits.now + 255) / 256 in
     let room = chunks-room c.args.arena.now c.args.depth count (bytes_of_bits c.args.bits.now)
     c.requires.few
@@ -33,11 +33,7 @@ push-requires-clause-room g c =
     c.loop-i-test.true
     (c.bits_chunk.ensures ∙ bits_chunk_is c.args.bits.now c.loop-i.i (let within : 256 * c.loop-i.i
     < length c.args.bits.now = omega arith in within)) in
-    let e = c.leaf-leaf.ensures in
-    let made = Makes-chunk _ _ _ _ (makes_leaf c.loop-i.arena c.leaf-leaf.new.self
-    c.bits_chunk.result.0 c.leaf-leaf.result e.node e.tree e.todo e.keeps e.same e.unhashed e.count
-    e.spare)
-    in
+    let made = c.leaf_node-leaf.ensures in
     (First-push _ _ _ _ _ _ _ _ _ c.loop-i.invariant at room made).room
 
 pub loop-i-preserved : goal.loop-i-preserved
@@ -47,11 +43,7 @@ loop-i-preserved g c =
     c.loop-i-test.true
     (c.bits_chunk.ensures ∙ bits_chunk_is c.args.bits.now c.loop-i.i (let within : 256 * c.loop-i.i
     < length c.args.bits.now = omega arith in within)) in
-    let e = c.leaf-leaf.ensures in
-    let made = Makes-chunk _ _ _ _ (makes_leaf c.loop-i.arena c.leaf-leaf.new.self
-    c.bits_chunk.result.0 c.leaf-leaf.result e.node e.tree e.todo e.keeps e.same e.unhashed e.count
-    e.spare)
-    in
+    let made = c.leaf_node-leaf.ensures in
     First-more _ _ _ _ _ _ _ _ _ _ _ c.loop-i.invariant at made c.push.ensures.depth
     c.push.ensures.holds c.push.ensures.adds
 

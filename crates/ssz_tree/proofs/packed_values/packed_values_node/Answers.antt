@@ -9,7 +9,7 @@ use Rattle.ssz_packing.specs.Elements.{encodings_of}
 use Rattle.ssz_packing.proofs.BasicValues.{encodings_sized}
 use Rattle.ssz_packing.proofs.Filling.{length-concat}
 use Rattle.ssz_making.specs.Parts.{whole_of, chunk_part}
-use Rattle.ssz_tree.proofs.Adding.{makes_leaf, Makes-chunk, Makes-same}
+use Rattle.ssz_tree.proofs.Adding.{Makes-same}
 use Rattle.ssz_making.proofs.Chunks.{chunk-at, length-parts}
 use Rattle.ssz_tree.proofs.Chunks.{chunks-room}
 use Rattle.ssz_tree.proofs.Gathering.{First-start, First-room, First-push, First-more, First-finish, First-done}
@@ -23,8 +23,8 @@ loop-i-init g c = record {
 pub values_chunk-requires-clause-within : goal.values_chunk-requires-clause-within
 values_chunk-requires-clause-within g c = omega (arith, c.chunk_count-count.ensures)
 
-pub leaf-leaf-requires : goal.leaf-leaf-requires
-leaf-leaf-requires g c =
+pub leaf_node-leaf-requires : goal.leaf_node-leaf-requires
+leaf_node-leaf-requires g c =
     let basic = c.requires.basic in
     let bytes = concat (encodings_of basic.type c.args.parts.now) in
     let room = chunks-room c.args.arena.now c.args.depth
@@ -49,13 +49,10 @@ push-requires g c =
     omega (arith, c.chunk_count-count.ensures) in
     let at = chunk-at ((length c.args.parts.now * c.args.size + 31) / 32) c.loop-i.i bytes
     c.values_chunk.result.0 below (c.values_chunk.ensures basic.type basic.sized basic.fit) in
-    let e = c.leaf-leaf.ensures in
-    let made = Makes-chunk _ _ _ _ (makes_leaf c.loop-i.arena c.leaf-leaf.new.self
-    c.values_chunk.result.0 c.leaf-leaf.result
-    e.node e.tree e.todo e.keeps e.same e.unhashed e.count e.spare) in
+    let made = c.leaf_node-leaf.ensures in
     let can = First-push _ _ _ _ _ _ _ _ _
     (c.loop-i.invariant.first basic.type basic.sized basic.fit) at room made in
-    record { below = can.below; nodes = can.nodes; node = e.node; room = can.room }
+    record { below = can.below; nodes = can.nodes; node = made.is.node; room = can.room }
 
 pub loop-i-preserved : goal.loop-i-preserved
 loop-i-preserved g c = record {
@@ -65,10 +62,7 @@ loop-i-preserved g c = record {
       let at = chunk-at ((length c.args.parts.now * c.args.size + 31) / 32) c.loop-i.i
       (concat (encodings_of t c.args.parts.now)) c.values_chunk.result.0 below
       (c.values_chunk.ensures t sized fit) in
-      let e = c.leaf-leaf.ensures in
-      let made = Makes-chunk _ _ _ _ (makes_leaf c.loop-i.arena c.leaf-leaf.new.self
-      c.values_chunk.result.0 c.leaf-leaf.result
-      e.node e.tree e.todo e.keeps e.same e.unhashed e.count e.spare) in
+      let made = c.leaf_node-leaf.ensures in
       First-more _ _ _ _ _ _ _ _ _ _ _ (c.loop-i.invariant.first t sized fit) at made
       c.push.ensures.depth c.push.ensures.holds c.push.ensures.adds;
 }
