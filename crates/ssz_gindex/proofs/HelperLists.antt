@@ -12,7 +12,7 @@ lacks x [] h = refl
 lacks x (k ∷ ks) h =
     or_from (eqb k x) (contains ks x) (ne_eqb k x (λ e. omega (arith, h.0))) (lacks x ks h.1)
 
-below_first : (ks : List ℕ) (x g : ℕ) → AllByRecursion (λ k. k < x) ks
+pub below_first : (ks : List ℕ) (x g : ℕ) → AllByRecursion (λ k. k < x) ks
     → contains ks g ≡ true → g < x
 below_first [] x g h e = absurd (false≢true e)
 below_first (k ∷ ks) x g h e = elim (or_cases (eqb k g) (contains ks g) e) [

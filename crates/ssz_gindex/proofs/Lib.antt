@@ -4,8 +4,9 @@ pub mod Within
 pub mod HelperLists
 pub mod HelperNodes
 pub mod Walking
+pub mod Ends
 pub mod PairSteps
-pub mod NodeSets
+pub mod Stepping
 pub mod Starting
 pub mod Lowest
 pub mod Prefixes

@@ -1,132 +1,136 @@
 -- One step of the walk: from the greatest node that waits, its pair of siblings to their parent.
-use Rattle.std.proofs.Common.{◌≡◌, ◌≢◌, ℕ, ◌+◌, ◌-◌, ◌*◌, ◌/◌, ◌%◌, ◌<◌, ◌≤◌, Bool, true, false, List, [], ◌∷◌, ◌++◌, sym, ap, ◌∙◌, subst, arith, ◌⊎◌, inl, inr}
+use Rattle.std.proofs.Common.{◌≡◌, ◌≢◌, ℕ, ◌+◌, ◌-◌, ◌*◌, ◌/◌, ◌%◌, ◌<◌, ◌≤◌, true, false, List, [], ◌∷◌, ◌++◌, sym, ap, ◌∙◌, subst, arith, ◌⊎◌, inl, inr}
 use Rattle.std.proofs.lemmas.Bool.{cases_Bool, cases_lt, cases_eq, false≢true}
 use Rattle.ssz_gindex.specs.Helpers.{sibling, is_on_paths, is_helper, AreNested}
-use Rattle.ssz_gindex.specs.Laws.{contains}
-use Rattle.ssz_gindex.specs.Walk.{IsUpper, Waits, Met}
-use Rattle.ssz_gindex.proofs.Within.{within_parent, within_least, above_from, on_paths_parent, sibling-even, sibling-odd}
-use Rattle.ssz_gindex.proofs.Walking.{IsHelper, helper_is, helper_from, sibling_near, index_or_child, on_below, upper_small, upper_positive, contains_is, contains_from, contains-append, append-front, append-last, descending-append}
+use Rattle.ssz_gindex.specs.Laws.{IsDescending, contains}
+use Rattle.ssz_gindex.specs.Walk.{IsMetParent, Met}
+use Rattle.ssz_gindex.proofs.Within.{within_self, on_paths_from, on_paths_parent, sibling-even, sibling-odd}
+use Rattle.ssz_gindex.proofs.Walking.{IsHelper, helper_is, helper_from, sibling_near, index_or_child, on_below, upper_lower, contains-append, append-front, append-last, descending-append}
 
--- what waits after a step from the node g: what waited, but for the pair, and the parent
-pub record Steps (old new : ℕ → Bool) (g : ℕ) : Type 0 where
+-- what is left of an end where g is the greatest node that waits: all but the pair
+pub record Pair (old new : List ℕ) (g : ℕ) : Type 0 where
+  pub most : (k : ℕ) → contains old k ≡ true → k ≤ g
+  pub falls : IsDescending new
+  pub kept : (k : ℕ) → contains new k ≡ true
+      → (contains old k ≡ true) × (k ≢ g) × (k ≢ sibling g)
+  pub stays : (k : ℕ) → contains old k ≡ true → k ≢ g → k ≢ sibling g → contains new k ≡ true
+
+-- a step from the node g: what is left at both ends, neither node of the pair stood at both
+pub record Steps (waiting rest parents uppers : List ℕ) (g : ℕ) : Type 0 where
   pub large : 2 ≤ g
-  pub waited : old g ≡ true
-  pub greatest : (k : ℕ) → old k ≡ true → k ≤ g
-  pub parent : new (g / 2) ≡ true
-  pub kept : (k : ℕ) → new k ≡ true → (k ≢ g / 2) → (old k ≡ true) × (k ≢ g) × (k ≢ sibling g)
-  pub stays : (k : ℕ) → old k ≡ true → k < 2 * (g / 2) → new k ≡ true
+  pub waited : (contains waiting g ≡ true) ⊎ (contains parents g ≡ true)
+  pub own : Pair waiting rest g
+  pub upper : Pair parents uppers g
+  pub single : contains waiting g ≡ true → contains parents g ≡ true → ⊥
+  pub single_sibling : contains waiting (sibling g) ≡ true
+      → contains parents (sibling g) ≡ true → ⊥
 
-module _ (indices : List ℕ) (old new : ℕ → Bool) (found : List ℕ) (bound g : ℕ)
-    (met : Met indices old found bound) (steps : Steps old new g) where
+module _ (indices waiting rest parents uppers found : List ℕ) (bound g : ℕ)
+    (met : Met indices waiting parents found bound)
+    (steps : Steps waiting rest parents uppers g) where
+  -- where it waits, a node is on the paths
+  waits_on : (k : ℕ) → (contains waiting k ≡ true) ⊎ (contains parents k ≡ true)
+      → (k < bound) × (is_on_paths indices k ≡ true)
+  waits_on k (inl own) =
+      let is = met.index k own in (is.0, on_paths_from indices k k is.1 (within_self k))
+  waits_on k (inr upper) =
+      let is = met.parent k upper in (
+        is.below,
+        subst (λ (j : ℕ). is_on_paths indices j ≡ true) is.half
+            (on_paths_parent indices is.child is.large is.on),
+      )
+
   pair_below : 2 * (g / 2) + 1 < bound
   pair_below =
-      let low : g < bound = (met.waits g steps.waited).below in
+      let low : g < bound = (waits_on g steps.waited).0 in
       let even : bound % 2 ≡ 0 = met.even in omega arith
 
   half_positive : 0 < g / 2
   half_positive = let large : 2 ≤ g = steps.large in omega arith
 
-  upper_half : (a b : ℕ) → AreNested indices a b → a ≤ g / 2
-  upper_half a b nested =
-      let small = upper_small indices old found bound met g steps.greatest a b
-      (upper_positive indices old found bound met g steps.greatest a b nested) nested in
-      omega arith
-
-  half_on : is_on_paths indices (g / 2) ≡ true
-  half_on = on_paths_parent indices g steps.large (met.waits g steps.waited).on
-
-  -- A parent that waits already is an index that is an ancestor of another.
-  pub meets-upper : old (g / 2) ≡ true → IsUpper indices (g / 2)
-  meets-upper waits =
-      let above = above_from indices g (met.waits g steps.waited).on in
-      let least = within_least g above.index above.within in
-      let large : 2 ≤ g = steps.large in record {
-        nested = (
-          above.index,
-          record {
-            upper = contains_is indices (g / 2) (why (met.waits (g / 2) waits).why);
-            lower = contains_is indices above.index above.among;
-            within = within_parent g above.index steps.large above.within;
-            apart = λ e. omega arith;
-          },
-        );
-        greatest = upper_half;
-      }
-    where
-      why : (contains indices (g / 2) ≡ true) ⊎ (bound ≤ 2 * (g / 2))
-          → contains indices (g / 2) ≡ true
-      why (inl index) = index
-      why (inr far) = absurd (omega (arith, pair_below))
-
-  -- Otherwise there is none from here on.
-  flat_on : old (g / 2) ≡ false → (a b : ℕ) → AreNested indices a b → 2 * a < 2 * (g / 2)
-  flat_on absent a b nested = elim (cases_eq a (g / 2)) [
-    | inl same ↦ absurd (false≢true (sym absent ∙ met.index_waits (g / 2)
-        (subst (λ (k : ℕ). contains indices k ≡ true) same
-        (contains_from indices nested.upper.0 a nested.upper.1 nested.upper.2))
-        (omega (arith, pair_below, half_positive))))
-    | inr other ↦ omega (arith, upper_half a b nested)
+  below_pair : (k : ℕ) → k ≤ g → k ≢ g → k ≢ sibling g → k < 2 * (g / 2)
+  below_pair k most not_g not_sibling = elim (cases_eq (g % 2) 0) [
+    | inl even ↦ omega arith
+    | inr odd ↦ (let is = sibling-odd g (omega arith) in
+        let not_left : k ≢ g - 1 = (λ e. not_sibling (e ∙ sym is)) in omega arith)
   ]
 
-  new_waits : (k : ℕ) → new k ≡ true → Waits indices (2 * (g / 2)) k
-  new_waits k waits = elim (cases_eq k (g / 2)) [
-    | inl same ↦ subst (Waits indices (2 * (g / 2))) (sym same) (record {
-      below = omega (arith, half_positive);
-      some = half_positive;
-      on = half_on;
-      why = inr (omega arith);
-    })
-    | inr other ↦
-        (let kept = steps.kept k waits other in
-        let was = met.waits k kept.0 in
-        let most = steps.greatest k kept.0 in
-        record {
-          below = below_pair k most kept.1 kept.2;
-          some = was.some;
-          on = was.on;
-          why = nearer was.why;
-        })
-  ]
-    where
-      below_pair : (k : ℕ) → k ≤ g → k ≢ g → k ≢ sibling g → k < 2 * (g / 2)
-      below_pair k most not_g not_sibling = elim (cases_eq (g % 2) 0) [
-        | inl even ↦ omega arith
-        | inr odd ↦ (let is = sibling-odd g (omega arith) in
-            let not_left : k ≢ g - 1 = (λ e. not_sibling (e ∙ sym is)) in omega arith)
-      ]
-
-      nearer : (contains indices k ≡ true) ⊎ (bound ≤ 2 * k)
-          → (contains indices k ≡ true) ⊎ (2 * (g / 2) ≤ 2 * k)
-      nearer (inl index) = inl index
-      nearer (inr far) = inr (omega (arith, pair_below))
+  below : (k : ℕ) → is_on_paths indices k ≡ true → 0 < k → k < bound → k ≤ g
+  below = on_below indices waiting parents found bound met g steps.own.most steps.upper.most
 
   -- a node on the paths that is beyond the pair was met
   on_far : (k : ℕ) → is_on_paths indices k ≡ true → 2 * (g / 2) + 2 ≤ k → bound ≤ k
   on_far k on far = elim (cases_lt k bound) [
-    | inl low ↦ absurd (let small =
-        on_below indices old found bound met g steps.greatest k on (omega arith) low in
-        omega arith)
+    | inl low ↦ absurd (let small = below k on (omega arith) low in omega arith)
     | inr met_it ↦ met_it
   ]
 
-  -- a node on the paths whose children are beyond the pair waits
-  on_waits : (k : ℕ) → is_on_paths indices k ≡ true → 0 < k → k < bound → g / 2 < k → old k ≡ true
-  on_waits k on positive below far = elim (index_or_child indices k positive on) [
-    | inl index ↦ met.index_waits k index below
-    | inr lower ↦
-        (let half : lower.child / 2 ≡ k = lower.half in
-        let even : bound % 2 ≡ 0 = met.even in
-        let beyond = on_far lower.child lower.on (omega arith) in
-        met.parent_waits k on positive below (omega arith))
+  -- What waits then.
+  new_index : (k : ℕ) → contains rest k ≡ true
+      → (k < 2 * (g / 2)) × (contains indices k ≡ true)
+  new_index k waits =
+      let kept = steps.own.kept k waits in
+      (below_pair k (steps.own.most k kept.0) kept.1 kept.2, (met.index k kept.0).1)
+
+  new_index_waits : (k : ℕ) → contains indices k ≡ true → k < 2 * (g / 2)
+      → contains rest k ≡ true
+  new_index_waits k index low =
+      let near = sibling_near g steps.large in
+      steps.own.stays k (met.index_waits k index (omega (arith, low, pair_below)))
+      (λ e. omega (arith, low, e)) (λ e. omega (arith, low, e, near.0))
+
+  new_parent : (k : ℕ) → contains (uppers ++ g / 2 ∷ []) k ≡ true
+      → IsMetParent indices (2 * (g / 2)) k
+  new_parent k waits = elim (contains-append uppers (g / 2) k waits) [
+    | inl front ↦
+        (let kept = steps.upper.kept k front in
+        let was = met.parent k kept.0 in
+        record {
+          below = below_pair k (steps.upper.most k kept.0) kept.1 kept.2;
+          child = was.child;
+          large = was.large;
+          on = was.on;
+          met = omega (arith, was.met, pair_below);
+          half = was.half;
+        })
+    | inr last ↦ record {
+      below = omega (arith, half_positive, last);
+      child = g;
+      large = steps.large;
+      on = (waits_on g steps.waited).1;
+      met = omega arith;
+      half = last;
+    }
   ]
 
-  new_parent_waits : (k : ℕ) → is_on_paths indices k ≡ true → 0 < k → k < 2 * (g / 2)
-      → 2 * (g / 2) ≤ 2 * k → new k ≡ true
-  new_parent_waits k on positive below far = elim (cases_eq (g / 2) k) [
-    | inl same ↦ subst (λ (j : ℕ). new j ≡ true) same steps.parent
-    | inr other ↦ steps.stays k
-        (on_waits k on positive (omega (arith, pair_below)) (omega arith)) below
+  new_parent_waits : (k : ℕ) → is_on_paths indices k ≡ true → 2 * (g / 2) ≤ k → 2 ≤ k
+      → k / 2 < 2 * (g / 2) → contains (uppers ++ g / 2 ∷ []) (k / 2) ≡ true
+  new_parent_waits k on far large low = elim (cases_lt k bound) [
+    | inl near ↦
+        (let small = below k on (omega (arith, large)) near in
+        let same : g / 2 ≡ k / 2 = omega (arith, far, small) in
+        subst (λ (j : ℕ). contains (uppers ++ g / 2 ∷ []) j ≡ true) same
+        (append-last uppers (g / 2)))
+    | inr met_it ↦
+        (let near = sibling_near g steps.large in
+        append-front uppers (g / 2) (k / 2)
+        (steps.upper.stays (k / 2)
+        (met.parent_waits k on met_it large (omega (arith, low, pair_below)))
+        (λ e. omega (arith, low, e)) (λ e. omega (arith, low, e, near.0))))
   ]
+
+  -- the parent is below those of all that was met before
+  new_parents_fall : IsDescending (uppers ++ g / 2 ∷ [])
+  new_parents_fall =
+      descending-append uppers (g / 2) steps.upper.falls
+      (λ k e. (let was = met.parent k (steps.upper.kept k e).0 in
+      let half : was.child / 2 ≡ k = was.half in
+      omega (arith, half, was.met, pair_below)))
+
+  new_flat : (a b : ℕ) → AreNested indices a b → a < 2 * (g / 2)
+  new_flat =
+      upper_lower indices waiting parents found bound met g steps.own.most steps.upper.most
+      steps.single steps.large steps.single_sibling
 
   -- no helper is beyond the pair that was not met
   helper_far : (k : ℕ) → IsHelper indices k → 2 * (g / 2) + 2 ≤ k → bound ≤ k
@@ -143,7 +147,7 @@ module _ (indices : List ℕ) (old new : ℕ → Bool) (found : List ℕ) (bound
     | inr beyond ↦ absurd (omega (arith, helper_far k helper beyond))
     | inl within ↦ (elim (cases_eq k g) [
       | inl same ↦ absurd (false≢true
-          (sym helper.off ∙ ap (is_on_paths indices) same ∙ (met.waits g steps.waited).on))
+          (sym helper.off ∙ ap (is_on_paths indices) same ∙ (waits_on g steps.waited).1))
       | inr other ↦
           (let near = sibling_near g steps.large in
           let is : k ≡ sibling g = omega (arith, near.0, near.1, near.2) in
@@ -152,46 +156,58 @@ module _ (indices : List ℕ) (old new : ℕ → Bool) (found : List ℕ) (bound
   ]
 
   -- The pair is whole: it has no helper.
-  pub pair-whole : old (g / 2) ≡ false → old (sibling g) ≡ true
-      → Met indices new found (2 * (g / 2))
-  pair-whole absent both = record {
+  pub pair-whole : (contains waiting (sibling g) ≡ true) ⊎ (contains parents (sibling g) ≡ true)
+      → Met indices rest (uppers ++ g / 2 ∷ []) found (2 * (g / 2))
+  pair-whole both = record {
     even = omega arith;
     positive = met.positive;
-    waits = new_waits;
-    index_waits = λ k index below.
-        steps.stays k (met.index_waits k index (omega (arith, pair_below))) below;
+    falls = steps.own.falls;
+    index = new_index;
+    index_waits = new_index_waits;
+    parents_fall = new_parents_fall;
+    parent = new_parent;
     parent_waits = new_parent_waits;
-    flat = flat_on absent;
+    flat = new_flat;
     down = met.down;
     helper = λ k e. (let is = met.helper k e in (omega (arith, pair_below, is.0), is.1));
     all = λ k e far. elim (cases_lt k bound) [
       | inl low ↦ absurd (false≢true
           (sym (helper_pair k (helper_is indices k e) far low).1
-          ∙ (met.waits (sibling g) both).on))
+          ∙ (waits_on (sibling g) both).1))
       | inr met_it ↦ met.all k e met_it
     ];
   }
 
   -- The sibling is a helper.
-  sibling_off : old (sibling g) ≡ false → is_on_paths indices (sibling g) ≡ false
-  sibling_off single = elim (cases_Bool (is_on_paths indices (sibling g))) [
+  sibling_off : contains waiting (sibling g) ≡ false → contains parents (sibling g) ≡ false
+      → is_on_paths indices (sibling g) ≡ false
+  sibling_off no_index no_parent = elim (cases_Bool (is_on_paths indices (sibling g))) [
     | inl on ↦
         (let near = sibling_near g steps.large in
-        let large : 2 ≤ g = steps.large in
-        absurd (false≢true (sym single
-        ∙ on_waits (sibling g) on (omega (arith, near.0)) (omega (arith, near.1, pair_below))
-        (omega (arith, near.0)))))
+        elim (index_or_child indices (sibling g) (omega (arith, near.0, half_positive)) on) [
+          | inl index ↦ absurd (false≢true (sym no_index
+              ∙ met.index_waits (sibling g) index (omega (arith, near.1, pair_below))))
+          | inr lower ↦
+              (let half : lower.child / 2 ≡ sibling g = lower.half in
+              absurd (false≢true (sym no_parent
+              ∙ subst (λ (k : ℕ). contains parents k ≡ true) half
+              (met.parent_waits lower.child lower.on
+              (on_far lower.child lower.on (omega (arith, half, near.0, half_positive)))
+              (omega (arith, half, near.0, half_positive))
+              (omega (arith, half, near.1, pair_below))))))
+        ])
     | inr off ↦ off
   ]
 
-  sibling_helper : old (sibling g) ≡ false → is_helper indices (sibling g) ≡ true
-  sibling_helper single =
+  sibling_helper : contains waiting (sibling g) ≡ false → contains parents (sibling g) ≡ false
+      → is_helper indices (sibling g) ≡ true
+  sibling_helper no_index no_parent =
       let near = sibling_near g steps.large in
       let large : 2 ≤ g = steps.large in
       helper_from indices (sibling g) (record {
         large = omega (arith, near.0);
-        off = sibling_off single;
-        beside = ap (is_on_paths indices) twice ∙ (met.waits g steps.waited).on;
+        off = sibling_off no_index no_parent;
+        beside = ap (is_on_paths indices) twice ∙ (waits_on g steps.waited).1;
       })
     where
       twice : sibling (sibling g) ≡ g
@@ -202,17 +218,19 @@ module _ (indices : List ℕ) (old new : ℕ → Bool) (found : List ℕ) (bound
             let back = sibling-even (sibling g) (omega arith) in omega arith)
       ]
 
-  pub pair-single : old (g / 2) ≡ false → old (sibling g) ≡ false
-      → Met indices new (found ++ sibling g ∷ []) (2 * (g / 2))
-  pair-single absent single =
+  pub pair-single : contains waiting (sibling g) ≡ false → contains parents (sibling g) ≡ false
+      → Met indices rest (uppers ++ g / 2 ∷ []) (found ++ sibling g ∷ []) (2 * (g / 2))
+  pair-single no_index no_parent =
       let near = sibling_near g steps.large in record {
         even = omega arith;
         positive = met.positive;
-        waits = new_waits;
-        index_waits = λ k index below.
-            steps.stays k (met.index_waits k index (omega (arith, pair_below))) below;
+        falls = steps.own.falls;
+        index = new_index;
+        index_waits = new_index_waits;
+        parents_fall = new_parents_fall;
+        parent = new_parent;
         parent_waits = new_parent_waits;
-        flat = flat_on absent;
+        flat = new_flat;
         down = descending-append found (sibling g) met.down
             (λ k e. omega (arith, (met.helper k e).0, near.1, pair_below));
         helper = λ k e. elim (contains-append found (sibling g) k e) [
@@ -220,7 +238,7 @@ module _ (indices : List ℕ) (old new : ℕ → Bool) (found : List ℕ) (bound
           | inr last ↦ (
             omega (arith, near.0, last),
             subst (λ (j : ℕ). is_helper indices j ≡ true)
-                last (sibling_helper single),
+                last (sibling_helper no_index no_parent),
           )
         ];
         all = λ k e far. elim (cases_lt k bound) [

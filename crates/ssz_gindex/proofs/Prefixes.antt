@@ -2,8 +2,6 @@
 use Rattle.std.proofs.Common.{◌≡◌, ◌≢◌, ℕ, suc, ◌+◌, ◌<◌, ◌≤◌, Bool, true, false, ◌||◌, eqb, List, [], ◌∷◌, ◌++◌, length, take, drop, get_or, refl, sym, ap, ap₂, ◌∙◌, arith}
 use Rattle.std.specs.Prelude.{IsTrue, ◌↔◌, IfOk, Result, Ok, Err}
 use Rattle.std.specs.declared.alloc.AllocError.{AllocError}
-use Rattle.std.specs.Ordering.{nat_cmp}
-use Rattle.std.specs.BTreeSet.{BTreeSet, contains as has}
 use Rattle.std.proofs.Math.Seq.{drop-cons, take-suc}
 use Rattle.std.proofs.lemmas.Bool.{or_right, ne_eqb, false≢true}
 use Rattle.std.proofs.lemmas.List.{length-append, append_assoc, take-append-drop}
@@ -43,10 +41,10 @@ front_of bound (x ∷ xs) (y ∷ ys) down all there back =
     later : (a b : Bool) → (a || b) ≡ true → a ≡ false → b ≡ true
     later a b e none = sym (ap (λ c. c || b) none) ∙ e
 
-pub front-helpers : (indices : List ℕ) (waiting : ℕ → Bool) (found : List ℕ) (bound : ℕ)
-    → Met indices waiting found bound
+pub front-helpers : (indices waiting parents found : List ℕ) (bound : ℕ)
+    → Met indices waiting parents found bound
     → (more : List ℕ) × (helpers indices ≡ found ++ more)
-front-helpers indices waiting found bound met =
+front-helpers indices waiting parents found bound met =
     front_of bound found (helpers indices) met.down
     (IsDescending-helpers indices)
     (λ k e. (let is = met.helper k e in (is.0, contains-helpers indices k ∙ is.1)))
@@ -62,20 +60,20 @@ longer : (xs : List ℕ) (a : ℕ) (more : List ℕ) → xs ≡ xs ++ a ∷ more
 longer xs a more e = absurd (omega (arith, ap (λ ns. length ns) e, length-append xs (a ∷ more)))
 
 -- another helper comes next
-pub other-helper : (indices : List ℕ) (new : BTreeSet ℕ) (found : List ℕ) (helper node : ℕ)
-    → WalksHelpers indices new (found ++ helper ∷ [])
+pub other-helper : (indices waiting parents found : List ℕ) (helper node : ℕ)
+    → WalksHelpers indices waiting parents (found ++ helper ∷ [])
     → helper ≢ node → (rest : List ℕ) → AreHelpers indices (found ++ node ∷ rest) → ⊥
-other-helper indices new found helper node walks other rest are =
-    let front = front-helpers indices (has nat_cmp new) (found ++ helper ∷ []) walks.0 walks.1 in
+other-helper indices waiting parents found helper node walks other rest are =
+    let front = front-helpers indices waiting parents (found ++ helper ∷ []) walks.0 walks.1 in
     other (same_next found helper node front.0 rest
     (sym (append_assoc found (helper ∷ []) front.0) ∙ sym front.1 ∙ sym are.are))
 
 -- a helper is left
-pub more-helpers : (indices : List ℕ) (new : BTreeSet ℕ) (found : List ℕ) (helper : ℕ)
-    → WalksHelpers indices new (found ++ helper ∷ [])
+pub more-helpers : (indices waiting parents found : List ℕ) (helper : ℕ)
+    → WalksHelpers indices waiting parents (found ++ helper ∷ [])
     → AreHelpers indices found → ⊥
-more-helpers indices new found helper walks are =
-    let front = front-helpers indices (has nat_cmp new) (found ++ helper ∷ []) walks.0 walks.1 in
+more-helpers indices waiting parents found helper walks are =
+    let front = front-helpers indices waiting parents (found ++ helper ∷ []) walks.0 walks.1 in
     longer found helper front.0 (are.are ∙ front.1 ∙ append_assoc found (helper ∷ []) front.0)
 
 -- no helper is left
@@ -101,10 +99,10 @@ take-next nodes i node below is =
     ∙ ap (λ n. take i nodes ++ n ∷ []) (sym is)
 
 -- what the end of a walk tells of all nodes
-pub ends-all : (indices nodes : List ℕ) (set : BTreeSet ℕ) (answer : Result Bool AllocError)
-    → WalksHelpers indices set nodes
-    → IfOk answer (λ same. (others found : List ℕ) → WalksHelpers others set found
+pub ends-all : (indices nodes waiting parents : List ℕ) (answer : Result Bool AllocError)
+    → WalksHelpers indices waiting parents nodes
+    → IfOk answer (λ same. (others found : List ℕ) → WalksHelpers others waiting parents found
     → (IsTrue same ↔ AreHelpers others found))
     → IfOk answer (λ same. IsTrue same ↔ AreHelpers indices nodes)
-ends-all indices nodes set (Ok same) walks tells = tells indices nodes walks
-ends-all indices nodes set (Err e) walks tells = tt
+ends-all indices nodes waiting parents (Ok same) walks tells = tells indices nodes walks
+ends-all indices nodes waiting parents (Err e) walks tells = tt

@@ -1,59 +1,101 @@
--- The start of a walk: the indices are gathered in a set.
-use Rattle.std.proofs.Common.{◌≡◌, ℕ, suc, ◌+◌, ◌*◌, ◌<◌, ◌≤◌, Bool, true, false, cond, eqb, List, [], ◌∷◌, ◌++◌, take, length, get_or, refl, sym, ap, ◌∙◌, subst, arith, inl, inr}
+-- The start of a walk: the indices in descending order, each once.
+use Rattle.std.proofs.Common.{◌≡◌, ℕ, suc, ◌+◌, ◌*◌, ◌<◌, ◌≤◌, true, eqb, List, [], ◌∷◌, ◌++◌, reverse, take, length, get_or, sym, ap, ◌∙◌, subst, arith, inl, inr}
+use mathlib.Core.List.{reverse-cons}
+use Rattle.std.specs.Prelude.{Contains}
+use Rattle.std.specs.List.{AllByRecursion, dedup}
+use Rattle.std.specs.List.Sorted.{IsPermutation, IsSorted, IsStrictlySortedBy}
+use Rattle.std.specs.Ordering.{nat_cmp}
+use Rattle.std.specs.declared.cmp.Ordering.TheVariants.{Less}
 use Rattle.std.proofs.Math.Seq.{take-length, take-suc}
-use Rattle.std.specs.List.{list_any}
-use Rattle.std.specs.Ordering.{nat_cmp, is_eq}
-use Rattle.std.specs.BTreeSet.{BTreeSet, contains as has, Updates}
-use Rattle.std.proofs.lemmas.Bool.{cases_eq, or_cases, eqb-true, false≢true}
+use Rattle.std.proofs.lemmas.Cmp.{ranked}
+use Rattle.std.proofs.lemmas.Bool.{or_cases, eqb-true, false≢true}
+use Rattle.std.proofs.lemmas.List.Kept.{Contains-dedup_nat, Contains-from_dedup}
+use Rattle.std.proofs.lemmas.List.Sorted.{Contains-permutation, IsPermutation-sym, IsPermutation-reverse}
+use Rattle.std.proofs.lemmas.Map.Keys.{sorted_from_strictly_increasing, IsStrictlyIncreasing-dedup}
 use Rattle.ssz_gindex.specs.Helpers.{sibling, greatest}
-use Rattle.ssz_gindex.specs.Laws.{contains}
+use Rattle.ssz_gindex.specs.Laws.{IsDescending, contains}
 use Rattle.ssz_gindex.specs.Walk.{WalksHelpers}
-use Rattle.ssz_gindex.proofs.Within.{on_paths-small, within_self, on_paths_from}
-use Rattle.ssz_gindex.proofs.Walking.{contains_from, contains-append, append-front, append-last, helper_is, sibling_near}
-use Rattle.ssz_gindex.proofs.NodeSets.{changed-there, changed-other}
+use Rattle.ssz_gindex.proofs.Within.{on_paths-small}
+use Rattle.ssz_gindex.proofs.Walking.{contains_from, contains_is, contains-append, descending-append, helper_is, same_tests, sibling_near}
 
--- a set that has exactly these indices, none of which is 0
-pub record Gathered (indices : List ℕ) (set : BTreeSet ℕ) : Type 0 where
-  pub positive : (k : ℕ) → contains indices k ≡ true → 0 < k
-  pub in_set : (k : ℕ) → contains indices k ≡ true → has nat_cmp set k ≡ true
-  pub of_set : (k : ℕ) → has nat_cmp set k ≡ true → contains indices k ≡ true
+-- In descending order.
 
-pub gathered-none : (set : BTreeSet ℕ) → set.keys ≡ [] → Gathered [] set
-gathered-none set none = record {
-  positive = λ k e. absurd (false≢true e);
-  in_set = λ k e. absurd (false≢true e);
-  of_set = λ k e. absurd (false≢true (sym (ap (list_any (λ q. is_eq (nat_cmp k q))) none) ∙ e));
-}
+above_all : (x : ℕ) (ys : List ℕ) (k : ℕ) → AllByRecursion (λ y. nat_cmp x y ≡ Less) ys
+    → contains ys k ≡ true → x < k
+above_all x [] k all e = absurd (false≢true e)
+above_all x (y ∷ ys) k all e = elim (or_cases (eqb y k) (contains ys k) e) [
+  | inl here ↦ omega (arith, eqb-true y k here, ranked x y Less (sym all.0))
+  | inr later ↦ above_all x ys k all.1 later
+]
 
-pub gathered-more : (indices : List ℕ) (set new : BTreeSet ℕ) (index : ℕ) → 0 < index
-    → Gathered indices set
-    → Updates nat_cmp set new index true → Gathered (indices ++ index ∷ []) new
-gathered-more indices set new index some gathered inserts = record {
-  positive = λ k e. elim (contains-append indices index k e) [
-    | inl front ↦ gathered.positive k front
-    | inr last ↦ omega (arith, last)
-  ];
-  in_set = λ k e. elim (contains-append indices index k e) [
-    | inl front ↦ was (has nat_cmp set k) (has nat_cmp new k) k (gathered.in_set k front)
-        (inserts.0 k)
-    | inr last ↦ changed-there index k true _ _ (inserts.0 k) last
-  ];
-  of_set = λ k e. elim (cases_eq index k) [
-    | inl same ↦ subst (λ (j : ℕ). contains (indices ++ index ∷ []) j ≡ true) same
-        (append-last indices index)
-    | inr other ↦ append-front indices index k
-        (gathered.of_set k (sym (changed-other index k true _ _ (inserts.0 k) other) ∙ e))
-  ];
-}
-  where
-    was : (before after : Bool) (k : ℕ) → before ≡ true
-        → after ≡ cond (is_eq (nat_cmp index k)) true before → after ≡ true
-    was before after k e is = is ∙ ap (cond (is_eq (nat_cmp index k)) true) e
-        ∙ either (is_eq (nat_cmp index k))
-      where
-        either : (b : Bool) → cond b true true ≡ true
-        either true = refl
-        either false = refl
+contains_in : (xs ys : List ℕ) → ((k : ℕ) → Contains xs k → Contains ys k) → (k : ℕ)
+    → contains xs k ≡ true → contains ys k ≡ true
+contains_in xs ys into k e =
+    let there = into k (contains_is xs k e) in contains_from ys there.0 k there.1 there.2
+
+contains_reverse : (xs : List ℕ) (k : ℕ) → contains (reverse xs) k ≡ true → contains xs k ≡ true
+contains_reverse xs =
+    contains_in (reverse xs) xs (λ k.
+    Contains-permutation (reverse xs) xs k
+    (IsPermutation-sym xs (reverse xs) (IsPermutation-reverse xs)))
+
+-- numbers that rise fall the other way round
+reverse-falls : (xs : List ℕ) → IsStrictlySortedBy nat_cmp xs → IsDescending (reverse xs)
+unfolding IsStrictlySortedBy
+reverse-falls [] sorted = tt
+reverse-falls (x ∷ xs) sorted =
+    subst IsDescending (sym (reverse-cons x xs))
+    (descending-append (reverse xs) x (reverse-falls xs sorted.1)
+    (λ k e. above_all x xs k sorted.0 (contains_reverse xs k e)))
+
+pub falls_from : (sorted list : List ℕ) → IsSorted nat_cmp sorted
+    → list ≡ reverse (dedup eqb sorted) → IsDescending list
+falls_from sorted list rises is =
+    subst IsDescending (sym is) (reverse-falls (dedup eqb sorted)
+    (sorted_from_strictly_increasing (dedup eqb sorted) (IsStrictlyIncreasing-dedup sorted rises)))
+
+-- the same numbers
+pub same_from : (given copy sorted list : List ℕ) → copy ≡ given → IsPermutation copy sorted
+    → list ≡ reverse (dedup eqb sorted) → (k : ℕ) → contains list k ≡ contains given k
+same_from given copy sorted list copied moved is k =
+    let kept = dedup eqb sorted in
+    ap (λ (xs : List ℕ). contains xs k) is
+    ∙ same_tests (contains (reverse kept) k) (contains copy k)
+    (contains_in (reverse kept) copy (λ g h.
+    Contains-permutation sorted copy g (IsPermutation-sym copy sorted moved)
+    (Contains-from_dedup eqb sorted g
+    (Contains-permutation (reverse kept) kept g
+    (IsPermutation-sym kept (reverse kept) (IsPermutation-reverse kept)) h))) k)
+    (contains_in copy (reverse kept) (λ g h.
+    Contains-permutation kept (reverse kept) g (IsPermutation-reverse kept)
+    (Contains-dedup_nat sorted g (Contains-permutation copy sorted g moved h))) k)
+    ∙ ap (λ (xs : List ℕ). contains xs k) copied
+
+-- None is 0.
+
+pub positive-next : (indices : List ℕ) (i index : ℕ) → 0 < index → i < length indices
+    → index ≡ get_or indices i index
+    → ((k : ℕ) → contains (take i indices) k ≡ true → 0 < k)
+    → (k : ℕ) → contains (take (i + 1) indices) k ≡ true → 0 < k
+positive-next indices i index some below is before k e =
+    let longer : take (i + 1) indices ≡ take i indices ++ index ∷ [] =
+    ap (λ n. take n indices) (let e : i + 1 ≡ suc i = omega arith in e)
+    ∙ take-suc indices i index below
+    ∙ ap (λ n. take i indices ++ n ∷ []) (sym is) in
+    elim (contains-append (take i indices) index k
+    (sym (ap (λ (xs : List ℕ). contains xs k) longer) ∙ e)) [
+      | inl front ↦ before k front
+      | inr last ↦ omega (arith, last, some)
+    ]
+
+pub positive-all : (indices : List ℕ) (i : ℕ) → i ≡ length indices
+    → ((k : ℕ) → contains (take i indices) k ≡ true → 0 < k)
+    → (k : ℕ) → contains indices k ≡ true → 0 < k
+positive-all indices i all before k e =
+    let whole : take i indices ≡ indices = ap (λ n. take n indices) all ∙ take-length indices in
+    before k (ap (λ (xs : List ℕ). contains xs k) whole ∙ e)
+
+-- Nothing was met.
 
 contains-small : (indices : List ℕ) (k : ℕ) → contains indices k ≡ true → k ≤ greatest indices
 contains-small [] k e = absurd (false≢true e)
@@ -62,52 +104,36 @@ contains-small (i ∷ indices) k e = elim (or_cases (eqb i k) (contains indices 
   | inr later ↦ omega (arith, contains-small indices k later)
 ]
 
--- nothing was met, and no helper was found
-pub starts : (indices : List ℕ) (set : BTreeSet ℕ) → Gathered indices set
-    → WalksHelpers indices set []
-starts indices set gathered = (
-  2 * (greatest indices + 1),
-  record {
-    even = omega arith;
-    positive = gathered.positive;
-    waits = λ k e. (let index = gathered.of_set k e in record {
-      below = omega (arith, contains-small indices k index);
-      some = gathered.positive k index;
-      on = on_paths_from indices k k index (within_self k);
-      why = inl index;
-    });
-    index_waits = λ k index below. gathered.in_set k index;
-    parent_waits = λ k on positive below far. absurd (omega (arith, on_paths-small indices k on));
-    flat = λ a b nested. omega (
-      arith,
-      contains-small indices a
-          (contains_from indices nested.upper.0 a nested.upper.1 nested.upper.2),
-    );
-    down = tt;
-    helper = λ k e. absurd (false≢true e);
-    all = λ k e far.
-        let helper = helper_is indices k e in
-        let near = sibling_near k helper.large in
-        absurd (omega (arith, near.0, on_paths-small indices (sibling k) helper.beside));
-  },
-)
-
-pub gathered-next : (indices : List ℕ) (set new : BTreeSet ℕ) (i index : ℕ) → 0 < index
-    → i < length indices
-    → index ≡ get_or indices i index → Gathered (take i indices) set
-    → Updates nat_cmp set new index true
-    → Gathered (take (i + 1) indices) new
-gathered-next indices set new i index some below is gathered inserts =
-    let longer : take (i + 1) indices ≡ take i indices ++ index ∷ [] =
-    ap (λ n. take n indices) (let e : i + 1 ≡ suc i = omega arith in e)
-    ∙ take-suc indices i index below
-    ∙ ap (λ n. take i indices ++ n ∷ []) (sym is) in
-    subst (λ (xs : List ℕ). Gathered xs new) (sym longer)
-    (gathered-more (take i indices) set new index some gathered inserts)
-
-pub gathered-all : (indices : List ℕ) (set : BTreeSet ℕ) (i : ℕ) → i ≡ length indices
-    → Gathered (take i indices) set
-    → WalksHelpers indices set []
-gathered-all indices set i all gathered =
-    let whole : take i indices ≡ indices = ap (λ n. take n indices) all ∙ take-length indices in
-    starts indices set (subst (λ (xs : List ℕ). Gathered xs set) whole gathered)
+-- all indices wait, and no helper was found
+pub starts : (indices waiting parents : List ℕ)
+    → ((k : ℕ) → contains indices k ≡ true → 0 < k) → IsDescending waiting
+    → ((k : ℕ) → contains waiting k ≡ contains indices k) → parents ≡ []
+    → WalksHelpers indices waiting parents []
+starts indices waiting parents positive falls same none =
+    subst (λ (xs : List ℕ). WalksHelpers indices waiting xs []) (sym none) (
+      2 * (greatest indices + 1),
+      record {
+        even = omega arith;
+        positive = positive;
+        falls = falls;
+        index = λ k e.
+            let is : contains indices k ≡ true = sym (same k) ∙ e in
+            (omega (arith, contains-small indices k is), is);
+        index_waits = λ k e below. same k ∙ e;
+        parents_fall = tt;
+        parent = λ k e. absurd (false≢true e);
+        parent_waits = λ k on far large below.
+            absurd (omega (arith, on_paths-small indices k on, far));
+        flat = λ a b nested. omega (
+          arith,
+          contains-small indices a
+              (contains_from indices nested.upper.0 a nested.upper.1 nested.upper.2),
+        );
+        down = tt;
+        helper = λ k e. absurd (false≢true e);
+        all = λ k e far.
+            let helper = helper_is indices k e in
+            let near = sibling_near k helper.large in
+            absurd (omega (arith, near.0, on_paths-small indices (sibling k) helper.beside));
+      },
+    )

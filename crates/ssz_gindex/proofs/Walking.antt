@@ -3,10 +3,10 @@ use Rattle.std.proofs.Common.{◌≡◌, ◌≢◌, ℕ, zero, suc, ◌+◌, ◌
 use Rattle.std.specs.Prelude.{Contains}
 use Rattle.std.specs.List.{AllByRecursion}
 use Rattle.std.proofs.lemmas.Bool.{cases_lt, cases_eq, or_cases, or_left, or_right, and_parts, and_from, eqb-true, eq-eqb, leb-true, le-leb, not_from_false, false≢true}
-use Rattle.ssz_gindex.specs.Helpers.{sibling, is_on_paths, is_helper, helpers, AreNested, AreFlat}
+use Rattle.ssz_gindex.specs.Helpers.{sibling, is_within, is_on_paths, is_helper, helpers, AreNested, AreFlat}
 use Rattle.ssz_gindex.specs.Laws.{IsDescending, contains}
-use Rattle.ssz_gindex.specs.Walk.{Met}
-use Rattle.ssz_gindex.proofs.Within.{below_from, within_halves, halves_once, above_from, on_paths_from, sibling-even, sibling-odd}
+use Rattle.ssz_gindex.specs.Walk.{IsUpper, Met}
+use Rattle.ssz_gindex.proofs.Within.{below_from, within_halves, within_parent, within_least, within_self, halves_once, above_from, on_paths_from, sibling-even, sibling-odd}
 use Rattle.ssz_gindex.proofs.HelperLists.{only_helpers}
 
 -- Lists and tests.
@@ -65,7 +65,7 @@ descending-append (x ∷ xs) s down less = (
   descending-append xs s down.1 (λ k e. less k (or_right (eqb x k) (contains xs k) e)),
 )
 
-same_tests : (a b : Bool) → (a ≡ true → b ≡ true) → (b ≡ true → a ≡ true) → a ≡ b
+pub same_tests : (a b : Bool) → (a ≡ true → b ≡ true) → (b ≡ true → a ≡ true) → a ≡ b
 same_tests true b there back = sym (there refl)
 same_tests false true there back = back refl
 same_tests false false there back = refl
@@ -148,23 +148,70 @@ nested_child indices a b positive nested =
         child_of indices a b n positive
         (contains_from indices nested.lower.0 b nested.lower.1 nested.lower.2) high
 
+-- What stands at both ends, and what does not.
+module _ (indices waiting parents found : List ℕ) (bound : ℕ)
+    (met : Met indices waiting parents found bound) where
+  -- an index that is a parent, too, is an ancestor of another
+  pub nested_at : (n : ℕ) → contains waiting n ≡ true → contains parents n ≡ true
+      → (b : ℕ) × AreNested indices n b
+  nested_at n own upper =
+      let is = met.parent n upper in
+      let above = above_from indices is.child is.on in
+      let half : is.child / 2 ≡ n = is.half in
+      let large : 2 ≤ is.child = is.large in
+      let least = within_least is.child above.index above.within in (
+        above.index,
+        record {
+          upper = contains_is indices n (met.index n own).1;
+          lower = contains_is indices above.index above.among;
+          within = subst (λ (k : ℕ). is_within k above.index ≡ true) half
+              (within_parent is.child above.index large above.within);
+          apart = λ e. omega (arith, half, large, least, e);
+        },
+      )
+
+  -- any other index is none, where its children were met
+  pub not_nested : (n : ℕ) → (contains waiting n ≡ true → contains parents n ≡ true → ⊥)
+      → ((k : ℕ) → is_on_paths indices k ≡ true → 0 < k → k < bound → k < 2 * n)
+      → (b : ℕ) → AreNested indices n b → ⊥
+  not_nested n single far b nested =
+      let among : contains indices n ≡ true =
+      contains_from indices nested.upper.0 n nested.upper.1 nested.upper.2 in
+      let positive : 0 < n = met.positive n among in
+      let below : n < bound = met.flat n b nested in
+      let lower = nested_child indices n b positive nested in
+      let half : lower.child / 2 ≡ n = lower.half in
+      single (met.index_waits n among below)
+      (subst (λ (k : ℕ). contains parents k ≡ true) half
+      (elim (cases_lt lower.child bound) [
+        | inl low ↦ absurd (omega (
+          arith,
+          half,
+          far lower.child lower.on (omega (arith, half, positive)) low,
+        ))
+        | inr high ↦ met.parent_waits lower.child lower.on high
+            (omega (arith, half, positive)) (omega (arith, half, below))
+      ]))
+
 -- No node on the paths below the bound is greater than all that wait.
-module _ (indices : List ℕ) (waiting : ℕ → Bool) (found : List ℕ) (bound : ℕ)
-    (met : Met indices waiting found bound)
-    (g : ℕ) (greatest : (k : ℕ) → waiting k ≡ true → k ≤ g) where
+module _ (indices waiting parents found : List ℕ) (bound : ℕ)
+    (met : Met indices waiting parents found bound)
+    (g : ℕ) (most : (k : ℕ) → contains waiting k ≡ true → k ≤ g)
+    (parents_most : (k : ℕ) → contains parents k ≡ true → k ≤ g) where
   climb : (n k i : ℕ) → contains indices i ≡ true → i / 2 ^ n ≡ k → 0 < k → k < bound → k ≤ g
   climb zero k i among high positive below =
-      greatest k (met.index_waits k
+      most k (met.index_waits k
       (subst (λ (j : ℕ). contains indices j ≡ true) (let e : i ≡ k = omega arith in e) among)
       below)
   climb (suc n) k i among high positive below =
       let half : i / 2 ^ n / 2 ≡ k = halves_once i n ∙ high in
-      let even : bound % 2 ≡ 0 = met.even in
       elim (cases_lt (i / 2 ^ n) bound) [
         | inl low ↦ omega (arith, climb n (i / 2 ^ n) i among refl (omega arith) low)
-        | inr far ↦ greatest k (met.parent_waits k
-            (on_paths_from indices k i among (within_halves k i (suc n) positive high)) positive
-            below (omega arith))
+        | inr far ↦ parents_most k (subst (λ (j : ℕ). contains parents j ≡ true) half
+            (met.parent_waits (i / 2 ^ n)
+            (on_paths_from indices (i / 2 ^ n) i among
+            (within_halves (i / 2 ^ n) i n (omega arith) refl))
+            far (omega arith) (omega arith)))
       ]
 
   pub on_below : (k : ℕ) → is_on_paths indices k ≡ true → 0 < k → k < bound → k ≤ g
@@ -173,43 +220,103 @@ module _ (indices : List ℕ) (waiting : ℕ → Bool) (found : List ℕ) (bound
       let way = below_from k above.index above.within in
       climb way.n k above.index above.among way.high positive below
 
-  pub upper_small : (a b : ℕ) → 0 < a → AreNested indices a b → 2 * a ≤ g
-  upper_small a b positive nested =
-      let below = nested_child indices a b positive nested in
-      let half : below.child / 2 ≡ a = below.half in
-      let even : bound % 2 ≡ 0 = met.even in
-      let low : 2 * a < bound = met.flat a b nested in
-      omega (arith, on_below below.child below.on (omega arith) (omega arith))
-
   pub upper_positive : (a b : ℕ) → AreNested indices a b → 0 < a
   upper_positive a b nested =
       met.positive a (contains_from indices nested.upper.0 a nested.upper.1 nested.upper.2)
 
-  -- The walk ends where no more than the root waits.
-  module _ (last : g ≤ 1) where
-    helper_met : (k : ℕ) → is_helper indices k ≡ true → bound ≤ k
-    helper_met k e =
-        let helper = helper_is indices k e in
-        let near = sibling_near k helper.large in
-        let large : 2 ≤ k = helper.large in
-        let even : bound % 2 ≡ 0 = met.even in
-        elim (cases_lt k bound) [
-          | inl low ↦ absurd (let less = on_below (sibling k) helper.beside
-              (omega (arith, near.0)) (omega (arith, near.1)) in omega (arith, near.0))
-          | inr far ↦ far
-        ]
+  pub upper_most : (a b : ℕ) → AreNested indices a b → a ≤ g
+  upper_most a b nested =
+      on_below a
+      (on_paths_from indices a a
+      (contains_from indices nested.upper.0 a nested.upper.1 nested.upper.2) (within_self a))
+      (upper_positive a b nested) (met.flat a b nested)
 
-    pub ends-helpers : found ≡ helpers indices
-    ends-helpers =
-        only_helpers indices found met.down
-        (λ k. same_tests (contains found k) (is_helper indices k)
-        (λ e. (met.helper k e).1) (λ e. met.all k e (helper_met k e)))
+  -- The greatest node is an index that is an ancestor of another.
+  pub meets-upper : contains waiting g ≡ true → contains parents g ≡ true → IsUpper indices g
+  meets-upper own upper = record {
+    nested = nested_at indices waiting parents found bound met g own upper;
+    greatest = upper_most;
+  }
 
-    pub ends-flat : AreFlat indices
-    ends-flat a b nested =
-        omega (
+  module _ (single : contains waiting g ≡ true → contains parents g ≡ true → ⊥) where
+    upper_other : (a b : ℕ) → AreNested indices a b → a ≢ g
+    upper_other a b nested same =
+        not_nested indices waiting parents found bound met a
+        (λ own upper. single (subst (λ (k : ℕ). contains waiting k ≡ true) same own)
+        (subst (λ (k : ℕ). contains parents k ≡ true) same upper))
+        (λ k on positive below. omega (
           arith,
-          upper_small a b
-              (upper_positive a b nested) nested,
+          on_below k on positive below,
+          same,
           upper_positive a b nested,
-        )
+        ))
+        b nested
+
+    -- The sibling is such an index.
+    pub sibling-upper : 2 ≤ g → contains waiting (sibling g) ≡ true
+        → contains parents (sibling g) ≡ true → IsUpper indices (sibling g)
+    sibling-upper large own upper =
+        let near = sibling_near g large in record {
+          nested = nested_at indices waiting parents found bound met (sibling g) own upper;
+          greatest = λ a b nested. omega (
+            arith,
+            near.0,
+            near.1,
+            near.2,
+            most (sibling g) own,
+            upper_most a b nested,
+            upper_other a b nested,
+          );
+        }
+
+    -- Otherwise there is none from the pair on.
+    pub upper_lower : 2 ≤ g
+        → (contains waiting (sibling g) ≡ true → contains parents (sibling g) ≡ true → ⊥)
+        → (a b : ℕ) → AreNested indices a b → a < 2 * (g / 2)
+    upper_lower large single_sibling a b nested =
+        let near = sibling_near g large in
+        let other = upper_other a b nested in
+        let small = upper_most a b nested in
+        let apart : a ≢ sibling g = (λ same.
+        not_nested indices waiting parents found bound met a
+        (λ own upper. single_sibling (subst (λ (k : ℕ). contains waiting k ≡ true) same own)
+        (subst (λ (k : ℕ). contains parents k ≡ true) same upper))
+        (λ k on positive below. omega (
+          arith,
+          on_below k on positive below,
+          same,
+          near.0,
+          large,
+        ))
+        b nested) in
+        omega (arith, near.0, near.1, near.2, other, small, apart)
+
+    -- The walk ends where no more than the root waits.
+    module _ (last : g ≤ 1) where
+      helper_met : (k : ℕ) → is_helper indices k ≡ true → bound ≤ k
+      helper_met k e =
+          let helper = helper_is indices k e in
+          let near = sibling_near k helper.large in
+          let large : 2 ≤ k = helper.large in
+          let even : bound % 2 ≡ 0 = met.even in
+          elim (cases_lt k bound) [
+            | inl low ↦ absurd (let less = on_below (sibling k) helper.beside
+                (omega (arith, near.0)) (omega (arith, near.1)) in omega (arith, near.0))
+            | inr far ↦ far
+          ]
+
+      pub ends-helpers : found ≡ helpers indices
+      ends-helpers =
+          only_helpers indices found met.down
+          (λ k. same_tests (contains found k) (is_helper indices k)
+          (λ e. (met.helper k e).1) (λ e. met.all k e (helper_met k e)))
+
+      pub ends-flat : AreFlat indices
+      ends-flat a b nested =
+          omega (
+            arith,
+            upper_most a b nested,
+            upper_positive a b nested,
+            upper_other a b nested,
+            last,
+          )

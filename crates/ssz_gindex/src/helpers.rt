@@ -50,10 +50,11 @@ pub fn are_helpers(alloc: Global, indices: &[Gindex], nodes: &[Gindex]) -> Resul
 // Whether the walk comes to this helper next.
 fn next_is(walk: &mut Walk, node: Gindex) -> Result<bool, AllocError>
     ensures same { IfOk result (λ same. IsTrue same → (indices found : List ℕ)
-        → WalksHelpers indices walk.old.waiting found
-        → WalksHelpers indices walk.new.waiting (found ++ node ∷ [])) }
+        → WalksHelpers indices walk.old.indices.items walk.old.parents.items found
+        → WalksHelpers indices walk.new.indices.items walk.new.parents.items
+        (found ++ node ∷ [])) }
     ensures other { IfOk result (λ same. same ≡ false → (indices found : List ℕ)
-        → WalksHelpers indices walk.old.waiting found
+        → WalksHelpers indices walk.old.indices.items walk.old.parents.items found
         → (rest : List ℕ) → AreHelpers indices (found ++ node ∷ rest) → ⊥) }
 {
     match walk.step()? {
@@ -65,7 +66,7 @@ fn next_is(walk: &mut Walk, node: Gindex) -> Result<bool, AllocError>
 // Whether the walk has no more helper, and comes to no index that is an ancestor of another.
 fn is_at_root(walk: &mut Walk) -> Result<bool, AllocError>
     ensures { IfOk result (λ answer. (indices found : List ℕ)
-        → WalksHelpers indices walk.old.waiting found
+        → WalksHelpers indices walk.old.indices.items walk.old.parents.items found
         → (IsTrue answer ↔ AreHelpers indices found)) }
 {
     match walk.step()? {

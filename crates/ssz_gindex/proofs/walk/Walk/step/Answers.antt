@@ -1,123 +1,204 @@
-use Rattle.std.proofs.Common.{◌≡◌, ℕ, ◌*◌, ◌/◌, ◌≤◌, ◌++◌, ◌∷◌, [], true, not, sym, ap, ◌∙◌, subst, arith}
-use Rattle.std.proofs.lemmas.Bool.{false≢true}
-use Rattle.std.specs.Ordering.{nat_cmp}
-use Rattle.std.specs.BTreeSet.{contains as has}
-use Rattle.ssz_gindex.specs.Walk.{IsUpper, Met}
-use Rattle.ssz_gindex.proofs.NodeSets.{steps_from, sibling_was, parent_was, steps-up, not_below, none_waits}
-use Rattle.ssz_gindex.proofs.PairSteps.{pair-whole, pair-single, meets-upper}
-use Rattle.ssz_gindex.proofs.Walking.{ends-helpers, ends-flat}
+use Rattle.std.proofs.Common.{arith}
+use Rattle.ssz_gindex.proofs.Stepping.{Calls, height-falls, sibling-met, single-met, whole-met, none-met, upper-met, root-met}
 use Rattle.ssz_gindex.proofs.walk.Walk.step.Goals as goal
+
+pub returns-then-index-parent-clause-comes : goal.returns-then-index-parent-clause-comes
+returns-then-index-parent-clause-comes c = λ indices found walks.
+    upper-met indices c.loop-node.self.indices.items c.loop-node.self.parents.items found
+    (c.loop-node.invariant.walks indices found walks)
+    c.take-index.new.end.items c.take-parent.new.end.items c.in-Some.node
+    c.take-index.result c.take-parent.result c.in-Some.ensures.positive c.in-Some.ensures.some
+    (record { is = c.take-index.ensures.taken; rest = c.take-index.ensures.rest })
+    (record { is = c.take-parent.ensures.taken; rest = c.take-parent.ensures.rest })
+    c.if-index-parent.true
 
 pub returns-then-get-eq1-clause-comes : goal.returns-then-get-eq1-clause-comes
 returns-then-get-eq1-clause-comes c = λ indices found walks.
-    let at = c.loop-node.invariant.walks indices found walks in
-    let last : (k : ℕ) → has nat_cmp c.loop-node.self.waiting k ≡ true → k ≤ 1 =
-    (λ k e. omega (
-      arith,
-      not_below c.in-Some.node k
-          (c.in-Some.ensures.greatest k e),
-      c.if-get-eq1.true,
-      c.get.ensures,
-    )) in (
-      ends-helpers indices (has nat_cmp c.loop-node.self.waiting) found at.0 at.1 1 last
-          (omega arith),
-      ends-flat indices (has nat_cmp c.loop-node.self.waiting) found at.0 at.1 1 last (omega arith),
-    )
+    root-met indices c.loop-node.self.indices.items c.loop-node.self.parents.items found
+    (c.loop-node.invariant.walks indices found walks)
+    c.take-index.new.end.items c.take-parent.new.end.items c.in-Some.node
+    c.take-index.result c.take-parent.result
+    (omega (arith, c.get.ensures.number, c.get.ensures.positive)) c.in-Some.ensures.some
+    (record { is = c.take-index.ensures.taken; rest = c.take-index.ensures.rest })
+    (record { is = c.take-parent.ensures.taken; rest = c.take-parent.ensures.rest })
+    c.if-index-parent.false (omega (arith, c.get.ensures.number, c.if-get-eq1.true))
 
-pub returns-clause-comes : goal.returns-clause-comes
-returns-clause-comes c = λ indices found walks.
-    let at = c.loop-node.invariant.walks indices found walks in
-    let last : (k : ℕ) → has nat_cmp c.loop-node.self.waiting k ≡ true → k ≤ 1 =
-    none_waits c.loop-node.self.waiting
-    (λ some. false≢true (c.in_default.ensures.variant.1 some)) in (
-      ends-helpers indices (has nat_cmp c.loop-node.self.waiting) found at.0 at.1 1 last
-          (omega arith),
-      ends-flat indices (has nat_cmp c.loop-node.self.waiting) found at.0 at.1 1 last (omega arith),
-    )
+pub returns-then-sibling_index-sibling_parent-clause-comes :
+    goal.returns-then-sibling_index-sibling_parent-clause-comes
+returns-then-sibling_index-sibling_parent-clause-comes c = λ indices found walks.
+    let calls : Calls c.loop-node.self.indices.items c.take-index.new.end.items
+    c.take-sibling_index.new.end.items c.loop-node.self.parents.items
+    c.take-parent.new.end.items c.take-sibling_parent.new.end.items
+    c.in-Some.node c.sibling-sibling.result c.take-index.result c.take-parent.result
+    c.take-sibling_index.result c.take-sibling_parent.result =
+    record {
+      large = omega (arith, c.get.ensures.number, c.get.ensures.positive, c.if-get-eq1.false);
+      is_sibling = c.sibling-sibling.ensures;
+      greatest = c.in-Some.ensures.some;
+      index_takes = record { is = c.take-index.ensures.taken; rest = c.take-index.ensures.rest };
+      parent_takes = record { is = c.take-parent.ensures.taken; rest = c.take-parent.ensures.rest };
+      beside_takes = record {
+        is = c.take-sibling_index.ensures.taken;
+        rest = c.take-sibling_index.ensures.rest;
+      };
+      upper_takes = record {
+        is = c.take-sibling_parent.ensures.taken;
+        rest = c.take-sibling_parent.ensures.rest;
+      };
+    } in
+    sibling-met c.loop-node.self.indices.items c.take-index.new.end.items
+    c.take-sibling_index.new.end.items c.loop-node.self.parents.items
+    c.take-parent.new.end.items c.take-sibling_parent.new.end.items
+    c.in-Some.node c.sibling-sibling.result c.take-index.result c.take-parent.result
+    c.take-sibling_index.result c.take-sibling_parent.result calls
+    indices found (c.loop-node.invariant.walks indices found walks) c.if-index-parent.false
+    c.if-sibling_index-sibling_parent.true
 
-pub returns-then-not-branch-clause-comes : goal.returns-then-not-branch-clause-comes
-returns-then-not-branch-clause-comes c = λ indices found walks.
-    let at = c.loop-node.invariant.walks indices found walks in
-    let large : 2 ≤ c.in-Some.node = omega (arith, c.if-get-eq1.false, c.get.ensures) in
-    let steps = steps_from c.loop-node.self.waiting c.pop_last.new.self c.remove-both.new.self
-    c.insert.new.self
-    c.in-Some.node c.sibling-sibling.result c.parent-parent.result large
-    c.sibling-sibling.ensures c.parent-parent.ensures
-    c.in-Some.ensures.member c.in-Some.ensures.greatest c.in-Some.ensures.updates
-    c.remove-both.ensures.updates c.in_ok-insert.ensures.updates in
-    let parent = parent_was c.loop-node.self.waiting c.pop_last.new.self c.remove-both.new.self
-    c.in-Some.node c.sibling-sibling.result c.parent-parent.result c.in_ok-insert.field-0 large
-    c.sibling-sibling.ensures c.parent-parent.ensures
-    c.in-Some.ensures.updates c.remove-both.ensures.updates c.in_ok-insert.ensures.added in
-    subst (IsUpper indices) (sym c.parent-parent.ensures)
-    (meets-upper indices (has nat_cmp c.loop-node.self.waiting)
-    (has nat_cmp c.insert.new.self) found at.0 c.in-Some.node at.1 steps
-    (parent ∙ ap not c.if-not-branch.true))
+pub returns-then-not-sibling_index-sibling_parent-clause-comes :
+    goal.returns-then-not-sibling_index-sibling_parent-clause-comes
+returns-then-not-sibling_index-sibling_parent-clause-comes c = λ indices found walks.
+    let calls : Calls c.loop-node.self.indices.items c.take-index.new.end.items
+    c.take-sibling_index.new.end.items c.loop-node.self.parents.items
+    c.take-parent.new.end.items c.take-sibling_parent.new.end.items
+    c.in-Some.node c.sibling-sibling.result c.take-index.result c.take-parent.result
+    c.take-sibling_index.result c.take-sibling_parent.result =
+    record {
+      large = omega (arith, c.get.ensures.number, c.get.ensures.positive, c.if-get-eq1.false);
+      is_sibling = c.sibling-sibling.ensures;
+      greatest = c.in-Some.ensures.some;
+      index_takes = record { is = c.take-index.ensures.taken; rest = c.take-index.ensures.rest };
+      parent_takes = record { is = c.take-parent.ensures.taken; rest = c.take-parent.ensures.rest };
+      beside_takes = record {
+        is = c.take-sibling_index.ensures.taken;
+        rest = c.take-sibling_index.ensures.rest;
+      };
+      upper_takes = record {
+        is = c.take-sibling_parent.ensures.taken;
+        rest = c.take-sibling_parent.ensures.rest;
+      };
+    } in
+    single-met c.loop-node.self.indices.items c.take-index.new.end.items
+    c.take-sibling_index.new.end.items c.loop-node.self.parents.items
+    c.take-parent.new.end.items c.take-sibling_parent.new.end.items
+    c.in-Some.node c.sibling-sibling.result c.take-index.result c.take-parent.result
+    c.take-sibling_index.result c.take-sibling_parent.result calls
+    indices found (c.loop-node.invariant.walks indices found walks) c.if-index-parent.false
+    c.if-sibling_index-sibling_parent.false c.parent.result c.push_back.new.self.items
+    c.parent.ensures c.in_ok-push_back.ensures.items
+    c.if-not-sibling_index-sibling_parent.true
 
-pub returns-then-not-both-clause-comes : goal.returns-then-not-both-clause-comes
-returns-then-not-both-clause-comes c = λ indices found walks.
-    let at = c.loop-node.invariant.walks indices found walks in
-    let large : 2 ≤ c.in-Some.node = omega (arith, c.if-get-eq1.false, c.get.ensures) in
-    let steps = steps_from c.loop-node.self.waiting c.pop_last.new.self c.remove-both.new.self
-    c.insert.new.self
-    c.in-Some.node c.sibling-sibling.result c.parent-parent.result large
-    c.sibling-sibling.ensures c.parent-parent.ensures
-    c.in-Some.ensures.member c.in-Some.ensures.greatest c.in-Some.ensures.updates
-    c.remove-both.ensures.updates c.in_ok-insert.ensures.updates in
-    let parent = parent_was c.loop-node.self.waiting c.pop_last.new.self c.remove-both.new.self
-    c.in-Some.node c.sibling-sibling.result c.parent-parent.result c.in_ok-insert.field-0 large
-    c.sibling-sibling.ensures c.parent-parent.ensures
-    c.in-Some.ensures.updates c.remove-both.ensures.updates c.in_ok-insert.ensures.added in
-    let beside = sibling_was c.loop-node.self.waiting c.pop_last.new.self c.in-Some.node
-    c.sibling-sibling.result c.remove-both.result
-    large c.sibling-sibling.ensures c.in-Some.ensures.updates c.remove-both.ensures.test in (
-      2 * (c.in-Some.node / 2),
-      subst (λ (s : ℕ). Met indices (has nat_cmp c.insert.new.self) (found ++ s ∷ [])
-          (2 * (c.in-Some.node / 2))) (sym c.sibling-sibling.ensures)
-          (pair-single indices (has nat_cmp c.loop-node.self.waiting)
-          (has nat_cmp c.insert.new.self) found at.0 c.in-Some.node at.1 steps
-          (parent ∙ ap not c.if-not-branch.false) (beside ∙ c.if-not-both.true)),
-    )
-
-pub returns-then-not-both-clause-up : goal.returns-then-not-both-clause-up
-returns-then-not-both-clause-up c =
-    let large : 2 ≤ c.in-Some.node = omega (arith, c.if-get-eq1.false, c.get.ensures) in
-    let steps = steps_from c.loop-node.self.waiting c.pop_last.new.self c.remove-both.new.self
-    c.insert.new.self
-    c.in-Some.node c.sibling-sibling.result c.parent-parent.result large
-    c.sibling-sibling.ensures c.parent-parent.ensures
-    c.in-Some.ensures.member c.in-Some.ensures.greatest c.in-Some.ensures.updates
-    c.remove-both.ensures.updates c.in_ok-insert.ensures.updates in
+pub returns-then-not-sibling_index-sibling_parent-clause-up :
+    goal.returns-then-not-sibling_index-sibling_parent-clause-up
+returns-then-not-sibling_index-sibling_parent-clause-up c =
+    let calls : Calls c.loop-node.self.indices.items c.take-index.new.end.items
+    c.take-sibling_index.new.end.items c.loop-node.self.parents.items
+    c.take-parent.new.end.items c.take-sibling_parent.new.end.items
+    c.in-Some.node c.sibling-sibling.result c.take-index.result c.take-parent.result
+    c.take-sibling_index.result c.take-sibling_parent.result =
+    record {
+      large = omega (arith, c.get.ensures.number, c.get.ensures.positive, c.if-get-eq1.false);
+      is_sibling = c.sibling-sibling.ensures;
+      greatest = c.in-Some.ensures.some;
+      index_takes = record { is = c.take-index.ensures.taken; rest = c.take-index.ensures.rest };
+      parent_takes = record { is = c.take-parent.ensures.taken; rest = c.take-parent.ensures.rest };
+      beside_takes = record {
+        is = c.take-sibling_index.ensures.taken;
+        rest = c.take-sibling_index.ensures.rest;
+      };
+      upper_takes = record {
+        is = c.take-sibling_parent.ensures.taken;
+        rest = c.take-sibling_parent.ensures.rest;
+      };
+    } in
     omega (
       arith,
-      steps-up c.loop-node.self.waiting c.insert.new.self c.in-Some.node steps,
+      height-falls c.loop-node.self.indices.items c.take-index.new.end.items
+          c.take-sibling_index.new.end.items c.loop-node.self.parents.items
+          c.take-parent.new.end.items c.take-sibling_parent.new.end.items
+          c.in-Some.node c.sibling-sibling.result c.take-index.result c.take-parent.result
+          c.take-sibling_index.result c.take-sibling_parent.result calls
+          c.parent.result c.push_back.new.self.items c.parent.ensures
+          c.in_ok-push_back.ensures.items,
       c.loop-node.invariant.up,
     )
 
+pub loop-node-smaller : goal.loop-node-smaller
+loop-node-smaller c =
+    let calls : Calls c.loop-node.self.indices.items c.take-index.new.end.items
+    c.take-sibling_index.new.end.items c.loop-node.self.parents.items
+    c.take-parent.new.end.items c.take-sibling_parent.new.end.items
+    c.in-Some.node c.sibling-sibling.result c.take-index.result c.take-parent.result
+    c.take-sibling_index.result c.take-sibling_parent.result =
+    record {
+      large = omega (arith, c.get.ensures.number, c.get.ensures.positive, c.if-get-eq1.false);
+      is_sibling = c.sibling-sibling.ensures;
+      greatest = c.in-Some.ensures.some;
+      index_takes = record { is = c.take-index.ensures.taken; rest = c.take-index.ensures.rest };
+      parent_takes = record { is = c.take-parent.ensures.taken; rest = c.take-parent.ensures.rest };
+      beside_takes = record {
+        is = c.take-sibling_index.ensures.taken;
+        rest = c.take-sibling_index.ensures.rest;
+      };
+      upper_takes = record {
+        is = c.take-sibling_parent.ensures.taken;
+        rest = c.take-sibling_parent.ensures.rest;
+      };
+    } in
+    height-falls c.loop-node.self.indices.items c.take-index.new.end.items
+    c.take-sibling_index.new.end.items c.loop-node.self.parents.items
+    c.take-parent.new.end.items c.take-sibling_parent.new.end.items
+    c.in-Some.node c.sibling-sibling.result c.take-index.result c.take-parent.result
+    c.take-sibling_index.result c.take-sibling_parent.result calls
+    c.parent.result c.push_back.new.self.items c.parent.ensures c.in_ok-push_back.ensures.items
+
 pub loop-node-preserved : goal.loop-node-preserved
 loop-node-preserved c =
-    let large : 2 ≤ c.in-Some.node = omega (arith, c.if-get-eq1.false, c.get.ensures) in
-    let steps = steps_from c.loop-node.self.waiting c.pop_last.new.self c.remove-both.new.self
-    c.insert.new.self
-    c.in-Some.node c.sibling-sibling.result c.parent-parent.result large
-    c.sibling-sibling.ensures c.parent-parent.ensures
-    c.in-Some.ensures.member c.in-Some.ensures.greatest c.in-Some.ensures.updates
-    c.remove-both.ensures.updates c.in_ok-insert.ensures.updates in
-    let parent = parent_was c.loop-node.self.waiting c.pop_last.new.self c.remove-both.new.self
-    c.in-Some.node c.sibling-sibling.result c.parent-parent.result c.in_ok-insert.field-0 large
-    c.sibling-sibling.ensures c.parent-parent.ensures
-    c.in-Some.ensures.updates c.remove-both.ensures.updates c.in_ok-insert.ensures.added in
-    let beside = sibling_was c.loop-node.self.waiting c.pop_last.new.self c.in-Some.node
-    c.sibling-sibling.result c.remove-both.result
-    large c.sibling-sibling.ensures c.in-Some.ensures.updates c.remove-both.ensures.test in
-    let up = steps-up c.loop-node.self.waiting c.insert.new.self c.in-Some.node steps in
+    let calls : Calls c.loop-node.self.indices.items c.take-index.new.end.items
+    c.take-sibling_index.new.end.items c.loop-node.self.parents.items
+    c.take-parent.new.end.items c.take-sibling_parent.new.end.items
+    c.in-Some.node c.sibling-sibling.result c.take-index.result c.take-parent.result
+    c.take-sibling_index.result c.take-sibling_parent.result =
+    record {
+      large = omega (arith, c.get.ensures.number, c.get.ensures.positive, c.if-get-eq1.false);
+      is_sibling = c.sibling-sibling.ensures;
+      greatest = c.in-Some.ensures.some;
+      index_takes = record { is = c.take-index.ensures.taken; rest = c.take-index.ensures.rest };
+      parent_takes = record { is = c.take-parent.ensures.taken; rest = c.take-parent.ensures.rest };
+      beside_takes = record {
+        is = c.take-sibling_index.ensures.taken;
+        rest = c.take-sibling_index.ensures.rest;
+      };
+      upper_takes = record {
+        is = c.take-sibling_parent.ensures.taken;
+        rest = c.take-sibling_parent.ensures.rest;
+      };
+    } in
     record {
       walks = λ indices found walks.
-          let at = c.loop-node.invariant.walks indices found walks in (
-            2 * (c.in-Some.node / 2),
-            pair-whole indices (has nat_cmp c.loop-node.self.waiting)
-                (has nat_cmp c.insert.new.self) found at.0 c.in-Some.node at.1 steps
-                (parent ∙ ap not c.if-not-branch.false) (beside ∙ c.if-not-both.false),
-          );
-      up = omega (arith, up, c.loop-node.invariant.up);
+          whole-met c.loop-node.self.indices.items c.take-index.new.end.items
+          c.take-sibling_index.new.end.items c.loop-node.self.parents.items
+          c.take-parent.new.end.items c.take-sibling_parent.new.end.items
+          c.in-Some.node c.sibling-sibling.result c.take-index.result c.take-parent.result
+          c.take-sibling_index.result c.take-sibling_parent.result calls
+          indices found (c.loop-node.invariant.walks indices found walks) c.if-index-parent.false
+          c.if-sibling_index-sibling_parent.false c.parent.result c.push_back.new.self.items
+          c.parent.ensures c.in_ok-push_back.ensures.items
+          c.if-not-sibling_index-sibling_parent.false;
+      up = omega (
+        arith,
+        height-falls c.loop-node.self.indices.items c.take-index.new.end.items
+            c.take-sibling_index.new.end.items c.loop-node.self.parents.items
+            c.take-parent.new.end.items c.take-sibling_parent.new.end.items
+            c.in-Some.node c.sibling-sibling.result c.take-index.result c.take-parent.result
+            c.take-sibling_index.result c.take-sibling_parent.result calls
+            c.parent.result c.push_back.new.self.items c.parent.ensures
+            c.in_ok-push_back.ensures.items,
+        c.loop-node.invariant.up,
+      );
     }
+
+pub returns-clause-comes : goal.returns-clause-comes
+returns-clause-comes c = λ indices found walks.
+    none-met indices c.loop-node.self.indices.items c.loop-node.self.parents.items found
+    (c.loop-node.invariant.walks indices found walks)
+    (c.greatest.ensures.none c.in_default.is)

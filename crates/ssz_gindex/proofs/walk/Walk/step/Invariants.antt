@@ -1,13 +1,15 @@
-use Rattle.std.proofs.Common.{◌≤◌, List, ℕ, length}
-use Rattle.ssz_gindex.specs.Walk.{WalksHelpers, top}
+use Rattle.std.proofs.Common.{◌≤◌, List, ℕ}
+use Rattle.ssz_gindex.specs.Walk.{WalksHelpers, height}
 use Rattle.ssz_gindex.proofs.walk.Walk.step.Given as goal
 
 abbrev pub invariant-loop-node : goal.invariant-loop-node
 invariant-loop-node l = record {
-  walks : (indices found : List ℕ) → WalksHelpers indices l.fn.self.waiting found
-      → WalksHelpers indices l.self.waiting found;
-  up : top l.self.waiting ≤ top l.fn.self.waiting;
+  walks : (indices found : List ℕ)
+      → WalksHelpers indices l.fn.self.indices.items l.fn.self.parents.items found
+      → WalksHelpers indices l.self.indices.items l.self.parents.items found;
+  up : height l.self.indices.items l.self.parents.items
+      ≤ height l.fn.self.indices.items l.fn.self.parents.items;
 }
 
 abbrev pub decreases-loop-node : goal.decreases-loop-node
-decreases-loop-node l = length l.self.waiting.keys
+decreases-loop-node l = height l.self.indices.items l.self.parents.items
