@@ -1,6 +1,6 @@
 //! Basic values and bits, as they lie in leaves.
 ghost use Rattle.std.specs.Prelude.{ℕ, ◌≡◌, ◌≢◌, ◌+◌, ◌*◌, ◌/◌, ◌%◌, ◌<◌, ◌≤◌, ◌^◌, ◌==◌, Some, length, slice_range, slice_index, IfSome, option_map};
-ghost use Rattle.ssz_schema.specs.declared.width.Width.TheVariants.{W256};
+ghost use Rattle.ssz_schema.specs.width.Width.TheVariants.{W256};
 ghost use Rattle.ssz_schema.specs.Types.{uint};
 ghost use Rattle.ssz_schema.specs.Sizes.{byte_count, basic_size};
 ghost use Rattle.ssz_schema.specs.Unfolding.{type_of};

@@ -5,7 +5,7 @@ use Rattle.std.proofs.Math.Nat.{mul-le-mul_right}
 use Rattle.std.proofs.lemmas.List.{append-nil, length-map, take_min, take_all, map-append}
 use Rattle.std.proofs.lemmas.Nat.{div-mul-add, mod-mul-add}
 use Rattle.ssz_chunk.specs.Tree.{Tree, leaf, merkle_tree}
-use Rattle.ssz_schema.specs.declared.width.Width.TheVariants.{W8}
+use Rattle.ssz_schema.specs.width.Width.TheVariants.{W8}
 use Rattle.ssz_schema.specs.Types.{SszType, uint}
 use Rattle.ssz_schema.specs.Sizes.{basic_size, element_chunks}
 use Rattle.ssz_bytes.specs.Bytes.{bit_value}

@@ -15,12 +15,12 @@ use Rattle.ssz_schema.specs.Types.{SszType, Fields, container, vector, list, bit
 use Rattle.ssz_schema.specs.Sizes.{basic_size, depth}
 use Rattle.ssz_schema.specs.Legal.{IsLegal}
 use Rattle.ssz_schema.specs.Unfolding.{type_tree_at, fields_over, options_over}
-use Rattle.ssz_schema.specs.declared.format.Format.{Format}
+use Rattle.ssz_schema.specs.format.Format.{Format}
 use Rattle.ssz_value.specs.declared.value.Value.{Value}
 use Rattle.ssz_value.specs.declared.value.Value.TheVariants.{Seq, Bits, Union}
 use Rattle.ssz_value.specs.Values.{SszValue, sequence, chosen, chosen_none, values, items, bits, Fits, FitFields}
 use Rattle.ssz_value.specs.Standing.{value_of, is_byte, IsFormed, FieldsFormed, Stands}
-use Rattle.ssz_value.specs.Shapes.{StandAlike}
+use Rattle.ssz_value.specs.Shapes.{StandAlike, StandsBehind}
 use Rattle.ssz_value.specs.Trees.{tree}
 use Rattle.ssz_value.proofs.PartLemmas.{Part}
 use Rattle.ssz_value.proofs.FormLemmas.{formed_push, fields_push, seq_formed_alike, no_fields_formed, chosen_formed, none_formed, seq_formed_fields}
@@ -62,13 +62,16 @@ ElementsRead-start arena t depth count vs node places none are holds =
     }
 
 pub ElementsRead-more : (arena : ArenaContent) (t : SszType) (vs : List SszValue) (i : ℕ)
-    (parts next : List Value) (v : Value) (old new : Ahead) (node : NodeId)
+    (parts next : List Value) (old new : Ahead) (node : NodeId)
     → ElementsRead arena t vs i parts old → i < length vs → Takes arena old new node
-    → ForValue t (tree_of arena node) (λ w. Stands t w v) → next ≡ parts ++ v ∷ []
+    → ForValue t (tree_of arena node) (λ w. StandsBehind t w parts next)
     → ElementsRead arena t vs (i + 1) next new
-ElementsRead-more arena t vs i parts next v old new node h below takes read is =
+ElementsRead-more arena t vs i parts next old new node h below takes read =
     let first = Left-first arena t h.rest old new node h.left (omega (arith, h.count)) takes in
-    let stands : Stands t first.value v = read first.value first.is in
+    let put : StandsBehind t first.value parts next = read first.value first.is in
+    let v = put.value in
+    let is = put.items in
+    let stands : Stands t first.value v = put.stands in
     record {
       rest = first.others;
       left = first.left;
@@ -114,15 +117,19 @@ FieldsRead-start trees fields depth vs node are = record {
 }
 
 pub FieldsRead-more : (trees : List SszType) (fields : List Part) (vs : List SszValue)
-    (i depth : ℕ) (part : Part) (parts next : List Value) (v : Value) (node : Tree)
+    (i depth : ℕ) (part : Part) (parts next : List Value) (node : Tree)
     → FieldsRead trees fields vs i depth parts node → i < length fields
     → part ≡ get_or fields i part
     → ForPlace (type_tree_at trees part.1) depth i node
-    (λ w. Stands (type_tree_at trees part.1) w v)
-    → next ≡ parts ++ v ∷ [] → FieldsRead trees fields vs (i + 1) depth next node
-FieldsRead-more trees fields vs i depth part parts next v node h below e read is =
+    (λ w. StandsBehind (type_tree_at trees part.1) w parts next)
+    → FieldsRead trees fields vs (i + 1) depth next node
+FieldsRead-more trees fields vs i depth part parts next node h below e read =
+    let t = type_tree_at trees part.1 in
     let first = FieldsLeft-first trees fields i depth part h.rest node h.left below e in
-    let stands : Stands (type_tree_at trees part.1) first.value v = read first.value first.is in
+    let put : StandsBehind t first.value parts next = read first.value first.is in
+    let v = put.value in
+    let is = put.items in
+    let stands : Stands t first.value v = put.stands in
     record {
       rest = first.others;
       left = first.left;

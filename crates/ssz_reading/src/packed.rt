@@ -1,7 +1,7 @@
 //! Basic values and bits that are packed in the chunks of a full tree.
-ghost use Rattle.std.specs.Prelude.{ℕ, ◌≡◌, ◌+◌, ◌*◌, ◌<◌, ◌≤◌, ◌^◌, ◌++◌, Bool, false, List, length, map, take, drop, slice_index_or, IfOk, OnOk, Some};
+ghost use Rattle.std.specs.Prelude.{ℕ, ◌≡◌, ◌+◌, ◌*◌, ◌<◌, ◌≤◌, ◌^◌, ◌++◌, Bool, false, List, length, map, take, drop, slice_index_or, vec_len, vec_capacity, IfOk, OnOk, Some};
 ghost use Rattle.std.specs.List.{AllByRecursion, concat};
-ghost use Rattle.ssz_schema.specs.declared.width.Width.TheVariants.{W8};
+ghost use Rattle.ssz_schema.specs.width.Width.TheVariants.{W8};
 ghost use Rattle.ssz_schema.specs.Types.{uint};
 ghost use Rattle.ssz_schema.specs.Sizes.{basic_size};
 ghost use Rattle.ssz_value.specs.Values.{SszValue, number, Fits};
@@ -14,6 +14,7 @@ use ssz_arena::Arena;
 use ssz_bytes::{BitRun, ByteRun};
 use ssz_chunk::{Chunk, PairHash};
 use ssz_nodes::{Basic, Places, Top, append_chunks, bit_of, chunk_of};
+use ssz_schema::Width;
 use ssz_value::Value;
 use std::alloc::{AllocError, Global};
 
@@ -47,6 +48,28 @@ pub fn read_packed<H: PairHash>(
     ensures { ForElements (basic_type basic) top.depth count (tree_of arena.now top.node)
         (λ vs. IfOk result (λ parts. map value_of parts.items ≡ vs)) }
 {
+    match basic {
+        // The commonest, in a loop that knows the width.
+        Basic::Number(Width::W64) => {
+            read_each(alloc, arena, Basic::Number(Width::W64), top, count)
+        }
+        _ => read_each(alloc, arena, basic, top, count),
+    }
+}
+
+#[inline(always)]
+fn read_each<H: PairHash>(
+    alloc: Global,
+    arena: &Arena<H>,
+    basic: Basic,
+    top: Top,
+    count: u64,
+) -> Result<Vec<Value>, AllocError>
+    requires depth { top.depth < 64 }
+    requires node { IsNodeOf arena.now top.node }
+    ensures { ForElements (basic_type basic) top.depth count (tree_of arena.now top.node)
+        (λ vs. IfOk result (λ parts. map value_of parts.items ≡ vs)) }
+{
     let per_chunk = 32 / basic.size();
     let mut parts = Vec::with_capacity(alloc, count as usize)?;
     let mut places = Places::new(top);
@@ -54,32 +77,30 @@ pub fn read_packed<H: PairHash>(
     while left > 0 {
         let chunk = chunk_of(arena, places.next(arena));
         let here = left.min(per_chunk);
-        append_values(basic, chunk, here, &mut parts)?;
+        append_values(basic, chunk, here, &mut parts);
         left -= here;
     }
     Ok(parts)
 }
 
-// Appends the first count values of a chunk.
-fn append_values(
-    basic: Basic,
-    chunk: &Chunk,
-    count: usize,
-    parts: &mut Vec<Value>,
-) -> Result<(), AllocError>
-    requires { (size : ℕ) → basic_size (basic_type basic) ≡ Some size → count * size ≤ 32 }
-    ensures { (vs : List SszValue) (j from : ℕ) → AllByRecursion (Fits (basic_type basic)) vs
+// Appends the first count values of a chunk, for which there is room.
+#[inline(always)]
+fn append_values(basic: Basic, chunk: &Chunk, count: usize, parts: &mut Vec<Value>)
+    requires within { (size : ℕ) → basic_size (basic_type basic) ≡ Some size → count * size ≤ 32 }
+    requires room { vec_len parts.old + count ≤ vec_capacity parts.old }
+    ensures values { (vs : List SszValue) (j from : ℕ) → AllByRecursion (Fits (basic_type basic)) vs
         → chunk.now.0 ≡ chunk_from (concat (map (serialize (basic_type basic)) vs)) j
         → ((size : ℕ) → basic_size (basic_type basic) ≡ Some size → from * size ≡ 32 * j)
         → from + count ≤ length vs
-        → OnOk result (map value_of parts.new.items
-        ≡ map value_of parts.old.items ++ take count (drop from vs)) }
+        → map value_of parts.new.items
+        ≡ map value_of parts.old.items ++ take count (drop from vs) }
+    ensures len { vec_len parts.new ≡ vec_len parts.old + count }
+    ensures capacity { vec_capacity parts.new ≡ vec_capacity parts.old }
 {
     let size = basic.size();
     for k in 0..count {
-        parts.push(basic.value_at(chunk, k * size))?;
+        parts.push_reserved(basic.value_at(chunk, k * size));
     }
-    Ok(())
 }
 
 /// Count bits.

@@ -1,10 +1,11 @@
-ghost use Rattle.std.specs.Prelude.{◌≡◌, ◌<◌, ◌≤◌, ◌^◌, length, IfOk, None, Option};
+ghost use Rattle.std.specs.Prelude.{ℕ, ◌≡◌, ◌+◌, ◌<◌, ◌≤◌, ◌^◌, length, IfOk, OnOk, None, Option, vec_len, vec_capacity};
 ghost use Rattle.std.specs.List.{AllByRecursion};
-ghost use Rattle.ssz_schema.specs.Types.{container, union, vector};
+ghost use Rattle.ssz_schema.specs.Types.{container, list, union, vector};
+ghost use Rattle.ssz_schema.specs.Legal.{IsLegal};
 ghost use Rattle.ssz_schema.specs.Unfolding.{type_of, fields_over, options_over, IsBelow};
 ghost use Rattle.ssz_schema.specs.Sizes.{basic_size};
 ghost use Rattle.ssz_value.specs.Values.{sequence, values};
-ghost use Rattle.ssz_value.specs.Shapes.{StandAlike};
+ghost use Rattle.ssz_value.specs.Shapes.{StandAlike, StandsBehind};
 ghost use Rattle.ssz_value.specs.Standing.{Stands};
 ghost use Rattle.ssz_arena.specs.Content.{IsNodeOf, tree_of};
 ghost use Rattle.ssz_nodes.specs.Shown.{ForValue, ForElements, ForFields};
@@ -46,21 +47,98 @@ pub fn read_value<H: PairHash>(
             Ok(Value::Bits(read_bits(alloc, arena, inner, count)?))
         }
         Ty::Vector(elem, n) => read_sequence(alloc, arena, schema, *elem, top, *n),
-        Ty::List(elem, _) => {
-            let (content, count) = mixed_in(arena, node);
-            let inner = Top {
-                node: content,
-                depth,
-            };
-            read_sequence(alloc, arena, schema, *elem, inner, count)
-        }
+        Ty::List(elem, _) => read_list(alloc, arena, schema, id, *elem, node),
         Ty::Union(options) => read_chosen(alloc, arena, schema, id, options.as_slice(), node),
         Ty::Container(fields) => read_fields(alloc, arena, schema, id, fields.as_slice(), top),
     }
 }
 
+// Puts the value whose tree the node has behind the others, for which there is room. A form that is
+// known here is built in its place.
+#[cycle(value)]
+fn put<H: PairHash>(
+    alloc: Global,
+    arena: &Arena<H>,
+    schema: &Schema,
+    id: TypeId,
+    node: NodeId,
+    parts: &mut Vec<Value>,
+) -> Result<(), AllocError>
+    requires known { id < length schema.now.trees }
+    requires node { IsNodeOf arena.now node }
+    requires room { vec_len parts.old < vec_capacity parts.old }
+    ensures put { let t = type_of schema.now id in ForValue t (tree_of arena.now node)
+        (λ v. OnOk result (StandsBehind t v parts.old.items parts.new.items)) }
+    ensures len { OnOk result (vec_len parts.new ≡ vec_len parts.old + 1) }
+    ensures capacity { OnOk result (vec_capacity parts.new ≡ vec_capacity parts.old) }
+{
+    match schema.ty(id) {
+        Ty::Uint(width) => {
+            let value = Basic::Number(*width).value_at(chunk_of(arena, node), 0);
+            parts.push_reserved(value);
+            Ok(())
+        }
+        Ty::Boolean => {
+            let value = Basic::Flag.value_at(chunk_of(arena, node), 0);
+            parts.push_reserved(value);
+            Ok(())
+        }
+        Ty::Vector(elem, n) => {
+            let depth = schema.depth(id);
+            let value = read_sequence(alloc, arena, schema, *elem, Top { node, depth }, *n)?;
+            parts.push_reserved(value);
+            Ok(())
+        }
+        Ty::List(elem, _) => {
+            let value = read_list(alloc, arena, schema, id, *elem, node)?;
+            parts.push_reserved(value);
+            Ok(())
+        }
+        Ty::Container(fields) => {
+            let depth = schema.depth(id);
+            let fields = fields.as_slice();
+            let value = read_fields(alloc, arena, schema, id, fields, Top { node, depth })?;
+            parts.push_reserved(value);
+            Ok(())
+        }
+        _ => {
+            let value = read_value(alloc, arena, schema, id, node)?;
+            parts.push_reserved(value);
+            Ok(())
+        }
+    }
+}
+
+// Of a list of these elements, whose type stands before id.
+#[cycle(value)]
+#[inline(always)]
+fn read_list<H: PairHash>(
+    alloc: Global,
+    arena: &Arena<H>,
+    schema: &Schema,
+    id: TypeId,
+    elem: TypeId,
+    node: NodeId,
+) -> Result<Value, AllocError>
+    requires known { id < length schema.now.trees }
+    requires before { elem < id }
+    requires legal { IsLegal schema.now.format (type_of schema.now id) }
+    requires node { IsNodeOf arena.now node }
+    ensures { let t = type_of schema.now id in
+        (limit : ℕ) → t ≡ list (type_of schema.now elem) limit
+        → ForValue t (tree_of arena.now node) (λ v. IfOk result (Stands t v)) }
+{
+    let (content, count) = mixed_in(arena, node);
+    let inner = Top {
+        node: content,
+        depth: schema.depth(id),
+    };
+    read_sequence(alloc, arena, schema, elem, inner, count)
+}
+
 // Of count elements in a full tree.
 #[cycle(value)]
+#[inline(always)]
 fn read_sequence<H: PairHash>(
     alloc: Global,
     arena: &Arena<H>,
@@ -114,7 +192,7 @@ fn read_elements<H: PairHash>(
     let mut places = Places::new(top);
     for _i in 0..count {
         let part = places.next(arena);
-        parts.push(read_value(alloc, arena, schema, elem, part)?)?;
+        put(alloc, arena, schema, elem, part, &mut parts)?;
     }
     Ok(parts)
 }
@@ -140,7 +218,7 @@ fn read_fields<H: PairHash>(
     let mut parts = Vec::with_capacity(alloc, fields.len())?;
     for (i, field) in fields.iter().enumerate() {
         let part = node_of_place(arena, top, i);
-        parts.push(read_value(alloc, arena, schema, field.1, part)?)?;
+        put(alloc, arena, schema, field.1, part, &mut parts)?;
     }
     Ok(Value::Seq(parts))
 }

@@ -1,8 +1,8 @@
 -- The law at numbers, booleans and bits.
 use Rattle.std.proofs.Common.{ℕ, zero, suc, ◌+◌, ◌*◌, ◌/◌, ◌%◌, ◌^◌, ◌<◌, ◌≤◌, ◌≡◌, inl, inr, true, false, ltb, List, [], ◌∷◌, ◌++◌, length, None, refl, sym, ap, ap₂, ◌∙◌, subst, arith, ltb-false, le-ltb, eqb}
 use Rattle.std.proofs.lemmas.Bool.{leb-false, lt-leb, ne_eqb, cases_lt}
-use Rattle.ssz_schema.specs.declared.width.Width.{Width}
-use Rattle.ssz_schema.specs.declared.width.Width.TheVariants.{W8, W16, W32, W64, W128, W256}
+use Rattle.ssz_schema.specs.width.Width.{Width}
+use Rattle.ssz_schema.specs.width.Width.TheVariants.{W8, W16, W32, W64, W128, W256}
 use Rattle.ssz_schema.specs.Types.{uint, boolean, bitvector, bitlist}
 use Rattle.ssz_schema.specs.Sizes.{byte_count}
 use Rattle.ssz_bytes.specs.Bytes.{IsBytes, le_bytes, le_number, number_of_bits, bits_of_number}
@@ -122,7 +122,7 @@ truth_only s (suc (suc n) ∷ []) e h =
     absurd (omega (arith, ltb-false 1 (suc (suc n)) (passes _ _ _ h).0))
 truth_only s (x ∷ y ∷ b) e h = absurd (omega arith)
 
-truth_sized : (v : SszValue) → Fits boolean v → length (serialize boolean v) ≡ 1
+pub truth_sized : (v : SszValue) → Fits boolean v → length (serialize boolean v) ≡ 1
 truth_sized (truth b) h = refl
 truth_sized _ h = absurd h
 

@@ -2,7 +2,7 @@
 -- hand from the standard.
 use Rattle.std.specs.Prelude.{ℕ, ◌≡◌, List, [], ◌∷◌, ◌++◌, take, drop, map, bit_xor, replicate, true, false, Option, None, refl}
 use Rattle.ssz_bytes.specs.declared.fault.Fault.{Fault}
-use Rattle.ssz_schema.specs.declared.width.Width.TheVariants.{W8, W16, W64, W256}
+use Rattle.ssz_schema.specs.width.Width.TheVariants.{W8, W16, W64, W256}
 use Rattle.ssz_schema.specs.Types.{SszType, uint, boolean, container, vector, list, bitvector, bitlist, union, no_fields, field, no_options, none_option, option}
 use Rattle.ssz_schema.specs.Sizes.{depth_of, exponent}
 use Rattle.ssz_bytes.specs.Faults.{short, extra, bad_bool, first_offset, offset_range, offset_order, ragged, too_many, padding_bits, no_delimiter, bad_selector}

@@ -3,7 +3,7 @@ use Rattle.std.proofs.Common.{ℕ, zero, suc, ◌≡◌, ◌<◌, ◌≤◌, ◌
 use Rattle.std.specs.List.{AllByRecursion}
 use Rattle.std.specs.declared.boxed.Box.{Box}
 use Rattle.std.proofs.lemmas.List.{drop_all}
-use Rattle.ssz_schema.specs.declared.width.Width.TheVariants.{W8}
+use Rattle.ssz_schema.specs.width.Width.TheVariants.{W8}
 use Rattle.ssz_schema.specs.Types.{SszType, Fields, uint, container, vector, list, union, no_fields, field}
 use Rattle.ssz_schema.specs.Unfolding.{type_tree_at, fields_over, options_over}
 use Rattle.ssz_value.specs.declared.value.Value.{Value, out-Value}
@@ -155,7 +155,7 @@ none_option_at trees (Some id ∷ ids) zero h = absurd h
 none_option_at trees (None ∷ ids) (suc k) h = none_option_at trees ids k h
 none_option_at trees (Some id ∷ ids) (suc k) h = none_option_at trees ids k h
 
-at_none_option : (trees : List SszType) (ids : List (Option ℕ)) (k : ℕ)
+pub at_none_option : (trees : List SszType) (ids : List (Option ℕ)) (k : ℕ)
     → Some None ≡ slice_get ids k → IsNoneOption (options_over trees ids) k
 at_none_option trees [] k e = cc
 at_none_option trees (None ∷ ids) zero e = tt

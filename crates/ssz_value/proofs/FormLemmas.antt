@@ -2,7 +2,7 @@
 use Rattle.std.proofs.Common.{ℕ, zero, suc, ◌≡◌, ◌<◌, Bool, true, false, List, [], ◌∷◌, ◌++◌, length, map, get_or, slice_get, Vec, Global, Option, Some, None, refl, sym, ap, subst, ◌∙◌, arith}
 use Rattle.std.specs.List.{AllByRecursion}
 use Rattle.std.specs.declared.boxed.Box.{Box}
-use Rattle.ssz_schema.specs.declared.width.Width.TheVariants.{W8, W16, W32, W64, W128, W256}
+use Rattle.ssz_schema.specs.width.Width.TheVariants.{W8, W16, W32, W64, W128, W256}
 use Rattle.ssz_schema.specs.Types.{SszType, Fields, Options, uint, boolean, container, vector, list, bitvector, bitlist, union, no_fields, field}
 use Rattle.ssz_schema.specs.Unfolding.{type_tree_at, options_over, fields_over}
 use Rattle.ssz_value.specs.declared.value.Value.{Value, out-Value}
@@ -172,6 +172,12 @@ pub value_of_chosen : (v : Value) (k : ℕ) (o : Option (Box Value Global)) (inn
 value_of_chosen v k o inner is some = ap value_of (is ∙ ap (Union k) some) ∙ chosen_is k inner
 
 -- values that are formed
+
+-- the values that values stand for fit
+pub all_fit : (t : SszType) (vs : List Value) → AllByRecursion (IsValue t) vs
+    → AllByRecursion (Fits t) (map value_of vs)
+all_fit t [] all = tt
+all_fit t (v ∷ vs) all = (all.0.fits, all_fit t vs all.1)
 
 pub formed_push : (t : SszType) (vs : List Value) (v : Value) → AllByRecursion (IsFormed t) vs
     → IsFormed t v → AllByRecursion (IsFormed t) (vs ++ v ∷ [])

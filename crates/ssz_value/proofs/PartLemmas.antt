@@ -21,6 +21,11 @@ sizes_of trees parts = part_sizes (fields_over trees parts)
 abbrev pub size_at : List SszType → Part → Option ℕ
 size_at trees part = fixed_size (type_tree_at trees part.1)
 
+pub length-sizes_of : (trees : List SszType) (parts : List Part)
+    → length (sizes_of trees parts) ≡ length parts
+length-sizes_of trees [] = refl
+length-sizes_of trees (p ∷ parts) = ap suc (length-sizes_of trees parts)
+
 pub part_known : (count : ℕ) (parts : List Part) (i : ℕ) (part : Part) → i < length parts
     → part ≡ get_or parts i part → AllByRecursion (λ (p : Part). p.1 < count) parts → part.1 < count
 part_known count [] i part h e all = absurd (omega arith)

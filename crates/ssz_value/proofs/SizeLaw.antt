@@ -3,19 +3,19 @@ use Rattle.std.proofs.Common.{ℕ, zero, suc, ◌+◌, ◌*◌, ◌/◌, ◌<◌
 use Rattle.std.specs.List.{AllByRecursion}
 use Rattle.std.proofs.lemmas.List.{length-replicate}
 use Rattle.std.proofs.lemmas.List.Sums.{sum_by-cons}
-use Rattle.ssz_schema.specs.declared.width.Width.{Width}
-use Rattle.ssz_schema.specs.declared.width.Width.TheVariants.{W8, W16, W32, W64, W128, W256}
-use Rattle.ssz_schema.specs.declared.format.Format.{Format}
+use Rattle.ssz_schema.specs.width.Width.{Width}
+use Rattle.ssz_schema.specs.width.Width.TheVariants.{W8, W16, W32, W64, W128, W256}
+use Rattle.ssz_schema.specs.format.Format.{Format}
 use Rattle.ssz_schema.specs.Types.{SszType, Fields, Options, uint, boolean, container, vector, list, bitvector, bitlist, union, no_fields, field, no_options, none_option, option}
 use Rattle.ssz_schema.specs.Legal.{IsLegal, AreLegalFields, AreLegalOptions}
 use Rattle.ssz_schema.specs.Sizes.{fixed_size, part_sizes, part_length, option_count, default_length, default_fields_length, default_option_length}
 use Rattle.ssz_value.specs.Laws.{DefaultsHaveLength}
-use Rattle.ssz_value.specs.Values.{SszValue, truth, sequence, bits, chosen, chosen_none, items, Fits, FitFields, FitsOption, FitsWidth}
+use Rattle.ssz_value.specs.Values.{SszValue, sequence, bits, chosen, chosen_none, items, Fits, FitFields, FitsOption, FitsWidth}
 use Rattle.ssz_value.specs.Encoding.{serialize, heads, bodies, joined, heads_length, field_encodings, option_encoding}
 use Rattle.ssz_value.specs.Defaults.{default_of, default_number, default_fields, default_option}
 use Rattle.ssz_value.specs.Sizes.{size, fields_size, option_size}
 use Rattle.ssz_bytes.proofs.Numbers.{length-le_bytes, IsBytes-le_bytes}
-use Rattle.ssz_value.proofs.Basic.{number_sized}
+use Rattle.ssz_value.proofs.Basic.{number_sized, truth_sized}
 use Rattle.ssz_value.proofs.Sequences.{items-values}
 
 -- what parts add to the whole
@@ -68,10 +68,6 @@ have_lengths : (t : SszType) → IsMeasured t → (vs : List SszValue) → AllBy
 unfolding HasLengths
 have_lengths t law [] fit = tt
 have_lengths t law (v ∷ vs) fit = (law.length_is v fit.0, have_lengths t law vs fit.1)
-
-truth_length : (v : SszValue) → Fits boolean v → length (serialize boolean v) ≡ 1
-truth_length (truth b) fit = refl
-truth_length _ fit = absurd fit
 
 vector_length : (t : SszType) (n : ℕ) → IsMeasured t → (v : SszValue) → Fits (vector t n) v
     → length (serialize (vector t n) v) ≡ size (vector t n) v
@@ -151,7 +147,7 @@ union_length os laws _ fit = absurd fit
 mutual
   pub measured : (t : SszType) → IsMeasured t
   measured (uint w) = record { length_is = number_sized w }
-  measured boolean = record { length_is = truth_length }
+  measured boolean = record { length_is = truth_sized }
   measured (container fs) = record { length_is = container_length fs (fields_measured fs) }
   measured (vector elem n) = record { length_is = vector_length elem n (measured elem) }
   measured (list elem n) = record { length_is = list_length elem n (measured elem) }

@@ -1,6 +1,6 @@
 -- What encodings, faults, trees and defaults have to do with one another.
 use Rattle.std.specs.Prelude.{ℕ, ◌^◌, ◌<◌, ◌≡◌, ◌↔◌, List, length, None}
-use Rattle.ssz_schema.specs.declared.format.Format.{Format}
+use Rattle.ssz_schema.specs.format.Format.{Format}
 use Rattle.ssz_schema.specs.Types.{SszType}
 use Rattle.ssz_schema.specs.Sizes.{default_length}
 use Rattle.ssz_schema.specs.Legal.{IsLegal}

@@ -1,7 +1,7 @@
 -- The value that bytes without a fault stand for (simple-serialize.md, Deserialization).
 use Rattle.std.specs.Prelude.{ℕ, zero, suc, ◌==◌, List, [], ◌∷◌, map, replicate, slice_index, Option}
-use Rattle.ssz_schema.specs.declared.width.Width.{Width}
-use Rattle.ssz_schema.specs.declared.width.Width.TheVariants.{W256}
+use Rattle.ssz_schema.specs.width.Width.{Width}
+use Rattle.ssz_schema.specs.width.Width.TheVariants.{W256}
 use Rattle.ssz_schema.specs.Types.{SszType, Fields, Options, uint, boolean, container, vector, list, bitvector, bitlist, union, field, none_option, option}
 use Rattle.ssz_schema.specs.Sizes.{fixed_size, part_sizes}
 use Rattle.ssz_bytes.specs.Bytes.{le_number, bits_of_number}

@@ -1,10 +1,10 @@
 -- The parts of values: the words of which the conditions on elements and fields are made.
-use Rattle.std.specs.Prelude.{ℕ, ◌≡◌, Bool, List, [], ◌∷◌, length, map}
+use Rattle.std.specs.Prelude.{ℕ, ◌≡◌, Bool, List, [], ◌∷◌, ◌++◌, length, map}
 use Rattle.std.specs.List.{AllByRecursion}
 use Rattle.ssz_schema.specs.Types.{SszType, Fields, no_fields, field}
 use Rattle.ssz_value.specs.declared.value.Value.{Value, out-Value}
 use Rattle.ssz_value.specs.Values.{SszValue, sequence, bits, items, Fits}
-use Rattle.ssz_value.specs.Standing.{value_of, is_byte, AreFormed, IsFormed, IsValue}
+use Rattle.ssz_value.specs.Standing.{value_of, is_byte, AreFormed, IsFormed, IsValue, Stands}
 
 -- the parts of a sequence
 abbrev pub parts_of : SszValue → List SszValue
@@ -39,3 +39,9 @@ pub record IsSequence (elem : SszType) (v : Value) : Type 0 where
 pub record StandAlike (t : SszType) (ws : List SszValue) (vs : List Value) : Type 0 where
   pub value : map value_of vs ≡ ws
   pub formed : AllByRecursion (IsFormed t) vs
+
+-- one more value, which stands for this one, is behind the others
+pub record StandsBehind (t : SszType) (w : SszValue) (old new : List Value) : Type 0 where
+  pub value : Value
+  pub items : new ≡ old ++ value ∷ []
+  pub stands : Stands t w value

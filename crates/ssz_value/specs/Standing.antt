@@ -1,7 +1,7 @@
 -- The value that the program's value stands for, and which values of the program are of a type.
 use Rattle.std.specs.Prelude.{ℕ, zero, suc, ◌≡◌, Bool, true, false, List, ◌∷◌, map, Some, None}
 use Rattle.std.specs.List.{AllByRecursion}
-use Rattle.ssz_schema.specs.declared.width.Width.TheVariants.{W8}
+use Rattle.ssz_schema.specs.width.Width.TheVariants.{W8}
 use Rattle.ssz_schema.specs.Types.{SszType, Fields, Options, uint, container, vector, list, union, field, none_option, option}
 use Rattle.ssz_value.specs.declared.value.Value.{Value, out-Value}
 use Rattle.ssz_value.specs.declared.value.Value.TheOpen.{Value-F, Uint, Wide, Bool as Flag, Bytes, Seq, Bits, Union}

@@ -5,7 +5,7 @@ use ssz_chunk::Chunk;
 pub type Items = Vec<Value>;
 
 /// A value, without its type.
-#[derive(Debug, Drop)]
+#[derive(Debug)]
 pub enum Value {
     /// A uint8 to uint128.
     Uint(u128),
@@ -23,4 +23,20 @@ pub enum Value {
         selector: u8,
         inner: Option<Box<Value>>,
     },
+}
+
+// A value that holds no memory is let go without a call: there are many in a list of numbers.
+impl Drop for Value {
+    #[inline(always)]
+    fn drop(self) {
+        match self {
+            Value::Uint(_) => {}
+            Value::Wide(_) => {}
+            Value::Bool(_) => {}
+            Value::Bytes(run) => drop(run),
+            Value::Seq(parts) => drop(parts),
+            Value::Bits(run) => drop(run),
+            Value::Union { selector: _, inner } => drop(inner),
+        }
+    }
 }

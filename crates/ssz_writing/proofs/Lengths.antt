@@ -3,7 +3,7 @@ use Rattle.std.proofs.Common.{ℕ, zero, suc, ◌+◌, ◌-◌, ◌*◌, ◌/◌
 use Rattle.std.specs.List.{AllByRecursion}
 use Rattle.std.proofs.lemmas.List.Sums.{sum_by-cons}
 use Rattle.ssz_chunk.specs.Tree.{Tree}
-use Rattle.ssz_schema.specs.declared.format.Format.{Format}
+use Rattle.ssz_schema.specs.format.Format.{Format}
 use Rattle.ssz_schema.specs.Types.{SszType, Fields, container, vector, list, bitlist, union}
 use Rattle.ssz_schema.specs.Sizes.{fixed_size, depth}
 use Rattle.ssz_schema.specs.Legal.{IsLegal}

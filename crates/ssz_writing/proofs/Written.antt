@@ -3,7 +3,7 @@ use Rattle.std.proofs.Common.{ℕ, ◌+◌, ◌-◌, ◌*◌, ◌/◌, ◌^◌, 
 use Rattle.std.specs.List.{AllByRecursion, concat}
 use Rattle.std.proofs.lemmas.List.{length-map}
 use Rattle.ssz_chunk.specs.Tree.{Tree, leaf, merkle_tree}
-use Rattle.ssz_schema.specs.declared.format.Format.{Format}
+use Rattle.ssz_schema.specs.format.Format.{Format}
 use Rattle.ssz_schema.specs.Types.{SszType}
 use Rattle.ssz_schema.specs.Sizes.{basic_size, fixed_size, head_size, element_chunks, depth}
 use Rattle.ssz_schema.specs.Legal.{IsLegal}

@@ -1,7 +1,7 @@
 //! The fields of a container that is come down to alone.
 ghost use Rattle.std.specs.Prelude.{◌≡◌, ◌<◌, ◌≤◌, length, OnOk, Option};
 ghost use Rattle.std.specs.List.{AllByRecursion};
-ghost use Rattle.ssz_schema.specs.declared.format.Format.{Format};
+ghost use Rattle.ssz_schema.specs.format.Format.{Format};
 ghost use Rattle.ssz_schema.specs.Types.{container};
 ghost use Rattle.ssz_schema.specs.Sizes.{fixed_size, part_sizes};
 ghost use Rattle.ssz_schema.specs.Unfolding.{type_of, fields_over};

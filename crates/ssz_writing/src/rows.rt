@@ -1,7 +1,7 @@
 //! Containers of few fields that stand beside one another, by rows of the nodes of their fields.
 ghost use Rattle.std.specs.Prelude.{◌≡◌, ◌<◌, ◌≤◌, false, length, map, replicate, All, None, OnOk, Option};
 ghost use Rattle.ssz_chunk.specs.Tree.{Tree};
-ghost use Rattle.ssz_schema.specs.declared.format.Format.{Format};
+ghost use Rattle.ssz_schema.specs.format.Format.{Format};
 ghost use Rattle.ssz_schema.specs.Sizes.{depth, fixed_size, is_variable, part_sizes};
 ghost use Rattle.ssz_schema.specs.Unfolding.{type_of, fields_over};
 ghost use Rattle.ssz_schema.specs.Legal.{AreLegalFields};

@@ -1,5 +1,5 @@
 use Rattle.std.proofs.Common.{◌≡◌, ◌+◌, ◌≤◌, length, slice_range, subst}
-use Rattle.ssz_schema.specs.declared.width.Width.{Width}
+use Rattle.ssz_schema.specs.width.Width.{Width}
 use Rattle.ssz_schema.specs.Types.{uint}
 use Rattle.ssz_schema.specs.Sizes.{byte_count}
 use Rattle.ssz_value.specs.Values.{Fits}

@@ -1,6 +1,6 @@
-use Rattle.std.proofs.Common.{◌%◌, ◌<◌, ◌≤◌, ◌≡◌, length, slice_get, List, Some, None, refl, sym, ap, ◌∙◌, subst, arith, rules}
+use Rattle.std.proofs.Common.{◌%◌, ◌<◌, ◌≤◌, ◌≡◌, length, slice_get, List, Some, None, Ok, refl, sym, ap, ◌∙◌, subst, arith, rules}
 use Rattle.std.specs.List.{AllByRecursion}
-use Rattle.ssz_schema.specs.Types.{container, vector, list, bitvector, bitlist, union, uint}
+use Rattle.ssz_schema.specs.Types.{SszType, container, vector, list, bitvector, bitlist, union, uint}
 use Rattle.ssz_schema.specs.Sizes.{depth, byte_count}
 use Rattle.ssz_schema.specs.Unfolding.{type_of, tree_over, fields_over, options_over, AreBelow}
 use Rattle.ssz_schema.specs.Legal.{IsLegal}
@@ -17,43 +17,51 @@ use Rattle.ssz_reading.proofs.Parts.{Reads, ElementsRead, ElementsRead-start, El
 use Rattle.ssz_reading.proofs.reading.+value.Goals as goal
 
 pub read_elements-loop-i-init : goal.read_elements-loop-i-init
-read_elements-loop-i-init g t c = (
-  c.new-places.ensures.nodes c.args.arena.now c.requires.node,
-  λ vs are. subst (λ (parts : List Value). ElementsRead c.args.arena.now
+read_elements-loop-i-init g t c = record {
+  nodes = c.new-places.ensures.nodes c.args.arena.now c.requires.node;
+  values = λ vs are. subst (λ (parts : List Value). ElementsRead c.args.arena.now
       (type_of c.args.schema.now c.args.elem) vs 0 parts c.new-places.result)
       (sym c.in_ok-parts.ensures.items)
       (ElementsRead-start c.args.arena.now (type_of c.args.schema.now c.args.elem) c.args.top.depth
       c.args.count vs c.args.top.node c.new-places.result c.requires.composite are
-      (c.new-places.ensures.holds c.args.arena.now)),
-)
+      (c.new-places.ensures.holds c.args.arena.now));
+  count = c.in_ok-parts.ensures.len;
+  room = c.in_ok-parts.ensures.capacity;
+}
 
 pub read_fields-loop-i-init : goal.read_fields-loop-i-init
-read_fields-loop-i-init g t c = λ vs are.
-    subst (λ (parts : List Value). FieldsRead c.args.schema.now.trees c.args.fields.now vs 0
-    c.args.top.depth parts (tree_of c.args.arena.now c.args.top.node))
-    (sym c.in_ok-parts.ensures.items)
-    (FieldsRead-start c.args.schema.now.trees c.args.fields.now c.args.top.depth vs
-    (tree_of c.args.arena.now c.args.top.node) are)
+read_fields-loop-i-init g t c = record {
+  values = λ vs are.
+      subst (λ (parts : List Value). FieldsRead c.args.schema.now.trees c.args.fields.now vs 0
+      c.args.top.depth parts (tree_of c.args.arena.now c.args.top.node))
+      (sym c.in_ok-parts.ensures.items)
+      (FieldsRead-start c.args.schema.now.trees c.args.fields.now c.args.top.depth vs
+      (tree_of c.args.arena.now c.args.top.node) are);
+  count = c.in_ok-parts.ensures.len;
+  room = c.in_ok-parts.ensures.capacity;
+}
 
 pub read_elements-loop-i-preserved : goal.read_elements-loop-i-preserved
-read_elements-loop-i-preserved g t c = (
-  c.next-part.ensures.nodes,
-  λ vs are. ElementsRead-more c.args.arena.now (type_of c.args.schema.now c.args.elem) vs
-      c.loop-i._i c.loop-i.parts.items c.push.new.self.items c.in_ok-read_value.field-0
-      c.loop-i.places c.next-part.new.self c.next-part.result (c.loop-i.invariant.1 vs are)
+read_elements-loop-i-preserved g t c = record {
+  nodes = c.next-part.ensures.nodes;
+  values = λ vs are. ElementsRead-more c.args.arena.now (type_of c.args.schema.now c.args.elem) vs
+      c.loop-i._i c.loop-i.parts.items c.put.new.parts.items
+      c.loop-i.places c.next-part.new.self c.next-part.result (c.loop-i.invariant.values vs are)
       (omega (arith, are.many, c.loop-i-test.true))
       (record { tree = c.next-part.ensures.tree; rest = c.next-part.ensures.rest })
-      c.in_ok-read_value.ensures c.in_ok-push.ensures.items,
-)
+      c.in_ok-put.ensures.put;
+  count = omega (arith, c.in_ok-put.ensures.len, c.loop-i.invariant.count);
+  room = omega (arith, c.in_ok-put.ensures.capacity, c.loop-i.invariant.room);
+}
 
 pub read_elements-returns : goal.read_elements-returns
 read_elements-returns g t c = λ vs are.
     ElementsRead-end c.args.arena.now (type_of c.args.schema.now c.args.elem) vs c.loop-i._i
-    c.loop-i.parts.items c.loop-i.places (c.loop-i.invariant.1 vs are)
+    c.loop-i.parts.items c.loop-i.places (c.loop-i.invariant.values vs are)
     (omega (arith, are.many, c.loop-i-test.false))
 
-pub read_fields-read_value-requires : goal.read_fields-read_value-requires
-read_fields-read_value-requires g t c =
+pub read_fields-put-requires : goal.read_fields-put-requires
+read_fields-put-requires g t c =
     let below : c.index-fields-i.result.1 < c.args.id =
     part_known c.args.id c.args.fields.now c.loop-i.i c.index-fields-i.result c.loop-i-test.true
     c.index-fields-i.is c.requires.before in
@@ -62,23 +70,25 @@ read_fields-read_value-requires g t c =
     search rules
 
 pub read_fields-loop-i-preserved : goal.read_fields-loop-i-preserved
-read_fields-loop-i-preserved g t c = λ vs are.
-    FieldsRead-more c.args.schema.now.trees c.args.fields.now vs c.loop-i.i c.args.top.depth
-    c.index-fields-i.result c.loop-i.parts.items c.push.new.self.items
-    c.in_ok-read_value.field-0 (tree_of c.args.arena.now c.args.top.node)
-    (c.loop-i.invariant vs are)
-    c.loop-i-test.true c.index-fields-i.is
-    (λ v h. c.in_ok-read_value.ensures v
-    (at_place (type_of c.args.schema.now c.index-fields-i.result.1) c.args.top.depth c.loop-i.i v
-    (tree_of c.args.arena.now c.args.top.node) (tree_of c.args.arena.now
-    c.node_of_place-part.result)
-    h c.node_of_place-part.ensures.tree))
-    c.in_ok-push.ensures.items
+read_fields-loop-i-preserved g t c = record {
+  values = λ vs are.
+      FieldsRead-more c.args.schema.now.trees c.args.fields.now vs c.loop-i.i c.args.top.depth
+      c.index-fields-i.result c.loop-i.parts.items c.put.new.parts.items
+      (tree_of c.args.arena.now c.args.top.node)
+      (c.loop-i.invariant.values vs are) c.loop-i-test.true c.index-fields-i.is
+      (λ v h. c.in_ok-put.ensures.put v
+      (at_place (type_of c.args.schema.now c.index-fields-i.result.1) c.args.top.depth c.loop-i.i v
+      (tree_of c.args.arena.now c.args.top.node) (tree_of c.args.arena.now
+      c.node_of_place-part.result)
+      h c.node_of_place-part.ensures.tree));
+  count = omega (arith, c.in_ok-put.ensures.len, c.loop-i.invariant.count);
+  room = omega (arith, c.in_ok-put.ensures.capacity, c.loop-i.invariant.room);
+}
 
 pub read_fields-returns : goal.read_fields-returns
 read_fields-returns g t c = λ vs are.
     FieldsRead-end c.args.schema.now.trees c.args.fields.now vs c.loop-i.i c.args.top.depth
-    c.loop-i.parts (tree_of c.args.arena.now c.args.top.node) (c.loop-i.invariant vs are)
+    c.loop-i.parts (tree_of c.args.arena.now c.args.top.node) (c.loop-i.invariant.values vs are)
     c.loop-i-test.false
 
 pub read_sequence-returns-in_ok-parts-in-Some : goal.read_sequence-returns-in_ok-parts-in-Some
@@ -196,24 +206,28 @@ read_value-returns-in-Vector g t c =
     (tree_of c.args.arena.now c.args.node) c.read_sequence.result
     (c.depth-depth.ensures.exact ∙ ap depth (sym form)) c.read_sequence.ensures)
 
+pub read_list-returns : goal.read_list-returns
+read_list-returns g t c = λ limit same.
+    let elem : SszType = type_of c.args.schema.now c.args.elem in
+    subst (λ ty. ForValue ty (tree_of c.args.arena.now c.args.node)
+    (λ v. Reads ty v c.read_sequence.result)) (sym same)
+    (list_read c.args.schema.now.format elem limit c.depth.result c.mixed_in-count.result.1
+    (tree_of c.args.arena.now c.args.node)
+    (tree_of c.args.arena.now c.mixed_in-count.result.0) c.read_sequence.result
+    (subst (IsLegal c.args.schema.now.format) same c.requires.legal)
+    (c.depth.ensures.exact ∙ ap depth same)
+    (record {
+      tree = c.mixed_in-count.ensures.tree;
+      number = c.mixed_in-count.ensures.number;
+    })
+    c.read_sequence.ensures)
+
 pub read_value-returns-in-List : goal.read_value-returns-in-List
 read_value-returns-in-List g t c =
     let form : list (type_of c.args.schema.now c.in-List.elem) c.in-List.field-1
     ≡ type_of c.args.schema.now c.args.id =
     ap (tree_over c.args.schema.now.trees) (sym c.in-List.is) ∙ c.ty.ensures.form in
-    subst (λ ty. ForValue ty (tree_of c.args.arena.now c.args.node)
-    (λ v. Reads ty v c.read_sequence-in-List.result)) form
-    (list_read c.args.schema.now.format (type_of c.args.schema.now c.in-List.elem)
-    c.in-List.field-1 c.depth-depth.result c.mixed_in-count-in-List.result.1
-    (tree_of c.args.arena.now c.args.node)
-    (tree_of c.args.arena.now c.mixed_in-count-in-List.result.0) c.read_sequence-in-List.result
-    (subst (IsLegal c.args.schema.now.format) (sym form) c.ty.ensures.legal)
-    (c.depth-depth.ensures.exact ∙ ap depth (sym form))
-    (record {
-      tree = c.mixed_in-count-in-List.ensures.tree;
-      number = c.mixed_in-count-in-List.ensures.number;
-    })
-    c.read_sequence-in-List.ensures)
+    c.read_list.ensures c.in-List.field-1 (sym form)
 
 pub read_value-returns-in-Container : goal.read_value-returns-in-Container
 read_value-returns-in-Container g t c =
@@ -237,3 +251,64 @@ read_chosen-read_value-requires g t c =
     below_at c.args.id c.args.options.now (c.mixed_in-number.result.1 % 256)
     (Some c.in-Some-Some.option) here c.requires.before in
     search rules
+
+pub put-returns-in-Uint-clause-put : goal.put-returns-in-Uint-clause-put
+put-returns-in-Uint-clause-put g t c =
+    let form : uint c.in-Uint.width ≡ type_of c.args.schema.now c.args.id =
+    ap (tree_over c.args.schema.now.trees) (sym c.in-Uint.is) ∙ c.ty.ensures.form in
+    λ v h. record {
+      value = c.value_at-value.result;
+      items = c.push_reserved.ensures.items;
+      stands = subst (λ ty. ForValue ty (tree_of c.args.arena.now c.args.node)
+          (λ w. Stands ty w c.value_at-value.result)) form
+          (basic_read (uint c.in-Uint.width) (byte_count c.in-Uint.width)
+          (tree_of c.args.arena.now c.args.node) c.chunk_of.result.now.0 c.value_at-value.result
+          refl (λ v. tt) c.chunk_of.ensures c.value_at-value.ensures) v h;
+    }
+
+pub put-returns-in_ok-value-in-Vector-clause-put : goal.put-returns-in_ok-value-in-Vector-clause-put
+put-returns-in_ok-value-in-Vector-clause-put g t c =
+    let form : vector (type_of c.args.schema.now c.in-Vector.elem) c.in-Vector.n
+    ≡ type_of c.args.schema.now c.args.id =
+    ap (tree_over c.args.schema.now.trees) (sym c.in-Vector.is) ∙ c.ty.ensures.form in
+    λ v h. record {
+      value = c.in_ok-value-in-Vector.value;
+      items = c.push_reserved-in-Vector.ensures.items;
+      stands = subst (λ ty. ForValue ty (tree_of c.args.arena.now c.args.node)
+          (λ w. Stands ty w c.in_ok-value-in-Vector.value)) form
+          (vector_read (type_of c.args.schema.now c.in-Vector.elem) c.in-Vector.n
+          c.depth-depth.result (tree_of c.args.arena.now c.args.node)
+          (Ok c.in_ok-value-in-Vector.value)
+          (c.depth-depth.ensures.exact ∙ ap depth (sym form))
+          c.in_ok-value-in-Vector.ensures) v h;
+    }
+
+pub put-returns-in_ok-value-in-List-clause-put : goal.put-returns-in_ok-value-in-List-clause-put
+put-returns-in_ok-value-in-List-clause-put g t c =
+    let form : list (type_of c.args.schema.now c.in-List.elem) c.in-List.field-1
+    ≡ type_of c.args.schema.now c.args.id =
+    ap (tree_over c.args.schema.now.trees) (sym c.in-List.is) ∙ c.ty.ensures.form in
+    λ v h. record {
+      value = c.in_ok-value-in-List.value;
+      items = c.push_reserved-in-List.ensures.items;
+      stands = c.in_ok-value-in-List.ensures c.in-List.field-1 (sym form) v h;
+    }
+
+pub put-returns-in_ok-value-in-Container-clause-put :
+    goal.put-returns-in_ok-value-in-Container-clause-put
+put-returns-in_ok-value-in-Container-clause-put g t c =
+    let form : container (fields_over c.args.schema.now.trees c.as_slice-fields.result.now)
+    ≡ type_of c.args.schema.now c.args.id =
+    ap (λ fs. container (fields_over c.args.schema.now.trees fs)) c.as_slice-fields.ensures.value
+    ∙ ap (tree_over c.args.schema.now.trees) (sym c.in-Container.is) ∙ c.ty.ensures.form in
+    λ v h. record {
+      value = c.in_ok-value-in-Container.value;
+      items = c.push_reserved-in-Container.ensures.items;
+      stands = subst (λ ty. ForValue ty (tree_of c.args.arena.now c.args.node)
+          (λ w. Stands ty w c.in_ok-value-in-Container.value)) form
+          (container_read (fields_over c.args.schema.now.trees c.as_slice-fields.result.now)
+          c.depth-depth-in-Container.result (tree_of c.args.arena.now c.args.node)
+          (Ok c.in_ok-value-in-Container.value)
+          (c.depth-depth-in-Container.ensures.exact ∙ ap depth (sym form))
+          c.in_ok-value-in-Container.ensures) v h;
+    }

@@ -2,7 +2,7 @@ use Rattle.std.proofs.Common.{ℕ, ◌≡◌, ◌≤◌, ◌+◌, ◌-◌, ◌*�
 use Rattle.ssz_chunk.specs.Tree.{Tree}
 use Rattle.ssz_schema.specs.Sizes.{depth, part_sizes}
 use Rattle.ssz_schema.specs.Unfolding.{type_of, fields_over}
-use Rattle.ssz_schema.specs.declared.format.Format.{Format}
+use Rattle.ssz_schema.specs.format.Format.{Format}
 use Rattle.ssz_schema.specs.Legal.{AreLegalFields}
 use Rattle.ssz_value.specs.Values.{SszValue}
 use Rattle.ssz_value.specs.Encoding.{serialize, heads, bodies, field_encodings}
