@@ -62,7 +62,8 @@ entry_passed part es i e rest mid new z below here key text behind =
     let joined : (comma ++ name) ++ (compact_text (part e.1) ++ more)
     ≡ members_text (nat_lt 0 i) (members_over part (drop i es)) =
     append_assoc comma name (compact_text (part e.1) ++ more)
-    ∙ ap (λ s. comma ++ s) (append_assoc (quoted e.0.now) (58 ∷ []) (compact_text (part e.1) ++ more))
+    ∙ ap (λ s. comma ++ s)
+    (append_assoc (quoted e.0.now) (58 ∷ []) (compact_text (part e.1) ++ more))
     ∙ sym split in
     two_pieces rest mid new (comma ++ name) (compact_text (part e.1)) more z
     (key ∙ sym (append_assoc comma name mid)) text behind ∙ ap (λ s. s ++ z) joined

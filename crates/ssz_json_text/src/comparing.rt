@@ -1,5 +1,6 @@
-//! Whether bytes are the text of a value, compared piece by piece, so that no whole text is held.
-ghost use Rattle.std.specs.Prelude.{◌≡◌, ◌<◌, ◌++◌, ◌∷◌, [], length, map, IfOk, IsTrue};
+//! Whether bytes begin with the text of a value, compared piece by piece, so that no whole text is
+//! held.
+ghost use Rattle.std.specs.Prelude.{◌≡◌, ◌<◌, ◌++◌, ◌∷◌, [], length, map, IfOk, IfSome};
 ghost use Rattle.std.specs.List.{AllByRecursion};
 ghost use Rattle.json.specs.Print.{quoted};
 ghost use Rattle.serde_json.specs.Data.{array, object};
@@ -41,25 +42,25 @@ impl From<AllocError> for Unlike {
     }
 }
 
-/// Whether the bytes are found to be the text of the value.
+/// What stands behind the text of the value, where the bytes are found to begin with it.
 ///
 /// The text is made a piece at a time, and each is compared with the bytes before the next is made.
-pub fn spells(
+pub fn behind_text<'b>(
     alloc: Global,
     schema: &Schema,
     id: TypeId,
     value: &Value,
-    bytes: &[u8],
-) -> Result<bool, AllocError>
+    bytes: &'b [u8],
+) -> Result<Option<&'b [u8]>, AllocError>
     requires known { id < length schema.now.trees }
     requires value { IsValue (type_of schema.now id) value.now }
-    ensures { IfOk result (λ same. IsTrue same
-        → json (type_of schema.now id) (value_of value.now) ≡ bytes.now) }
+    ensures { let text = json (type_of schema.now id) (value_of value.now) in
+        IfOk result (λ found. IfSome found (λ rest. bytes.now ≡ text ++ rest.now)) }
 {
     let mut room = Vec::new(alloc);
     match after_value(schema, id, value, bytes, &mut room) {
-        Ok(rest) => Ok(rest.is_empty()),
-        Err(Unlike::Bytes) => Ok(false),
+        Ok(rest) => Ok(Some(rest)),
+        Err(Unlike::Bytes) => Ok(None),
         Err(Unlike::Memory) => Err(AllocError),
     }
 }

@@ -3,7 +3,7 @@ ghost use Rattle.std.specs.List.{AllByRecursion};
 ghost use Rattle.serde_json.specs.Data.{array};
 ghost use Rattle.serde_json.specs.View.{items_of};
 ghost use Rattle.serde_json.specs.Written.{compact_text};
-ghost use Rattle.ssz_schema.specs.declared.width.Width.{Width};
+ghost use Rattle.ssz_schema.specs.width.Width.{Width};
 ghost use Rattle.ssz_schema.specs.Types.{uint, boolean, container, union};
 ghost use Rattle.ssz_schema.specs.Legal.{IsLegal};
 ghost use Rattle.ssz_schema.specs.Unfolding.{type_of, fields_over, options_over, IsBelow};

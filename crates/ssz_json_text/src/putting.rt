@@ -4,7 +4,7 @@ ghost use Rattle.std.specs.Prelude.{◌≡◌, ◌∷◌, [], ◌++◌, ◌<◌,
 ghost use Rattle.json.specs.Print.{quoted};
 ghost use Rattle.hex.specs.Hex.{encode_lower};
 ghost use Rattle.serde_json.specs.Written.{comma_if, compact_text};
-ghost use Rattle.ssz_schema.specs.declared.width.Width.{Width};
+ghost use Rattle.ssz_schema.specs.width.Width.{Width};
 ghost use Rattle.ssz_schema.specs.Types.{uint, boolean};
 ghost use Rattle.ssz_bytes.specs.Bytes.{IsBytes};
 ghost use Rattle.ssz_schema.specs.Names.{IsName};

@@ -7,8 +7,8 @@ use Rattle.std.proofs.lemmas.List.{length-map}
 use Rattle.json.proofs.Printed.Utf8.{IsUtf8-quoted, IsUtf8-boolean}
 use Rattle.serde_json.specs.Data.{boolean as json_boolean, string}
 use Rattle.ssz_decimal.specs.Decimal.{number_below}
-use Rattle.ssz_schema.specs.declared.width.Width.{Width}
-use Rattle.ssz_schema.specs.declared.width.Width.TheVariants.{W8, W16, W32, W64, W128, W256}
+use Rattle.ssz_schema.specs.width.Width.{Width}
+use Rattle.ssz_schema.specs.width.Width.TheVariants.{W8, W16, W32, W64, W128, W256}
 use Rattle.ssz_bytes.specs.Bytes.{IsBytes}
 use Rattle.ssz_schema.specs.Sizes.{byte_count}
 use Rattle.ssz_schema.specs.Types.{uint, boolean, bitvector, bitlist}

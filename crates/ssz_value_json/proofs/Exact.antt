@@ -1,22 +1,28 @@
 -- Bytes have no fault exactly where they are the text of a value, and of no two.
-use Rattle.std.proofs.Common.{◌≡◌, ℕ, Bool, true, false, cond, List, Option, Some, None, Ok, Err, refl, sym, ap, ◌∙◌, subst}
+use Rattle.std.proofs.Common.{◌≡◌, ◌<◌, ◌++◌, length, length-append, append-nil, [], ◌∷◌, arith, ℕ, Bool, true, false, cond, List, Option, Some, None, Ok, Err, refl, sym, ap, ◌∙◌, subst}
+use Rattle.std.specs.List.{list_all}
 use Rattle.std.specs.Str.{bytes_eq}
 use Rattle.std.proofs.lemmas.Slice.Eq.{bytes_eq-Decides}
+use Rattle.json.specs.Word.{is_space}
 use Rattle.serde_json.specs.Data.{Data}
-use Rattle.ssz_schema.specs.declared.format.Format.{Format}
+use Rattle.ssz_schema.specs.format.Format.{Format}
 use Rattle.ssz_schema.specs.Types.{SszType}
 use Rattle.ssz_schema.specs.Legal.{IsLegal}
 use Rattle.ssz_schema_json.specs.Schema.{json_read}
 use Rattle.ssz_schema_json.proofs.Json.{json_of-text}
+use Rattle.ssz_value.specs.declared.value.Value.{Value}
+use Rattle.ssz_value.specs.Standing.{value_of, IsValue}
 use Rattle.ssz_value.specs.Values.{SszValue, Fits}
 use Rattle.ssz_value_json.specs.declared.fault.JsonFault.{JsonFault}
 use Rattle.ssz_json_text.specs.Text.{json, json_of}
 use Rattle.ssz_value_json.specs.Steps.{Walked, bad_spelling}
 use Rattle.ssz_value_json.specs.Walk.{json_walk}
 use Rattle.ssz_value_json.specs.Faults.{walked_fault, read_fault, first_json_fault, value_read, value_spelled, walked_value}
+use Rattle.ssz_value_json.specs.Answers.{ReadsTo}
 use Rattle.ssz_value_json.specs.Laws.{Spells}
 use Rattle.ssz_value_json.proofs.FoundLemmas.{first_ok}
 use Rattle.ssz_value_json.proofs.ReadBack.{reads_back}
+use Rattle.ssz_value_json.proofs.Blank.{blank_back, blank_utf8}
 use Rattle.ssz_value_json.proofs.WalkFits.{fit_law}
 use Rattle.ssz_value_json.proofs.WalkBack.{back_law, shallow_back}
 
@@ -52,6 +58,37 @@ spelled_faultless format t b v legal h =
     subst (λ (c : List ℕ). first_json_fault t c ≡ None) h.text
     (read_same t (json t v) (json_of t v) v walked.0 (text_read format t v legal h.fits) walked.1
     (same_text (json t v)))
+
+-- white space behind a text is another spelling
+other_text : (b ws : List ℕ) → 0 < length ws → bytes_eq b (b ++ ws) ≡ false
+other_text b ws some = differ (bytes_eq b (b ++ ws)) (bytes_eq-Decides b (b ++ ws)).0
+  where
+    differ : (x : Bool) → (x ≡ true → b ≡ b ++ ws) → x ≡ false
+    differ true same = absurd (omega (arith, some, ap length (same refl), length-append b ws))
+    differ false same = refl
+
+pub blank_behind : (format : Format) (t : SszType) (b ws : List ℕ) (v : SszValue)
+    → IsLegal format t → Fits t v → b ≡ json t v ++ ws → 0 < length ws
+    → list_all is_space ws ≡ true → first_json_fault t b ≡ Some bad_spelling
+blank_behind format t b ws v legal fit is some blank =
+    let text = json t v in
+    let d = json_of t v in
+    let back = shallow_back format t v legal fit in
+    let walked = (back_law format t legal).walked v fit 0 in
+    let read = json_of-text (text ++ ws) d (blank_utf8 d ws back blank) (blank_back d ws back blank)
+    in
+    ap (first_json_fault t) is ∙ ap (read_fault t (text ++ ws)) read
+    ∙ ap (walked_fault t (text ++ ws)) walked.1
+    ∙ ap (λ x. cond x None (Some bad_spelling)) (other_text text ws some)
+
+-- a value whose text the bytes are, with nothing behind it, is the answer to them
+pub read_as : (format : Format) (t : SszType) (b ws : List ℕ) (v : Value) → IsLegal format t
+    → IsValue t v → b ≡ json t (value_of v) ++ ws → length ws ≡ 0 → ReadsTo t b (Ok v)
+read_as format t b [] v legal value is none =
+    let text = sym (is ∙ append-nil (json t (value_of v))) in
+    let spells : Spells t (value_of v) b = record { fits = value.fits; text = text } in
+    (spelled_faultless format t b (value_of v) legal spells, text)
+read_as format t b (w ∷ ws) v legal value is none = absurd (omega (arith, none))
 
 if_same : (x : Bool) (f : JsonFault) → cond x None (Some f) ≡ None → x ≡ true
 if_same true f e = refl

@@ -2,6 +2,7 @@ pub mod Ascii
 pub mod Names
 pub mod Walking
 pub mod ReadBack
+pub mod Blank
 pub mod RoundTrip
 pub mod FoundLemmas
 pub mod WalkFits

@@ -1,7 +1,7 @@
 -- The JSON of a value of a legal type is read back from its text, and walked to that value.
 use Rattle.std.proofs.Common.{◌≤◌, arith, lit≤}
 use Rattle.serde_json.specs.Read.{max_depth}
-use Rattle.ssz_schema.specs.declared.format.Format.{Format}
+use Rattle.ssz_schema.specs.format.Format.{Format}
 use Rattle.ssz_schema.specs.Legal.{IsLegal, AreLegalFields, AreLegalOptions, most_nesting}
 use Rattle.ssz_schema.specs.Sizes.{nesting}
 use Rattle.ssz_schema.specs.Types.{SszType, Fields, Options, uint, boolean, container, vector, list, bitvector, bitlist, union, no_fields, field, no_options, none_option, option}

@@ -13,8 +13,8 @@ use Rattle.serde_json.specs.Data.{Data, null, boolean as json_boolean, number as
 use Rattle.serde_json.specs.Events.{items_len}
 use Rattle.serde_json.specs.Find.{as_str, as_bool, as_array, as_object, get_member}
 use Rattle.ssz_decimal.specs.Decimal.{is_digit, number_after, digits_below, number_below}
-use Rattle.ssz_schema.specs.declared.width.Width.{Width}
-use Rattle.ssz_schema.specs.declared.width.Width.TheVariants.{W8, W16, W32, W64, W128, W256}
+use Rattle.ssz_schema.specs.width.Width.{Width}
+use Rattle.ssz_schema.specs.width.Width.TheVariants.{W8, W16, W32, W64, W128, W256}
 use Rattle.ssz_bytes.specs.Bytes.{IsBytes}
 use Rattle.ssz_bytes.proofs.Results.{ok_of}
 use Rattle.ssz_schema.specs.Legal.{field_names}

@@ -34,6 +34,12 @@ ReadsTo t b (Ok v) = (first_json_fault t b ≡ None) × (json t (value_of v) ≡
 ReadsTo t b (Err (Bad f)) = first_json_fault t b ≡ Some f
 ReadsTo t b (Err Memory) = Unit {0}
 
+-- that answer, or none
+abbrev pub ReadsDraft : SszType → List ℕ → Result (Option Value) JsonRead → Type 0
+ReadsDraft t b (Ok (Some v)) = ReadsTo t b (Ok v)
+ReadsDraft t b (Ok None) = Unit {0}
+ReadsDraft t b (Err fault) = ReadsTo t b (Err fault)
+
 -- a sequence of this type is in the form that the type wants
 abbrev pub IsFormedSequence : SszType → Value → Type 0
 IsFormedSequence elem v = AreFormed (is_byte elem) (IsFormed elem) (out-Value v)

@@ -7,8 +7,8 @@ use Rattle.serde_json.specs.Data.{Data, null, object, Items, no_items, item, Mem
 use Rattle.serde_json.specs.Events.{items_len, members_len}
 use Rattle.serde_json.specs.Find.{as_str, as_bool, as_array, as_object, as_number, as_u64, get_member}
 use Rattle.ssz_decimal.specs.Decimal.{number_below}
-use Rattle.ssz_schema.specs.declared.width.Width.{Width}
-use Rattle.ssz_schema.specs.declared.width.Width.TheVariants.{W256}
+use Rattle.ssz_schema.specs.width.Width.{Width}
+use Rattle.ssz_schema.specs.width.Width.TheVariants.{W256}
 use Rattle.ssz_schema.specs.Types.{SszType, Fields, Options, uint, boolean, container, vector, list, bitvector, bitlist, union, no_fields, field, no_options, none_option, option}
 use Rattle.ssz_schema.specs.Legal.{field_names}
 use Rattle.ssz_schema.specs.Sizes.{byte_count}

@@ -2,6 +2,7 @@
 ghost use Rattle.std.specs.Prelude.{◌≡◌, ◌<◌, length, map, Option, option_map, is_some, IfOk, IfSome};
 ghost use Rattle.std.specs.List.{AllByRecursion, list_all};
 ghost use Rattle.std.specs.Str.{bytes_eq};
+ghost use Rattle.json.specs.Word.{is_space};
 ghost use Rattle.serde_json.specs.Find.{get_member};
 ghost use Rattle.serde_json.specs.View.{view, items_view};
 ghost use Rattle.serde_json.specs.Events.{members_len};
@@ -14,14 +15,14 @@ ghost use Rattle.ssz_json_text.specs.Text.{json};
 ghost use Rattle.ssz_value_json.specs.Steps.{next};
 ghost use Rattle.ssz_value_json.specs.Walk.{json_walk, byte_number, field_walked, sequence_at, elements_at, fields_at, none_at, selected, members_in, are_members};
 ghost use Rattle.ssz_schema_json.specs.Schema.{json_read};
-ghost use Rattle.ssz_value_json.specs.Answers.{WalksJson, ReadsTo, ReadsJson, IsJsonFaultOf, IsFormedSequence, IsFormedUnion};
+ghost use Rattle.ssz_value_json.specs.Answers.{WalksJson, ReadsTo, ReadsDraft, ReadsJson, IsJsonFaultOf, IsFormedSequence, IsFormedUnion};
 
 use super::count::{Count, allows};
 use super::fault::{JsonFault, JsonRead};
 use super::strings::{bad, bits_in, bytes_in, flag_in, number_in};
 use serde_json::Value as Json;
 use ssz_json_draft::draft_of;
-use ssz_json_text::{append_value, spells};
+use ssz_json_text::{append_value, behind_text};
 use ssz_schema::{Name, Schema, Ty, TypeId};
 use ssz_value::{Value, fits, is_byte, option_at};
 use std::alloc::{AllocError, Global};
@@ -30,7 +31,8 @@ use std::alloc::{AllocError, Global};
 ///
 /// The answer is `Bad` with the first fault (J1 to J8) exactly where they are the text of no value
 /// of the type, and `Memory` may come in place of any answer. The time is linear in the bytes, but
-/// for the look-up of fields by their names.
+/// for the look-up of fields by their names. Bytes with a fault are mostly read twice, those of a
+/// text with white space behind it once.
 pub fn read_json(
     alloc: Global,
     schema: &Schema,
@@ -41,36 +43,57 @@ pub fn read_json(
     ensures answer { ReadsTo (type_of schema.now id) bytes.now result }
     ensures fits { IfOk result (IsValue (type_of schema.now id)) }
 {
-    if let Some(value) = value_spelled(alloc, schema, id, bytes)? {
-        let _legal = schema.ty(id);
-        return Ok(value);
+    match read_draft(alloc, schema, id, bytes) {
+        Ok(Some(value)) => Ok(value),
+        Ok(None) => read_whole(alloc, schema, id, bytes),
+        Err(fault) => Err(fault),
     }
-    read_whole(alloc, schema, id, bytes)
 }
 
-// The value whose text the bytes are, where the draft of it is that value. Else nothing is known of
-// the bytes.
-fn value_spelled(
+// The same, where the draft of the value tells: the bytes are its text, or that and white space.
+// Else nothing is known of the bytes.
+#[tactic(auto, using(crate::proofs::Exact::blank_behind, crate::proofs::Exact::read_as))]
+fn read_draft(
     alloc: Global,
     schema: &Schema,
     id: TypeId,
     bytes: &[u8],
-) -> Result<Option<Value>, AllocError>
+) -> Result<Option<Value>, JsonRead>
     requires { id < length schema.now.trees }
-    ensures { let t = type_of schema.now id in IfOk result (λ found. IfSome found
-        (λ v. IsValue t v × (json t (value_of v) ≡ bytes.now))) }
+    ensures answer { ReadsDraft (type_of schema.now id) bytes.now result }
+    ensures fits { IfOk result (λ found. IfSome found (IsValue (type_of schema.now id))) }
 {
+    // By a legal type the text of a value is read as that value.
+    let _legal = schema.ty(id);
     let Some(value) = draft_of(alloc, schema, id, bytes)? else {
         return Ok(None);
     };
     if !fits(schema, id, &value) {
         return Ok(None);
     }
-    if spells(alloc, schema, id, &value, bytes)? {
-        Ok(Some(value))
-    } else {
-        Ok(None)
+    let Some(rest) = behind_text(alloc, schema, id, &value, bytes)? else {
+        return Ok(None);
+    };
+    if rest.is_empty() {
+        return Ok(Some(value));
     }
+    if is_blank(rest) {
+        return Err(bad(JsonFault::SPELLING, 0));
+    }
+    Ok(None)
+}
+
+// Whether each byte is white space of JSON.
+fn is_blank(bytes: &[u8]) -> bool
+    ensures { result ≡ list_all is_space bytes.now }
+{
+    bytes.iter().all(|byte| is_space(*byte))
+}
+
+fn is_space(byte: u8) -> bool
+    ensures { result ≡ is_space byte }
+{
+    matches!(byte, b' ' | b'\t' | b'\n' | b'\r')
 }
 
 // The same as `read_json`, over the whole of the JSON that `serde_json` reads.

@@ -5,7 +5,7 @@ ghost use Rattle.std.specs.Option.{ok_or};
 ghost use Rattle.std.specs.Char.{is_ascii_uppercase};
 ghost use Rattle.serde_json.specs.View.{view};
 ghost use Rattle.ssz_decimal.specs.Decimal.{is_digit, number_below};
-ghost use Rattle.ssz_schema.specs.declared.width.Width.TheVariants.{W8, W256};
+ghost use Rattle.ssz_schema.specs.width.Width.TheVariants.{W8, W256};
 ghost use Rattle.ssz_schema.specs.Types.{uint};
 ghost use Rattle.ssz_schema.specs.Sizes.{byte_count};
 ghost use Rattle.ssz_value.specs.Values.{wide};

@@ -145,7 +145,8 @@ append_chosen-returns-in-None-clause-text t c =
 
 pub append_row-append_fields-requires : goal.append_row-append_fields-requires
 append_row-append_fields-requires t c =
-    let all = seq_fields (fields_over c.args.schema.now.trees c.args.row.now.fields.now) c.in-Seq.parts
+    let all = seq_fields (fields_over c.args.schema.now.trees c.args.row.now.fields.now)
+    c.in-Seq.parts
     (subst (IsValue (container (fields_over c.args.schema.now.trees c.args.row.now.fields.now)))
     c.in-Seq.is c.requires.value) in
     let parts : AreFields (fields_over c.args.schema.now.trees c.args.row.now.fields.now)
@@ -263,7 +264,8 @@ append_rows-loop-i-preserved t c =
     let v = c.index-parts-i.result in
     let here : type_of c.args.schema.now c.args.id
     ≡ container (fields_over c.args.schema.now.trees c.in_ok-row.row.fields.now) =
-    c.requires.form ∙ ap (λ fs. container (fields_over trees fs)) (sym c.in_ok-row.ensures.fields) in
+    c.requires.form
+    ∙ ap (λ fs. container (fields_over trees fs)) (sym c.in_ok-row.ensures.fields) in
     record {
       text = elements_more (type_of c.args.schema.now c.args.id) c.args.parts.now c.loop-i.i
           c.index-parts-i.result c.loop-i.out.items c.put_comma.new.out.items

@@ -55,8 +55,8 @@ invariant-append_rows-loop-i l = record {
 
 abbrev pub invariant-append_fields-loop-i : goal.invariant-append_fields-loop-i
 invariant-append_fields-loop-i l = record {
-  text : l.out.items ++ members_text (nat_lt 0 l.i)
-      (members_over (part_json l.schema.trees l.row.fields.now l.parts) (drop l.i l.row.order.items))
+  text : l.out.items ++ members_text (nat_lt 0 l.i) (members_over
+      (part_json l.schema.trees l.row.fields.now l.parts) (drop l.i l.row.order.items))
       ≡ l.fn.out.items ++ compact_text
       (object (members_json (fields_over l.schema.trees l.row.fields.now) (map value_of l.parts)));
   front : Keeps l.fn.out.items l.out.items;

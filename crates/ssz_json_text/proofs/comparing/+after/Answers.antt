@@ -33,7 +33,8 @@ after_sequence-after_parts-requires t c =
 
 pub after_row-after_fields-requires : goal.after_row-after_fields-requires
 after_row-after_fields-requires t c =
-    let all = seq_fields (fields_over c.args.schema.now.trees c.args.row.now.fields.now) c.in-Seq.parts
+    let all = seq_fields (fields_over c.args.schema.now.trees c.args.row.now.fields.now)
+    c.in-Seq.parts
     (subst (IsValue (container (fields_over c.args.schema.now.trees c.args.row.now.fields.now)))
     c.in-Seq.is c.requires.value) in
     let parts : AreFields (fields_over c.args.schema.now.trees c.args.row.now.fields.now)

@@ -50,5 +50,5 @@ abbrev pub invariant-after_fields-loop-i : goal.invariant-after_fields-loop-i
 invariant-after_fields-loop-i l = (z : List ℕ)
     → l.rest ≡ members_text (nat_lt 0 l.i) (members_over
     (part_json l.schema.trees l.row.fields.now l.parts) (drop l.i l.row.order.items)) ++ z
-    → l.bytes ≡ compact_text
-    (object (members_json (fields_over l.schema.trees l.row.fields.now) (map value_of l.parts))) ++ z
+    → l.bytes ≡ compact_text (object (members_json
+    (fields_over l.schema.trees l.row.fields.now) (map value_of l.parts))) ++ z

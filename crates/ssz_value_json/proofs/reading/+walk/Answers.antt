@@ -297,34 +297,42 @@ chosen_in-returns-in_ok-new-in-Some-Some t c =
 pub value_in-returns-in-Uint : goal.value_in-returns-in-Uint
 value_in-returns-in-Uint t c =
     let d = view c.args.json.now in
-    leaf_of (type_of c.args.schema.now c.args.id) (uint c.in-Uint.width) c.args.number.now c.take_number.result
-    c.take_number.new.number d (λ n. uint_at c.in-Uint.width n d) c.number_in.result
+    leaf_of (type_of c.args.schema.now c.args.id) (uint c.in-Uint.width) c.args.number.now
+    c.take_number.result c.take_number.new.number d (λ n. uint_at c.in-Uint.width n d)
+    c.number_in.result
     (sym c.ty.ensures.form ∙ ap (tree_over c.args.schema.now.trees) c.in-Uint.is)
-    (λ n. refl) (λ v. tt) c.take_number.ensures.here c.take_number.ensures.behind c.number_in.ensures
+    (λ n. refl) (λ v. tt) c.take_number.ensures.here c.take_number.ensures.behind
+    c.number_in.ensures
 
 pub value_in-returns-in-Boolean : goal.value_in-returns-in-Boolean
 value_in-returns-in-Boolean t c =
     let d = view c.args.json.now in
-    leaf_of (type_of c.args.schema.now c.args.id) (boolean) c.args.number.now c.take_number-in-Boolean.result
-    c.take_number-in-Boolean.new.number d (λ n. boolean_at n d) c.flag_in.result
+    leaf_of (type_of c.args.schema.now c.args.id) (boolean) c.args.number.now
+    c.take_number-in-Boolean.result c.take_number-in-Boolean.new.number d (λ n. boolean_at n d)
+    c.flag_in.result
     (sym c.ty.ensures.form ∙ ap (tree_over c.args.schema.now.trees) c.in-Boolean.is)
-    (λ n. refl) (λ v. tt) c.take_number-in-Boolean.ensures.here c.take_number-in-Boolean.ensures.behind c.flag_in.ensures
+    (λ n. refl) (λ v. tt) c.take_number-in-Boolean.ensures.here
+    c.take_number-in-Boolean.ensures.behind c.flag_in.ensures
 
 pub value_in-returns-in-Bitvector : goal.value_in-returns-in-Bitvector
 value_in-returns-in-Bitvector t c =
     let d = view c.args.json.now in
-    leaf_of (type_of c.args.schema.now c.args.id) (bitvector c.in-Bitvector.length) c.args.number.now c.take_number-in-Bitvector.result
-    c.take_number-in-Bitvector.new.number d (λ n. bits_at (Exactly c.in-Bitvector.length) n d) c.bits_in.result
+    leaf_of (type_of c.args.schema.now c.args.id) (bitvector c.in-Bitvector.length)
+    c.args.number.now c.take_number-in-Bitvector.result c.take_number-in-Bitvector.new.number d
+    (λ n. bits_at (Exactly c.in-Bitvector.length) n d) c.bits_in.result
     (sym c.ty.ensures.form ∙ ap (tree_over c.args.schema.now.trees) c.in-Bitvector.is)
-    (λ n. refl) (λ v. tt) c.take_number-in-Bitvector.ensures.here c.take_number-in-Bitvector.ensures.behind c.bits_in.ensures
+    (λ n. refl) (λ v. tt) c.take_number-in-Bitvector.ensures.here
+    c.take_number-in-Bitvector.ensures.behind c.bits_in.ensures
 
 pub value_in-returns-in-Bitlist : goal.value_in-returns-in-Bitlist
 value_in-returns-in-Bitlist t c =
     let d = view c.args.json.now in
-    leaf_of (type_of c.args.schema.now c.args.id) (bitlist c.in-Bitlist.limit) c.args.number.now c.take_number-in-Bitlist.result
-    c.take_number-in-Bitlist.new.number d (λ n. bits_at (AtMost c.in-Bitlist.limit) n d) c.bits_in-in-Bitlist.result
+    leaf_of (type_of c.args.schema.now c.args.id) (bitlist c.in-Bitlist.limit)
+    c.args.number.now c.take_number-in-Bitlist.result c.take_number-in-Bitlist.new.number d
+    (λ n. bits_at (AtMost c.in-Bitlist.limit) n d) c.bits_in-in-Bitlist.result
     (sym c.ty.ensures.form ∙ ap (tree_over c.args.schema.now.trees) c.in-Bitlist.is)
-    (λ n. refl) (λ v. tt) c.take_number-in-Bitlist.ensures.here c.take_number-in-Bitlist.ensures.behind c.bits_in-in-Bitlist.ensures
+    (λ n. refl) (λ v. tt) c.take_number-in-Bitlist.ensures.here
+    c.take_number-in-Bitlist.ensures.behind c.bits_in-in-Bitlist.ensures
 
 pub value_in-returns-in-Vector : goal.value_in-returns-in-Vector
 value_in-returns-in-Vector t c =
