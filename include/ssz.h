@@ -12,18 +12,19 @@
  *  - A handle is a variable of type ssz_schema, ssz_session or ssz_slice. It begins as
  *    SSZ_SCHEMA_NONE, SSZ_SESSION_NONE or SSZ_SLICE_NONE and is changed by calls alone; it is not
  *    copied while it holds something. It is given to one call at a time, and goes from thread to
- *    thread by a thread's start or end, a lock, or an atomic in sequentially consistent order. Two
- *    handles know nothing of one another (a session or a slice on a schema has a copy of it), and
- *    there is no state beside them: threads that ask at once read a handle each. A handle has a
- *    mark of its kind while it holds something: one that was freed, a handle of another kind and
- *    one that was never set (short of a mark by chance) hold nothing.
+ *    thread by a thread's start or end, a lock, or an atomic in sequentially consistent order.
+ *    Threads that ask one schema at once have a handle each, by ssz_schema_share: the schema itself
+ *    stands in memory once, and is freed with the last handle or slice on it. No call sees what was
+ *    done by another handle, and there is no state beside them. A handle has a mark of its kind
+ *    while it holds something: one that was freed, a handle of another kind and one that was never
+ *    set (short of a mark by chance) hold nothing.
  *  - malloc, realloc and free are those of one allocator; no call is made from a signal handler.
  *
- * What the library keeps: it frees all that it took at ssz_schema_free, ssz_session_end or
- * ssz_slice_close, it keeps no pointer that it was given after the call has ended, and it never
- * reads behind a length. Under any status but SSZ_OK what stands behind a result's pointer is as it
- * was; but SSZ_NO_ROOM comes with a length, and so does each status of ssz_session_run but
- * SSZ_NO_HANDLE and SSZ_NULL.
+ * What the library keeps: once each handle had its ssz_schema_free, ssz_session_end or
+ * ssz_slice_close, all that it took is freed; it keeps no pointer that it was given after the call
+ * has ended, and it never reads behind a length. Under any status but SSZ_OK what stands behind a
+ * result's pointer is as it was; but SSZ_NO_ROOM comes with a length, and so does each status of
+ * ssz_session_run but SSZ_NO_HANDLE and SSZ_NULL.
  *
  * What is looked at first, where more than one thing is wrong: the pointers, the handle, the number
  * of the type, the length of the bytes, the names, the text of the path, whether it fits the type,
@@ -140,6 +141,12 @@ uint32_t ssz_version(void);
  * status but SSZ_OK it then holds nothing. SSZ_BAD_SCHEMA, SSZ_NO_MEMORY. */
 uint32_t ssz_schema_read(ssz_schema *schema, const uint8_t *bytes, size_t len, ssz_fault *fault);
 
+/* Gives the first handle the schema that the other one holds, as for another thread: only the
+ * numbers of its types are copied, which are the same in both; a type that gets one later gets it
+ * in one handle alone. Either may be freed first. What the first handle held before is freed; under
+ * any status but SSZ_OK it then holds nothing. SSZ_NO_HANDLE of the other, SSZ_NO_MEMORY. */
+uint32_t ssz_schema_share(ssz_schema *schema, ssz_schema *other, ssz_fault *fault);
+
 /* Frees what the handle holds. SSZ_NO_HANDLE where it holds nothing, as after a first free. */
 uint32_t ssz_schema_free(ssz_schema *schema);
 
@@ -248,9 +255,9 @@ uint32_t ssz_place(ssz_schema *schema, uint64_t type, const uint8_t *bytes, size
                    const uint8_t *path, size_t path_len, ssz_stretch *place, ssz_fault *fault);
 
 /* Checks the bytes as a value of the type, and opens a slice on them: parts of it are then found
- * without a look at the others. It has a copy of the bytes and of the schema, and the caller may
- * change and free both. What the handle held before is freed; under any status but SSZ_OK it then
- * holds nothing. SSZ_NO_HANDLE of the schema, SSZ_NO_TYPE, SSZ_TOO_LONG, SSZ_INVALID,
+ * without a look at the others. It has a copy of the bytes and shares the schema, and the caller
+ * may change and free both. What the handle held before is freed; under any status but SSZ_OK it
+ * then holds nothing. SSZ_NO_HANDLE of the schema, SSZ_NO_TYPE, SSZ_TOO_LONG, SSZ_INVALID,
  * SSZ_NO_MEMORY. */
 uint32_t ssz_slice_open(ssz_slice *slice, ssz_schema *schema, uint64_t type, const uint8_t *bytes,
                         size_t len, ssz_fault *fault);
@@ -465,6 +472,13 @@ static inline uint32_t ssz_schema_read_given(ssz_schema *schema, const uint8_t *
     return ssz_schema_read(schema, bytes, len, fault);
 }
 #define ssz_schema_read ssz_schema_read_given
+
+static inline uint32_t ssz_schema_share_given(ssz_schema *schema, ssz_schema *other,
+                                              ssz_fault *fault) {
+    if (!schema || !other || !fault) return ssz_null(fault);
+    return ssz_schema_share(schema, other, fault);
+}
+#define ssz_schema_share ssz_schema_share_given
 
 static inline uint32_t ssz_schema_free_given(ssz_schema *schema) {
     if (!schema) return SSZ_NULL;

@@ -97,11 +97,13 @@ static void asked_of_types(ssz_schema *schema, struct found *f) {
     AGAIN(ssz_names(schema, f->names, 128, &f->lens[10], &fault));
 }
 
-/* A slice, and a session, which copy the schema. */
-static void begun_on(ssz_schema *schema, struct found *f) {
+/* A handle and a slice, which share the schema, and a session, which copies it. */
+static void begun_on(ssz_schema *given, struct found *f) {
+    ssz_schema shared = SSZ_SCHEMA_NONE, *schema = &shared;
     ssz_session session = SSZ_SESSION_NONE;
     ssz_slice slice = SSZ_SLICE_NONE;
     uint64_t type;
+    AGAIN(ssz_schema_share(schema, given, &fault));
     AGAIN(ssz_type(schema, TEXT("P"), &type, &fault));
     AGAIN(ssz_slice_open(&slice, schema, type, value, 33, &fault));
     AGAIN(ssz_slice_part(&slice, TEXT("/b"), f->bytes[2], 64, &f->lens[11], &fault));
@@ -110,6 +112,7 @@ static void begun_on(ssz_schema *schema, struct found *f) {
     AGAIN(ssz_session_load(&session, TEXT("V"), TEXT("P"), value, 33, &fault));
     AGAIN(ssz_session_root(&session, TEXT("V"), f->roots[2], &fault));
     if (memcmp(f->roots[0], f->roots[2], 32) || ssz_session_end(&session) || ssz_slice_close(&slice)) exit(1);
+    if (ssz_schema_free(schema)) exit(1);
 }
 
 static void all(struct found *f) {

@@ -64,6 +64,8 @@ static void none_held(void) {
     want("as before", len == 5 && names[0] == 0, 1);
     want("type of none", ssz_type(&schema, TEXT("P"), &p, &fault), SSZ_NO_HANDLE);
     want("free of none", ssz_schema_free(&schema), SSZ_NO_HANDLE);
+    want("share of none", ssz_schema_share(&other, &schema, &fault), SSZ_NO_HANDLE);
+    fault_is("share of none", SSZ_NO_HANDLE, 0, 0);
 }
 
 /* Schemas, good and bad. */
@@ -373,6 +375,9 @@ static void nulls(void) {
     want("null", ssz_schema_read(&schema, NULL, 0, &fault), SSZ_NULL);
     want("null", ssz_schema_read(&schema, TEXT(PAIR), NULL), SSZ_NULL);
     want("null", ssz_schema_free(NULL), SSZ_NULL);
+    want("null", ssz_schema_share(NULL, &other, &fault), SSZ_NULL);
+    want("null", ssz_schema_share(&schema, NULL, &fault), SSZ_NULL);
+    want("null", ssz_schema_share(&schema, &other, NULL), SSZ_NULL);
     want("null", ssz_type(NULL, TEXT("P"), &n, &fault), SSZ_NULL);
     want("null", ssz_type(&schema, NULL, 0, &n, &fault), SSZ_NULL);
     want("null", ssz_type(&schema, TEXT("P"), NULL, &fault), SSZ_NULL);

@@ -253,7 +253,7 @@ class Session(_Held):
 
 class Slice(_Held):
     """Bytes that were checked once as a value of a type, of which many parts are asked; given up by
-    `close` or at the end of a `with`. It has a copy of the bytes and of the schema."""
+    `close` or at the end of a `with`. It has a copy of the bytes and shares the schema."""
 
     _end = "ssz_slice_close"
 

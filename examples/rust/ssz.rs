@@ -348,7 +348,7 @@ impl Type<'_> {
     }
 }
 
-/// Bytes that were checked once as a value of a type, with a copy of them and of the schema; freed
+/// Bytes that were checked once as a value of a type: a copy of them that shares the schema; freed
 /// with it. The handle is boxed, so that it does not move.
 pub struct Slice {
     handle: RefCell<Box<Handle>>,

@@ -54,6 +54,7 @@ _INDICES = [ctypes.POINTER(Index), ctypes.c_size_t]
 
 _CALLS = {
     "ssz_schema_read": _HANDLE + _BYTES + _FAULT,
+    "ssz_schema_share": _HANDLE * 2 + _FAULT,
     "ssz_schema_free": _HANDLE,
     "ssz_type": _HANDLE + _BYTES + _LENGTH + _FAULT,
     "ssz_check": _HANDLE + _NUMBER + _BYTES + _FAULT,

@@ -116,8 +116,8 @@ class Type:
 
 
 class Slice(Held):
-    """Bytes that were checked once as a value of a type. It has a copy of them and of the schema, and each part is found without
-    a look at the others.
+    """Bytes that were checked once as a value of a type. It has a copy of them and shares the schema, and each part is found
+    without a look at the others.
 
     Any thread may use it: calls wait for one another.
     """
@@ -146,7 +146,7 @@ class Slice(Held):
 class Schema(Held):
     """The types that a schema file defines. `schema.Checkpoint` is the class of values of that type.
 
-    Any thread may use it: calls wait for one another.
+    Any thread may use it: calls wait for one another, unless each thread has its own by `share`.
     """
 
     _end = "ssz_schema_free"
@@ -157,9 +157,26 @@ class Schema(Held):
         self.text = text.encode() if isinstance(text, str) else bytes(text)
         super().__init__()
         self._call("ssz_schema_read", *_data(self.text))
-        self._forms = forms_of(json.loads(self.text)["types"])
+        self._of_forms(forms_of(json.loads(self.text)["types"]))
+
+    def _of_forms(self, forms: dict[str, Form]) -> None:
+        """Begins with no type asked for."""
+        self._forms = forms
         self._types: dict[str, Type] = {}
         self._values = values.Store(self)
+
+    def share(self) -> Schema:
+        """The same schema, whose calls do not wait for this one's. What was read stands in memory once; values are of a class of
+        its own.
+        """
+        other = Schema.__new__(Schema)
+        other.text = self.text
+        Held.__init__(other)
+        status, fault = other._status_on(self, "ssz_schema_share")
+        if status:
+            raise error_of(status, fault.code, fault.position)
+        other._of_forms(self._forms)
+        return other
 
     @classmethod
     def read(cls, file: str | Path) -> Schema:

@@ -53,6 +53,15 @@ class Calls(unittest.TestCase):
             thread.join()
         self.assertEqual(wrong, [])
 
+    def test_schemas_are_shared(self) -> None:
+        data = bytes.fromhex("aabb060000000102")
+        with ssz.Schema(TYPES) as schema:
+            pair, other = schema.type("Pair"), schema.share()
+            root = pair.hash_tree_root(data)
+        self.assertEqual((other.numbered(), other.type("Pair").hash_tree_root(data), other.text), (1, root, schema.text))
+        self.assertEqual(other.Pair.decode_bytes(data).hash_tree_root(), root)
+        self.assertRaises(ssz.SszError, schema.share)
+
     def test_sessions_copy_their_schema(self) -> None:
         with ssz.Schema(TYPES) as schema:
             session, other = schema.session(), ssz.Session(schema.text)

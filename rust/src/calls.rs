@@ -48,6 +48,7 @@ type Room = *mut u8;
 
 extern "C" {
     pub fn ssz_schema_read(schema: *mut Handle, text: Bytes, len: usize, fault: *mut Fault) -> u32;
+    pub fn ssz_schema_share(schema: *mut Handle, other: *mut Handle, fault: *mut Fault) -> u32;
     pub fn ssz_schema_free(schema: *mut Handle) -> u32;
     pub fn ssz_type(schema: *mut Handle, name: Bytes, len: usize, number: *mut u64, fault: *mut Fault) -> u32;
     pub fn ssz_check(schema: *mut Handle, number: u64, data: Bytes, len: usize, fault: *mut Fault) -> u32;

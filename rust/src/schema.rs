@@ -1,4 +1,4 @@
-use std::sync::{Mutex, MutexGuard, PoisonError};
+use std::sync::{Arc, Mutex, MutexGuard, PoisonError};
 
 use crate::calls::*;
 use crate::error::{ended, Error, Result, NO_ROOM};
@@ -47,10 +47,11 @@ impl Drop for Held {
     }
 }
 
-/// The types that a schema file defines. Threads may share one: calls wait for one another.
+/// The types that a schema file defines. Threads may share one: calls wait for one another, unless each thread has its own by
+/// [`share`](Schema::share).
 pub struct Schema {
     held: Mutex<Held>,
-    text: Vec<u8>,
+    text: Arc<[u8]>,
 }
 
 impl Schema {
@@ -58,7 +59,23 @@ impl Schema {
     pub fn read(text: &[u8]) -> Result<Schema> {
         let read = |handle, fault| unsafe { ssz_schema_read(handle, text.as_ptr(), text.len(), fault) };
         let held = Held::begun(read, ssz_schema_free)?;
-        Ok(Schema { held: Mutex::new(held), text: text.to_vec() })
+        Ok(Schema { held: Mutex::new(held), text: text.into() })
+    }
+
+    /// The same schema, whose calls do not wait for this one's. What was read stands in memory once.
+    ///
+    /// ```
+    /// # fn main() -> ssz::Result<()> {
+    /// let schema = ssz::Schema::read(br#"{"ssz":1,"types":[["P",{"container":[["a","uint64"]]}]]}"#)?;
+    /// let other = schema.share()?;
+    /// let root = std::thread::spawn(move || other.find("P")?.root(&[0; 8])).join().expect("it ends");
+    /// assert_eq!(root, schema.find("P")?.root(&[0; 8]));
+    /// # Ok(())
+    /// # }
+    /// ```
+    pub fn share(&self) -> Result<Schema> {
+        let share = |handle, schema, fault| unsafe { ssz_schema_share(handle, schema, fault) };
+        Ok(Schema { held: Mutex::new(self.begin(share, ssz_schema_free)?), text: Arc::clone(&self.text) })
     }
 
     /// The bytes that it was read from.
@@ -94,7 +111,7 @@ impl Schema {
         self.lock().call(call)
     }
 
-    /// What is begun on this schema, which has a copy of it.
+    /// What is begun on this schema, and has a copy of it or shares it.
     pub(crate) fn begin(
         &self,
         begin: impl FnOnce(*mut Handle, *mut Handle, *mut Fault) -> u32,

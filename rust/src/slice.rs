@@ -6,7 +6,7 @@ use crate::error::Result;
 use crate::schema::Held;
 
 /// Bytes that were checked once as a value of a type: each part is found without a look at the others. It has a copy of the bytes
-/// and of the schema. Threads may share one: calls wait for one another.
+/// and shares the schema, which may go first. Threads may share one: calls wait for one another.
 ///
 /// ```
 /// # fn main() -> ssz::Result<()> {

@@ -201,6 +201,12 @@ fn threads_share_a_schema() {
             scope.spawn(|| (0..100).for_each(|_| assert_eq!(schema.find("Pair").unwrap().root(&[0, 0, 6, 0, 0, 0]), wanted)));
         }
     });
+    let mine: Vec<_> = (0..4).map(|_| schema.share().unwrap()).collect();
+    drop(schema);
+    let asked = mine.into_iter().map(|schema| thread::spawn(move || schema.find("Pair").unwrap().root(&[0, 0, 6, 0, 0, 0])));
+    for root in asked.collect::<Vec<_>>() {
+        assert_eq!(root.join().expect("it ends"), wanted);
+    }
     let moved = session();
     thread::spawn(move || drop(moved)).join().expect("the session ends there");
 }

@@ -2,10 +2,10 @@
 ghost use Rattle.std.specs.Prelude.{◌≡◌};
 ghost use Rattle.ssz_said.specs.Outcome.{IsSaid};
 ghost use Rattle.ssz_said.specs.Statements.{append_said, choose_default_said, choose_said, compact_said, drop_said, fork_said, lit_said, new_said, pop_said, set_said, upgrade_said};
-ghost use Rattle.ssz_c.specs.Answering.{IsCall};
+ghost use Rattle.ssz_handles.specs.Answering.{IsCall};
 
-use super::giving::say;
-use super::session_handle::SszSession;
+use ssz_handles::SszSession;
+use ssz_handles::giving::say;
 use ssz_said::{SszFault, statements};
 use std::alloc::Global;
 

@@ -3,33 +3,18 @@
 //! once; and sessions, which do the statements of scripts, said as a line or by the arguments of a
 //! call.
 //!
-//! Each export takes what its handle holds, calls a library of this repository, and puts it back.
-//! A handle is a struct of two words that C keeps and hands in by its address; the second is a
-//! pointer to a box, of which `held`, `held_session` and `held_slice` alone know. Every call says how it ended by
-//! a number (`status`), and writes what it found behind the pointers that it was given.
+//! Each export takes what its handle holds (`ssz_handles`), calls a library of this repository, and
+//! puts it back. Every call says how it ended by a number (`status`), and writes what it found behind
+//! the pointers that it was given.
 #![tactic(auto)]
 
 ghost use Rattle.std.specs.Prelude.{◌≡◌};
 ghost use Rattle.ssz_c.specs.declared.TheConstants.{VERSION};
 
-mod answering;
 mod editing;
-mod giving;
-mod handle;
-mod held;
-mod held_session;
-mod held_slice;
-mod no_files;
-mod parts;
-mod ran;
-mod reading;
-mod running;
 mod schemas;
-mod session;
-mod session_handle;
 mod sessions;
 mod showing;
-mod slice_handle;
 mod slices;
 #[cfg(test)]
 mod tests;
@@ -41,12 +26,10 @@ pub use editing::{
     ssz_session_drop, ssz_session_fork, ssz_session_load, ssz_session_new, ssz_session_pop,
     ssz_session_set, ssz_session_upgrade,
 };
-pub use handle::SszSchema;
 pub use schemas::{
     ssz_check, ssz_default, ssz_field, ssz_fields, ssz_gindex, ssz_of_json, ssz_part, ssz_place,
-    ssz_root, ssz_schema_free, ssz_schema_read, ssz_size, ssz_to_json, ssz_type,
+    ssz_root, ssz_schema_free, ssz_schema_read, ssz_schema_share, ssz_size, ssz_to_json, ssz_type,
 };
-pub use session_handle::SszSession;
 pub use sessions::{
     ssz_session_end, ssz_session_nodes, ssz_session_reply, ssz_session_run, ssz_session_start,
     ssz_session_start_on,
@@ -55,8 +38,8 @@ pub use showing::{
     ssz_session_bytes, ssz_session_gindex, ssz_session_json, ssz_session_len, ssz_session_prove,
     ssz_session_prove_all, ssz_session_root,
 };
-pub use slice_handle::SszSlice;
 pub use slices::{ssz_slice_close, ssz_slice_open, ssz_slice_part, ssz_slice_place};
+pub use ssz_handles::{SszSchema, SszSession, SszSlice};
 pub use ssz_said::{SszEntry, SszFault, SszIndex};
 pub use ssz_typed::SszStretch;
 pub use types::{

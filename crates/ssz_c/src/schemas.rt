@@ -5,11 +5,10 @@ ghost use Rattle.ssz_typed.specs.Calls.{checked_in, root_in, gindex_in, part_in,
 ghost use Rattle.ssz_typed.specs.Fields.{field_in, fields_of_type};
 ghost use Rattle.ssz_typed.specs.Places.{place_in};
 ghost use Rattle.ssz_typed.specs.Texts.{default_in, text_in};
-ghost use Rattle.ssz_c.specs.Reading.{IsEncodingMade, IsRead, IsNumbered, freed, held_in};
+ghost use Rattle.ssz_handles.specs.Reading.{IsEncodingMade, IsRead, IsNumbered, IsSharing, freed, held_in};
 
-use super::giving::{copy, fail, give, say};
-use super::handle::SszSchema;
-use super::reading;
+use ssz_handles::giving::{copy, fail, give, say};
+use ssz_handles::{SszSchema, reading};
 use ssz_said::{SszFault, SszIndex, status};
 use ssz_typed::{SszStretch, calls, naming_fields, texts};
 use std::alloc::Global;
@@ -35,6 +34,34 @@ pub extern "C" fn ssz_schema_read(
             *fault = why;
             why.status
         }
+    }
+}
+
+/// Shares the schema that another handle holds, in which a type then has the same number. What the
+/// handle held before is freed.
+#[unsafe(no_mangle)]
+pub extern "C" fn ssz_schema_share(
+    alloc: Global,
+    handle: &mut SszSchema,
+    schema: &mut SszSchema,
+    fault: &mut SszFault,
+) -> u32
+    ensures held { schema.new.held.value ≡ schema.old.held.value }
+    ensures shared { IsSharing schema.old.held.value handle.new.held.value fault.new }
+    ensures status { result ≡ fault.new.status }
+{
+    drop(handle.take(alloc));
+    let Some(library) = schema.take(alloc) else {
+        return fail(status::NO_HANDLE, fault);
+    };
+    let answer = reading::shared(alloc, &library);
+    schema.put(library);
+    match answer {
+        Ok(library) => {
+            handle.put(library);
+            fail(status::OK, fault)
+        }
+        Err(_) => fail(status::NO_MEMORY, fault),
     }
 }
 

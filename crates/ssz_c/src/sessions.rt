@@ -1,14 +1,12 @@
 // The calls of a session and of its lines.
 ghost use Rattle.std.specs.Prelude.{◌≡◌, None};
 ghost use Rattle.ssz_said.specs.Outcome.{IsCopied, IsGivenBack};
-ghost use Rattle.ssz_c.specs.Answering.{nodes_in};
-ghost use Rattle.ssz_c.specs.Reading.{freed};
-ghost use Rattle.ssz_c.specs.Session.{IsRun, IsStarted, IsStartedOn, session_reply};
+ghost use Rattle.ssz_handles.specs.Answering.{nodes_in};
+ghost use Rattle.ssz_handles.specs.Reading.{freed};
+ghost use Rattle.ssz_handles.specs.Session.{IsRun, IsStarted, IsStartedOn, session_reply};
 
-use super::giving::{copy, fail, give};
-use super::handle::SszSchema;
-use super::session::Session;
-use super::session_handle::SszSession;
+use ssz_handles::giving::{copy, fail, give};
+use ssz_handles::{Session, SszSchema, SszSession};
 use ssz_said::{SszFault, status};
 use std::alloc::Global;
 
@@ -54,7 +52,7 @@ pub extern "C" fn ssz_session_start_on(
     let Some(library) = schema.take(alloc) else {
         return fail(status::NO_HANDLE, fault);
     };
-    let answer = Session::boxed_on(alloc, &library.schema);
+    let answer = Session::boxed_on(alloc, library.schema());
     schema.put(library);
     match answer {
         Ok(session) => {

@@ -5,10 +5,10 @@ ghost use Rattle.ssz_said.specs.Outcome.{IsCopied, IsGivenBack};
 ghost use Rattle.ssz_said.specs.Proving.{IsBranchCopied, prove_said};
 ghost use Rattle.ssz_said.specs.Replies.{encoding_of, gindex_of, reply_len, reply_root, reply_text};
 ghost use Rattle.ssz_said.specs.Statements.{bytes_said, gindex_said, json_said, len_said, root_said};
-ghost use Rattle.ssz_c.specs.Answering.{IsCall};
+ghost use Rattle.ssz_handles.specs.Answering.{IsCall};
 
-use super::giving::{copy_made, copy_run, give, show};
-use super::session_handle::SszSession;
+use ssz_handles::SszSession;
+use ssz_handles::giving::{copy_made, copy_run, give, show};
 use ssz_said::{
     SszEntry, SszFault, SszIndex, encoding_of, gindex_of, len_of, prove_all, proving, root_of,
     statements, text_of,

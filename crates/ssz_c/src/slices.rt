@@ -3,12 +3,11 @@ ghost use Rattle.std.specs.Prelude.{◌≡◌, None};
 ghost use Rattle.std.specs.Result.{result_map_both};
 ghost use Rattle.ssz_said.specs.Outcome.{IsCopiedUnlessMemory, IsGivenUnlessMemory};
 ghost use Rattle.ssz_typed.specs.Slices.{Opens, slice_part, slice_place};
-ghost use Rattle.ssz_c.specs.Reading.{freed};
-ghost use Rattle.ssz_c.specs.Slices.{IsOpened, slice_in};
+ghost use Rattle.ssz_handles.specs.Reading.{freed};
+ghost use Rattle.ssz_handles.specs.Slices.{IsOpened, slice_in};
 
-use super::giving::{copy, fail, give};
-use super::handle::SszSchema;
-use super::slice_handle::SszSlice;
+use ssz_handles::giving::{copy, fail, give};
+use ssz_handles::{SszSchema, SszSlice};
 use ssz_said::{SszFault, status};
 use ssz_typed::{CheckedBytes, Library, SszStretch};
 use std::alloc::Global;
@@ -32,7 +31,7 @@ fn boxed(
     }
 }
 
-/// Checks bytes as a value of a type, and keeps a copy of them and of the schema. What the handle
+/// Checks bytes as a value of a type, keeps a copy of them and shares the schema. What the handle
 /// held before is freed.
 #[unsafe(no_mangle)]
 pub extern "C" fn ssz_slice_open(

@@ -1,15 +1,9 @@
 // Each call once, over memory that suffices. The root is that of two zero chunks, which stands in
 // the deposit contract.
-use super::handle::SszSchema;
-use super::held::Held;
-use super::held_session::HeldSession;
-use super::held_slice::HeldSlice;
-use super::session_handle::SszSession;
-use super::slice_handle::SszSlice;
 use super::{
     ssz_check, ssz_default, ssz_field, ssz_fields, ssz_form, ssz_gindex, ssz_limit, ssz_names,
     ssz_of_json, ssz_part, ssz_part_type, ssz_parts, ssz_place, ssz_root, ssz_schema_free,
-    ssz_schema_read, ssz_session_append, ssz_session_bytes, ssz_session_choose,
+    ssz_schema_read, ssz_schema_share, ssz_session_append, ssz_session_bytes, ssz_session_choose,
     ssz_session_choose_default, ssz_session_compact, ssz_session_drop, ssz_session_end,
     ssz_session_fork, ssz_session_gindex, ssz_session_json, ssz_session_len, ssz_session_load,
     ssz_session_new, ssz_session_nodes, ssz_session_pop, ssz_session_prove, ssz_session_prove_all,
@@ -18,6 +12,7 @@ use super::{
     ssz_slice_part, ssz_slice_place, ssz_to_json, ssz_type, ssz_type_name, ssz_types, ssz_verify,
     ssz_verify_all, ssz_verify_branch, ssz_version,
 };
+use ssz_handles::{Held, HeldSession, HeldSlice, SszSchema, SszSession, SszSlice};
 use ssz_said::{SszEntry, SszFault, SszIndex, status};
 use ssz_typed::SszStretch;
 use std::alloc::Global;
@@ -450,6 +445,26 @@ fn names_are_told(rt: HostRuntime) -> Result<(), Fail> {
     let _number = number_of_p(rt.alloc(), &mut schema).ok_or("no P")?;
     assert!(rt; is_named(rt.alloc(), &mut schema));
     assert!(rt; is_counted(rt.alloc(), &mut schema));
+    Ok(())
+}
+
+// Whether a handle that shares a schema which another gave up still answers, by the same numbers.
+fn is_shared(alloc: Global, schema: &mut SszSchema, number: u64) -> bool {
+    let mut fault = SszFault::none();
+    let mut handle = no_schema(alloc);
+    let shared = ssz_schema_share(alloc, &mut handle, schema, &mut fault);
+    let freed = ssz_schema_free(alloc, schema);
+    let again = ssz_schema_share(alloc, &mut no_schema(alloc), schema, &mut fault);
+    (shared, freed, again) == (status::OK, status::OK, status::NO_HANDLE)
+        && is_hashed(alloc, &mut handle, number)
+        && ssz_schema_free(alloc, &mut handle) == status::OK
+}
+
+#[test]
+fn a_schema_is_shared(rt: HostRuntime) -> Result<(), Fail> {
+    let mut schema = no_schema(rt.alloc());
+    let number = number_of_p(rt.alloc(), &mut schema).ok_or("no P")?;
+    assert!(rt; is_shared(rt.alloc(), &mut schema, number));
     Ok(())
 }
 

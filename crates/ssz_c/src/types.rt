@@ -3,10 +3,10 @@ ghost use Rattle.std.specs.Prelude.{◌≡◌};
 ghost use Rattle.ssz_said.specs.Outcome.{IsCopied, IsCopiedUnlessMemory, IsGivenBack};
 ghost use Rattle.ssz_typed.specs.Forms.{form_in, limit_in, parts_in};
 ghost use Rattle.ssz_typed.specs.Names.{names_in, type_name_in, types_in};
-ghost use Rattle.ssz_c.specs.Reading.{IsPartNumbered, held_in};
+ghost use Rattle.ssz_handles.specs.Reading.{IsPartNumbered, held_in};
 
-use super::giving::{copy, fail, give};
-use super::handle::SszSchema;
+use ssz_handles::SszSchema;
+use ssz_handles::giving::{copy, fail, give};
 use ssz_said::{SszFault, status};
 use ssz_typed::{forms, names};
 use std::alloc::Global;

@@ -5,8 +5,8 @@ use Rattle.std.specs.List.{AllByRecursion}
 use Rattle.std.specs.Option.{ForSome}
 use Rattle.std.proofs.lemmas.Bool.{eqb-true}
 use Rattle.std.proofs.lemmas.Option.{none-some, same_Some}
-use Rattle.ssz_schema.specs.declared.ty.Ty.{Ty}
-use Rattle.ssz_schema.specs.declared.ty.Ty.TheVariants.{Container, Union}
+use Rattle.ssz_schema.specs.ty.Ty.{Ty}
+use Rattle.ssz_schema.specs.ty.Ty.TheVariants.{Container, Union}
 use Rattle.ssz_schema.specs.Types.{SszType, container, union}
 use Rattle.ssz_schema.specs.Unfolding.{Types, type_tree_at, type_of, tree_over, fields_over, options_over, IsBelow, AreBelow}
 use Rattle.ssz_schema.proofs.StepLemmas.{Part, option_at-type, option_at-below}

@@ -12,6 +12,7 @@ use Rattle.ssz_typed.specs.declared.library.Library.{Library}
 use Rattle.ssz_typed.specs.Calls.{encoding_at, steps_in, valid}
 use Rattle.ssz_typed.specs.Library.{type_in}
 use Rattle.ssz_typed.specs.Places.{stretch_at}
+use Rattle.ssz_typed.specs.Sharing.{schema_in, slice_schema}
 use Rattle.ssz_typed.specs.SliceLaws.{PartsAgree, PlacesAgree}
 use Rattle.ssz_typed.specs.Slices.{Copies, IsCopyOf}
 
@@ -25,38 +26,38 @@ module _ {A : Type 0} (asks : Part → Path → CallOutcome A) (library : Librar
   -- what is asked of bytes of which this is the first fault
   abbrev of_bytes : ℕ → Option Fault → CallOutcome A
   of_bytes id fault =
-      steps_in (type_of library.schema id) text
-      >>= λ steps. valid (unless fault (whole (type_of library.schema id) bytes))
+      steps_in (type_of (schema_in library) id) text
+      >>= λ steps. valid (unless fault (whole (type_of (schema_in library) id) bytes))
       >>= λ part. asks part steps
 
   copied : (id : ℕ) → IsCopyOf library id bytes slice
-      → of_whole slice.schema slice.id slice.bytes ≡ of_whole library.schema id bytes
+      → of_whole (slice_schema slice) slice.id slice.bytes ≡ of_whole (schema_in library) id bytes
   copied id is = rw (is.schema, is.kind, is.bytes) refl
 
   -- once the bytes have no fault
   judged : (id : ℕ) (fault : Option Fault)
       → Copies library bytes (faultless fault id) (Ok slice)
-      → of_whole slice.schema slice.id slice.bytes ≡ of_bytes id fault
+      → of_whole (slice_schema slice) slice.id slice.bytes ≡ of_bytes id fault
   judged id None is = copied id is
   judged id (Some fault) is = absurd (cc)
 
   -- and are few
   counted : (id : ℕ) (few : CallOutcome (List ℕ))
       → Copies library bytes
-      (few >>= λ _. faultless (first_fault (type_of library.schema id) 0 bytes) id)
+      (few >>= λ _. faultless (first_fault (type_of (schema_in library) id) 0 bytes) id)
       (Ok slice)
-      → of_whole slice.schema slice.id slice.bytes
-      ≡ (few >>= λ _. of_bytes id (first_fault (type_of library.schema id) 0 bytes))
-  counted id (Ok few) is = judged id (first_fault (type_of library.schema id) 0 bytes) is
+      → of_whole (slice_schema slice) slice.id slice.bytes
+      ≡ (few >>= λ _. of_bytes id (first_fault (type_of (schema_in library) id) 0 bytes))
+  counted id (Ok few) is = judged id (first_fault (type_of (schema_in library) id) 0 bytes) is
   counted id (Err fault) is = absurd (cc)
 
   -- and their type is known
   found : (kind : CallOutcome ℕ)
       → Copies library bytes (kind >>= λ id. at_most TOO_LONG MOST_BYTES bytes
-      >>= λ _. faultless (first_fault (type_of library.schema id) 0 bytes) id) (Ok slice)
-      → of_whole slice.schema slice.id slice.bytes
+      >>= λ _. faultless (first_fault (type_of (schema_in library) id) 0 bytes) id) (Ok slice)
+      → of_whole (slice_schema slice) slice.id slice.bytes
       ≡ (kind >>= λ id. at_most TOO_LONG MOST_BYTES bytes
-      >>= λ _. of_bytes id (first_fault (type_of library.schema id) 0 bytes))
+      >>= λ _. of_bytes id (first_fault (type_of (schema_in library) id) 0 bytes))
   found (Ok id) is = counted id (at_most TOO_LONG MOST_BYTES bytes) is
   found (Err fault) is = absurd (cc)
 

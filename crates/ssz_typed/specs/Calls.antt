@@ -21,33 +21,34 @@ use Rattle.ssz_said.specs.declared.status.TheConstants.{TOO_LONG, BAD_PATH, ABSE
 use Rattle.ssz_typed.specs.Library.{type_in}
 use Rattle.ssz_said.specs.Outcome.{CallOutcome, ◌>>=◌, need, at_most, faultless, invalid, refused}
 use Rattle.ssz_said.specs.Texts.{path_in}
+use Rattle.ssz_typed.specs.Sharing.{schema_in}
 
 -- the type of the number, where the bytes encode a value of it
 abbrev pub checked_in : Library → ℕ → List ℕ → CallOutcome ℕ
 checked_in library number bytes = do
   id ← type_in library number
   few ← at_most TOO_LONG MOST_BYTES bytes
-  faultless (first_fault (type_of library.schema id) 0 bytes) id
+  faultless (first_fault (type_of (schema_in library) id) 0 bytes) id
 
 -- the hash_tree_root of the value that the bytes encode
 abbrev pub root_in : Library → ℕ → List ℕ → CallOutcome (List ℕ)
 root_in library number bytes = do
   id ← checked_in library number bytes
-  Ok (hash_tree_root sha_pair (type_of library.schema id)
-      (value_in (type_of library.schema id) bytes))
+  Ok (hash_tree_root sha_pair (type_of (schema_in library) id)
+      (value_in (type_of (schema_in library) id) bytes))
 
 -- how many bytes each value of the type has; 0 where they differ
 abbrev pub size_in : Library → ℕ → CallOutcome ℕ
 size_in library number = do
   id ← type_in library number
-  Ok (unwrap_or (fixed_size (type_of library.schema id)) 0)
+  Ok (unwrap_or (fixed_size (type_of (schema_in library) id)) 0)
 
 -- the generalized index of the path that a text spells
 abbrev pub gindex_in : Library → ℕ → List ℕ → CallOutcome SszIndex
 gindex_in library number text = do
   id ← type_in library number
   steps ← path_in text
-  index ← need BAD_PATH (generalized_index (type_of library.schema id) steps)
+  index ← need BAD_PATH (generalized_index (type_of (schema_in library) id) steps)
   Ok (index_parts index)
 
 -- the steps that a text spells, where they fit the type
@@ -83,6 +84,6 @@ abbrev pub part_in : Library → ℕ → List ℕ → List ℕ → CallOutcome (
 part_in library number bytes text = do
   id ← type_in library number
   few ← at_most TOO_LONG MOST_BYTES bytes
-  steps ← steps_in (type_of library.schema id) text
-  whole ← valid (opened (type_of library.schema id) bytes)
+  steps ← steps_in (type_of (schema_in library) id) text
+  whole ← valid (opened (type_of (schema_in library) id) bytes)
   encoding_at whole steps

@@ -7,6 +7,7 @@ use Rattle.ssz_typed.specs.declared.library.Library.{Library}
 use Rattle.ssz_said.specs.declared.status.TheConstants.{ABSENT}
 use Rattle.ssz_typed.specs.Library.{type_in}
 use Rattle.ssz_said.specs.Outcome.{CallOutcome, ◌>>=◌, need}
+use Rattle.ssz_typed.specs.Sharing.{schema_in}
 
 -- the name of the field at this place
 abbrev pub name_at : Fields → ℕ → Option (List ℕ)
@@ -28,9 +29,9 @@ fields_count type = 0
 abbrev pub fields_of_type : Library → ℕ → CallOutcome ℕ
 fields_of_type library number = do
   id ← type_in library number
-  Ok (fields_count (type_of library.schema id))
+  Ok (fields_count (type_of (schema_in library) id))
 
 abbrev pub field_in : Library → ℕ → ℕ → CallOutcome (List ℕ)
 field_in library number place = do
   id ← type_in library number
-  need ABSENT (field_name (type_of library.schema id) place)
+  need ABSENT (field_name (type_of (schema_in library) id) place)

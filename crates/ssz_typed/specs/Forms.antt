@@ -9,6 +9,7 @@ use Rattle.ssz_said.specs.Outcome.{CallOutcome, ◌>>=◌, need}
 use Rattle.ssz_typed.specs.declared.forms.TheConstants.{BOOLEAN, UINT, CONTAINER, VECTOR, LIST, BITVECTOR, BITLIST, UNION}
 use Rattle.ssz_typed.specs.declared.library.Library.{Library}
 use Rattle.ssz_typed.specs.Library.{type_in}
+use Rattle.ssz_typed.specs.Sharing.{schema_in}
 
 -- the number of the form of a type
 abbrev pub form_number : SszType → ℕ
@@ -60,19 +61,19 @@ part_type _ place = None
 abbrev pub form_in : Library → ℕ → CallOutcome ℕ
 form_in library number = do
   id ← type_in library number
-  Ok (form_number (type_of library.schema id))
+  Ok (form_number (type_of (schema_in library) id))
 
 abbrev pub limit_in : Library → ℕ → CallOutcome ℕ
 limit_in library number = do
   id ← type_in library number
-  need ABSENT (form_limit (type_of library.schema id))
+  need ABSENT (form_limit (type_of (schema_in library) id))
 
 abbrev pub parts_in : Library → ℕ → CallOutcome ℕ
 parts_in library number = do
   id ← type_in library number
-  Ok (parts_count (type_of library.schema id))
+  Ok (parts_count (type_of (schema_in library) id))
 
 abbrev pub part_type_in : Library → ℕ → ℕ → CallOutcome SszType
 part_type_in library number place = do
   id ← type_in library number
-  need ABSENT (part_type (type_of library.schema id) place)
+  need ABSENT (part_type (type_of (schema_in library) id) place)

@@ -1,4 +1,5 @@
 pub mod Numbers
+pub mod Sharing
 pub mod Library
 pub mod Calls
 pub mod Fields

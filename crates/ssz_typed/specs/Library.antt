@@ -11,6 +11,7 @@ use Rattle.ssz_typed.specs.declared.library.Library.{Library}
 use Rattle.ssz_said.specs.declared.status.TheConstants.{NO_TYPE, BAD_SCHEMA, NO_MEMORY, MOST_TEXT}
 use Rattle.ssz_typed.specs.Numbers.{GivesNumber, IsNew}
 use Rattle.ssz_said.specs.Outcome.{CallOutcome, refused}
+use Rattle.ssz_typed.specs.Sharing.{schema_in}
 
 -- the type of a number that was given out
 abbrev pub type_in : Library → ℕ → CallOutcome ℕ
@@ -45,7 +46,7 @@ pub record ReadsTypes (result : CallOutcome Types) (bytes : List ℕ) : Type 0 w
 -- the same, with no number given out
 abbrev pub ReadsLibrary : CallOutcome Library → List ℕ → Type 0
 ReadsLibrary (Ok library) bytes =
-    ReadsTypes (Ok library.schema) bytes × (library.found.items ≡ [])
+    ReadsTypes (Ok (schema_in library)) bytes × (library.found.items ≡ [])
 ReadsLibrary (Err fault) bytes = ReadsTypes (Err fault) bytes
 
 -- A type has a number, and no type has two, while numbers that were given out stay; or it has none
@@ -60,14 +61,14 @@ Numbers id old new (Err fault) =
 abbrev pub IsUnnamed : List ℕ → Library → SszFault → Type 0
 IsUnnamed name library fault =
     (fault ≡ refused NO_MEMORY)
-    × ((id : ℕ) × (type_number library.schema name ≡ Some id) × IsNew library.found.items id)
-    ⊎ (fault ≡ refused NO_TYPE) × ((¬ IsUtf8 name) ⊎ (type_number library.schema name ≡ None))
+    × ((id : ℕ) × (type_number (schema_in library) name ≡ Some id) × IsNew library.found.items id)
+    ⊎ (fault ≡ refused NO_TYPE) × ((¬ IsUtf8 name) ⊎ (type_number (schema_in library) name ≡ None))
 
 -- The name's type has the number, and no type has two, so that a name has one number; numbers that
 -- were given out stay.
 abbrev pub NumbersName : List ℕ → Library → Library → CallOutcome ℕ → Type 0
 NumbersName name old new (Ok number) =
-    (id : ℕ) × (type_number old.schema name ≡ Some id) × (type_in new number ≡ Ok id)
+    (id : ℕ) × (type_number (schema_in old) name ≡ Some id) × (type_in new number ≡ Ok id)
     × GivesNumber old.found.items new.found.items id number
 NumbersName name old new (Err fault) =
     (new.found.items ≡ old.found.items) × IsUnnamed name old fault

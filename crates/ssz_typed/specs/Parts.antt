@@ -7,6 +7,7 @@ use Rattle.ssz_said.specs.Outcome.{CallOutcome}
 use Rattle.ssz_typed.specs.declared.library.Library.{Library}
 use Rattle.ssz_typed.specs.Forms.{part_type}
 use Rattle.ssz_typed.specs.Library.{Numbers}
+use Rattle.ssz_typed.specs.Sharing.{schema_in}
 
 -- the type at a place of those that a type is made of, in a schema
 pub record IsPartType (types : Types) (id place : ℕ) (part : Option ℕ) : Type 0 where
@@ -18,4 +19,4 @@ pub record IsPartType (types : Types) (id place : ℕ) (part : Option ℕ) : Typ
 abbrev pub PartIsNumbered : CallOutcome SszType → Library → Library → CallOutcome ℕ → Type 0
 PartIsNumbered (Err why) old new answer = (new.found.items ≡ old.found.items) × (answer ≡ Err why)
 PartIsNumbered (Ok type) old new answer =
-    (id : ℕ) × (type_of old.schema id ≡ type) × Numbers id old new answer
+    (id : ℕ) × (type_of (schema_in old) id ≡ type) × Numbers id old new answer

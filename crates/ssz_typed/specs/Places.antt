@@ -10,6 +10,7 @@ use Rattle.ssz_typed.specs.declared.calls.SszStretch.{SszStretch}
 use Rattle.ssz_typed.specs.declared.library.Library.{Library}
 use Rattle.ssz_typed.specs.Calls.{part_or, steps_in, valid}
 use Rattle.ssz_typed.specs.Library.{type_in}
+use Rattle.ssz_typed.specs.Sharing.{schema_in}
 
 -- where the encoding of a part begins, and its length; a bit and a length stand nowhere
 abbrev pub stretch_of : Part → Option SszStretch
@@ -28,6 +29,6 @@ abbrev pub place_in : Library → ℕ → List ℕ → List ℕ → CallOutcome 
 place_in library number bytes text = do
   id ← type_in library number
   few ← at_most TOO_LONG MOST_BYTES bytes
-  steps ← steps_in (type_of library.schema id) text
-  whole ← valid (opened (type_of library.schema id) bytes)
+  steps ← steps_in (type_of (schema_in library) id) text
+  whole ← valid (opened (type_of (schema_in library) id) bytes)
   stretch_at whole steps

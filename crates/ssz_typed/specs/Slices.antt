@@ -9,11 +9,12 @@ use Rattle.ssz_typed.specs.declared.checked_bytes.CheckedBytes.{CheckedBytes}
 use Rattle.ssz_typed.specs.declared.library.Library.{Library}
 use Rattle.ssz_typed.specs.Calls.{checked_in, encoding_at, steps_in}
 use Rattle.ssz_typed.specs.Places.{stretch_at}
+use Rattle.ssz_typed.specs.Sharing.{schema_in, slice_schema}
 
--- bytes of a type of a schema, copied with the schema
+-- a copy of bytes of a type, which shares the schema
 pub record IsCopyOf (library : Library) (id : ℕ) (given : List ℕ) (slice : CheckedBytes) : Type 0
   where
-    pub schema : slice.schema ≡ library.schema
+    pub schema : slice_schema slice ≡ schema_in library
     pub kind : slice.id ≡ id
     pub bytes : slice.bytes ≡ given
 
@@ -30,16 +31,16 @@ Opens library number bytes answer =
 
 -- the whole that the bytes encode
 abbrev pub whole_of : CheckedBytes → Part
-whole_of slice = whole (type_of slice.schema slice.id) slice.bytes
+whole_of slice = whole (type_of (slice_schema slice) slice.id) slice.bytes
 
 -- the encoding of the part that a path leads to
 abbrev pub slice_part : CheckedBytes → List ℕ → CallOutcome (List ℕ)
 slice_part slice text = do
-  steps ← steps_in (type_of slice.schema slice.id) text
+  steps ← steps_in (type_of (slice_schema slice) slice.id) text
   encoding_at (whole_of slice) steps
 
 -- where that part stands in the bytes
 abbrev pub slice_place : CheckedBytes → List ℕ → CallOutcome SszStretch
 slice_place slice text = do
-  steps ← steps_in (type_of slice.schema slice.id) text
+  steps ← steps_in (type_of (slice_schema slice) slice.id) text
   stretch_at (whole_of slice) steps

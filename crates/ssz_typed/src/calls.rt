@@ -8,10 +8,11 @@ ghost use Rattle.ssz_value.specs.Faults.{first_fault};
 ghost use Rattle.ssz_typed.specs.Calls.{checked_in, encoding_at, gindex_in, part_in, root_in, size_in, status_of_path, steps_in};
 ghost use Rattle.ssz_typed.specs.Places.{place_in, stretch_at, stretch_of};
 ghost use Rattle.ssz_said.specs.Outcome.{IsUnlessMemory, refused};
+ghost use Rattle.ssz_typed.specs.Sharing.{schema_in};
 
 use super::library::Library;
+use ssz_checking::check;
 use ssz_chunk::ShaPair;
-use ssz_codec::check;
 use ssz_gindex::Gindex;
 use ssz_line::Steps;
 use ssz_roots::root_of_bytes;
@@ -24,10 +25,10 @@ use std::alloc::{AllocError, Global};
 /// The type of the number, where the bytes encode a value of it.
 pub fn checked(library: &Library, number: u64, bytes: &[u8]) -> Result<TypeId, SszFault>
     ensures exact { result ≡ checked_in library.now number bytes.now }
-    ensures known { IfOk result (λ id. id < length library.now.schema.trees) }
+    ensures known { IfOk result (λ id. id < length (schema_in library.now).trees) }
     ensures short { IfOk result (λ id. length bytes.now < 2 ^ 32) }
     ensures faultless { IfOk result (λ id.
-        first_fault (type_of library.now.schema id) 0 bytes.now ≡ None) }
+        first_fault (type_of (schema_in library.now) id) 0 bytes.now ≡ None) }
 {
     let id = match library.type_at(number) {
         Ok(id) => id,
@@ -36,7 +37,7 @@ pub fn checked(library: &Library, number: u64, bytes: &[u8]) -> Result<TypeId, S
     if bytes.len() > status::MOST_BYTES {
         return Err(SszFault::of(status::TOO_LONG));
     }
-    match check(&library.schema, id, bytes) {
+    match check(library.schema(), id, bytes) {
         Some(fault) => Err(SszFault::invalid(fault)),
         None => Ok(id),
     }
@@ -49,7 +50,16 @@ pub fn root(library: &Library, number: u64, bytes: &[u8]) -> Result<[u8; 32], Ss
     match checked(library, number, bytes) {
         Ok(id) => {
             let mut hasher = ShaPair::new();
-            Ok(root_of_bytes(&library.schema, id, bytes, &library.zeros, &mut hasher).0)
+            Ok(
+                root_of_bytes(
+                    library.schema(),
+                    id,
+                    bytes,
+                    &library.shared.zeros,
+                    &mut hasher,
+                )
+                .0,
+            )
         }
         Err(fault) => Err(fault),
     }
@@ -60,7 +70,7 @@ pub fn size(library: &Library, number: u64) -> Result<u64, SszFault>
     ensures { result ≡ size_in library.now number }
 {
     match library.type_at(number) {
-        Ok(id) => Ok(library.schema.fixed_size(id).unwrap_or(0)),
+        Ok(id) => Ok(library.schema().fixed_size(id).unwrap_or(0)),
         Err(fault) => Err(fault),
     }
 }
@@ -98,7 +108,7 @@ pub fn gindex(
         Ok(steps) => steps,
         Err(fault) => return Err(fault),
     };
-    match index_of(alloc, &library.schema, id, &steps) {
+    match index_of(alloc, library.schema(), id, &steps) {
         Ok(Some(index)) => Ok(halves(index.get())),
         Ok(None) => Err(SszFault::of(status::BAD_PATH)),
         Err(_) => Err(SszFault::of(status::NO_MEMORY)),
@@ -169,11 +179,11 @@ pub fn part<'b>(
     if bytes.len() > status::MOST_BYTES {
         return Err(SszFault::of(status::TOO_LONG));
     }
-    let steps = match steps_of(alloc, &library.schema, id, text) {
+    let steps = match steps_of(alloc, library.schema(), id, text) {
         Ok(steps) => steps,
         Err(fault) => return Err(fault),
     };
-    match Slice::new(&library.schema, id, bytes) {
+    match Slice::new(library.schema(), id, bytes) {
         Ok(whole) => part_at(&whole, steps.as_slice()),
         Err(fault) => Err(SszFault::invalid(fault)),
     }
@@ -234,11 +244,11 @@ pub fn place(
     if bytes.len() > status::MOST_BYTES {
         return Err(SszFault::of(status::TOO_LONG));
     }
-    let steps = match steps_of(alloc, &library.schema, id, text) {
+    let steps = match steps_of(alloc, library.schema(), id, text) {
         Ok(steps) => steps,
         Err(fault) => return Err(fault),
     };
-    match Slice::new(&library.schema, id, bytes) {
+    match Slice::new(library.schema(), id, bytes) {
         Ok(whole) => stretch_at(&whole, steps.as_slice()),
         Err(fault) => Err(SszFault::invalid(fault)),
     }

@@ -36,7 +36,7 @@ pub fn form(library: &Library, number: u64) -> Result<u32, SszFault>
     ensures { result ≡ form_in library.now number }
 {
     match library.type_at(number) {
-        Ok(id) => Ok(form_of(&library.schema, id)),
+        Ok(id) => Ok(form_of(library.schema(), id)),
         Err(fault) => Err(fault),
     }
 }
@@ -62,7 +62,7 @@ pub fn limit(library: &Library, number: u64) -> Result<u64, SszFault>
     ensures { result ≡ limit_in library.now number }
 {
     match library.type_at(number) {
-        Ok(id) => match limit_at(&library.schema, id) {
+        Ok(id) => match limit_at(library.schema(), id) {
             Some(limit) => Ok(limit),
             None => Err(SszFault::of(status::ABSENT)),
         },
@@ -88,7 +88,7 @@ pub fn parts(library: &Library, number: u64) -> Result<u64, SszFault>
     ensures { result ≡ parts_in library.now number }
 {
     match library.type_at(number) {
-        Ok(id) => Ok(parts_at(&library.schema, id)),
+        Ok(id) => Ok(parts_at(library.schema(), id)),
         Err(fault) => Err(fault),
     }
 }

@@ -23,5 +23,5 @@ pub mod texts;
 pub use calls::SszStretch;
 pub use checked_bytes::CheckedBytes;
 pub use law::slices_answer_as_bytes;
-pub use library::Library;
+pub use library::{Library, SharedSchema};
 pub use naming::read_types;

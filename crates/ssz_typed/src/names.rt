@@ -4,6 +4,7 @@ ghost use Rattle.std.specs.Result.{result_map_both};
 ghost use Rattle.ssz_said.specs.Outcome.{IsUnlessMemory};
 ghost use Rattle.ssz_schema.specs.NameTables.{IsInOrder};
 ghost use Rattle.ssz_typed.specs.Names.{name_lines, names_in, type_name_in};
+ghost use Rattle.ssz_typed.specs.Sharing.{schema_in};
 
 use super::library::Library;
 use ssz_said::{SszFault, status};
@@ -43,9 +44,9 @@ fn lines_in(alloc: Global, schema: &Schema) -> Result<Vec<u8>, AllocError>
 pub fn names(alloc: Global, library: &Library) -> Result<Vec<u8>, SszFault>
     ensures exact { IsUnlessMemory (result_map_both (λ text. text.items) (λ fault. fault) result)
         (names_in library.now) }
-    ensures order { IfOk result (λ text. IsInOrder library.now.schema.names) }
+    ensures order { IfOk result (λ text. IsInOrder (schema_in library.now).names) }
 {
-    match lines_in(alloc, &library.schema) {
+    match lines_in(alloc, library.schema()) {
         Ok(text) => Ok(text),
         Err(_) => Err(SszFault::of(status::NO_MEMORY)),
     }
@@ -57,7 +58,7 @@ pub fn type_name<'a>(library: &'a Library, number: u64) -> Result<&'a [u8], SszF
         ≡ type_name_in library.now number }
 {
     match library.type_at(number) {
-        Ok(id) => match library.schema.name_of(id) {
+        Ok(id) => match library.schema().name_of(id) {
             Some(name) => Ok(name),
             None => Err(SszFault::of(status::ABSENT)),
         },

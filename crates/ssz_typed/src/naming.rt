@@ -2,13 +2,15 @@
 ghost use Rattle.std.specs.Prelude.{◌≡◌, [], ◌∷◌, ◌++◌, ◌<◌, length, IfOk, OnErr};
 ghost use Rattle.ssz_typed.specs.Numbers.{IsNumberFound, IsNew};
 ghost use Rattle.ssz_typed.specs.Library.{NumbersName, Numbers, ReadsLibrary, ReadsTypes, fault_of_read, type_in};
+ghost use Rattle.ssz_typed.specs.Sharing.{IsShared, schema_in};
 
-use super::library::Library;
+use super::library::{Library, SharedSchema};
 use ssz_chunk::{ShaPair, ZeroTable};
 use ssz_said::{SszFault, status};
 use ssz_schema::{Schema, TypeId};
 use ssz_schema_json::{SchemaRead, read_schema};
 use std::alloc::{AllocError, Global};
+use std::sync::Arc;
 
 /// The types that the bytes of a schema file define.
 pub fn read_types(alloc: Global, bytes: &[u8]) -> Result<Schema, SszFault>
@@ -28,17 +30,24 @@ pub fn read_types(alloc: Global, bytes: &[u8]) -> Result<Schema, SszFault>
 }
 
 impl Library {
+    /// The schema.
+    pub fn schema(&self) -> &Schema
+        ensures { result.now ≡ schema_in self.now }
+    {
+        &self.shared.schema
+    }
+
     // With no type asked for yet.
-    fn of_schema(alloc: Global, schema: Schema) -> Library
-        ensures schema { result.schema ≡ schema }
-        ensures found { result.found.items ≡ [] }
+    fn of_schema(alloc: Global, schema: Schema) -> Result<Library, AllocError>
+        ensures schema { IfOk result (λ library. schema_in library ≡ schema) }
+        ensures found { IfOk result (λ library. library.found.items ≡ []) }
     {
         let mut hasher = ShaPair::new();
-        Library {
-            schema,
+        let zeros = ZeroTable::new(&mut hasher);
+        Ok(Library {
+            shared: Arc::new(alloc, SharedSchema { schema, zeros })?,
             found: Vec::new(alloc),
-            zeros: ZeroTable::new(&mut hasher),
-        }
+        })
     }
 
     /// The schema that the bytes of a schema file define, with no type asked for yet.
@@ -46,15 +55,28 @@ impl Library {
         ensures { ReadsLibrary result bytes.now }
     {
         match read_types(alloc, bytes) {
-            Ok(schema) => Ok(Library::of_schema(alloc, schema)),
+            Ok(schema) => match Library::of_schema(alloc, schema) {
+                Ok(library) => Ok(library),
+                Err(_) => Err(SszFault::of(status::NO_MEMORY)),
+            },
             Err(fault) => Err(fault),
         }
+    }
+
+    /// Another one on the same schema, whose types have the same numbers.
+    pub fn share(&self, alloc: Global) -> Result<Library, AllocError>
+        ensures { IfOk result (IsShared self.now) }
+    {
+        Ok(Library {
+            shared: Arc::try_clone(&self.shared)?,
+            found: self.found.iter().copied().collect(alloc)?,
+        })
     }
 
     /// The type of this number.
     pub fn type_at(&self, number: u64) -> Result<TypeId, SszFault>
         ensures exact { result ≡ type_in self.now number }
-        ensures known { IfOk result (λ id. id < length self.now.schema.trees) }
+        ensures known { IfOk result (λ id. id < length (schema_in self.now).trees) }
     {
         if number >= self.found.len() as u64 {
             return Err(SszFault::of(status::NO_TYPE));
@@ -65,12 +87,12 @@ impl Library {
     /// The number of the type of this name: its own number, if it has one, or the next.
     pub fn number_of(&mut self, name: &[u8]) -> Result<u64, SszFault>
         ensures names { NumbersName name.now self.old self.new result }
-        ensures schema { self.new.schema ≡ self.old.schema }
+        ensures schema { schema_in self.new ≡ schema_in self.old }
     {
         let Ok(name) = std::str::from_utf8(name) else {
             return Err(SszFault::of(status::NO_TYPE));
         };
-        let Some(id) = self.schema.find(name) else {
+        let Some(id) = self.schema().find(name) else {
             return Err(SszFault::of(status::NO_TYPE));
         };
         self.numbered(id)
@@ -78,9 +100,9 @@ impl Library {
 
     // The number of a type: its own, if it has one, or the next.
     pub(crate) fn numbered(&mut self, id: TypeId) -> Result<u64, SszFault>
-        requires { id < length self.old.schema.trees }
+        requires { id < length (schema_in self.old).trees }
         ensures numbers { Numbers id self.old self.new result }
-        ensures schema { self.new.schema ≡ self.old.schema }
+        ensures schema { schema_in self.new ≡ schema_in self.old }
     {
         if let Some(number) = place_of(self.found.as_slice(), id) {
             return Ok(number);
@@ -93,12 +115,12 @@ impl Library {
 
     // Gives a type the next number.
     fn add(&mut self, id: TypeId) -> Result<u64, AllocError>
-        requires known { id < length self.old.schema.trees }
+        requires known { id < length (schema_in self.old).trees }
         requires fresh { IsNew self.old.found.items id }
         ensures added { IfOk result (λ number.
             (number ≡ length self.old.found.items)
             × (self.new.found.items ≡ self.old.found.items ++ id ∷ [])) }
-        ensures schema { self.new.schema ≡ self.old.schema }
+        ensures schema { schema_in self.new ≡ schema_in self.old }
         ensures kept { OnErr result (self.new.found.items ≡ self.old.found.items) }
     {
         let number = self.found.len() as u64;

@@ -29,8 +29,8 @@ pub fn fields(library: &Library, number: u64) -> Result<u64, SszFault>
     ensures { result ≡ fields_of_type library.now number }
 {
     match library.type_at(number) {
-        Ok(id) => match library.schema.ty(id) {
-            Ty::Container(_) => Ok(library.schema.chunk_count(id)),
+        Ok(id) => match library.schema().ty(id) {
+            Ty::Container(_) => Ok(library.schema().chunk_count(id)),
             _ => Ok(0),
         },
         Err(fault) => Err(fault),
@@ -43,7 +43,7 @@ pub fn field<'a>(library: &'a Library, number: u64, place: u64) -> Result<&'a [u
         ≡ field_in library.now number place }
 {
     match library.type_at(number) {
-        Ok(id) => match name_at(&library.schema, id, place) {
+        Ok(id) => match name_at(library.schema(), id, place) {
             Some(name) => Ok(name),
             None => Err(SszFault::of(status::ABSENT)),
         },

@@ -2,6 +2,7 @@
 ghost use Rattle.std.specs.Prelude.{◌≡◌, ◌<◌, ◌==◌, length, if◌then◌else◌, Some, None, option_map, slice_get, slice_index_or};
 ghost use Rattle.ssz_typed.specs.Parts.{IsPartType, PartIsNumbered};
 ghost use Rattle.ssz_typed.specs.Forms.{part_type_in};
+ghost use Rattle.ssz_typed.specs.Sharing.{schema_in};
 
 use super::library::Library;
 use ssz_said::{SszFault, status};
@@ -53,13 +54,13 @@ impl Library {
     pub fn number_of_part(&mut self, number: u64, place: u64) -> Result<u64, SszFault>
         ensures numbered { PartIsNumbered (part_type_in self.old number place) self.old self.new
             result }
-        ensures schema { self.new.schema ≡ self.old.schema }
+        ensures schema { schema_in self.new ≡ schema_in self.old }
     {
         let id = match self.type_at(number) {
             Ok(id) => id,
             Err(fault) => return Err(fault),
         };
-        match part_at(&self.schema, id, place) {
+        match part_at(self.schema(), id, place) {
             Some(part) => self.numbered(part),
             None => Err(SszFault::of(status::ABSENT)),
         }

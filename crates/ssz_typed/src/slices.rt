@@ -5,6 +5,7 @@ ghost use Rattle.ssz_schema.specs.Unfolding.{type_of};
 ghost use Rattle.ssz_slices.specs.Written.{encoding_written};
 ghost use Rattle.ssz_value.specs.Faults.{first_fault};
 ghost use Rattle.ssz_said.specs.Outcome.{IsUnlessMemory};
+ghost use Rattle.ssz_typed.specs.Sharing.{schema_in, slice_schema};
 ghost use Rattle.ssz_typed.specs.Slices.{Opens, slice_part, slice_place};
 
 use super::calls::{SszStretch, checked, part_at, steps_of, stretch_at};
@@ -12,28 +13,29 @@ use super::checked_bytes::CheckedBytes;
 use super::library::Library;
 use ssz_bytes::ByteRun;
 use ssz_said::{SszFault, status};
-use ssz_schema::{Schema, TypeId};
+use ssz_schema::TypeId;
 use ssz_slices::{Encoding, Slice};
 use std::alloc::{AllocError, Global};
+use std::sync::Arc;
 
 impl CheckedBytes {
-    // Copies of bytes without a fault and of their schema.
+    // A copy of bytes without a fault, which shares their schema.
     fn copy_of(
         alloc: Global,
-        schema: &Schema,
+        library: &Library,
         id: TypeId,
         bytes: &[u8],
     ) -> Result<CheckedBytes, AllocError>
-        requires known { id < length schema.now.trees }
+        requires known { id < length (schema_in library.now).trees }
         requires short { length bytes.now < 2 ^ 32 }
-        requires faultless { first_fault (type_of schema.now id) 0 bytes.now ≡ None }
-        ensures schema { IfOk result (λ slice. slice.schema ≡ schema.now) }
+        requires faultless { first_fault (type_of (schema_in library.now) id) 0 bytes.now ≡ None }
+        ensures schema { IfOk result (λ slice. slice_schema slice ≡ schema_in library.now) }
         ensures kind { IfOk result (λ slice. slice.id ≡ id) }
         ensures bytes { IfOk result (λ slice. slice.bytes ≡ bytes.now) }
     {
         let bytes = ByteRun::copy_of(alloc, bytes)?;
-        let schema = schema.copied(alloc)?;
-        Ok(CheckedBytes { schema, id, bytes })
+        let shared = Arc::try_clone(&library.shared)?;
+        Ok(CheckedBytes { shared, id, bytes })
     }
 
     /// Checks the bytes as a value of the type of a number, and copies them.
@@ -49,7 +51,7 @@ impl CheckedBytes {
             Ok(id) => id,
             Err(fault) => return Err(fault),
         };
-        match CheckedBytes::copy_of(alloc, &library.schema, id, bytes) {
+        match CheckedBytes::copy_of(alloc, library, id, bytes) {
             Ok(slice) => Ok(slice),
             Err(_) => Err(SszFault::of(status::NO_MEMORY)),
         }
@@ -60,11 +62,11 @@ impl CheckedBytes {
         ensures { IsUnlessMemory (result_map_both encoding_written (λ fault. fault) result)
             (slice_part self.now text.now) }
     {
-        let steps = match steps_of(alloc, &self.schema, self.id, text) {
+        let steps = match steps_of(alloc, &self.shared.schema, self.id, text) {
             Ok(steps) => steps,
             Err(fault) => return Err(fault),
         };
-        let whole = Slice::whole(&self.schema, self.id, self.bytes.as_slice());
+        let whole = Slice::whole(&self.shared.schema, self.id, self.bytes.as_slice());
         part_at(&whole, steps.as_slice())
     }
 
@@ -72,11 +74,11 @@ impl CheckedBytes {
     pub fn place(&self, alloc: Global, text: &[u8]) -> Result<SszStretch, SszFault>
         ensures { IsUnlessMemory result (slice_place self.now text.now) }
     {
-        let steps = match steps_of(alloc, &self.schema, self.id, text) {
+        let steps = match steps_of(alloc, &self.shared.schema, self.id, text) {
             Ok(steps) => steps,
             Err(fault) => return Err(fault),
         };
-        let whole = Slice::whole(&self.schema, self.id, self.bytes.as_slice());
+        let whole = Slice::whole(&self.shared.schema, self.id, self.bytes.as_slice());
         stretch_at(&whole, steps.as_slice())
     }
 }

@@ -25,7 +25,7 @@ pub fn text(
     if bytes.len() > status::MOST_BYTES {
         return Err(SszFault::of(status::TOO_LONG));
     }
-    text_of_bytes(alloc, &library.schema, id, bytes)
+    text_of_bytes(alloc, library.schema(), id, bytes)
 }
 
 /// The encoding of the type's default.
@@ -34,7 +34,7 @@ pub fn default(alloc: Global, library: &Library, number: u64) -> Result<Vec<u8>,
         (default_in library.now number) }
 {
     match library.type_at(number) {
-        Ok(id) => default_bytes(alloc, &library.schema, id),
+        Ok(id) => default_bytes(alloc, library.schema(), id),
         Err(fault) => Err(fault),
     }
 }
@@ -56,7 +56,7 @@ pub fn encoding(
     if text.len() > status::MOST_BYTES {
         return Err(SszFault::of(status::TOO_LONG));
     }
-    match bytes_of_text(alloc, &library.schema, id, text) {
+    match bytes_of_text(alloc, library.schema(), id, text) {
         Ok(bytes) => Ok(bytes),
         Err(why) => Err(why.fault()),
     }

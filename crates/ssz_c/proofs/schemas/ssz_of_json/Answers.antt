@@ -2,7 +2,7 @@ use Rattle.std.proofs.Common.{◌≡◌, ◌∙◌, ap, None, Some, Option, ℕ,
 use Rattle.ssz_said.specs.declared.fault.SszFault.{SszFault}
 use Rattle.ssz_typed.specs.declared.library.Library.{Library}
 use Rattle.ssz_said.specs.declared.status.TheConstants.{NO_HANDLE}
-use Rattle.ssz_c.specs.Reading.{IsEncodingMade, MakesHeld}
+use Rattle.ssz_handles.specs.Reading.{IsEncodingMade, MakesHeld}
 use Rattle.ssz_said.specs.Outcome.{IsCopied, CallOutcome, refused}
 use Rattle.ssz_c.proofs.schemas.ssz_of_json.Goals as goal
 

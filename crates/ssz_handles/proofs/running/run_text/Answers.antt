@@ -1,0 +1,18 @@
+use Rattle.std.proofs.Common.{Some, ap, ◌∙◌}
+use Rattle.ssz_handles.specs.Session.{LineScene}
+use Rattle.ssz_handles.proofs.LineSteps.{said-does}
+use Rattle.ssz_handles.proofs.running.run_text.Goals as goal
+
+pub returns-in-Ok-Some-clause-does : goal.returns-in-Ok-Some-clause-does
+returns-in-Ok-Some-clause-does c =
+    let scene : LineScene = record {
+      engine = c.args.engine.now;
+      hashed = c.args.hasher.now;
+      line = c.args.line;
+    } in
+    said-does c.run_statement.result c.args.text.now scene c.run_statement.new.engine
+    c.run_statement.new.reply.items (
+      c.in-Ok-Some.statement,
+      c.in-Ok-Some.ensures ∙ ap Some c.in-Ok-Some.field-0-is,
+      c.run_statement.ensures.does,
+    )
