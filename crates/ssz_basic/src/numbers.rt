@@ -1,6 +1,6 @@
 ghost use Rattle.std.specs.Prelude.{◌≡◌, ◌≢◌, ◌<◌, ◌^◌, ◌==◌, length, IfOk, ◌∷◌, []};
 ghost use Rattle.std.specs.Result.{result_err};
-ghost use Rattle.ssz_schema.specs.declared.width.Width.TheVariants.{W256};
+ghost use Rattle.ssz_schema.specs.width.Width.TheVariants.{W256};
 ghost use Rattle.ssz_schema.specs.Sizes.{byte_count};
 ghost use Rattle.ssz_bytes.specs.Bytes.{le_bytes, le_number};
 ghost use Rattle.ssz_bytes.specs.Faults.{bool_fault};

@@ -1,11 +1,13 @@
 -- Elements of one byte.
-use Rattle.std.proofs.Common.{ℕ, zero, suc, ◌+◌, ◌-◌, ◌*◌, ◌<◌, ◌≡◌, List, [], ◌∷◌, length, map, replicate, take, drop, get_or, slice_range, Some, None, refl, sym, ap, ap₂, ◌∙◌, arith}
+use Rattle.std.proofs.Common.{ℕ, zero, suc, ◌+◌, ◌-◌, ◌*◌, ◌/◌, ◌%◌, ◌<◌, ◌≤◌, ◌≡◌, not, List, [], ◌∷◌, length, map, replicate, take, drop, get_or, slice_range, Some, None, refl, sym, ap, ap₂, ◌∙◌, arith, cond, eqb, ltb, lt-ltb, le-ltb}
+use Rattle.std.proofs.lemmas.Bool.{cond-true, cond-false}
 use Rattle.std.proofs.lemmas.List.{drop_more, drop_all}
-use Rattle.ssz_schema.specs.declared.width.Width.TheVariants.{W8}
+use Rattle.ssz_schema.specs.width.Width.TheVariants.{W8}
 use Rattle.ssz_schema.specs.Types.{uint}
 use Rattle.ssz_bytes.specs.declared.fault.Fault.{Fault}
+use Rattle.ssz_bytes.specs.Faults.{ragged, too_many}
 use Rattle.ssz_value.specs.Values.{number}
-use Rattle.ssz_value.specs.Faults.{first_fault, scopes, scope_bytes, alike_fault, elements_fault, length_fault}
+use Rattle.ssz_value.specs.Faults.{first_fault, scopes, scope_bytes, alike_fault, elements_fault, length_fault, count_fault}
 use Rattle.ssz_value.specs.Reading.{value_in, elements_in}
 use Rattle.ssz_value.proofs.Agree.{right_length, no_fault}
 use Rattle.ssz_parts.proofs.ElementFaults.{head_fault-alike, fixed_found_head}
@@ -51,3 +53,22 @@ bytes_read_from (suc n) place b e =
 pub bytes_read : (count : ℕ) (b : List ℕ) → length b ≡ count
     → map (value_in (uint W8)) (elements_in (Some 1) count b) ≡ map number b
 bytes_read count b e = bytes_read_from count 0 b (omega arith)
+
+count_of_bytes : (limit s : ℕ) (b : List ℕ)
+    → count_fault (Some 1) limit s b ≡ cond (ltb limit (length b)) (too_many s) None
+count_of_bytes limit s b =
+    let whole : length b % 1 ≡ 0 = omega arith in
+    let all : length b / 1 ≡ length b = omega arith in
+    ap₂ (λ (rest count : ℕ).
+    cond (not (eqb rest 0)) (ragged s) (cond (ltb limit count) (too_many s) None)) whole all
+
+-- a list has as many elements as bytes
+pub bytes_many : (limit s : ℕ) (b : List ℕ) → limit < length b
+    → count_fault (Some 1) limit s b ≡ too_many s
+bytes_many limit s b above =
+    count_of_bytes limit s b ∙ cond-true _ _ _ (lt-ltb limit (length b) above)
+
+pub bytes_few : (limit s : ℕ) (b : List ℕ) → length b ≤ limit
+    → count_fault (Some 1) limit s b ≡ None
+bytes_few limit s b within =
+    count_of_bytes limit s b ∙ cond-false _ _ _ (le-ltb limit (length b) within)

@@ -2,7 +2,7 @@
 use Rattle.std.proofs.Common.{ℕ, zero, suc, ◌≡◌, ◌<◌, ◌≤◌, ◌+◌, ◌^◌, List, [], ◌∷◌, length, map, drop, get_or, slice_get, sum_by, Option, Some, None, refl, ap, ap₂, subst, ◌∙◌, arith, zero-mul, ◌*◌, sym}
 use Rattle.std.proofs.lemmas.List.{drop_all}
 use Rattle.std.proofs.lemmas.List.Sums.{sum_by-cons}
-use Rattle.ssz_schema.specs.declared.width.Width.TheVariants.{W8}
+use Rattle.ssz_schema.specs.width.Width.TheVariants.{W8}
 use Rattle.ssz_schema.specs.Types.{SszType, uint}
 use Rattle.ssz_schema.specs.Sizes.{fixed_size, part_length}
 use Rattle.ssz_schema.specs.Unfolding.{type_tree_at, fields_over, options_over}
@@ -15,7 +15,7 @@ use Rattle.ssz_value.proofs.PartLemmas.{Part, size_at}
 use Rattle.ssz_value.specs.Shapes.{AreFields}
 use Rattle.ssz_value.specs.Written.{capped}
 use Rattle.std.specs.List.{AllByRecursion}
-use Rattle.ssz_schema.specs.declared.format.Format.{Format}
+use Rattle.ssz_schema.specs.format.Format.{Format}
 use Rattle.ssz_schema.specs.Legal.{IsLegal}
 use Rattle.ssz_parts.proofs.PartSizes.{fixed_part}
 

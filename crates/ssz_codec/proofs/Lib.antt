@@ -1,6 +1,3 @@
-pub mod PlainLemmas
-pub mod SoundLemmas
-pub mod NumberLemmas
 pub mod OptionLemmas
 pub mod ByteLemmas
 pub mod BitLemmas

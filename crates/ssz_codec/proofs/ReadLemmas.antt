@@ -3,12 +3,11 @@ use Rattle.std.proofs.Common.{ℕ, ◌+◌, ◌-◌, ◌*◌, ◌<◌, ◌≤◌
 use Rattle.std.proofs.lemmas.List.{append-nil, drop_all}
 use Rattle.ssz_schema.specs.Types.{SszType, list, vector}
 use Rattle.ssz_schema.specs.Sizes.{head_size, fixed_size}
-use Rattle.ssz_schema.specs.declared.format.Format.{Format}
+use Rattle.ssz_schema.specs.format.Format.{Format}
 use Rattle.ssz_schema.specs.Legal.{IsLegal}
 use Rattle.ssz_schema.specs.Unfolding.{type_tree_at, fields_over}
 use Rattle.ssz_bytes.specs.declared.fault.Fault.{Fault}
 use Rattle.ssz_value.specs.declared.value.Value.{Value}
-use Rattle.ssz_value.specs.Encoding.{heads_length}
 use Rattle.ssz_value.specs.Values.{SszValue, sequence, values, Fits}
 use Rattle.ssz_value.specs.Laws.{Encodes}
 use Rattle.ssz_value.proofs.Agree.{IsInput}
@@ -18,9 +17,8 @@ use Rattle.ssz_value.specs.Faults.{first_fault, elements_fault, element_count, c
 use Rattle.ssz_value.specs.Reading.{value_in, elements_in, fields_in}
 use Rattle.ssz_parts.specs.Ranges.{part_range}
 use Rattle.ssz_parts.proofs.ElementFaults.{left}
-use Rattle.ssz_parts.proofs.FieldLemmas.{FieldsFrom, InRange}
 use Rattle.ssz_schema.proofs.WalkFields.{drop_at}
-use Rattle.ssz_value.proofs.PartLemmas.{Part, sizes_of, size_at, sizes_from}
+use Rattle.ssz_value.proofs.PartLemmas.{Part, sizes_of, size_at}
 use Rattle.ssz_codec.specs.declared.fault.DecodeFault.{DecodeFault}
 use Rattle.ssz_codec.specs.declared.fault.DecodeFault.TheVariants.{Bad, Memory}
 use Rattle.ssz_codec.specs.Answers.{Decodes, Faulty}
@@ -208,27 +206,3 @@ decoded_fits format t b (Ok v) legal input h =
     let back = (agrees format t legal).only 0 b input h.0 in
     record { fits = subst (Fits t) (sym h.1.value) back.fits; formed = h.1.formed }
 decoded_fits format t b (Err e) legal input h = tt
-
--- the part of a field lies within the bytes
-pub field_range : (trees : List SszType) (parts : List Part) (s : ℕ) (b : List ℕ)
-    (i place from to : ℕ) (part : Part) → FieldsFrom trees parts s b i place → i < length parts
-    → part ≡ get_or parts i part
-    → (from, to) ≡ part_range (size_at trees part) (sizes_of trees (drop (i + 1) parts)) place b
-    → (from ≤ to) × (to ≤ length b)
-field_range trees parts s b i place from to part h below e is =
-    let range = subst (λ (sizes : List (Option ℕ)). InRange sizes place b)
-    (sizes_from trees parts i part below e) h.range in
-    let first = ap (λ (r : ℕ × ℕ). r.0) is in
-    let last = ap (λ (r : ℕ × ℕ). r.1) is in (
-      omega (arith, range.0, first, last),
-      omega (arith, range.1, last),
-    )
-
--- its fixed part, and those behind it, too
-pub field_room : (trees : List SszType) (parts : List Part) (s : ℕ) (b : List ℕ)
-    (i place : ℕ) (part : Part) → FieldsFrom trees parts s b i place → i < length parts
-    → part ≡ get_or parts i part
-    → place + head_size (size_at trees part)
-    + heads_length (sizes_of trees (drop (i + 1) parts)) ≤ length b
-field_room trees parts s b i place part h below e =
-    omega (arith, h.room, ap heads_length (sizes_from trees parts i part below e))

@@ -1,4 +1,2 @@
 pub mod Answers
-pub mod Plain
-pub mod Sound
 pub mod Writing

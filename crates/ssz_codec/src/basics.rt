@@ -1,18 +1,19 @@
 //! Values of basic types and of bits, read from bytes.
 ghost use Rattle.std.specs.Prelude.{◌≡◌, ◌≢◌, ◌+◌, ◌*◌, ◌<◌, ◌≤◌, ◌^◌, length, map, Some, IfOk};
-ghost use Rattle.ssz_schema.specs.declared.width.Width.TheVariants.{W8, W64, W256};
+ghost use Rattle.std.specs.Result.{result_err};
+ghost use Rattle.ssz_schema.specs.width.Width.TheVariants.{W8, W64, W256};
 ghost use Rattle.ssz_schema.specs.Types.{uint, boolean, vector, bitvector, bitlist};
 ghost use Rattle.ssz_schema.specs.Sizes.{byte_count};
 ghost use Rattle.ssz_bytes.specs.Bytes.{le_number, bits_of_number};
 ghost use Rattle.ssz_value.specs.Values.{sequence, values};
-ghost use Rattle.ssz_value.specs.Faults.{first_fault, elements_fault};
+ghost use Rattle.ssz_value.specs.Faults.{first_fault, elements_fault, element_count, count_fault};
 ghost use Rattle.ssz_value.specs.Reading.{value_in, elements_in};
 ghost use Rattle.ssz_value.specs.Standing.{Stands};
 ghost use Rattle.ssz_codec.specs.Answers.{AreNumbers, Decodes, DecodesTo};
 
 use super::fault::DecodeFault;
 use ssz_basic::{bit, read_bitlist, read_bitvector, read_bool, read_uint};
-use ssz_bytes::{BitRun, ByteRun};
+use ssz_bytes::{BitRun, ByteRun, Fault};
 use ssz_chunk::Chunk;
 use ssz_parts::length_fault;
 use ssz_schema::Width;
@@ -184,6 +185,22 @@ fn read_bits(alloc: Global, n: u64, bytes: &[u8]) -> Result<BitRun, AllocError>
         bits.push(bit(bytes, i))?;
     }
     Ok(BitRun::from_bits(bits))
+}
+
+/// How many elements of one byte a list has, or that they are too many.
+#[inline(always)]
+pub fn count_bytes(limit: u64, start: u64, bytes: &[u8]) -> Result<u64, Fault>
+    ensures ok { IfOk result (λ n. n ≡ element_count (Some 1) bytes.now) }
+    ensures fault { result_err result ≡ count_fault (Some 1) limit start bytes.now }
+{
+    let len = bytes.len() as u64;
+    if limit < len {
+        return Err(Fault {
+            code: Fault::TOO_MANY,
+            position: start,
+        });
+    }
+    Ok(len)
 }
 
 /// Count elements of one byte, which begin at start.

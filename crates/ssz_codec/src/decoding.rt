@@ -1,20 +1,24 @@
-ghost use Rattle.std.specs.Prelude.{◌≡◌, ◌+◌, ◌*◌, ◌<◌, ◌≤◌, ◌^◌, length, map, Some, None, Option, IfOk, OnOk, vec_len, vec_capacity, nat_lt, if◌then◌else◌};
+ghost use Rattle.std.specs.Prelude.{◌≡◌, ◌+◌, ◌*◌, ◌<◌, ◌≤◌, ◌^◌, length, map, Some, None, Option, IfOk, OnOk, drop, vec_len, vec_capacity, nat_lt, if◌then◌else◌};
 ghost use Rattle.std.specs.List.{AllByRecursion};
+ghost use Rattle.std.specs.Option.{ForSome};
+ghost use Rattle.std.specs.Result.{result_err};
 ghost use Rattle.ssz_schema.specs.Types.{Options, boolean, container, vector, list, bitvector, bitlist, union};
-ghost use Rattle.ssz_schema.specs.Sizes.{fixed_size};
+ghost use Rattle.ssz_schema.specs.Sizes.{fixed_size, head_size, part_sizes};
 ghost use Rattle.ssz_schema.specs.Legal.{IsSize};
 ghost use Rattle.ssz_bytes.specs.Faults.{extra};
 ghost use Rattle.ssz_schema.specs.Unfolding.{type_of, fields_over, options_over, IsBelow};
 ghost use Rattle.ssz_value.specs.Values.{chosen_none, sequence, values};
-ghost use Rattle.ssz_value.specs.Faults.{first_fault, elements_fault};
+ghost use Rattle.ssz_value.specs.Encoding.{heads_length};
+ghost use Rattle.ssz_value.specs.Faults.{first_fault, elements_fault, element_count, count_fault};
 ghost use Rattle.ssz_value.specs.Reading.{value_in, elements_in};
 ghost use Rattle.ssz_value.specs.Laws.{Encodes};
 ghost use Rattle.ssz_value.specs.Standing.{value_of, IsValue, Stands};
 ghost use Rattle.ssz_value.specs.Shapes.{StandAlike};
+ghost use Rattle.ssz_parts.specs.Ranges.{part_range};
 ghost use Rattle.ssz_codec.specs.declared.fault.DecodeFault.TheVariants.{Bad};
 ghost use Rattle.ssz_codec.specs.Answers.{Decodes, DecodesTo, PutsTo};
 
-use super::basics::{bitlist, bitvector, boolean, byte_elements, number, numbers};
+use super::basics::{bitlist, bitvector, boolean, byte_elements, count_bytes, number, numbers};
 use super::fault::DecodeFault;
 use ssz_bytes::Fault;
 use ssz_parts::{
@@ -69,10 +73,38 @@ fn scope(
     }
 }
 
-// Puts the value of the bytes, which begin at start, behind the others, for which there is room. A
-// form that is known here is built in its place.
+// Puts the value of the bytes, which begin at start, behind the others, for which there is room: of
+// an element, so that a container, too, is built in its place without a call.
 #[cycle(scope)]
+#[inline(always)]
 fn put(
+    alloc: Global,
+    schema: &Schema,
+    id: TypeId,
+    start: u64,
+    bytes: &[u8],
+    parts: &mut Vec<Value>,
+) -> Result<(), DecodeFault>
+    requires known { id < length schema.now.trees }
+    requires short { start + length bytes.now < 2 ^ 32 }
+    requires room { vec_len parts.old < vec_capacity parts.old }
+    ensures put { let t = type_of schema.now id in
+        PutsTo t start bytes.now parts.old.items parts.new.items result }
+    ensures len { OnOk result (vec_len parts.new ≡ vec_len parts.old + 1) }
+    ensures capacity { OnOk result (vec_capacity parts.new ≡ vec_capacity parts.old) }
+{
+    if let Ty::Container(fields) = schema.ty(id) {
+        let value = container(alloc, schema, id, fields.as_slice(), start, bytes)?;
+        parts.push_reserved(value);
+        return Ok(());
+    }
+    put_field(alloc, schema, id, start, bytes, parts)
+}
+
+// The same of a field: numbers, booleans, vectors and lists, the commonest, without a call.
+#[cycle(scope)]
+#[inline(always)]
+fn put_field(
     alloc: Global,
     schema: &Schema,
     id: TypeId,
@@ -109,23 +141,14 @@ fn put(
             parts.push_reserved(value);
             Ok(())
         }
-        Ty::Container(fields) => {
-            let value = container(alloc, schema, id, fields.as_slice(), start, bytes)?;
-            parts.push_reserved(value);
-            Ok(())
-        }
-        _ => {
-            let value = scope(alloc, schema, id, start, bytes)?;
-            parts.push_reserved(value);
-            Ok(())
-        }
+        _ => put_other(alloc, schema, id, start, bytes, parts),
     }
 }
 
-// The same of a field: a number, the commonest, without a call.
+// The same of the other forms.
 #[cycle(scope)]
-#[inline(always)]
-fn put_field(
+#[inline(never)]
+fn put_other(
     alloc: Global,
     schema: &Schema,
     id: TypeId,
@@ -141,12 +164,14 @@ fn put_field(
     ensures len { OnOk result (vec_len parts.new ≡ vec_len parts.old + 1) }
     ensures capacity { OnOk result (vec_capacity parts.new ≡ vec_capacity parts.old) }
 {
-    if let Ty::Uint(width) = schema.ty(id) {
-        let value = number(*width, start, bytes)?;
+    if let Ty::Container(fields) = schema.ty(id) {
+        let value = container(alloc, schema, id, fields.as_slice(), start, bytes)?;
         parts.push_reserved(value);
         return Ok(());
     }
-    put(alloc, schema, id, start, bytes, parts)
+    let value = scope(alloc, schema, id, start, bytes)?;
+    parts.push_reserved(value);
+    Ok(())
 }
 
 // Of a list of so many elements at most.
@@ -164,9 +189,23 @@ fn list(
     requires short { start + length bytes.now < 2 ^ 32 }
     ensures { DecodesTo (list (type_of schema.now elem) limit) start bytes.now result }
 {
-    match count_of(schema.fixed_size(elem), limit, start, bytes) {
+    match element_count(schema.fixed_size(elem), limit, start, bytes) {
         Ok(count) => elements(alloc, schema, elem, count, start, bytes),
         Err(fault) => Err(DecodeFault::Bad(fault)),
+    }
+}
+
+// How many elements a list has, or what makes their number wrong: of one byte without a division.
+#[inline(always)]
+fn element_count(size: Option<u64>, limit: u64, start: u64, bytes: &[u8]) -> Result<u64, Fault>
+    requires short { start + length bytes.now < 2 ^ 32 }
+    requires some { ForSome size (λ z. 0 < z) }
+    ensures ok { IfOk result (λ n. n ≡ element_count size bytes.now) }
+    ensures fault { result_err result ≡ count_fault size limit start bytes.now }
+{
+    match size {
+        Some(1) => count_bytes(limit, start, bytes),
+        _ => count_of(size, limit, start, bytes),
     }
 }
 
@@ -351,7 +390,8 @@ fn container(
     let mut parts = Vec::with_capacity(alloc, fields.len())?;
     let mut place = 0usize;
     for (i, field) in fields.iter().enumerate() {
-        let (from, to) = part_range(schema, field.1, fields, i, place, bytes);
+        let head = head_len(schema.fixed_size(field.1)) as usize;
+        let (from, to) = field_range(schema, field.1, fields, i, place, bytes);
         let part = &bytes[from..to];
         put_field(
             alloc,
@@ -361,7 +401,34 @@ fn container(
             part,
             &mut parts,
         )?;
-        place += head_len(schema.fixed_size(field.1)) as usize;
+        place += head;
     }
     Ok(Value::Seq(parts))
+}
+
+// Where the part of field i lies, from and to, whose fixed part is at place: of a part of fixed
+// size without a call.
+#[inline(always)]
+fn field_range(
+    schema: &Schema,
+    field: TypeId,
+    fields: &[(Name, TypeId)],
+    i: usize,
+    place: usize,
+    bytes: &[u8],
+) -> (usize, usize)
+    requires field { field < length schema.now.trees }
+    requires below { i < length fields.now }
+    requires known { AllByRecursion (λ part. part.1 < length schema.now.trees) fields.now }
+    requires room { place + head_size (fixed_size (type_of schema.now field))
+        + heads_length (part_sizes (fields_over schema.now.trees (drop (i + 1) fields.now)))
+        ≤ length bytes.now }
+    requires short { length bytes.now < 2 ^ 32 }
+    ensures { result ≡ part_range (fixed_size (type_of schema.now field))
+        (part_sizes (fields_over schema.now.trees (drop (i + 1) fields.now))) place bytes.now }
+{
+    match schema.fixed_size(field) {
+        Some(size) => (place, place + size as usize),
+        None => part_range(schema, field, fields, i, place, bytes),
+    }
 }

@@ -213,7 +213,8 @@ module _ (pair_of : PairOf) (store : EngineContent) (writer : ℕ) (v : Name) (i
   }
   proves-answers new asked count after (decision.BadBytes f) found proves takes = absurd proves
   proves-answers new asked count after (decision.BadJson f) found proves takes = absurd proves
-  proves-answers new asked count after (decision.Made n id node room) found proves takes = absurd proves
+  proves-answers new asked count after (decision.Made n id node room) found proves takes =
+      absurd proves
   proves-answers new asked count after (decision.Edited n node) found proves takes = absurd proves
   proves-answers new asked count after (decision.Dropped n) found proves takes = absurd proves
   proves-answers new asked count after (decision.Saved n bytes) found proves takes = absurd proves

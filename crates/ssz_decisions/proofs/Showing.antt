@@ -4,7 +4,7 @@ use Rattle.std.specs.Prelude.{nat_lt, IsSomeAnd}
 use Rattle.std.proofs.lemmas.Option.{same_Some}
 use Rattle.ssz_chunk.specs.Tree.{Tree}
 use Rattle.ssz_chunk.specs.Index.{at}
-use Rattle.ssz_schema.specs.declared.format.Format.{Format}
+use Rattle.ssz_schema.specs.format.Format.{Format}
 use Rattle.ssz_schema.specs.Types.{SszType}
 use Rattle.ssz_schema.specs.Indices.{Spot}
 use Rattle.ssz_schema.specs.Legal.{IsLegal}

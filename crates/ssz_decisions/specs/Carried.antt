@@ -45,11 +45,16 @@ reply_to line (decision.Edited name node) = reply.Done
 reply_to line (decision.Dropped name) = reply.Done
 reply_to line (decision.Saved name bytes) = reply.Done
 
+-- a refusal changes nothing
 abbrev pub outcome_of : Decision → Outcome
 outcome_of (decision.Refused code) = Refused
 outcome_of (decision.BadBytes fault) = Refused
 outcome_of (decision.BadJson fault) = Refused
-outcome_of _ = Accepted
+outcome_of (decision.Said reply) = Accepted
+outcome_of (decision.Made name id node room) = Accepted
+outcome_of (decision.Edited name node) = Accepted
+outcome_of (decision.Dropped name) = Accepted
+outcome_of (decision.Saved name bytes) = Accepted
 
 -- what the files then tell
 abbrev pub told_after : Decision → Option Files → Option Files
@@ -68,8 +73,14 @@ pub record IsCarriedOut (made : Decision) (writer line : ℕ) (old new : Entries
 abbrev pub Fails : EngineFault → Decision → Option Files → Option Files → Type 0
 Fails Read made old new = ⊥
 Fails Memory made old new = new ≡ old
+Fails Write (decision.Refused code) old new = ⊥
+Fails Write (decision.BadBytes fault) old new = ⊥
+Fails Write (decision.BadJson fault) old new = ⊥
+Fails Write (decision.Said reply) old new = ⊥
+Fails Write (decision.Made name id node room) old new = ⊥
+Fails Write (decision.Edited name node) old new = ⊥
+Fails Write (decision.Dropped name) old new = ⊥
 Fails Write (decision.Saved name bytes) old new = WritesPart name.now bytes.items old new
-Fails Write _ old new = ⊥
 
 -- What may lack memory: a decision that makes, edits or drops a version has all that it takes.
 abbrev pub CanLack : Decision → Type 0

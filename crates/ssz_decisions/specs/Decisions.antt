@@ -158,5 +158,10 @@ abbrev pub MakesFork : Statement → ℕ → Entries → Decision → Type 0
 MakesFork (Fork v w) writer entries (decision.Refused code) = Unit {0}
 MakesFork (Fork v w) writer entries (decision.Made name id node room) =
     (name.now ≡ w) × (held_at entries writer v ≡ Some (id, node))
-MakesFork (Fork v w) writer entries _ = ⊥
+MakesFork (Fork v w) writer entries (decision.BadBytes fault) = ⊥
+MakesFork (Fork v w) writer entries (decision.BadJson fault) = ⊥
+MakesFork (Fork v w) writer entries (decision.Said reply) = ⊥
+MakesFork (Fork v w) writer entries (decision.Edited name node) = ⊥
+MakesFork (Fork v w) writer entries (decision.Dropped name) = ⊥
+MakesFork (Fork v w) writer entries (decision.Saved name bytes) = ⊥
 MakesFork _ writer entries made = Unit {0}

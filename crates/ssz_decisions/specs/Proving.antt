@@ -29,7 +29,12 @@ Proves pair_of t asked (decision.Refused code) =
     (versions : Versions) → proved pair_of t versions asked ≡ Err (coded code)
 Proves pair_of t asked (decision.Said reply) =
     (versions : Versions) → proved pair_of t versions asked ≡ says_reply versions reply
-Proves pair_of t asked _ = ⊥
+Proves pair_of t asked (decision.BadBytes fault) = ⊥
+Proves pair_of t asked (decision.BadJson fault) = ⊥
+Proves pair_of t asked (decision.Made name id node room) = ⊥
+Proves pair_of t asked (decision.Edited name node) = ⊥
+Proves pair_of t asked (decision.Dropped name) = ⊥
+Proves pair_of t asked (decision.Saved name bytes) = ⊥
 
 -- the number of one of the indices is 0, which is of no node
 pub record HasZero (t : SszType) (indices : List Index) : Type 0 where

@@ -31,9 +31,10 @@ pub record AreVersions (types : Types) (arena : Nodes) (entries : Entries) : Typ
 
 -- both are there and one stands for the other, or neither is there
 abbrev pub Match : Types → Nodes → Option Held → Option Version → Type 0
-Match types arena None None = Unit {0}
 Match types arena (Some held) (Some version) = IsVersion types arena held version
-Match types arena _ _ = ⊥
+Match types arena (Some held) None = ⊥
+Match types arena None (Some version) = ⊥
+Match types arena None None = Unit {0}
 
 -- What a writer holds stands for these versions, which stand in the order of their names.
 pub record StandsForVersions (types : Types) (arena : Nodes) (entries : Entries) (writer : ℕ)

@@ -5,8 +5,8 @@
 //! to, over the entries as they stand. All that this changes is that the arena may have more nodes
 //! and roots. Then the `Decision` is carried out (`carry_out`). All memory is taken before the
 //! first node is made, and before anything else is changed. So each of these functions has one
-//! shape of contract (`AnswersRow`): whatever versions of the plain machine the entries stand for, the
-//! decision is the machine's row.
+//! shape of contract (`AnswersRow`): whatever versions of the plain machine the entries stand for,
+//! the decision is the machine's row.
 //!
 //! Edits and upgrades of versions, `compact` and runs are in `ssz_engine`: they stand on the crates
 //! that edit nodes, and this one beside those.

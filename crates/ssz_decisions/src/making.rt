@@ -12,8 +12,8 @@ ghost use Rattle.ssz_script.specs.declared.statement.Statement.TheVariants.{Fork
 use super::decision::Decision;
 use super::store::Store;
 use ssz_bytes::as_bytes;
+use ssz_checking::check;
 use ssz_chunk::PairHash;
-use ssz_codec::check;
 use ssz_schema::TypeId;
 use ssz_script::{Identifier, Reply};
 use ssz_tree::{build_bytes, build_default};

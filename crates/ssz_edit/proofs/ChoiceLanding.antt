@@ -7,7 +7,7 @@ use Rattle.std.proofs.lemmas.Option.{none-some, same_Some}
 use Rattle.ssz_chunk.specs.Chunk.{zero_chunk}
 use Rattle.ssz_chunk.specs.Tree.{leaf}
 use Rattle.ssz_chunk.specs.Index.{at, put, levels}
-use Rattle.ssz_schema.specs.declared.format.Format.{Format}
+use Rattle.ssz_schema.specs.format.Format.{Format}
 use Rattle.ssz_schema.specs.declared.path.PathStep.TheVariants.{Selector}
 use Rattle.ssz_schema.specs.Types.{SszType, Options, union}
 use Rattle.ssz_schema.specs.Sizes.{basic_size, option_count}
@@ -19,6 +19,8 @@ use Rattle.ssz_schema.specs.Indices.{Spot, whole, byte, bit}
 use Rattle.ssz_value.specs.declared.value.Value.{Value}
 use Rattle.ssz_value.specs.declared.edit_fault.EditFault.TheVariants.{NotThat, BadSelector}
 use Rattle.ssz_value.specs.Values.{SszValue, Fits, FitsOption, IsNoneOption}
+use Rattle.ssz_value.proofs.FitLemmas.{none_value}
+use Rattle.ssz_value.proofs.ValueLemmas.{chosen_none_is}
 use Rattle.ssz_value.specs.Standing.{value_of, IsValue, OptionFormed}
 use Rattle.ssz_value.specs.Trees.{tree, option_tree, mixed_in, number_chunk}
 use Rattle.ssz_value.specs.Pairs.{pairs, option_pairs}
@@ -35,8 +37,8 @@ use Rattle.ssz_places.proofs.Charging.{law_of_charges}
 use Rattle.ssz_gindex.proofs.HelperNodes.{some_from}
 use Rattle.ssz_places.proofs.Theorems.{law_of_choice}
 use Rattle.ssz_tree.specs.Added.{AddsNodes, MakesNode}
-use Rattle.ssz_making.specs.Parts.{MadePart, joined_leaf, part_of_value, none_part}
-use Rattle.ssz_tree.proofs.Adding.{MakesLeaf, MakesPair, Makes-joined}
+use Rattle.ssz_making.specs.Parts.{MadePart, chunk_part, joined_leaf, part_of_value, none_part}
+use Rattle.ssz_tree.proofs.Adding.{MakesPair, Makes-joined}
 use Rattle.ssz_tree.proofs.FewNodes.{few_nodes}
 use Rattle.ssz_walk.specs.declared.place.Place.{Place}
 use Rattle.ssz_walk.specs.Found.{spot_of, IsFound}
@@ -97,7 +99,8 @@ fits_there : (trees : List SszType) (ids : List (Option ℕ)) (k id : ℕ) (x : 
     → Some (Some id) ≡ slice_get ids k → Fits (type_tree_at trees id) x
     → FitsOption (options_over trees ids) k x
 fits_there trees [] k id x there fits = absurd (none-some (Some id) (sym there))
-fits_there trees (None ∷ ids) zero id x there fits = absurd (none-some id (sym (same_Some (Some id) None there)))
+fits_there trees (None ∷ ids) zero id x there fits =
+    absurd (none-some id (sym (same_Some (Some id) None there)))
 fits_there trees (Some other ∷ ids) zero id x there fits =
     let same : id ≡ other = same_Some id other (same_Some (Some id) (Some other) there) in
     subst (λ n. Fits (type_tree_at trees n) x) same fits
@@ -107,12 +110,9 @@ fits_there trees (Some other ∷ ids) (suc k) id x there fits =
 
 none_there : (trees : List SszType) (ids : List (Option ℕ)) (k : ℕ)
     → Some None ≡ slice_get ids k → IsNoneOption (options_over trees ids) k
-none_there trees [] k there = absurd (none-some None (sym there))
-none_there trees (None ∷ ids) zero there = tt
-none_there trees (Some other ∷ ids) zero there =
-    absurd (none-some other (same_Some None (Some other) there))
-none_there trees (None ∷ ids) (suc k) there = none_there trees ids k there
-none_there trees (Some other ∷ ids) (suc k) there = none_there trees ids k there
+none_there trees ids k there =
+    subst (Fits (union (options_over trees ids))) (chosen_none_is k)
+    (none_value trees ids k there).fits
 
 -- None has no value, and a type is not None
 no_value : {X : Type 0} (trees : List SszType) (ids : List (Option ℕ)) (k : ℕ) (x : SszValue)
@@ -311,7 +311,7 @@ below_more n m None more below = tt
 -- a node with its selector to its right
 pub choice_made : (old a1 a2 a3 : ArenaContent) (part : MadePart) (k : ℕ) (chunk : List ℕ)
     (inner number made : NodeId) → chunk ≡ number_chunk k → MakesNode old a1 part inner
-    → MakesLeaf a1 a2 chunk number → MakesPair a2 a3 inner number made
+    → MakesNode a1 a2 (chunk_part chunk) number → MakesPair a2 a3 inner number made
     → MakesNode old a3 (joined_leaf part (number_chunk k)) made
 choice_made old a1 a2 a3 part k chunk inner number made is first second third =
     subst (λ bytes. MakesNode old a3 (joined_leaf part bytes) made) is

@@ -29,20 +29,25 @@ values_given inner = option_map Value inner
 -- the value that is given for an option: None has none
 abbrev pub option_value : Types → Option ℕ → Option Given → Option SszValue
 option_value types (Some id) (Some given) = Some (given_value (type_of types id) given)
-option_value types _ _ = None
+option_value types (Some id) None = None
+option_value types None given = None
 
 -- it is one of the option, and there is none exactly for None
 abbrev pub IsOfOption : Types → Option ℕ → Option Given → Type 0
 IsOfOption types (Some id) (Some given) = IsGiven (type_of types id) given
+IsOfOption types (Some id) None = ⊥
+IsOfOption types None (Some given) = ⊥
 IsOfOption types None None = Unit {0}
-IsOfOption types _ _ = ⊥
 
+-- so of the value that an option gets
 abbrev pub FitsOf : Types → Option ℕ → Option SszValue → Type 0
 FitsOf types (Some id) (Some x) = Fits (type_of types id) x
+FitsOf types (Some id) None = ⊥
+FitsOf types None (Some x) = ⊥
 FitsOf types None None = Unit {0}
-FitsOf types _ _ = ⊥
 
 -- an option with a value, or None
 abbrev pub option_part : Types → Option ℕ → Option SszValue → MadePart
 option_part types (Some id) (Some x) = part_of_value (type_of types id) x
-option_part types _ _ = none_part
+option_part types (Some id) None = none_part
+option_part types None x = none_part

@@ -7,7 +7,7 @@ use Rattle.ssz_schema.specs.Legal.{IsLegal}
 use Rattle.ssz_schema.specs.Paths.{Path}
 use Rattle.ssz_schema.specs.Unfolding.{Types, type_of, options_over, IsBelow}
 use Rattle.ssz_value.specs.declared.edit_fault.EditFault.{EditFault}
-use Rattle.ssz_value.specs.declared.edit_fault.EditFault.TheVariants.{BadPath, Absent, NotThat, Full, BadSelector}
+use Rattle.ssz_value.specs.declared.edit_fault.EditFault.TheVariants.{BadPath, Absent, NotThat, Full, Empty, BadSelector, Memory}
 use Rattle.ssz_value.specs.declared.path_fault.PathFault.TheVariants.{BadPath as NoPath, Absent as Missing}
 use Rattle.ssz_value.specs.Values.{SszValue}
 use Rattle.ssz_value.specs.Parts.{part}
@@ -96,24 +96,31 @@ OfPart types arena id node path P =
     × ((v w : SszValue) → IsTreeOf (type_of types id) v (tree_of arena node)
     → part (type_of types id) v path ≡ Some w → P (type_of types place.id) w)
 
+-- which fault a part that cannot be set is, and no other comes
 abbrev pub CannotSet : Types → ArenaContent → ℕ → NodeId → Path → EditFault → Type 0
 CannotSet types arena id node path BadPath = IsLost types arena id node path NoPath
 CannotSet types arena id node path Absent = IsLost types arena id node path Missing
 CannotSet types arena id node path NotThat =
     OfPart types arena id node path (λ u w. is_changeable path ≡ false)
-CannotSet types arena id node path _ = ⊥
+CannotSet types arena id node path Full = ⊥
+CannotSet types arena id node path Empty = ⊥
+CannotSet types arena id node path BadSelector = ⊥
+CannotSet types arena id node path Memory = ⊥
 
 -- the value has as many elements as the limit of its type
 abbrev pub IsFull : SszType → SszValue → Type 0
 IsFull u w = (limit : ℕ) × (slot_limit u ≡ Some limit) × (limit ≤ count_of w)
 
+-- so of an element that cannot be appended
 abbrev pub CannotAppend : Types → ArenaContent → ℕ → NodeId → Path → EditFault → Type 0
 CannotAppend types arena id node path BadPath = IsLost types arena id node path NoPath
 CannotAppend types arena id node path Absent = IsLost types arena id node path Missing
 CannotAppend types arena id node path NotThat =
     OfPart types arena id node path (λ u w. slot_limit u ≡ None)
 CannotAppend types arena id node path Full = OfPart types arena id node path IsFull
-CannotAppend types arena id node path _ = ⊥
+CannotAppend types arena id node path Empty = ⊥
+CannotAppend types arena id node path BadSelector = ⊥
+CannotAppend types arena id node path Memory = ⊥
 
 -- the union has no option of this number
 abbrev pub IsPast : Types → ℕ → SszType → Type 0
@@ -121,6 +128,7 @@ IsPast types selector u =
     (options : List (Option ℕ)) × (u ≡ union (options_over types.trees options))
     × (None ≡ slice_get options selector)
 
+-- so of an option that cannot be chosen
 abbrev pub CannotChoose : Types → ArenaContent → ℕ → NodeId → Path → ℕ → EditFault → Type 0
 CannotChoose types arena id node path selector BadPath = IsLost types arena id node path NoPath
 CannotChoose types arena id node path selector Absent = IsLost types arena id node path Missing
@@ -128,4 +136,6 @@ CannotChoose types arena id node path selector NotThat =
     OfPart types arena id node path (λ u w. HasNoOptions u)
 CannotChoose types arena id node path selector BadSelector =
     OfPart types arena id node path (λ u w. IsPast types selector u)
-CannotChoose types arena id node path selector _ = ⊥
+CannotChoose types arena id node path selector Full = ⊥
+CannotChoose types arena id node path selector Empty = ⊥
+CannotChoose types arena id node path selector Memory = ⊥

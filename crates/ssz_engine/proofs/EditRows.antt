@@ -2,7 +2,7 @@
 use Rattle.std.proofs.Common.{◌≡◌, ◌==◌, ℕ, Bool, true, false, cond, is_none, is_some, List, length, Option, Some, None, Ok, Err, refl, sym, ap, ◌∙◌}
 use Rattle.std.specs.Prelude.{nat_le}
 use Rattle.ssz_bytes.specs.declared.fault.Fault.{Fault}
-use Rattle.ssz_schema.specs.declared.format.Format.{Format}
+use Rattle.ssz_schema.specs.format.Format.{Format}
 use Rattle.ssz_schema.specs.Types.{SszType, Options, list, bitlist}
 use Rattle.ssz_schema.specs.Sizes.{option_count}
 use Rattle.ssz_schema.specs.Legal.{IsLegal}

@@ -2,7 +2,7 @@
 use Rattle.std.proofs.Common.{◌≡◌, ◌≤◌, ◌+◌, ◌∙◌, ℕ, Bool, true, false, List, Option, Some, Ok, Err, IsSome, is_none, refl, sym, ap, subst, arith}
 use Rattle.std.specs.Option.{option_map_or}
 use Rattle.std.proofs.lemmas.Bool.{false≢true}
-use Rattle.ssz_schema.specs.Types.{SszType, uint, boolean, container, vector, list, bitvector, bitlist, union}
+use Rattle.ssz_schema.specs.Types.{SszType}
 use Rattle.ssz_schema.specs.Sizes.{basic_size}
 use Rattle.ssz_schema.specs.Paths.{Path, path_type}
 use Rattle.ssz_schema.specs.Unfolding.{type_of}
@@ -12,6 +12,7 @@ use Rattle.ssz_value.specs.Parts.{part as part_of}
 use Rattle.ssz_value.specs.Pairs.{pairs}
 use Rattle.ssz_value.specs.Edits.{Edited, set_at}
 use Rattle.ssz_places.specs.Charges.{set_charge}
+use Rattle.ssz_edit.proofs.Landing.{pairs_basic}
 use Rattle.ssz_script.specs.declared.reply.TheConstants.Reply.{NO_VERSION, BAD_PATH, ABSENT, NOT_THAT}
 use Rattle.ssz_versions.specs.Content.{Entries, Held, held_at}
 use Rattle.ssz_machine.specs.State.{Name, Version, Versions, version_of}
@@ -23,17 +24,6 @@ use Rattle.ssz_engine.specs.Laws.{LawOfSetCosts}
 use Rattle.ssz_engine.proofs.EditRows.{set_end}
 use Rattle.ssz_decisions.proofs.Entries.{held-there-now}
 use Rattle.ssz_decisions.proofs.Showing.{held-there}
-
--- a basic value is no pair
-basic_pairs : (u : SszType) (x : SszValue) → IsSome (basic_size u) → pairs u x ≡ 0
-basic_pairs (uint w) x basic = refl
-basic_pairs boolean x basic = refl
-basic_pairs (container fs) x basic = absurd (false≢true basic)
-basic_pairs (vector elem n) x basic = absurd (false≢true basic)
-basic_pairs (list elem limit) x basic = absurd (false≢true basic)
-basic_pairs (bitvector n) x basic = absurd (false≢true basic)
-basic_pairs (bitlist limit) x basic = absurd (false≢true basic)
-basic_pairs (union os) x basic = absurd (false≢true basic)
 
 edit_charge : (versions : Versions) (name : Name) (t : SszType) (made : Edited) (charge n : ℕ)
     → charge ≤ n → charge_in (edits versions name t made charge) ≤ n
@@ -48,7 +38,7 @@ module _ (versions : Versions) (name : Name) (version : Version) (path : Path) (
     value_charge x =
         let one : option_map_or (λ (t : SszType). pairs t x) (path_type version.type path) 0 ≡ 0
         = ap (λ (o : Option SszType). option_map_or (λ (t : SszType). pairs t x) o 0) typed
-        ∙ basic_pairs u x basic in
+        ∙ pairs_basic u x basic in
         let is : set_charge version.type path x ≡ index_levels version.type path
         + option_map_or (λ (t : SszType). pairs t x) (path_type version.type path) 0 = refl in
         omega arith

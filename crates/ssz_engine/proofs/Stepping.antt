@@ -78,8 +78,8 @@ module _ (first mid new : EngineContent) (grows : Grows first mid) (same : SameN
     where
       not-both : nothing ≡ puts name → ⊥
       not-both e = cc
-  edit-paid (decision.Made n id node room) versions row does name was is can of comes out does-put ok
-      there now = absurd (not-both (sym can.0
+  edit-paid (decision.Made n id node room) versions row does name was is can of comes out does-put
+      ok there now = absurd (not-both (sym can.0
       ∙ ap (λ (m : Name). held_at mid.entries writer m) (same-name n.now name (sym of ∙ does-put))
       ∙ ap (λ (es : Entries). held_at es writer name) grows.entries ∙ there))
     where

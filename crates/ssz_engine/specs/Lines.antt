@@ -102,7 +102,11 @@ PrintsLine (Ok done) piece old new = new ≡ told_append old (piece ∷ [])
 PrintsLine (Err status.WriteFault) piece old new =
     (count : ℕ) × (new ≡ told_append old (take count piece ∷ []))
 PrintsLine (Err status.Memory) piece old new = new ≡ old
-PrintsLine (Err other) piece old new = ⊥
+PrintsLine (Err status.Accepted) piece old new = ⊥
+PrintsLine (Err status.Refused) piece old new = ⊥
+PrintsLine (Err status.Usage) piece old new = ⊥
+PrintsLine (Err status.SchemaFault) piece old new = ⊥
+PrintsLine (Err status.ReadFault) piece old new = ⊥
 
 -- a failed print is counted once
 abbrev pub CountsPrint : {T : Type 0} → Result T Status → ℕ → ℕ → Type 0

@@ -83,7 +83,8 @@ pub record RunReaches (pair_of : PairOf) (place : Place) (course : Course) (even
 pub record IsCutShort (place : Place) (course : Course) (ended : Status) (before after : Scene)
     : Type 0 where
   pub numbers : List ℕ
-  pub ends : Ends course.ample ended (job_from course.rules place course.events course.first numbers)
+  pub ends : Ends course.ample ended
+      (job_from course.rules place course.events course.first numbers)
       course.pieces after.pieces after.told
   pub now : ℕ
   pub rest : ℕ

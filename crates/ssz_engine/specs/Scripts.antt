@@ -138,8 +138,8 @@ pub record IsThrough (turns : List Turn) (last : State) (before after : Scene) :
   pub stands : StandsFor after.engine last.versions
 
 -- What is there after a run that was stopped with so many steps done: the engine stands for the
--- versions after a front of the events that has these steps; and what was hashed is at most what was
--- to be hashed in any case, and the charges of these steps. So no line behind them was done.
+-- versions after a front of the events that has these steps; and what was hashed is at most what
+-- was to be hashed in any case, and the charges of these steps. So no line behind them was done.
 pub record IsStopped (rules : Rules) (place : Place) (events : List Event) (first : State)
     (numbers : List ℕ) (steps owed : ℕ) (after : Scene) : Type 0 where
   pub front : List Event
@@ -154,7 +154,8 @@ pub record IsStopped (rules : Rules) (place : Place) (events : List Event) (firs
 pub record EndsRun (rules : Rules) (place : Place) (events : List Event) (first : State)
     (ended : Status) (before after : Scene) : Type 0 where
   pub numbers : List ℕ
-  pub ends : Ends before.ample ended (job_of rules place first.files (play rules place numbers first events))
+  pub ends : Ends before.ample ended
+      (job_of rules place first.files (play rules place numbers first events))
       before.pieces after.pieces after.told
   -- what was hashed is at most what was left to be hashed before, and the charges
   pub paid : after.hashed ≤ before.hashed + unhashed before.engine.arena

@@ -88,7 +88,12 @@ abbrev pub MakesUpgrade : Statement → ℕ → EngineContent → EngineContent 
 MakesUpgrade (Upgrade v w t) writer old new (decision.Refused code) = Unit {0}
 MakesUpgrade (Upgrade v w t) writer old new (decision.Made name id node room) =
     IsUpgradeOf v w writer old new name.now id node
-MakesUpgrade (Upgrade v w t) writer old new _ = ⊥
+MakesUpgrade (Upgrade v w t) writer old new (decision.BadBytes fault) = ⊥
+MakesUpgrade (Upgrade v w t) writer old new (decision.BadJson fault) = ⊥
+MakesUpgrade (Upgrade v w t) writer old new (decision.Said reply) = ⊥
+MakesUpgrade (Upgrade v w t) writer old new (decision.Edited name node) = ⊥
+MakesUpgrade (Upgrade v w t) writer old new (decision.Dropped name) = ⊥
+MakesUpgrade (Upgrade v w t) writer old new (decision.Saved name bytes) = ⊥
 MakesUpgrade _ writer old new made = Unit {0}
 
 -- the turn of the machine for a statement, where the writers have these versions and the files hold

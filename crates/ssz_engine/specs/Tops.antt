@@ -19,7 +19,11 @@ abbrev pub IsDue : Nodes → Decision → Type 0
 IsDue arena (decision.Refused code) = Unit {0}
 IsDue arena (decision.BadBytes fault) = Unit {0}
 IsDue arena (decision.Edited name node) = 0 < todo arena node
-IsDue arena made = ⊥
+IsDue arena (decision.BadJson fault) = ⊥
+IsDue arena (decision.Said reply) = ⊥
+IsDue arena (decision.Made name id node room) = ⊥
+IsDue arena (decision.Dropped name) = ⊥
+IsDue arena (decision.Saved name bytes) = ⊥
 
 -- so is that of a set, where the part stands below the top
 abbrev pub SetsTop : Name → Path → ℕ → EngineContent → EngineContent → Decision → Type 0

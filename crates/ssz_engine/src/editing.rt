@@ -17,8 +17,8 @@ ghost use Rattle.ssz_engine.specs.Tops.{IsDue, SetsTop};
 use super::option_given::{literal_given, option_default, option_fault};
 use ssz_arena::NodeId;
 use ssz_bytes::ByteRun;
+use ssz_checking::check;
 use ssz_chunk::PairHash;
-use ssz_codec::check;
 use ssz_decisions::{Decision, Store, code_of_edit, way_from};
 use ssz_edit::{
     Choice, Given, given_of, open_choice, open_end, open_part, put_choice, put_element, put_part,

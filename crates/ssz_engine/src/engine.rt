@@ -78,10 +78,10 @@ impl<H: PairHash> Engine<H> {
     }
 
     /// Does a statement of this line of a script, and appends the line of the reply. All memory is
-    /// taken before a node is made, and before a version or a file changes: after `Memory` or `Read`
-    /// the versions, the files and `out` are as before, and after `Write` all but the file, which
-    /// has what it had or a part of the new bytes. The nodes are then the same ones, too: `root` and
-    /// `prove` may have hashed some.
+    /// taken before a node is made, and before a version or a file changes: after `Memory` or
+    /// `Read` the versions, the files and `out` are as before, and after `Write` all but the file,
+    /// which has what it had or a part of the new bytes. The nodes are then the same ones, too:
+    /// `root` and `prove` may have hashed some.
     pub fn step<F: Files>(
         &mut self,
         writer: Writer,

@@ -5,7 +5,7 @@ ghost use Rattle.ssz_value.specs.Faults.{option_fault};
 ghost use Rattle.ssz_engine.specs.Inner.{IsDefault, IsLiteral};
 
 use ssz_bytes::Fault;
-use ssz_codec::check;
+use ssz_checking::check;
 use ssz_edit::Given;
 use ssz_parts::none_fault;
 use ssz_schema::{Schema, TypeId};

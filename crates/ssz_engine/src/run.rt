@@ -79,8 +79,8 @@ impl<H: PairHash> Engine<H> {
         ensures nodes { NoneCompacts (statements_in script.now)
             → KeepsNodes self.old.arena self.new.arena }
         // Whatever state of the machine the engine stood for, where the files tell what they hold:
-        // for some numbers that `hashes` prints, the run ended as the script's job does; and where it
-        // was stopped, the engine stands for the versions after the lines that were done.
+        // for some numbers that `hashes` prints, the run ended as the script's job does; and where
+        // it was stopped, the engine stands for the versions after the lines that were done.
         ensures ends { EndsScript H.pair_of script.now result
             (scene F.Files S.Sink H.PairHash self.old files.old out.old hasher.old)
             (scene F.Files S.Sink H.PairHash self.new files.new out.new hasher.new) }

@@ -128,8 +128,8 @@ impl<H: PairHash> Engine<H> {
         ensures nodes { AllByRecursion NoneCompacts (map statements_in (base.now ∷ scripts.now))
             → KeepsNodes self.old.arena self.new.arena }
         // Whatever state of the machine the engine stood for, where the files tell what they hold,
-        // the run ended as the weave's job does; and where it was stopped, the engine stands for the
-        // versions after the lines that were done.
+        // the run ended as the weave's job does; and where it was stopped, the engine stands for
+        // the versions after the lines that were done.
         ensures ends { EndsWeave H.pair_of base.now order.now scripts.now result
             (scene F.Files S.Sink H.PairHash self.old files.old out.old hasher.old)
             (scene F.Files S.Sink H.PairHash self.new files.new out.new hasher.new) }

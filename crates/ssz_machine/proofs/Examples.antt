@@ -10,7 +10,7 @@ use Rattle.ssz_gindex.specs.Helpers.{descending}
 use Rattle.ssz_line.specs.Single.{literal}
 use Rattle.ssz_outside.specs.Content.{Content, contents, may_fail, with_bytes}
 use Rattle.ssz_outside.specs.Job.{Job}
-use Rattle.ssz_schema.specs.declared.width.Width.TheVariants.{W8, W16, W64}
+use Rattle.ssz_schema.specs.width.Width.TheVariants.{W8, W16, W64}
 use Rattle.ssz_schema.specs.Types.{SszType, uint, container, list, bitlist, union, no_fields, field, no_options, none_option, option}
 use Rattle.ssz_schema.specs.Sizes.{exponent, depth_of}
 use Rattle.ssz_schema.specs.Lookup.{lookup_name}

@@ -9,7 +9,7 @@ use Rattle.ssz_places.specs.EditLaws.{IsChoice}
 use Rattle.ssz_places.specs.PlaceLaws.{IsLegalValue}
 use Rattle.ssz_places.proofs.ListEdits.{law_of_append, law_of_pop}
 use Rattle.ssz_places.proofs.Theorems.{law_of_choice}
-use Rattle.ssz_schema.specs.declared.format.Format.{Format}
+use Rattle.ssz_schema.specs.format.Format.{Format}
 use Rattle.ssz_schema.specs.Legal.{IsLegal, AreLegalOptions}
 use Rattle.ssz_schema.specs.Paths.{Path, path_type}
 use Rattle.ssz_schema.specs.Sizes.{option_count}

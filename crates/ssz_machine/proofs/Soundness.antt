@@ -17,7 +17,7 @@ use Rattle.ssz_places.specs.EditLaws.{IsChoice, element_type}
 use Rattle.ssz_places.proofs.MadeEdits.{law_of_made_edits}
 use Rattle.ssz_places.proofs.Joining.{law_of_indices}
 use Rattle.ssz_places.proofs.Theorems.{law_of_edits, law_of_places}
-use Rattle.ssz_schema.specs.declared.format.Format.{Format}
+use Rattle.ssz_schema.specs.format.Format.{Format}
 use Rattle.ssz_schema.specs.Indices.{generalized_index, spot}
 use Rattle.ssz_schema.specs.Legal.{IsLegal, AreLegalFields, AreLegalOptions}
 use Rattle.ssz_schema.specs.Paths.{Path, path_type, field_type, field_number, option_type}

@@ -5,8 +5,8 @@ use Rattle.ssz_chunk.specs.Chunk.{IsChunk, zero_chunk}
 use Rattle.ssz_chunk.specs.Tree.{Tree, leaf, pair, root, merkle_tree}
 use Rattle.ssz_chunk.specs.Index.{at_way, at, way}
 use Rattle.ssz_proof.specs.Calculation.{PairOf}
-use Rattle.ssz_schema.specs.declared.width.Width.{Width}
-use Rattle.ssz_schema.specs.declared.width.Width.TheVariants.{W8, W16, W32, W64, W128, W256}
+use Rattle.ssz_schema.specs.width.Width.{Width}
+use Rattle.ssz_schema.specs.width.Width.TheVariants.{W8, W16, W32, W64, W128, W256}
 use Rattle.ssz_schema.specs.Types.{SszType, Fields, Options, uint, boolean, container, vector, list, bitvector, bitlist, union, no_fields, field, no_options, none_option, option}
 use Rattle.ssz_schema.specs.Sizes.{byte_count, basic_size, depth}
 use Rattle.ssz_bytes.specs.Bytes.{IsBytes, le_bytes, bit_value, number_of_bits}

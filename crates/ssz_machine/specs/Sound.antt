@@ -3,7 +3,7 @@ use Rattle.std.specs.Prelude.{ℕ, ◌≡◌, ◌<◌, ◌^◌, List, length, Op
 use Rattle.std.specs.List.{AllByRecursion}
 use Rattle.ssz_bytes.specs.Bytes.{IsBytes}
 use Rattle.ssz_outside.specs.Content.{Content, contents}
-use Rattle.ssz_schema.specs.declared.format.Format.{Format}
+use Rattle.ssz_schema.specs.format.Format.{Format}
 use Rattle.ssz_schema.specs.Legal.{IsLegal}
 use Rattle.ssz_schema.specs.Types.{SszType}
 use Rattle.ssz_script.specs.declared.statement.Statement.{Statement}

@@ -6,7 +6,7 @@ use Rattle.std.proofs.lemmas.Bool.{false≢true}
 use Rattle.std.proofs.lemmas.Option.{none-some}
 use Rattle.std.proofs.lemmas.List.Sums.{sum_by-cons}
 use Rattle.ssz_chunk.specs.Tree.{merkle_pairs}
-use Rattle.ssz_schema.specs.declared.format.Format.{Format}
+use Rattle.ssz_schema.specs.format.Format.{Format}
 use Rattle.ssz_schema.specs.Legal.{IsLegal}
 use Rattle.ssz_schema.specs.Types.{SszType, Fields, uint, boolean, container, vector, list, bitvector, bitlist, union, no_fields, field}
 use Rattle.ssz_schema.specs.Sizes.{basic_size, element_chunks, depth, fixed_size, part_sizes, total_size}
@@ -20,6 +20,7 @@ use Rattle.ssz_value.specs.Faults.{first_fault, Scope, scopes, scope_bytes, head
 use Rattle.ssz_value.specs.Reading.{value_in, elements_in}
 use Rattle.ssz_value.proofs.Agree.{IsInput, AreInputs, AreInputs-scopes, no_faults}
 use Rattle.ssz_value.proofs.ExactLaw.{agrees}
+use Rattle.ssz_value.proofs.FormLemmas.{all_fit}
 use Rattle.ssz_parts.proofs.ElementLemmas.{element_faultless}
 use Rattle.ssz_parts.proofs.Faultless.{IsFaultless}
 use Rattle.ssz_parts.specs.PartValues.{element_values}
@@ -224,11 +225,6 @@ elements_alike format t legal count b i n part input h below is some =
     (elements_fit format t legal (fixed_size t) count b input refl h)))
 
 -- those of the values behind one
-fit_all : (t : SszType) (vs : List Value) → AllByRecursion (IsValue t) vs
-    → AllByRecursion (Fits t) (map value_of vs)
-fit_all t [] all = tt
-fit_all t (v ∷ vs) all = (all.0.fits, fit_all t vs all.1)
-
 pub values_alike : (t : SszType) (vs : List Value) (i n : ℕ) (v : Value)
     → AllByRecursion (IsValue t) vs → IsValue t v → IsSome (fixed_size t)
     → AllByRecursion (IsLike (part_of_value t (value_of v)))
@@ -237,4 +233,4 @@ values_alike t vs i n v all is some =
     all_take (IsLike (part_of_value t (value_of v))) n _
     (all_drop (IsLike (part_of_value t (value_of v))) (i + 1) _
     (parts_alike t (is_sized (fixed_size t) some) (value_of v) (map value_of vs) is.fits
-    (fit_all t vs all)))
+    (all_fit t vs all)))

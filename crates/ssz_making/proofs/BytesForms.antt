@@ -2,7 +2,7 @@
 use Rattle.std.proofs.Common.{◌≡◌, ℕ, ◌+◌, ◌*◌, ◌/◌, ◌<◌, List, [], ◌∷◌, ◌++◌, length, map, take, drop, replicate, get_or, slice_get, Bool, Option, Some, None, sym, ap, ap₂, subst, ◌∙◌, arith}
 use Rattle.std.specs.List.{concat}
 use Rattle.ssz_chunk.specs.Tree.{leaf, pair, merkle_tree, merkle_pairs}
-use Rattle.ssz_schema.specs.declared.format.Format.{Format}
+use Rattle.ssz_schema.specs.format.Format.{Format}
 use Rattle.ssz_bytes.specs.Bytes.{le_bytes, le_number, number_of_bits, bits_of_number}
 use Rattle.ssz_bytes.specs.Faults.{bitvector_fault, bitlist_length, last_byte}
 use Rattle.ssz_schema.specs.Legal.{IsLegal}

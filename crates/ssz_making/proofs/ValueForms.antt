@@ -4,7 +4,7 @@ use Rattle.std.specs.List.{concat, AllByRecursion}
 use Rattle.std.proofs.lemmas.List.{length-map}
 use Rattle.std.proofs.lemmas.Simd.{map-map}
 use Rattle.ssz_chunk.specs.Tree.{leaf, pair, merkle_tree, merkle_pairs}
-use Rattle.ssz_schema.specs.declared.width.Width.TheVariants.{W8}
+use Rattle.ssz_schema.specs.width.Width.TheVariants.{W8}
 use Rattle.ssz_schema.specs.Types.{SszType, uint, container, vector, list, bitvector, bitlist, union}
 use Rattle.ssz_schema.specs.Sizes.{basic_size, element_chunks, depth}
 use Rattle.ssz_schema.specs.Unfolding.{type_tree_at, fields_over, options_over}

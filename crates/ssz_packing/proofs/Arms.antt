@@ -1,5 +1,5 @@
 -- What bytes without a fault tell, for each form of a type.
-use Rattle.ssz_schema.specs.declared.format.Format.{Format}
+use Rattle.ssz_schema.specs.format.Format.{Format}
 use Rattle.std.proofs.Common.{◌≡◌, ℕ, ◌+◌, ◌/◌, ◌^◌, ◌≤◌, List, length, map, replicate, Option, None, sym, ap, subst, ◌∙◌, arith}
 use Rattle.std.proofs.lemmas.List.{length-map, length-replicate}
 use Rattle.ssz_chunk.specs.Tree.{leaf, root, merkle_tree, merkle_pairs}

@@ -1,12 +1,12 @@
 -- How deep the trees of legal types are, and how many chunks they hold.
-use Rattle.ssz_schema.specs.declared.format.Format.{Format}
-use Rattle.ssz_schema.specs.declared.format.Format.TheVariants.{One, Two}
+use Rattle.ssz_schema.specs.format.Format.{Format}
+use Rattle.ssz_schema.specs.format.Format.TheVariants.{One, Two}
 use Rattle.std.proofs.Common.{◌≡◌, ℕ, ◌+◌, ◌*◌, ◌/◌, ◌^◌, ◌≤◌, List, [], ◌∷◌, Option, Some, None, refl, arith, subst, zero-add}
 use Rattle.std.proofs.lemmas.List.Sums.{sum_by-append}
 use Rattle.std.proofs.Math.Nat.{mul-le-mul_left}
 use Rattle.std.specs.List.{sum_by}
-use Rattle.ssz_schema.specs.declared.width.Width.{Width}
-use Rattle.ssz_schema.specs.declared.width.Width.TheVariants.{W8, W16, W32, W64, W128, W256}
+use Rattle.ssz_schema.specs.width.Width.{Width}
+use Rattle.ssz_schema.specs.width.Width.TheVariants.{W8, W16, W32, W64, W128, W256}
 use Rattle.ssz_schema.specs.Types.{SszType, uint, boolean, container, vector, list, bitvector, bitlist, union}
 use Rattle.ssz_schema.specs.Sizes.{byte_count, fixed_size, basic_size, element_chunks, depth}
 use Rattle.ssz_schema.proofs.DepthLemmas.{depth_of-holds}

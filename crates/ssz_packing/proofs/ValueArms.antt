@@ -4,8 +4,8 @@ use Rattle.std.specs.List.{concat, sum_by, AllByRecursion}
 use Rattle.std.proofs.lemmas.List.{length-map}
 use Rattle.std.proofs.lemmas.Simd.{map-map}
 use Rattle.ssz_chunk.specs.Tree.{root, merkle_tree, merkle_pairs}
-use Rattle.ssz_schema.specs.declared.format.Format.{Format}
-use Rattle.ssz_schema.specs.declared.width.Width.TheVariants.{W8}
+use Rattle.ssz_schema.specs.format.Format.{Format}
+use Rattle.ssz_schema.specs.width.Width.TheVariants.{W8}
 use Rattle.ssz_schema.specs.Types.{SszType, Fields, uint, container, vector, list, bitvector, bitlist}
 use Rattle.ssz_schema.specs.Sizes.{basic_size, element_chunks, depth}
 use Rattle.ssz_schema.specs.Legal.{IsLegal}

@@ -10,7 +10,7 @@ use Rattle.ssz_chunk.specs.Tree.{Tree, leaf, root}
 use Rattle.ssz_chunk.specs.Index.{at, way, digits, at_way}
 use Rattle.ssz_chunk.proofs.Digits.{way-join}
 use Rattle.ssz_chunk.proofs.Ways.{at-way, at_way-append_some}
-use Rattle.ssz_schema.specs.declared.format.Format.{Format}
+use Rattle.ssz_schema.specs.format.Format.{Format}
 use Rattle.ssz_schema.specs.declared.path.PathStep.{PathStep}
 use Rattle.ssz_schema.specs.Types.{SszType}
 use Rattle.ssz_schema.specs.Legal.{IsLegal}

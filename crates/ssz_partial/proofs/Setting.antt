@@ -8,7 +8,7 @@ use Rattle.std.proofs.lemmas.Option.{none-some, same_Some}
 use Rattle.ssz_chunk.specs.declared.Chunk.{Chunk}
 use Rattle.ssz_chunk.specs.Tree.{Tree, leaf, pair, root}
 use Rattle.ssz_chunk.specs.Index.{at, put}
-use Rattle.ssz_schema.specs.declared.format.Format.{Format}
+use Rattle.ssz_schema.specs.format.Format.{Format}
 use Rattle.ssz_schema.specs.declared.path.PathStep.{PathStep}
 use Rattle.ssz_schema.specs.declared.path.PathStep.TheVariants.{Field, Index, Len, Selector, Option as Chosen}
 use Rattle.ssz_schema.specs.Types.{SszType, boolean, list, bitlist, union}

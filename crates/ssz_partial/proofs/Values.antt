@@ -7,7 +7,7 @@ use Rattle.ssz_chunk.specs.Tree.{Tree, leaf, pair, root}
 use Rattle.ssz_chunk.specs.Index.{at}
 use Rattle.ssz_chunk.proofs.Digits.{way-one}
 use Rattle.ssz_chunk.specs.Index.{at_way}
-use Rattle.ssz_schema.specs.declared.format.Format.{Format}
+use Rattle.ssz_schema.specs.format.Format.{Format}
 use Rattle.ssz_schema.specs.Types.{SszType, boolean}
 use Rattle.ssz_schema.specs.Sizes.{basic_size}
 use Rattle.ssz_schema.specs.Paths.{Path, path_type, step_type}

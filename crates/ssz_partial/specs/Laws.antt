@@ -1,7 +1,7 @@
 -- What the calls of a partial tree have to do with the value whose tree it is a part of.
 use Rattle.std.specs.Prelude.{ℕ, ◌≡◌, List, length, Some, None, Result, Ok, Err, ⊤}
 use Rattle.std.specs.List.{AllByRecursion}
-use Rattle.ssz_schema.specs.declared.format.Format.{Format}
+use Rattle.ssz_schema.specs.format.Format.{Format}
 use Rattle.ssz_schema.specs.Types.{SszType}
 use Rattle.ssz_schema.specs.Legal.{IsLegal}
 use Rattle.ssz_schema.specs.Paths.{Path, path_type}

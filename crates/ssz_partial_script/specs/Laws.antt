@@ -1,7 +1,7 @@
 -- What a script tells of a value whose tree it knows a part of.
 use Rattle.std.specs.Prelude.{ℕ, ◌≡◌, List, [], ◌∷◌, Option, Some, None, Ok, Err, IsTrue}
 use Rattle.std.specs.List.{AllByRecursion}
-use Rattle.ssz_schema.specs.declared.format.Format.{Format}
+use Rattle.ssz_schema.specs.format.Format.{Format}
 use Rattle.ssz_schema.specs.Types.{SszType}
 use Rattle.ssz_schema.specs.Paths.{Path, path_type}
 use Rattle.ssz_value.specs.Values.{SszValue}

@@ -2,7 +2,7 @@
 use Rattle.std.proofs.Common.{ℕ, ◌+◌, ◌^◌, ◌<◌, ◌≤◌, ◌≡◌, List, [], ◌∷◌, length, get_or, drop, Option, Some, None, refl, sym, ap, ◌∙◌, arith, le-ltb, lt-ltb, eq-eqb, eqb-true, eqb, ltb, cond}
 use Rattle.std.proofs.lemmas.Bool.{cond-true, cond-false}
 use Rattle.std.proofs.lemmas.List.{drop_all}
-use Rattle.ssz_schema.specs.declared.format.Format.{Format}
+use Rattle.ssz_schema.specs.format.Format.{Format}
 use Rattle.ssz_schema.specs.Types.{SszType, Fields, container, no_fields, field}
 use Rattle.ssz_schema.specs.Sizes.{head_size, total_size, fixed_size, part_sizes, part_length, default_length, default_fields_length}
 use Rattle.ssz_schema.specs.Legal.{IsLegal}

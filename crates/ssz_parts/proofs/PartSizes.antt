@@ -1,6 +1,6 @@
 -- How long the parts of an encoding are, with their offsets.
 use Rattle.std.proofs.Common.{ℕ, zero, suc, ◌+◌, ◌*◌, ◌≡◌, replicate, Option, Some, None, sym, ap, ◌∙◌, arith}
-use Rattle.ssz_schema.specs.declared.format.Format.{Format}
+use Rattle.ssz_schema.specs.format.Format.{Format}
 use Rattle.ssz_schema.specs.Types.{SszType}
 use Rattle.ssz_schema.specs.Sizes.{fixed_size, head_size, part_length}
 use Rattle.ssz_schema.specs.Legal.{IsLegal}

@@ -1,5 +1,5 @@
 -- The value that a union's bytes choose.
-use Rattle.ssz_schema.specs.declared.format.Format.{Format}
+use Rattle.ssz_schema.specs.format.Format.{Format}
 use Rattle.std.proofs.Common.{◌≡◌, ℕ, zero, suc, ◌+◌, ◌<◌, List, [], ◌∷◌, length, get_or, drop, slice_get, Option, Some, None, refl, sym, ap, subst, ◌∙◌, arith, length-drop}
 use Rattle.ssz_bytes.proofs.Numbers.{IsBytes-drop}
 use Rattle.std.specs.Prelude.{IfSome}

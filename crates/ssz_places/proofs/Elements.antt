@@ -4,16 +4,16 @@ use Rattle.std.proofs.lemmas.List.{length-replicate, get_or-replicate}
 use Rattle.std.specs.List.{concat, AllByRecursion}
 use Rattle.std.specs.Option.{option_map_or}
 use Rattle.std.proofs.lemmas.Option.{same_Some, none-some}
-use Rattle.ssz_schema.specs.declared.width.Width.{Width}
-use Rattle.ssz_schema.specs.declared.width.Width.TheVariants.{W8, W16, W32, W64, W128, W256}
+use Rattle.ssz_schema.specs.width.Width.{Width}
+use Rattle.ssz_schema.specs.width.Width.TheVariants.{W8, W16, W32, W64, W128, W256}
 use Rattle.ssz_schema.specs.Types.{SszType, uint, boolean, container, vector, list, bitvector, bitlist, union}
 use Rattle.ssz_schema.specs.Sizes.{basic_size, byte_count}
-use Rattle.ssz_value.specs.Values.{SszValue, truth, Fits}
+use Rattle.ssz_value.specs.Values.{SszValue, Fits}
 use Rattle.ssz_value.specs.Encoding.{serialize}
 use Rattle.ssz_chunk.specs.Tree.{Tree, leaf, place}
 use Rattle.ssz_chunk.specs.Chunk.{zero_chunk}
 use Rattle.ssz_value.specs.Trees.{tree, padded, element_leaves}
-use Rattle.ssz_value.proofs.Basic.{number_sized}
+use Rattle.ssz_value.proofs.Basic.{number_sized, truth_sized}
 use Rattle.ssz_schema.specs.Indices.{element_position, element_spot, byte}
 use Rattle.ssz_places.specs.Spots.{HasPart, with_part, without_part, spot_written}
 use Rattle.ssz_chunk.proofs.FullTrees.{AgreeBut}
@@ -24,10 +24,6 @@ pub record IsBasic (t : SszType) (z : ℕ) : Type 0 where
   pub pos : 0 < z
   pub inside : (i : ℕ) → i * z % 32 + z ≤ 32
   pub sized : (v : SszValue) → Fits t v → length (serialize t v) ≡ z
-
-truth_sized : (v : SszValue) → Fits boolean v → length (serialize boolean v) ≡ 1
-truth_sized (truth b) h = refl
-truth_sized _ h = absurd h
 
 width_pos : (w : Width) → 0 < byte_count w
 width_pos W8 = omega arith

@@ -6,8 +6,8 @@ use Rattle.std.proofs.lemmas.Option.{slice_get-get_or, slice_get_past}
 use Rattle.std.proofs.Math.Seq.{map-set_same}
 use Rattle.ssz_schema.specs.declared.path.PathStep.{PathStep}
 use Rattle.ssz_schema.specs.declared.path.PathStep.TheVariants.{Index, Option as Chosen}
-use Rattle.ssz_schema.specs.declared.width.Width.{Width}
-use Rattle.ssz_schema.specs.declared.width.Width.TheVariants.{W8}
+use Rattle.ssz_schema.specs.width.Width.{Width}
+use Rattle.ssz_schema.specs.width.Width.TheVariants.{W8}
 use Rattle.ssz_schema.specs.Types.{SszType, uint, boolean}
 use Rattle.ssz_schema.specs.Unfolding.{Types}
 use Rattle.ssz_schema.specs.Paths.{Path, path_type, step_type}
@@ -136,7 +136,8 @@ misfit may t edit v path none value = record {
   fits = value;
   leaves = record {
     tells = told_fault may BadPath (value_of v) _
-        (ap (λ o. cond (is_some o) (changed (edit_of edit) t (value_of v) path) (Err BadPath)) none);
+        (ap (λ o. cond (is_some o) (changed (edit_of edit) t (value_of v) path) (Err BadPath))
+        none);
     kept = refl;
   };
 }
@@ -206,7 +207,8 @@ module _ (t u : SszType) (edit : Edit) (v : Value) (step : PathStep) (rest path 
   inner may w part left answer there placed same fits made = record {
     fits = fits made.fits;
     leaves = record {
-      tells = subst (ChangeTells may answer (value_of w)) (sym (led ∙ ap (λ o. given o (refusal u rest Absent)
+      tells = subst (ChangeTells may answer (value_of w))
+          (sym (led ∙ ap (λ o. given o (refusal u rest Absent)
           (λ y. replaced_in at (value_of v) (edited (edit_of edit) u y rest))) there))
           (tells_alike may answer (value_of left) (value_of w)
           (edited (edit_of edit) u (value_of part) rest) _
@@ -299,10 +301,12 @@ module _ (t u : SszType) (edit : Edit) (v : Value) (step : PathStep) (rest path 
         ∙ number_misfits W8 step rest (subst (λ p. 1 < length p) path_is longer)) value)
 
     pub byte_suits : rest ≡ [] → SuitsEdit (uint W8) edit
-    byte_suits end = subst (λ o. IfSome o (λ x. SuitsEdit x edit)) (ap₂ path_type bytes_held.byte end)
+    byte_suits end = subst (λ o. IfSome o (λ x. SuitsEdit x edit))
+        (ap₂ path_type bytes_held.byte end)
         (onward_suits t u edit v step rest path (Index i) path_is typed at_is value suits)
 
-    pub byte_changed : rest ≡ [] → (may : Bool) (w : Value) (left : List ℕ) (answer : Result Unit EditFault)
+    pub byte_changed : rest ≡ [] → (may : Bool) (w : Value) (left : List ℕ)
+        (answer : Result Unit EditFault)
         → w ≡ Bytes left → ChangeLeaves false (put_at i (new_byte edit) run) run left answer
         → EditsValue may t (edited (edit_of edit) t (value_of v) path) v w answer
     byte_changed end may w left answer now leaves =
@@ -332,7 +336,8 @@ module _ (t u : SszType) (edit : Edit) (v : Value) (step : PathStep) (rest path 
     bit_suits end = subst (λ o. IfSome o (λ x. SuitsEdit x edit)) (ap₂ path_type bits_held.bit end)
         (onward_suits t u edit v step rest path (Index i) path_is typed at_is value suits)
 
-    pub bit_changed : rest ≡ [] → (may : Bool) (w : Value) (left : List Bool) (answer : Result Unit EditFault)
+    pub bit_changed : rest ≡ [] → (may : Bool) (w : Value) (left : List Bool)
+        (answer : Result Unit EditFault)
         → w ≡ Bits left → ChangeLeaves false (put_at i (new_bit edit) run) run left answer
         → EditsValue may t (edited (edit_of edit) t (value_of v) path) v w answer
     bit_changed end may w left answer now leaves =
@@ -340,7 +345,8 @@ module _ (t u : SszType) (edit : Edit) (v : Value) (step : PathStep) (rest path 
         (λ b e. tt) leaves in
         in_run t u edit v step rest path (Index i) path_is typed at_is value suits bits truth may w
         i run left (new_bit edit) answer boolean refl bits_held.bit end refl (λ b. refl)
-        (bit_edit edit (bit_suits end)) (ap value_of is ∙ bits_are run) (ap value_of now ∙ bits_are left)
+        (bit_edit edit (bit_suits end)) (ap value_of is ∙ bits_are run)
+        (ap value_of now ∙ bits_are left)
         (subst (IsValue t) (sym now) (bits_held.put left kept.1)) leaves
 
 -- the value of a union

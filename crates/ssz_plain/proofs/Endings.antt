@@ -2,7 +2,7 @@
 use Rattle.std.proofs.Common.{◌≡◌, ◌<◌, ◌≤◌, ◌-◌, [], ◌∷◌, length, take, drop, None, refl, ap, subst, ◌∙◌, arith}
 use Rattle.std.proofs.lemmas.List.{take_rest}
 use Rattle.ssz_schema.specs.declared.path.PathStep.{PathStep}
-use Rattle.ssz_schema.specs.declared.width.Width.{Width}
+use Rattle.ssz_schema.specs.width.Width.{Width}
 use Rattle.ssz_schema.specs.Types.{SszType, uint, boolean}
 use Rattle.ssz_schema.specs.Paths.{Path, path_type}
 use Rattle.ssz_value.specs.declared.edit_fault.EditFault.{EditFault}

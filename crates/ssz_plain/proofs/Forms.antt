@@ -2,7 +2,7 @@
 use Rattle.std.proofs.Common.{ℕ, zero, suc, ◌≡◌, ◌-◌, ◌<◌, ◌≤◌, Bool, true, false, cond, ltb, List, [], ◌∷◌, ◌++◌, length, map, set, take, Vec, Global, Result, Ok, Err, refl, sym, ap, subst, ◌∙◌, arith, ltb-true}
 use Rattle.std.specs.List.{AllByRecursion}
 use Rattle.std.proofs.lemmas.List.{length-map, length-append, length-take, length-set}
-use Rattle.ssz_schema.specs.declared.width.Width.TheVariants.{W8}
+use Rattle.ssz_schema.specs.width.Width.TheVariants.{W8}
 use Rattle.ssz_schema.specs.Types.{SszType, uint, list, bitlist}
 use Rattle.ssz_bytes.specs.Bytes.{IsBytes}
 use Rattle.ssz_value.specs.declared.value.Value.{Value}

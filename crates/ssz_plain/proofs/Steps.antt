@@ -1,19 +1,16 @@
 -- Where steps lead, and which values the parts there are.
-use Rattle.std.proofs.Common.{ℕ, zero, suc, ◌≡◌, ◌<◌, Bool, true, false, cond, List, [], ◌∷◌, length, map, set, get_or, slice_get, Vec, Global, Some, None, bytes_eq, refl, sym, ap, subst, ◌∙◌, arith}
-use Rattle.std.specs.List.{AllByRecursion, position_from}
+use Rattle.std.proofs.Common.{ℕ, zero, suc, ◌≡◌, ◌<◌, Bool, true, false, cond, List, [], ◌∷◌, length, map, set, slice_get, Vec, Global, Some, None, IsSome, bytes_eq, refl, sym, ap, subst, ◌∙◌, arith}
+use Rattle.std.specs.List.{AllByRecursion}
 use Rattle.std.specs.declared.boxed.Box.{Box}
 use Rattle.std.proofs.lemmas.Option.{none-some, same_Some, slice_get_within, get_or_from_slice_get}
 use Rattle.std.proofs.lemmas.List.{length-set}
 use Rattle.ssz_schema.specs.declared.path.PathStep.{PathStep}
 use Rattle.ssz_schema.specs.declared.path.PathStep.TheVariants.{Field, Index, Len, Selector, Option as Chosen}
-use Rattle.ssz_schema.specs.declared.ty.Ty.{Ty}
-use Rattle.ssz_schema.specs.declared.ty.Ty.TheVariants.{Container}
-use Rattle.ssz_schema.specs.declared.width.Width.{Width}
-use Rattle.ssz_schema.specs.declared.width.Width.TheVariants.{W8, W64}
+use Rattle.ssz_schema.specs.width.Width.{Width}
+use Rattle.ssz_schema.specs.width.Width.TheVariants.{W8, W64}
 use Rattle.ssz_schema.specs.Types.{SszType, Fields, Options, uint, boolean, container, vector, list, bitvector, bitlist, union, no_fields, field, no_options, none_option, option}
 use Rattle.ssz_schema.specs.Paths.{step_type, field_type, field_number, option_type}
-use Rattle.ssz_schema.specs.Unfolding.{Types, type_of, tree_over, fields_over, AreBelow}
-use Rattle.ssz_schema.proofs.StepLemmas.{Part, found_field, LeadsTo-field, LeadsTo-no_field}
+use Rattle.ssz_schema.specs.Steps.{lead_number}
 use Rattle.ssz_schema.proofs.PathLemmas.{if_within}
 use Rattle.ssz_value.specs.declared.value.Value.{Value}
 use Rattle.ssz_value.specs.declared.value.Value.TheVariants.{Bytes, Seq, Bits, Union}
@@ -24,35 +21,34 @@ use Rattle.ssz_value.specs.Standing.{value_of, OfChosen, OptionFormed, IsFormed,
 use Rattle.ssz_value.proofs.ValueLemmas.{seq_is, bytes_are, bits_are, chosen_is}
 use Rattle.ssz_value.proofs.FormLemmas.{element_at, list_sequence, vector_sequence, seq_elements, seq_fields, bytes_elements, bytes_no_container, chosen_out}
 use Rattle.ssz_value.proofs.FitLemmas.{vector_value, vector_parts, seq_container}
-use Rattle.ssz_plain.specs.declared.leading.Place.TheVariants.{Item}
-use Rattle.ssz_plain.specs.Leading.{IsLead}
 use Rattle.ssz_plain.proofs.Alike.{set_all}
 use Rattle.ssz_plain.proofs.Forms.{AllBytes, seq_count, bytes_count, seq_again, bytes_again, bytes_within, list_seq, list_bytes, list_bits, list_seq_parts, list_bytes_parts, bitlist_few}
 
--- a step to a field leads to its number
-pub field_led : (types : Types) (id k : ℕ) (ty : Ty) (parts : Vec Part Global) (part : Part)
-    (name : List ℕ) → id < length types.trees → tree_over types.trees ty ≡ type_of types id
-    → AreBelow id ty → ty ≡ Container parts
-    → position_from (λ part. bytes_eq part.0 name) 0 parts.items ≡ Some k
-    → part ≡ get_or parts.items k part
-    → IsLead types id (Field name) (record { id = part.1; place = Item k })
-field_led types id k ty parts part name known form below is found at =
-    let tree : container (fields_over types.trees parts.items) ≡ type_of types id =
-    sym (ap (tree_over types.trees) is) ∙ form in
-    let here = found_field types.trees parts.items name k found in
-    let leads = LeadsTo-field types id k ty parts part name known form below is found at in
-    record {
-      known = leads.known part.1 refl;
-      typed = sym leads.exact;
-      numbered = ap (λ t. numbered t (Field name)) (sym tree) ∙ ap Index here.number;
-    }
+-- Only a field has another number than its step.
 
-pub no_field_led : (types : Types) (id : ℕ) (ty : Ty) (parts : Vec Part Global) (name : List ℕ)
-    → tree_over types.trees ty ≡ type_of types id → ty ≡ Container parts
-    → position_from (λ part. bytes_eq part.0 name) 0 parts.items ≡ None
-    → step_type (type_of types id) (Field name) ≡ None
-no_field_led types id ty parts name form is missing =
-    sym (LeadsTo-no_field types id ty parts name form is missing).exact
+pub field_placed : (t : SszType) (name : List ℕ) (n : ℕ) → n ≡ lead_number (Field name) t
+    → IsSome (step_type t (Field name)) → numbered t (Field name) ≡ Index n
+field_placed (container fs) name n is fits = ap Index (sym is)
+field_placed _ name n is fits = absurd (cc)
+
+pub index_placed : (t : SszType) (i : ℕ) → numbered t (Index i) ≡ Index i
+index_placed (container fs) i = refl
+index_placed _ i = refl
+
+pub len_placed : (t : SszType) → numbered t Len ≡ Len
+len_placed (container fs) = refl
+len_placed _ = refl
+
+pub selector_placed : (t : SszType) → numbered t Selector ≡ Selector
+selector_placed (container fs) = refl
+selector_placed _ = refl
+
+pub option_placed : (t : SszType) (k : ℕ) → numbered t (Chosen k) ≡ Chosen k
+option_placed (container fs) k = refl
+option_placed _ k = refl
+
+pub ruleset steps_placed =
+    (field_placed, index_placed, len_placed, selector_placed, option_placed)
 
 -- Which values parts are, and which may stand in their places.
 

@@ -1,6 +1,6 @@
 // The way down to the part that an edit changes.
 ghost use Rattle.std.specs.Prelude.{◌≡◌, ◌<◌, true, false, length, Ok, Err};
-ghost use Rattle.ssz_schema.specs.declared.width.Width.TheVariants.{W8};
+ghost use Rattle.ssz_schema.specs.width.Width.TheVariants.{W8};
 ghost use Rattle.ssz_schema.specs.Types.{uint, boolean};
 ghost use Rattle.ssz_schema.specs.Unfolding.{type_of};
 ghost use Rattle.ssz_value.specs.Standing.{IsValue, value_of};
@@ -16,8 +16,8 @@ use ssz_bytes::{BitRun, ByteRun};
 use ssz_schema::{PathStep, Schema, TypeId};
 use ssz_value::{EditFault, Value};
 
-// Makes the edit of the part at the path. What refuses it asks whether the rest of the path fits, so
-// that a path is walked once.
+// Makes the edit of the part at the path. What refuses it asks whether the rest of the path fits,
+// so that a path is walked once.
 #[cycle(change)]
 pub(crate) fn change(
     schema: &Schema,

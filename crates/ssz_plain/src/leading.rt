@@ -1,11 +1,13 @@
 // Where a step leads in a value of a type.
-ghost use Rattle.std.specs.Prelude.{◌≡◌, ◌<◌, None, length, IfSome, IfNone};
+ghost use Rattle.std.specs.Prelude.{◌≡◌, ◌<◌, None, length, IfSome, IfNone, IsSome};
+ghost use Rattle.ssz_schema.specs.Types.{SszType};
 ghost use Rattle.ssz_schema.specs.Unfolding.{type_of};
 ghost use Rattle.ssz_schema.specs.Paths.{step_type};
-ghost use Rattle.ssz_schema.specs.declared.path.PathStep.TheVariants.{Field};
-ghost use Rattle.ssz_plain.specs.Leading.{IsLead};
+ghost use Rattle.ssz_schema.specs.Steps.{lead_number};
+ghost use Rattle.ssz_value.specs.Parts.{numbered};
+ghost use Rattle.ssz_plain.specs.Leading.{IsLead, step_to};
 
-use ssz_schema::{Name, PathStep, Schema, Ty, TypeId, field_at};
+use ssz_schema::{PathStep, Schema, TypeId};
 
 // Where a part lies in a value: a field by its number, as an element.
 #[derive(Clone, Copy, Debug)]
@@ -33,33 +35,24 @@ pub(crate) fn step_lead(schema: &Schema, id: TypeId, step: &PathStep) -> Option<
     ensures led { IfSome result (IsLead schema.now id step.now) }
     ensures unfit { IfNone result (step_type (type_of schema.now id) step.now ≡ None) }
 {
-    let place = match step {
-        PathStep::Field(name) => return field_lead(schema, id, name),
+    let lead = schema.lead(id, step)?;
+    Some(Lead {
+        id: lead.part,
+        place: place_of(step, lead.number),
+    })
+}
+
+// Where the part lies that the step leads to, where a field has this number.
+#[tactic(auto, using(crate::proofs::Steps::steps_placed))]
+fn place_of(step: &PathStep, number: u64) -> Place
+    ensures { (t : SszType) → number ≡ lead_number step.now t → IsSome (step_type t step.now)
+        → numbered t step.now ≡ step_to result }
+{
+    match step {
+        PathStep::Field(_) => Place::Item(number),
         PathStep::Index(i) => Place::Item(*i),
         PathStep::Len => Place::Length,
         PathStep::Selector => Place::Selector,
         PathStep::Option(selector) => Place::Inner(*selector),
-    };
-    match schema.step_type(id, step) {
-        Some(part) => Some(Lead { id: part, place }),
-        None => None,
-    }
-}
-
-// The same of the field of this name.
-fn field_lead(schema: &Schema, id: TypeId, name: &Name) -> Option<Lead>
-    requires { id < length schema.now.trees }
-    ensures led { IfSome result (IsLead schema.now id (Field name.now)) }
-    ensures unfit { IfNone result (step_type (type_of schema.now id) (Field name.now) ≡ None) }
-{
-    let Ty::Container(fields) = schema.ty(id) else {
-        return None;
-    };
-    match field_at(fields.as_slice(), name) {
-        Some(number) => Some(Lead {
-            id: fields[number].1,
-            place: Place::Item(number as u64),
-        }),
-        None => None,
     }
 }

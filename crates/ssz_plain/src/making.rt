@@ -1,6 +1,6 @@
 // An edit at the part that it changes.
 ghost use Rattle.std.specs.Prelude.{◌≡◌, ◌<◌, true, false, length, option_map};
-ghost use Rattle.ssz_schema.specs.declared.width.Width.TheVariants.{W8};
+ghost use Rattle.ssz_schema.specs.width.Width.TheVariants.{W8};
 ghost use Rattle.ssz_schema.specs.Types.{uint, boolean};
 ghost use Rattle.ssz_schema.specs.Unfolding.{type_of};
 ghost use Rattle.ssz_value.specs.Values.{number as number_value, truth};

@@ -2,14 +2,14 @@
 use Rattle.std.proofs.Common.{ℕ, ◌+◌, ◌^◌, ◌<◌, ◌≤◌, ◌≡◌, Bool, true, false, not, ◌||◌, cond, ltb, eqb, List, [], ◌∷◌, Option, Result, Ok, Err, bytes_eq, IsTrue, refl, ap, ap₂, ◌∙◌, arith}
 use Rattle.std.specs.List.{AllByRecursion, list_any, IsDistinct}
 use Rattle.std.proofs.lemmas.Bool.{cond-false, le-ltb, ne_eqb}
-use Rattle.ssz_schema.specs.declared.format.Format.{Format}
-use Rattle.ssz_schema.specs.declared.schema_fault.SchemaFault.{SchemaFault}
-use Rattle.ssz_schema.specs.Types.{SszType, Fields, Options, uint, boolean, container, vector, list, bitvector, bitlist, union, no_fields, field, no_options, none_option, option}
-use Rattle.ssz_schema.specs.Sizes.{option_count, nesting, type_levels, default_length}
-use Rattle.ssz_schema.specs.Names.{is_name}
-use Rattle.ssz_schema.specs.Legal.{IsLegal, AreLegalFields, AreLegalOptions, IsWithinLimits, IsNoneFirst, HasNoNone, field_names, greatest_limit, most_levels}
+use Rattle.ssz_types.specs.declared.format.Format.{Format}
+use Rattle.ssz_types.specs.declared.schema_fault.SchemaFault.{SchemaFault}
+use Rattle.ssz_types.specs.Types.{SszType, Fields, Options, uint, boolean, container, vector, list, bitvector, bitlist, union, no_fields, field, no_options, none_option, option}
+use Rattle.ssz_types.specs.Sizes.{option_count, nesting, type_levels, default_length}
+use Rattle.ssz_types.specs.Names.{is_name}
+use Rattle.ssz_types.specs.Legal.{IsLegal, AreLegalFields, AreLegalOptions, IsWithinLimits, IsNoneFirst, HasNoNone, field_names, greatest_limit, most_levels, is_wrong_size}
 use Rattle.ssz_schema.specs.Forms.{option_form_count}
-use Rattle.ssz_schema.specs.Walk.{◌>>=◌, within_limits, of_length, of_limit, is_wrong_size, resolved, resolved_fields, resolved_options}
+use Rattle.ssz_schema.specs.Walk.{◌>>=◌, within_limits, of_length, of_limit, resolved, resolved_fields, resolved_options}
 use Rattle.ssz_schema.specs.Accepting.{form_written, fields_written, options_written, AcceptedAreLegal, LegalAreAccepted}
 use Rattle.ssz_schema.proofs.ResolvedLaw.{AreApart, type_is_legal}
 

@@ -1,15 +1,16 @@
 -- Entries that were copied make the same schema.
 use Rattle.std.proofs.Common.{◌≡◌, List, [], ◌∷◌, ◌++◌, length, refl, sym, ap, ◌∙◌, subst}
 use Rattle.std.specs.List.{AllZip}
-use Rattle.ssz_schema.specs.declared.entry.Entry.{Entry}
-use Rattle.ssz_schema.specs.declared.facts.Facts.{Facts}
-use Rattle.ssz_schema.specs.declared.format.Format.{Format}
+use Rattle.ssz_types.specs.declared.entry.Entry.{Entry}
+use Rattle.ssz_types.specs.declared.facts.Facts.{Facts}
+use Rattle.ssz_types.specs.declared.format.Format.{Format}
 use Rattle.ssz_schema.specs.declared.schema.Schema.TheInside.{Inside}
-use Rattle.ssz_schema.specs.Copies.{IsSameEntry}
-use Rattle.ssz_schema.specs.Types.{SszType}
-use Rattle.ssz_schema.specs.Legal.{IsLegal}
-use Rattle.ssz_schema.specs.Unfolding.{tree_over}
-use Rattle.ssz_schema.specs.Inside.{unfolded, types_of, AreFactsOf, IsSoundEntry, AreSound, IsSchema, IsWhole}
+use Rattle.ssz_types.specs.Copies.{IsSameEntry}
+use Rattle.ssz_types.specs.Types.{SszType}
+use Rattle.ssz_types.specs.Legal.{IsLegal}
+use Rattle.ssz_types.specs.Unfolding.{tree_over}
+use Rattle.ssz_types.specs.Facts.{AreFactsOf}
+use Rattle.ssz_schema.specs.Inside.{unfolded, types_of, IsSoundEntry, AreSound, IsSchema, IsWhole}
 
 unfolded-copied : (done : List SszType) (es fs : List Entry) → AllZip IsSameEntry es fs
     → unfolded done fs ≡ unfolded done es

@@ -1,13 +1,13 @@
 -- How many chunks the tree of a legal type has.
 use Rattle.std.proofs.Common.{ℕ, ◌^◌, ◌≤◌, ◌≡◌, Option, Some, None, refl, arith, mul-le-mul_left}
-use Rattle.ssz_schema.specs.declared.format.Format.{Format}
-use Rattle.ssz_schema.specs.declared.format.Format.TheVariants.{One, Two}
-use Rattle.ssz_schema.specs.Types.{SszType, uint, boolean, container, vector, list, bitvector, bitlist, union}
-use Rattle.ssz_schema.specs.Sizes.{byte_count, basic_size, element_chunks, chunk_count, depth}
-use Rattle.ssz_schema.specs.Legal.{IsLegal, greatest_limit}
-use Rattle.ssz_schema.proofs.DepthLemmas.{depth_of-least}
+use Rattle.ssz_types.specs.declared.format.Format.{Format}
+use Rattle.ssz_types.specs.declared.format.Format.TheVariants.{One, Two}
+use Rattle.ssz_types.specs.Types.{SszType, uint, boolean, container, vector, list, bitvector, bitlist, union}
+use Rattle.ssz_types.specs.Sizes.{byte_count, basic_size, element_chunks, chunk_count, depth}
+use Rattle.ssz_types.specs.Legal.{IsLegal, greatest_limit}
+use Rattle.ssz_types.proofs.DepthLemmas.{depth_of-least}
 use Rattle.ssz_schema.proofs.SizeLemmas.{some_is, none_is, vector_few, fields_few}
-use Rattle.ssz_schema.proofs.WidthLemmas.{byte_count-small}
+use Rattle.ssz_types.proofs.WidthLemmas.{byte_count-small}
 
 -- the limits of both formats
 pub greatest_limit-small : (format : Format) → greatest_limit format ≤ 2 ^ 62

@@ -2,16 +2,17 @@
 use Rattle.std.proofs.Common.{ℕ, zero, suc, ◌+◌, ◌<◌, ◌≡◌, List, [], ◌∷◌, ◌++◌, length, get_or, take, ◌≤◌, Option, Some, None, refl, sym, ap, ap₂, ◌∙◌, subst, arith, length-append, length-take, append_assoc, append-nil}
 use Rattle.std.specs.List.{AllByRecursion}
 use Rattle.std.proofs.lemmas.List.{take-append-le, get_or_append_left, get_or_at}
-use Rattle.ssz_schema.specs.declared.entry.Entry.{Entry}
-use Rattle.ssz_schema.specs.declared.format.Format.{Format}
-use Rattle.ssz_schema.specs.declared.ty.Ty.{Ty}
-use Rattle.ssz_schema.specs.declared.ty.Ty.TheVariants.{Uint, Boolean, Container, Vector, List as ListOf, Bitvector, Bitlist, Union}
+use Rattle.ssz_types.specs.declared.entry.Entry.{Entry}
+use Rattle.ssz_types.specs.declared.format.Format.{Format}
+use Rattle.ssz_types.specs.declared.ty.Ty.{Ty}
+use Rattle.ssz_types.specs.declared.ty.Ty.TheVariants.{Uint, Boolean, Container, Vector, List as ListOf, Bitvector, Bitlist, Union}
 use Rattle.ssz_schema.specs.declared.schema.Schema.TheInside.{Inside}
-use Rattle.ssz_schema.specs.Types.{SszType, boolean, container, vector, list, union, field, none_option, option}
-use Rattle.ssz_schema.specs.Legal.{IsLegal}
-use Rattle.ssz_schema.specs.Unfolding.{Types, type_tree_at, fields_over, options_over, tree_over, AreBelow, IsBelow}
-use Rattle.ssz_schema.specs.Lookup.{lookup_name}
-use Rattle.ssz_schema.specs.Inside.{unfolded, types_of, basic_types, AreFactsOf, IsSoundEntry, AreSound, IsSchema, IsSchemaEntry, IsWhole, AreAllLegal, NamesAreBelow}
+use Rattle.ssz_types.specs.Types.{SszType, boolean, container, vector, list, union, field, none_option, option}
+use Rattle.ssz_types.specs.Legal.{IsLegal}
+use Rattle.ssz_types.specs.Unfolding.{Types, type_tree_at, fields_over, options_over, tree_over, AreBelow, IsBelow}
+use Rattle.ssz_types.specs.Lookup.{lookup_name}
+use Rattle.ssz_types.specs.Facts.{AreFactsOf}
+use Rattle.ssz_schema.specs.Inside.{unfolded, types_of, basic_types, IsSoundEntry, AreSound, IsSchema, IsSchemaEntry, IsWhole, AreAllLegal, NamesAreBelow}
 
 -- the first count trees are the same
 abbrev SameBelow : ℕ → List SszType → List SszType → Type 0

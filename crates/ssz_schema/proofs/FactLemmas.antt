@@ -1,13 +1,14 @@
 -- What the program counts of a type is the type's, long sizes capped.
 use Rattle.std.proofs.Common.{ℕ, ◌≡◌, ◌≤◌, ◌+◌, ◌*◌, ◌^◌, cond, Option, Some, None, option_map, refl, ap, ap₂, ◌∙◌, arith}
 use Rattle.std.specs.Prelude.{is_some, is_none, not}
-use Rattle.ssz_schema.specs.declared.facts.Facts.{Facts}
+use Rattle.ssz_types.specs.declared.facts.Facts.{Facts}
 use Rattle.ssz_schema.specs.declared.adding.Sums.{Sums}
-use Rattle.ssz_schema.specs.Types.{SszType, Fields, Options, container, vector, union}
-use Rattle.ssz_schema.specs.Sizes.{fixed_size, part_sizes, total_size, basic_size, element_chunks, part_length, default_length, default_fields_length, default_option_length, depth_of, field_count}
-use Rattle.ssz_schema.specs.Inside.{capped, AreFactsOf, AreFactsUpTo}
+use Rattle.ssz_types.specs.Types.{SszType, Fields, Options, container, vector, union}
+use Rattle.ssz_types.specs.Sizes.{fixed_size, part_sizes, total_size, basic_size, element_chunks, part_length, default_length, default_fields_length, default_option_length, depth_of, field_count}
+use Rattle.ssz_types.specs.Facts.{AreFactsOf}
+use Rattle.ssz_schema.specs.Inside.{capped, AreFactsUpTo}
 use Rattle.ssz_schema.specs.Sums.{AreSums, AreOptionSums}
-use Rattle.ssz_schema.proofs.DepthLemmas.{depth_of-small}
+use Rattle.ssz_types.proofs.DepthLemmas.{depth_of-small}
 use Rattle.ssz_schema.proofs.SizeLemmas.{default_length-fixed, default_fields_length-fixed}
 
 -- the size of a fixed-size whole is the length of its default

@@ -1,17 +1,18 @@
 -- The forms of types, and the walks of those that have parts.
 use Rattle.std.proofs.Common.{ℕ, ◌≡◌, ◌<◌, true, false, cond, List, [], ◌∷◌, length, map, Option, Some, None, option_map, Result, Ok, Err, Vec, Box, Global, refl, sym, ap, ap₂, ◌∙◌, subst, arith}
-use Rattle.ssz_schema.specs.declared.format.Format.{Format}
-use Rattle.ssz_schema.specs.declared.expr.TypeExpr.{TypeExpr}
-use Rattle.ssz_schema.specs.declared.expr.TypeExpr.TheVariants.{Container, rolls-Container, Vector, rolls-Vector, List as ListOf, rolls-List, Bitvector, rolls-Bitvector, Bitlist, rolls-Bitlist, Union, rolls-Union}
-use Rattle.ssz_schema.specs.declared.expr.TypeExpr.TheFolds.{fold-roll-TypeExpr}
-use Rattle.ssz_schema.specs.declared.expr.TypeExpr.TheShapes.{former-TypeExpr-Union-0-at-1}
-use Rattle.ssz_schema.specs.declared.schema_fault.SchemaFault.{SchemaFault}
-use Rattle.ssz_schema.specs.declared.schema_fault.SchemaFault.TheVariants.{UnionSize}
-use Rattle.ssz_schema.specs.declared.schema_fault.SchemaError.{SchemaError}
-use Rattle.ssz_schema.specs.Types.{SszType, Fields, Options, container, union}
+use Rattle.ssz_types.specs.declared.format.Format.{Format}
+use Rattle.ssz_types.specs.declared.expr.TypeExpr.{TypeExpr}
+use Rattle.ssz_types.specs.declared.expr.TypeExpr.TheVariants.{Container, rolls-Container, Vector, rolls-Vector, List as ListOf, rolls-List, Bitvector, rolls-Bitvector, Bitlist, rolls-Bitlist, Union, rolls-Union}
+use Rattle.ssz_types.specs.declared.expr.TypeExpr.TheFolds.{fold-roll-TypeExpr}
+use Rattle.ssz_types.specs.declared.expr.TypeExpr.TheShapes.{former-TypeExpr-Union-0-at-1}
+use Rattle.ssz_types.specs.declared.schema_fault.SchemaFault.{SchemaFault}
+use Rattle.ssz_types.specs.declared.schema_fault.SchemaFault.TheVariants.{UnionSize}
+use Rattle.ssz_types.specs.declared.schema_fault.SchemaError.{SchemaError}
+use Rattle.ssz_types.specs.Types.{SszType, Fields, Options, container, union}
 use Rattle.ssz_schema.specs.Forms.{TypeForm, field_forms, option_forms, field_form_of, form_of, form_step, container_form, vector_form, list_form, bitvector_form, bitlist_form, union_form, option_form_count}
-use Rattle.ssz_schema.specs.Walk.{◌>>=◌, within_limits, is_wrong_size, resolved, resolved_fields, resolved_options}
-use Rattle.ssz_schema.specs.Unfolding.{Types, type_of, fields_over, options_over}
+use Rattle.ssz_schema.specs.Walk.{◌>>=◌, within_limits, resolved, resolved_fields, resolved_options}
+use Rattle.ssz_types.specs.Legal.{is_wrong_size}
+use Rattle.ssz_types.specs.Unfolding.{Types, type_of, fields_over, options_over}
 use Rattle.ssz_schema.specs.Adding.{Resolves, IsType, AreFieldTypes, AreOptions}
 use Rattle.ssz_schema.proofs.WalkLemmas.{goes_on}
 

@@ -3,10 +3,10 @@ use Rattle.std.proofs.Common.{ℕ, ◌≡◌, ◌<◌, Bool, true, false, if◌t
 use Rattle.std.proofs.lemmas.List.{get_or_append_left}
 use Rattle.std.proofs.lemmas.Option.{none-some, same_Some}
 use Rattle.std.specs.Prelude.{bytes_eq}
-use Rattle.ssz_schema.specs.Types.{SszType, boolean}
-use Rattle.ssz_schema.specs.Legal.{IsLegal}
-use Rattle.ssz_schema.specs.Lookup.{lookup_name}
-use Rattle.ssz_schema.specs.Unfolding.{Types, type_tree_at, type_of, type_number, known_in}
+use Rattle.ssz_types.specs.Types.{SszType, boolean}
+use Rattle.ssz_types.specs.Legal.{IsLegal}
+use Rattle.ssz_types.specs.Lookup.{lookup_name}
+use Rattle.ssz_types.specs.Unfolding.{Types, type_tree_at, type_of, type_number, known_in}
 use Rattle.ssz_schema.specs.Inside.{IsWhole, AreAllLegal}
 use Rattle.ssz_schema.specs.Adding.{ExtendsSchema, Defines, Knows}
 

@@ -1,14 +1,13 @@
-pub mod DepthLemmas
+pub use Rattle.ssz_types.proofs.DepthLemmas
+pub use Rattle.ssz_types.proofs.WidthLemmas
+pub use Rattle.ssz_types.proofs.NameLemmas
 pub mod SizeLemmas
-pub mod NameLemmas
 pub mod Entries
 pub mod PathLemmas
-pub mod WidthLemmas
 pub mod CountLemmas
 pub mod SmallLemmas
 pub mod WalkLemmas
 pub mod FactLemmas
-pub mod BasicLemmas
 pub mod StepLemmas
 pub mod SumLemmas
 pub mod OptionLemmas
@@ -17,6 +16,6 @@ pub mod ResolvedLaw
 pub mod AcceptedLaw
 pub mod WalkFields
 pub mod WalkOptions
-pub mod RepeatLemmas
 pub mod FormLemmas
 pub mod CopyLemmas
+pub mod ListedLemmas

@@ -1,9 +1,9 @@
 -- What options tell of their union, option by option.
 use Rattle.std.proofs.Common.{ℕ, zero, suc, max, ◌≡◌, ◌<◌, ◌≤◌, ◌+◌, List, [], ◌∷◌, length, drop, get_or, Option, Some, None, refl, sym, ap, ◌∙◌, arith}
 use Rattle.std.proofs.lemmas.List.{drop_all}
-use Rattle.ssz_schema.specs.Types.{SszType}
-use Rattle.ssz_schema.specs.Sizes.{option_levels, option_nesting, option_count}
-use Rattle.ssz_schema.specs.Unfolding.{options_over}
+use Rattle.ssz_types.specs.Types.{SszType}
+use Rattle.ssz_types.specs.Sizes.{option_levels, option_nesting, option_count}
+use Rattle.ssz_types.specs.Unfolding.{options_over}
 use Rattle.ssz_schema.specs.Sums.{AreOptionSums, IsOption}
 
 pub drop_option : (ids : List (Option ℕ)) (i : ℕ) (o : Option ℕ) → i < length ids

@@ -5,15 +5,15 @@ use Rattle.std.proofs.Math.Nat.{mul-le-mul_left, mul-le-mul_right, pow-le-pow_ri
 use Rattle.std.proofs.lemmas.Nat.{pow_pos}
 use Rattle.std.proofs.lemmas.Bool.{ltb-true}
 use Rattle.std.proofs.lemmas.Option.{none-some, same_Some, cond_some}
-use Rattle.ssz_schema.specs.declared.width.Width.TheVariants.{W8, W16, W32, W64, W128, W256}
+use Rattle.ssz_types.specs.declared.width.Width.TheVariants.{W8, W16, W32, W64, W128, W256}
 use Rattle.ssz_schema.specs.declared.path.PathStep.{PathStep}
 use Rattle.ssz_schema.specs.declared.path.PathStep.TheVariants.{Field, Index, Len, Selector, Option as Chosen}
-use Rattle.ssz_schema.specs.Types.{SszType, Fields, Options, uint, boolean, container, vector, list, bitvector, bitlist, union, no_fields, field, no_options, none_option, option}
-use Rattle.ssz_schema.specs.Sizes.{basic_size, element_chunks, depth_of, field_count, type_levels, field_levels, option_levels}
+use Rattle.ssz_types.specs.Types.{SszType, Fields, Options, uint, boolean, container, vector, list, bitvector, bitlist, union, no_fields, field, no_options, none_option, option}
+use Rattle.ssz_types.specs.Sizes.{basic_size, element_chunks, depth_of, field_count, type_levels, field_levels, option_levels}
 use Rattle.ssz_schema.specs.Paths.{Path, step_type, field_type, field_number, option_type}
 use Rattle.ssz_schema.specs.Indices.{element_position, step_levels, step_position, step_index, generalized_index_from}
 use Rattle.ssz_schema.specs.IndexLaws.{IndicesAreWithinLevels}
-use Rattle.ssz_schema.proofs.DepthLemmas.{depth_of-holds}
+use Rattle.ssz_types.proofs.DepthLemmas.{depth_of-holds}
 
 -- what a chain of options that answers has gone through
 pub and_then_parts : {A B : Type 0} (f : A → Option B) (o : Option A) (y : B)

@@ -2,14 +2,14 @@
 use Rattle.std.proofs.Common.{ℕ, ◌+◌, ◌^◌, ◌<◌, ◌≡◌, Bool, true, false, not, ◌||◌, cond, ltb, eqb, List, [], ◌∷◌, Option, Some, None, Result, Ok, Err, bytes_eq, IsTrue, refl, sym, ap, ◌∙◌, subst, arith, ltb-false, pos_of_ne-zero}
 use Rattle.std.specs.List.{AllByRecursion, list_any, IsDistinct}
 use Rattle.std.proofs.lemmas.Bool.{or_parts, eqb-false}
-use Rattle.ssz_schema.specs.declared.format.Format.{Format}
-use Rattle.ssz_schema.specs.declared.width.Width.{Width}
-use Rattle.ssz_schema.specs.declared.schema_fault.SchemaFault.{SchemaFault}
-use Rattle.ssz_schema.specs.declared.schema_fault.SchemaFault.TheVariants.{BadName, EmptyContainer, NonePlace, UnionSize, FieldTaken}
-use Rattle.ssz_schema.specs.Types.{SszType, Fields, Options, uint, boolean, container, vector, list, bitvector, bitlist, union, no_fields, field, no_options, none_option, option}
-use Rattle.ssz_schema.specs.Sizes.{field_count, option_count, nesting, type_levels, default_length}
-use Rattle.ssz_schema.specs.Names.{IsName, is_name}
-use Rattle.ssz_schema.specs.Legal.{IsLegal, AreLegalFields, AreLegalOptions, IsWithinLimits, IsNoneFirst, HasNoNone, field_names, greatest_limit, most_levels}
+use Rattle.ssz_types.specs.declared.format.Format.{Format}
+use Rattle.ssz_types.specs.declared.width.Width.{Width}
+use Rattle.ssz_types.specs.declared.schema_fault.SchemaFault.{SchemaFault}
+use Rattle.ssz_types.specs.declared.schema_fault.SchemaFault.TheVariants.{BadName, EmptyContainer, NonePlace, UnionSize, FieldTaken}
+use Rattle.ssz_types.specs.Types.{SszType, Fields, Options, uint, boolean, container, vector, list, bitvector, bitlist, union, no_fields, field, no_options, none_option, option}
+use Rattle.ssz_types.specs.Sizes.{field_count, option_count, nesting, type_levels, default_length}
+use Rattle.ssz_types.specs.Names.{IsName, is_name}
+use Rattle.ssz_types.specs.Legal.{IsLegal, AreLegalFields, AreLegalOptions, IsWithinLimits, IsNoneFirst, HasNoNone, field_names, greatest_limit, most_levels}
 use Rattle.ssz_schema.specs.Forms.{TypeForm, FieldForms, OptionForms, named, uint_form, boolean_form, container_form, vector_form, list_form, bitvector_form, bitlist_form, union_form, no_field_forms, field_form, no_option_forms, none_form, option_form, option_form_count}
 use Rattle.ssz_schema.specs.Walk.{◌>>=◌, within_limits, of_length, of_limit, ok_or_unknown, resolved, resolved_fields, resolved_options}
 

@@ -1,11 +1,11 @@
 -- Sizes of types.
 use Rattle.std.proofs.Common.{ℕ, ◌+◌, ◌*◌, ◌/◌, ◌^◌, ◌<◌, ◌≤◌, ◌≡◌, List, ◌∷◌, Option, Some, None, option_map, refl, ap, ap₂, ◌∙◌, subst, arith, mul-pos, mul-le-mul_left}
-use Rattle.ssz_schema.specs.Types.{SszType, Fields, uint, boolean, container, vector, list, bitvector, bitlist, union, no_fields, field}
-use Rattle.ssz_schema.specs.declared.format.Format.{Format}
-use Rattle.ssz_schema.specs.Sizes.{byte_count, fixed_size, part_sizes, total_size, default_length, default_fields_length, part_length, field_count}
-use Rattle.ssz_schema.specs.Legal.{IsLegal, AreLegalFields, IsSize}
-use Rattle.ssz_schema.specs.declared.width.Width.{Width}
-use Rattle.ssz_schema.specs.declared.width.Width.TheVariants.{W8, W16, W32, W64, W128, W256}
+use Rattle.ssz_types.specs.Types.{SszType, Fields, uint, boolean, container, vector, list, bitvector, bitlist, union, no_fields, field}
+use Rattle.ssz_types.specs.declared.format.Format.{Format}
+use Rattle.ssz_types.specs.Sizes.{byte_count, fixed_size, part_sizes, total_size, default_length, default_fields_length, part_length, field_count}
+use Rattle.ssz_types.specs.Legal.{IsLegal, AreLegalFields, IsSize}
+use Rattle.ssz_types.specs.declared.width.Width.{Width}
+use Rattle.ssz_types.specs.declared.width.Width.TheVariants.{W8, W16, W32, W64, W128, W256}
 use Rattle.std.specs.Option.{ForSome}
 
 pub some_is : (a b : ℕ) → Some a ≡ Some b → a ≡ b

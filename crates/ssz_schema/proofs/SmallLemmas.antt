@@ -1,12 +1,13 @@
 -- What is small of every legal type.
 use Rattle.std.proofs.Common.{◌≤◌, arith}
-use Rattle.ssz_schema.specs.declared.format.Format.{Format}
-use Rattle.ssz_schema.specs.declared.format.Format.TheVariants.{One, Two}
-use Rattle.ssz_schema.specs.declared.facts.Facts.{Facts}
-use Rattle.ssz_schema.specs.Types.{SszType, uint, boolean, container, vector, list, bitvector, bitlist, union}
-use Rattle.ssz_schema.specs.Legal.{IsLegal, IsWithinLimits, most_levels}
-use Rattle.ssz_schema.specs.Inside.{AreFactsOf, AreSmall}
-use Rattle.ssz_schema.proofs.WidthLemmas.{byte_count-small}
+use Rattle.ssz_types.specs.declared.format.Format.{Format}
+use Rattle.ssz_types.specs.declared.format.Format.TheVariants.{One, Two}
+use Rattle.ssz_types.specs.declared.facts.Facts.{Facts}
+use Rattle.ssz_types.specs.Types.{SszType, uint, boolean, container, vector, list, bitvector, bitlist, union}
+use Rattle.ssz_types.specs.Legal.{IsLegal, IsWithinLimits, most_levels}
+use Rattle.ssz_types.specs.Facts.{AreFactsOf}
+use Rattle.ssz_schema.specs.Inside.{AreSmall}
+use Rattle.ssz_types.proofs.WidthLemmas.{byte_count-small}
 use Rattle.ssz_schema.proofs.CountLemmas.{chunk_count-small, depth-small}
 
 pub most_levels-small : (format : Format) → most_levels format ≤ 126

@@ -4,10 +4,10 @@ use Rattle.std.specs.List.{AllByRecursion, position_from}
 use Rattle.std.specs.Option.{ForSome}
 use Rattle.std.proofs.lemmas.Option.{none-some, same_Some}
 use Rattle.ssz_schema.specs.declared.path.PathStep.TheVariants.{Field, Option as Chosen}
-use Rattle.ssz_schema.specs.declared.ty.Ty.{Ty}
-use Rattle.ssz_schema.specs.declared.ty.Ty.TheVariants.{Container, Union}
-use Rattle.ssz_schema.specs.Types.{SszType, container, union}
-use Rattle.ssz_schema.specs.Unfolding.{Types, type_tree_at, type_of, tree_over, fields_over, options_over, IsBelow, AreBelow}
+use Rattle.ssz_types.specs.declared.ty.Ty.{Ty}
+use Rattle.ssz_types.specs.declared.ty.Ty.TheVariants.{Container, Union}
+use Rattle.ssz_types.specs.Types.{SszType, container, union}
+use Rattle.ssz_types.specs.Unfolding.{Types, type_tree_at, type_of, tree_over, fields_over, options_over, IsBelow, AreBelow}
 use Rattle.ssz_schema.specs.Paths.{step_type, field_type, field_number, option_type}
 use Rattle.ssz_schema.specs.Steps.{StepLeadsTo, lead_number, IsLead}
 

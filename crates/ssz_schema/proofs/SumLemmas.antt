@@ -2,11 +2,12 @@
 use Rattle.std.proofs.Common.{ℕ, zero, suc, min, max, ◌≡◌, ◌<◌, ◌≤◌, ◌+◌, ◌-◌, ◌^◌, ◌&&◌, Bool, true, false, List, [], ◌∷◌, length, drop, get_or, Option, Some, None, option_map, refl, sym, ap, ap₂, ◌∙◌, arith}
 use Rattle.std.specs.Prelude.{not, is_none, is_some}
 use Rattle.std.proofs.lemmas.List.{drop_all}
-use Rattle.ssz_schema.specs.declared.facts.Facts.{Facts}
-use Rattle.ssz_schema.specs.Types.{SszType}
-use Rattle.ssz_schema.specs.Sizes.{fixed_size, part_sizes, total_size, default_length, part_length, default_fields_length, type_levels, field_levels, nesting, field_nesting, field_count}
-use Rattle.ssz_schema.specs.Unfolding.{type_tree_at, fields_over}
-use Rattle.ssz_schema.specs.Inside.{capped, AreFactsOf}
+use Rattle.ssz_types.specs.declared.facts.Facts.{Facts}
+use Rattle.ssz_types.specs.Types.{SszType}
+use Rattle.ssz_types.specs.Sizes.{fixed_size, part_sizes, total_size, default_length, part_length, default_fields_length, type_levels, field_levels, nesting, field_nesting, field_count}
+use Rattle.ssz_types.specs.Unfolding.{type_tree_at, fields_over}
+use Rattle.ssz_types.specs.Facts.{AreFactsOf}
+use Rattle.ssz_schema.specs.Inside.{capped}
 use Rattle.ssz_schema.specs.Sums.{AreSums}
 
 abbrev pub Part : Type 0

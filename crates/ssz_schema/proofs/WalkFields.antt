@@ -3,33 +3,28 @@ use Rattle.std.proofs.Common.{ℕ, zero, suc, ◌≡◌, ◌<◌, ◌≤◌, ◌
 use Rattle.std.specs.List.{AllByRecursion, list_any, IsDistinct}
 use Rattle.std.proofs.lemmas.List.{drop_all}
 use Rattle.std.proofs.lemmas.Bool.{ne_eqb}
-use Rattle.ssz_schema.specs.declared.format.Format.{Format}
-use Rattle.ssz_schema.specs.declared.expr.TypeExpr.{TypeExpr}
-use Rattle.ssz_schema.specs.declared.schema_fault.SchemaFault.{SchemaFault}
-use Rattle.ssz_schema.specs.declared.schema_fault.SchemaFault.TheVariants.{BadName, FieldTaken}
-use Rattle.ssz_schema.specs.declared.schema_fault.SchemaError.{SchemaError}
-use Rattle.ssz_schema.specs.declared.schema_fault.SchemaError.TheVariants.{Fault, Memory}
-use Rattle.ssz_schema.specs.Types.{SszType, Fields, no_fields, field}
-use Rattle.ssz_schema.specs.Names.{is_name}
-use Rattle.ssz_schema.specs.Legal.{AreLegalFields, field_names}
+use Rattle.ssz_types.specs.declared.format.Format.{Format}
+use Rattle.ssz_types.specs.declared.expr.TypeExpr.{TypeExpr}
+use Rattle.ssz_types.specs.declared.schema_fault.SchemaFault.{SchemaFault}
+use Rattle.ssz_types.specs.declared.schema_fault.SchemaFault.TheVariants.{BadName, FieldTaken}
+use Rattle.ssz_types.specs.declared.schema_fault.SchemaError.{SchemaError}
+use Rattle.ssz_types.specs.declared.schema_fault.SchemaError.TheVariants.{Fault, Memory}
+use Rattle.ssz_types.specs.Types.{SszType, Fields, no_fields, field}
+use Rattle.ssz_types.specs.Names.{is_name}
+use Rattle.ssz_types.specs.Legal.{AreLegalFields, field_names}
 use Rattle.ssz_schema.specs.Forms.{field_forms, field_form_of, form_of}
 use Rattle.ssz_schema.specs.Walk.{◌>>=◌, resolved, resolved_fields, resolved_field}
-use Rattle.ssz_schema.specs.Unfolding.{Types, type_tree_at, fields_over, known_in}
-use Rattle.ssz_schema.specs.Repeats.{first_repeat, is_at}
+use Rattle.ssz_types.specs.Unfolding.{Types, type_tree_at, fields_over, known_in}
+use Rattle.ssz_types.specs.Repeats.{first_repeat, is_at}
 use Rattle.ssz_schema.specs.Inside.{IsWhole, AreAllLegal}
 use Rattle.ssz_schema.specs.Adding.{ExtendsSchema, Resolves, AreFieldTypes, IsField}
+pub use Rattle.ssz_types.proofs.RepeatLemmas.{Written, names_of, drop_at}
 use Rattle.ssz_schema.proofs.WalkLemmas.{Extends-refl, Extends-trans}
 use Rattle.ssz_schema.proofs.KnownLemmas.{known_in-more, known_legal, type_of-more}
 use Rattle.ssz_schema.proofs.ResolvedLaw.{fields_are_legal}
 
-abbrev pub Written : Type 0
-Written = List ℕ × TypeExpr
-
 abbrev Part : Type 0
 Part = List ℕ × ℕ
-
-abbrev pub names_of : List Written → List (List ℕ)
-names_of fields = map (λ f. f.0) fields
 
 -- fields that are there, before others
 abbrev pub fields_before : List SszType → List Part → Fields → Fields
@@ -71,14 +66,6 @@ AllBelow-push : (count : ℕ) (parts : List Part) (p : Part) → AllByRecursion 
     → p.1 < count → AllByRecursion (λ q. q.1 < count) (parts ++ p ∷ [])
 AllBelow-push count [] p below h = (h, tt)
 AllBelow-push count (q ∷ parts) p below h = (below.0, AllBelow-push count parts p below.1 h)
-
-pub drop_at : {X : Type 0} (xs : List X) (i : ℕ) (x : X) → i < length xs → x ≡ get_or xs i x
-    → drop i xs ≡ x ∷ drop (i + 1) xs
-drop_at [] i x h e = absurd (omega arith)
-drop_at (y ∷ xs) zero x h e = λ i. sym e i ∷ xs
-drop_at (y ∷ xs) (suc i) x h e =
-    (let next : suc (i + 1) ≡ suc i + 1 = omega arith in
-    drop_at xs i x (omega arith) e ∙ ap (λ n. x ∷ drop n (y ∷ xs)) next)
 
 -- Walks, one after another.
 

@@ -2,17 +2,17 @@
 use Rattle.std.proofs.Common.{ℕ, ◌≡◌, ◌<◌, ◌≤◌, ◌^◌, List, [], ◌∷◌, ◌++◌, length, get_or, Result, Ok, Err, refl, sym, ap, ap₂, ◌∙◌, subst, arith, length-append, append_assoc, append-nil, lt-ltb, le-ltb}
 use Rattle.std.proofs.lemmas.Bool.{cond-true, cond-false}
 use Rattle.std.proofs.lemmas.List.{get_or_at}
-use Rattle.ssz_schema.specs.declared.format.Format.{Format}
-use Rattle.ssz_schema.specs.declared.entry.Entry.{Entry}
-use Rattle.ssz_schema.specs.declared.schema_fault.SchemaFault.{SchemaFault}
-use Rattle.ssz_schema.specs.declared.schema_fault.SchemaFault.TheVariants.{Nest, Levels, Size}
-use Rattle.ssz_schema.specs.declared.schema_fault.SchemaError.{SchemaError}
-use Rattle.ssz_schema.specs.declared.schema_fault.SchemaError.TheVariants.{Fault, Memory}
-use Rattle.ssz_schema.specs.Types.{SszType, boolean}
-use Rattle.ssz_schema.specs.Sizes.{nesting, type_levels, default_length}
-use Rattle.ssz_schema.specs.Legal.{IsWithinLimits, most_levels}
+use Rattle.ssz_types.specs.declared.format.Format.{Format}
+use Rattle.ssz_types.specs.declared.entry.Entry.{Entry}
+use Rattle.ssz_types.specs.declared.schema_fault.SchemaFault.{SchemaFault}
+use Rattle.ssz_types.specs.declared.schema_fault.SchemaFault.TheVariants.{Nest, Levels, Size}
+use Rattle.ssz_types.specs.declared.schema_fault.SchemaError.{SchemaError}
+use Rattle.ssz_types.specs.declared.schema_fault.SchemaError.TheVariants.{Fault, Memory}
+use Rattle.ssz_types.specs.Types.{SszType, boolean}
+use Rattle.ssz_types.specs.Sizes.{nesting, type_levels, default_length}
+use Rattle.ssz_types.specs.Legal.{IsWithinLimits, most_levels}
 use Rattle.ssz_schema.specs.Walk.{◌>>=◌, within_limits}
-use Rattle.ssz_schema.specs.Unfolding.{Types, tree_over}
+use Rattle.ssz_types.specs.Unfolding.{Types, tree_over}
 use Rattle.ssz_schema.specs.Inside.{IsSoundEntry, IsSoundButLimits}
 use Rattle.ssz_schema.specs.Adding.{ExtendsSchema, IsType, AnswersBy, Resolves}
 use Rattle.ssz_schema.proofs.FactLemmas.{uncapped_facts}

@@ -3,16 +3,16 @@ use Rattle.std.proofs.Common.{ℕ, ◌≡◌, ◌<◌, ◌≤◌, ◌+◌, Bool,
 use Rattle.std.specs.List.{AllByRecursion}
 use Rattle.std.proofs.lemmas.List.{drop_all}
 use Rattle.std.proofs.lemmas.Bool.{ne_eqb}
-use Rattle.ssz_schema.specs.declared.format.Format.{Format}
-use Rattle.ssz_schema.specs.declared.expr.TypeExpr.{TypeExpr}
-use Rattle.ssz_schema.specs.declared.schema_fault.SchemaFault.{SchemaFault}
-use Rattle.ssz_schema.specs.declared.schema_fault.SchemaError.{SchemaError}
-use Rattle.ssz_schema.specs.declared.schema_fault.SchemaError.TheVariants.{Fault, Memory}
-use Rattle.ssz_schema.specs.Types.{SszType, Options, no_options, none_option, option}
-use Rattle.ssz_schema.specs.Legal.{AreLegalOptions, IsNoneFirst}
+use Rattle.ssz_types.specs.declared.format.Format.{Format}
+use Rattle.ssz_types.specs.declared.expr.TypeExpr.{TypeExpr}
+use Rattle.ssz_types.specs.declared.schema_fault.SchemaFault.{SchemaFault}
+use Rattle.ssz_types.specs.declared.schema_fault.SchemaError.{SchemaError}
+use Rattle.ssz_types.specs.declared.schema_fault.SchemaError.TheVariants.{Fault, Memory}
+use Rattle.ssz_types.specs.Types.{SszType, Options, no_options, none_option, option}
+use Rattle.ssz_types.specs.Legal.{AreLegalOptions, IsNoneFirst}
 use Rattle.ssz_schema.specs.Forms.{option_forms, form_of}
 use Rattle.ssz_schema.specs.Walk.{◌>>=◌, resolved, resolved_options, resolved_option}
-use Rattle.ssz_schema.specs.Unfolding.{Types, type_tree_at, options_over, known_in, IsBelow}
+use Rattle.ssz_types.specs.Unfolding.{Types, type_tree_at, options_over, known_in, IsBelow}
 use Rattle.ssz_schema.specs.Inside.{IsWhole, AreAllLegal}
 use Rattle.ssz_schema.specs.Adding.{ExtendsSchema, Resolves, AreOptions, IsOption}
 use Rattle.ssz_schema.proofs.WalkLemmas.{Extends-refl, Extends-trans}

@@ -1,8 +1,8 @@
 -- That definitions are accepted of the legal types, and of no others.
 use Rattle.std.specs.Prelude.{ℕ, ◌≡◌, List, Option, Some, Ok}
-use Rattle.ssz_schema.specs.declared.format.Format.{Format}
-use Rattle.ssz_schema.specs.Types.{SszType, Fields, Options, uint, boolean, container, vector, list, bitvector, bitlist, union, no_fields, field, no_options, none_option, option}
-use Rattle.ssz_schema.specs.Legal.{IsLegal}
+use Rattle.ssz_types.specs.declared.format.Format.{Format}
+use Rattle.ssz_types.specs.Types.{SszType, Fields, Options, uint, boolean, container, vector, list, bitvector, bitlist, union, no_fields, field, no_options, none_option, option}
+use Rattle.ssz_types.specs.Legal.{IsLegal}
 use Rattle.ssz_schema.specs.Forms.{TypeForm, FieldForms, OptionForms, uint_form, boolean_form, container_form, vector_form, list_form, bitvector_form, bitlist_form, union_form, no_field_forms, field_form, no_option_forms, none_form, option_form}
 use Rattle.ssz_schema.specs.Walk.{resolved}
 

@@ -2,13 +2,13 @@
 use Rattle.std.specs.Prelude.{ℕ, ◌≡◌, ◌<◌, if◌then◌else◌, List, ◌++◌, length, Some, Option, option_map, Result, Ok, Err, Vec, bytes_eq}
 use Rattle.std.specs.List.{AllByRecursion}
 use Rattle.std.specs.declared.alloc.Global.{Global}
-use Rattle.ssz_schema.specs.declared.format.Format.{Format}
-use Rattle.ssz_schema.specs.declared.schema_fault.SchemaFault.{SchemaFault}
-use Rattle.ssz_schema.specs.declared.schema_fault.SchemaError.{SchemaError}
-use Rattle.ssz_schema.specs.declared.schema_fault.SchemaError.TheVariants.{Fault, Memory}
-use Rattle.ssz_schema.specs.Types.{SszType, Fields, Options}
-use Rattle.ssz_schema.specs.Lookup.{lookup_name}
-use Rattle.ssz_schema.specs.Unfolding.{Types, type_of, type_number, known_in, built_ins, fields_over, options_over, IsBelow}
+use Rattle.ssz_types.specs.declared.format.Format.{Format}
+use Rattle.ssz_types.specs.declared.schema_fault.SchemaFault.{SchemaFault}
+use Rattle.ssz_types.specs.declared.schema_fault.SchemaError.{SchemaError}
+use Rattle.ssz_types.specs.declared.schema_fault.SchemaError.TheVariants.{Fault, Memory}
+use Rattle.ssz_types.specs.Types.{SszType, Fields, Options}
+use Rattle.ssz_types.specs.Lookup.{lookup_name}
+use Rattle.ssz_types.specs.Unfolding.{Types, type_of, type_number, known_in, built_ins, fields_over, options_over, IsBelow}
 
 -- a schema of no definition: its names are the built-in ones
 pub record IsFreshSchema (asked : Format) (types : Types) : Type 0 where

@@ -1,10 +1,10 @@
 -- Types as they are written in a definition, where a name stands for
 -- a type (this project's schema form).
 use Rattle.std.specs.Prelude.{ℕ, ◌+◌, List, [], ◌∷◌, Option, Some, None}
-use Rattle.ssz_schema.specs.declared.width.Width.{Width}
-use Rattle.ssz_schema.specs.declared.expr.TypeExpr.{TypeExpr}
-use Rattle.ssz_schema.specs.declared.expr.TypeExpr.TheOpen.{TypeExpr-F, Named, Uint, Boolean, Container, Vector, List as ListOf, Bitvector, Bitlist, Union}
-use Rattle.ssz_schema.specs.declared.expr.TypeExpr.TheFolds.{fold-TypeExpr}
+use Rattle.ssz_types.specs.declared.width.Width.{Width}
+use Rattle.ssz_types.specs.declared.expr.TypeExpr.{TypeExpr}
+use Rattle.ssz_types.specs.declared.expr.TypeExpr.TheOpen.{TypeExpr-F, Named, Uint, Boolean, Container, Vector, List as ListOf, Bitvector, Bitlist, Union}
+use Rattle.ssz_types.specs.declared.expr.TypeExpr.TheFolds.{fold-TypeExpr}
 
 mutual
   -- a type as it is written

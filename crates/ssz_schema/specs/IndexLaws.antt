@@ -1,8 +1,8 @@
 -- That no path leads deeper than its type, so that the limit on levels
 -- bounds every generalized index.
 use Rattle.std.specs.Prelude.{ℕ, ◌+◌, ◌^◌, ◌<◌, ◌≤◌, ◌≡◌, Some}
-use Rattle.ssz_schema.specs.Types.{SszType}
-use Rattle.ssz_schema.specs.Sizes.{depth_of, type_levels}
+use Rattle.ssz_types.specs.Types.{SszType}
+use Rattle.ssz_types.specs.Sizes.{depth_of, type_levels}
 use Rattle.ssz_schema.specs.Paths.{Path}
 use Rattle.ssz_schema.specs.Indices.{generalized_index}
 

@@ -2,8 +2,8 @@
 use Rattle.std.specs.Prelude.{ℕ, ◌+◌, ◌*◌, ◌/◌, ◌%◌, ◌^◌, [], ◌∷◌, Option, Some, None, option_and_then, unwrap_or}
 use Rattle.ssz_schema.specs.declared.path.PathStep.{PathStep}
 use Rattle.ssz_schema.specs.declared.path.PathStep.TheVariants.{Field, Index, Len, Selector}
-use Rattle.ssz_schema.specs.Types.{SszType, container, vector, list, bitvector, bitlist}
-use Rattle.ssz_schema.specs.Sizes.{basic_size, depth}
+use Rattle.ssz_types.specs.Types.{SszType, container, vector, list, bitvector, bitlist}
+use Rattle.ssz_types.specs.Sizes.{basic_size, depth}
 use Rattle.ssz_schema.specs.Paths.{Path, field_number, step_type}
 
 -- Below, a step fits the type.

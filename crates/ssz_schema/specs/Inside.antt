@@ -1,15 +1,16 @@
 -- What the fields of a schema stand for, and what they keep.
 use Rattle.std.specs.Prelude.{ℕ, ◌≡◌, ◌<◌, ◌≤◌, ◌-◌, ◌^◌, min, option_map, List, [], ◌∷◌, ◌++◌, length, take, Some}
-use Rattle.ssz_schema.specs.declared.format.Format.{Format}
-use Rattle.ssz_schema.specs.declared.width.Width.TheVariants.{W8, W16, W32, W64, W128, W256}
-use Rattle.ssz_schema.specs.declared.entry.Entry.{Entry}
-use Rattle.ssz_schema.specs.declared.facts.Facts.{Facts}
+use Rattle.ssz_types.specs.declared.format.Format.{Format}
+use Rattle.ssz_types.specs.declared.width.Width.TheVariants.{W8, W16, W32, W64, W128, W256}
+use Rattle.ssz_types.specs.declared.entry.Entry.{Entry}
+use Rattle.ssz_types.specs.declared.facts.Facts.{Facts}
 use Rattle.ssz_schema.specs.declared.schema.Schema.TheInside.{Inside}
-use Rattle.ssz_schema.specs.Types.{SszType, boolean, uint}
-use Rattle.ssz_schema.specs.Sizes.{fixed_size, default_length, chunk_count, depth, type_levels, nesting}
-use Rattle.ssz_schema.specs.Legal.{IsLegal, IsWithinLimits}
-use Rattle.ssz_schema.specs.Unfolding.{Types, tree_over, AreBelow, type_of}
-use Rattle.ssz_schema.specs.Lookup.{lookup_name}
+use Rattle.ssz_types.specs.Types.{SszType, boolean, uint}
+use Rattle.ssz_types.specs.Sizes.{fixed_size, default_length, chunk_count, depth, type_levels, nesting}
+use Rattle.ssz_types.specs.Legal.{IsLegal, IsWithinLimits}
+use Rattle.ssz_types.specs.Unfolding.{Types, tree_over, AreBelow, type_of}
+use Rattle.ssz_types.specs.Lookup.{lookup_name}
+use Rattle.ssz_types.specs.Facts.{AreFactsOf}
 
 -- the trees of all types, where those of the types before are done
 abbrev pub unfolded : List SszType → List Entry → List SszType
@@ -22,15 +23,6 @@ types_of a = record { format = a.format; trees = unfolded [] a.entries.items; na
 -- the basic types, which stand first in every schema
 abbrev pub basic_types : List SszType
 basic_types = boolean ∷ uint W8 ∷ uint W16 ∷ uint W32 ∷ uint W64 ∷ uint W128 ∷ uint W256 ∷ []
-
--- the facts kept beside a type are the type's
-pub record AreFactsOf (facts : Facts) (t : SszType) : Type 0 where
-  pub fixed_size : facts.fixed_size ≡ fixed_size t
-  pub default_len : facts.default_len ≡ default_length t
-  pub chunk_count : facts.chunk_count ≡ chunk_count t
-  pub depth : facts.depth ≡ depth t
-  pub levels : facts.levels ≡ type_levels t
-  pub nesting : facts.nesting ≡ nesting t
 
 -- an entry after those whose trees are done
 pub record IsSoundEntry (format : Format) (done : List SszType) (e : Entry) : Type 0 where
@@ -94,10 +86,3 @@ AreAllLegal types = (id : ℕ) → id < length types.trees → IsLegal types.for
 pub record IsSchema (a : Inside) : Type 0 where
   pub entries : AreSound a.format [] a.entries.items
   pub whole : IsWhole (types_of a)
-
--- an entry of a basic type
-pub record IsBasicEntry (t : SszType) (e : Entry) : Type 0 where
-  pub tree : (done : List SszType) → tree_over done e.ty ≡ t
-  pub below : (count : ℕ) → AreBelow count e.ty
-  pub legal : (format : Format) → IsLegal format t
-  pub facts : AreFactsOf e.facts t

@@ -4,8 +4,8 @@ use Rattle.std.specs.Option.{ForSome}
 use Rattle.ssz_schema.specs.declared.path.PathStep.{PathStep}
 use Rattle.ssz_schema.specs.declared.path.PathStep.TheVariants.{Field}
 use Rattle.ssz_schema.specs.declared.lead.Lead.{Lead}
-use Rattle.ssz_schema.specs.Types.{SszType, container}
-use Rattle.ssz_schema.specs.Unfolding.{Types, type_of}
+use Rattle.ssz_types.specs.Types.{SszType, container}
+use Rattle.ssz_types.specs.Unfolding.{Types, type_of}
 use Rattle.ssz_schema.specs.Paths.{step_type, field_number}
 
 -- the answer is the number of the type of the part, if the step fits

@@ -1,9 +1,9 @@
 -- What the parts of a container or union tell of the whole.
 use Rattle.std.specs.Prelude.{ℕ, List, Option, Some, None, ◌≡◌, not, is_none}
 use Rattle.ssz_schema.specs.declared.adding.Sums.{Sums}
-use Rattle.ssz_schema.specs.Types.{SszType, Fields, Options}
-use Rattle.ssz_schema.specs.Sizes.{part_sizes, total_size, default_fields_length, field_levels, field_nesting, option_levels, option_nesting, type_levels, nesting}
-use Rattle.ssz_schema.specs.Unfolding.{type_tree_at}
+use Rattle.ssz_types.specs.Types.{SszType, Fields, Options}
+use Rattle.ssz_types.specs.Sizes.{part_sizes, total_size, default_fields_length, field_levels, field_nesting, option_levels, option_nesting, type_levels, nesting}
+use Rattle.ssz_types.specs.Unfolding.{type_tree_at}
 use Rattle.ssz_schema.specs.Inside.{capped}
 
 pub record AreSums (fs : Fields) (sums : Sums) : Type 0 where

@@ -1,24 +1,20 @@
 -- The walk of a definition: the type that it gives, or its first fault
 -- (this project's order of faults).
-use Rattle.std.specs.Prelude.{ℕ, nat_lt, nat_eq, not, ◌||◌, Bool, true, false, if◌then◌else◌, List, [], ◌∷◌, Option, Some, None, is_some, Result, Ok, Err, bytes_eq}
+use Rattle.std.specs.Prelude.{ℕ, nat_lt, nat_eq, not, Bool, true, false, if◌then◌else◌, List, [], ◌∷◌, Option, Some, None, is_some, Result, Ok, Err, bytes_eq}
 use Rattle.std.specs.List.{list_any}
 pub use Rattle.ssz_bind.specs.Results.{◌>>=◌}
-use Rattle.ssz_schema.specs.declared.format.Format.{Format}
-use Rattle.ssz_schema.specs.declared.schema_fault.SchemaFault.{SchemaFault}
-use Rattle.ssz_schema.specs.declared.schema_fault.SchemaFault.TheVariants.{BadName, NameTaken, UnknownName, ZeroLength, EmptyContainer, NonePlace, UnionSize, FieldTaken, LimitTooBig, Nest, Levels, Size}
-use Rattle.ssz_schema.specs.Types.{SszType, Fields, Options, uint, boolean, container, vector, list, bitvector, bitlist, union, no_fields, field, no_options, none_option, option}
-use Rattle.ssz_schema.specs.Sizes.{nesting, type_levels, default_length}
-use Rattle.ssz_schema.specs.Names.{is_name}
-use Rattle.ssz_schema.specs.Legal.{greatest_limit, most_levels, most_nesting, most_default, most_options}
+use Rattle.ssz_types.specs.declared.format.Format.{Format}
+use Rattle.ssz_types.specs.declared.schema_fault.SchemaFault.{SchemaFault}
+use Rattle.ssz_types.specs.declared.schema_fault.SchemaFault.TheVariants.{BadName, NameTaken, UnknownName, ZeroLength, EmptyContainer, NonePlace, UnionSize, FieldTaken, LimitTooBig, Nest, Levels, Size}
+use Rattle.ssz_types.specs.Types.{SszType, Fields, Options, uint, boolean, container, vector, list, bitvector, bitlist, union, no_fields, field, no_options, none_option, option}
+use Rattle.ssz_types.specs.Sizes.{nesting, type_levels, default_length}
+use Rattle.ssz_types.specs.Names.{is_name}
+use Rattle.ssz_types.specs.Legal.{greatest_limit, most_levels, most_nesting, most_default, is_wrong_size}
 use Rattle.ssz_schema.specs.Forms.{TypeForm, FieldForms, OptionForms, named, uint_form, boolean_form, container_form, vector_form, list_form, bitvector_form, bitlist_form, union_form, no_field_forms, field_form, no_option_forms, none_form, option_form, option_form_count}
 
 abbrev pub ok_or_unknown : Option SszType → Result SszType SchemaFault
 ok_or_unknown None = Err UnknownName
 ok_or_unknown (Some t) = Ok t
-
--- a union has 1 to 128 options
-abbrev pub is_wrong_size : ℕ → Bool
-is_wrong_size count = nat_eq count 0 || nat_lt most_options count
 
 module _ (format : Format) where
   -- the type, if it keeps the limits

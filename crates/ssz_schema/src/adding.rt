@@ -1,23 +1,20 @@
 // Adding a type whose parts are there, unless it exceeds a limit.
-ghost use Rattle.std.specs.Prelude.{◌≡◌, ◌<◌, ◌≤◌, ◌^◌, Ok, Err, List, length, Option, option_map, if◌then◌else◌, bytes_eq};
+ghost use Rattle.std.specs.Prelude.{◌≡◌, ◌<◌, ◌≤◌, ◌^◌, Ok, Err, List, length, Option, option_map, bytes_eq};
 ghost use Rattle.std.specs.List.{AllByRecursion, IsDistinct};
-ghost use Rattle.ssz_schema.specs.Types.{vector, list, bitvector, bitlist, container, union};
-ghost use Rattle.ssz_schema.specs.Sizes.{field_count, option_count, default_option_length};
-ghost use Rattle.ssz_schema.specs.Legal.{AreLegalFields, AreLegalOptions, IsNoneFirst, field_names, most_options};
+ghost use Rattle.ssz_types.specs.Types.{vector, list, bitvector, bitlist, container, union};
+ghost use Rattle.ssz_types.specs.Sizes.{field_count, option_count, default_option_length};
+ghost use Rattle.ssz_types.specs.Legal.{AreLegalFields, AreLegalOptions, IsNoneFirst, field_names, most_options};
 ghost use Rattle.ssz_schema.specs.Walk.{within_limits, of_length, of_limit};
-ghost use Rattle.ssz_schema.specs.Unfolding.{type_of, tree_over, fields_over, options_over, IsBelow};
+ghost use Rattle.ssz_types.specs.Unfolding.{type_of, tree_over, fields_over, options_over, IsBelow};
 ghost use Rattle.ssz_schema.specs.Inside.{IsSoundButLimits};
 ghost use Rattle.ssz_schema.specs.Adding.{Resolves, IsType};
 ghost use Rattle.ssz_schema.specs.Sums.{AreSums, AreOptionSums, IsOption};
 
-use super::depth::depth_of_count;
-use super::entry::Entry;
-use super::facts::{Facts, element_chunks, part_length};
-use super::name::Name;
 use super::schema::Schema;
-use super::schema_fault::{SchemaError, SchemaFault};
-use super::ty::Ty;
-use super::type_id::TypeId;
+use ssz_types::{
+    Entry, Facts, Name, SchemaError, SchemaFault, Ty, TypeId, depth_of_count, element_chunks,
+    part_length, size_if_fixed,
+};
 
 // The deepest nesting of a type.
 const MOST_NESTING: u32 = 32;
@@ -282,11 +279,4 @@ impl Schema {
             facts,
         })
     }
-}
-
-// This size, if the type is fixed-size.
-fn size_if_fixed(is_fixed: bool, size: u64) -> Option<u64>
-    ensures { result ≡ (if is_fixed then Some size else None) }
-{
-    if is_fixed { Some(size) } else { None }
 }

@@ -1,7 +1,7 @@
 ghost use Rattle.std.specs.Prelude.{◌≡◌, option_map};
 ghost use Rattle.ssz_schema.specs.Steps.{unnumbered};
 
-use super::type_id::TypeId;
+use ssz_types::TypeId;
 
 /// The part to which a step leads.
 #[derive(Clone, Copy, Debug)]

@@ -1,4 +1,4 @@
-use super::name::Name;
+use ssz_types::Name;
 
 /// One step from a value to a part of it.
 #[derive(Debug, Drop)]

@@ -1,33 +1,15 @@
 // The types of the parts that steps and paths lead to.
-ghost use Rattle.std.specs.Prelude.{◌≡◌, ◌<◌, ℕ, length, option_map, bytes_eq, Some, None, IfSome, IfNone, nat_lt, if◌then◌else◌, slice_index_or};
-ghost use Rattle.std.specs.List.{position_from};
+ghost use Rattle.std.specs.Prelude.{◌≡◌, ◌<◌, length, option_map, None, IfSome, IfNone};
 ghost use Rattle.std.specs.Option.{ForSome};
 ghost use Rattle.ssz_schema.specs.declared.path.PathStep.TheVariants.{Field, Index, Len, Selector, Option as Chosen};
-ghost use Rattle.ssz_schema.specs.Unfolding.{type_of};
+ghost use Rattle.ssz_types.specs.Unfolding.{type_of};
 ghost use Rattle.ssz_schema.specs.Paths.{step_type, path_type};
 ghost use Rattle.ssz_schema.specs.Steps.{StepLeadsTo, IsLead};
 
 use super::lead::{Lead, unnumbered};
-use super::name::Name;
 use super::path::PathStep;
 use super::schema::Schema;
-use super::ty::Ty;
-use super::type_id::TypeId;
-use super::width::Width;
-
-/// The number of the field of this name among the fields, or None exactly where none has it.
-pub fn field_at(fields: &[(Name, TypeId)], name: &Name) -> Option<usize>
-    ensures { result ≡ position_from (λ field. bytes_eq field.0 name.now) 0 fields.now }
-{
-    field_number(fields, name.as_bytes())
-}
-
-// The same of a name that is lent.
-fn field_number(fields: &[(Name, TypeId)], name: &[u8]) -> Option<usize>
-    ensures { result ≡ position_from (λ field. bytes_eq field.0 name.now) 0 fields.now }
-{
-    fields.iter().position(|field| field.0.as_bytes() == name)
-}
+use ssz_types::{Ty, TypeId, Width, field_number, if_below, option_at};
 
 impl Schema {
     /// The part that the step leads to from a value of the type, or None exactly where the step
@@ -137,23 +119,5 @@ impl Schema {
             Ty::Union(options) => option_at(options.as_slice(), usize::from(selector)),
             _ => None,
         }
-    }
-}
-
-// The type, where the number is below the length or limit.
-fn if_below(i: u64, n: u64, id: TypeId) -> Option<TypeId>
-    ensures { result ≡ (if nat_lt i n then Some id else None) }
-{
-    if i < n { Some(id) } else { None }
-}
-
-// The type of the option of this number.
-fn option_at(options: &[Option<TypeId>], number: usize) -> Option<TypeId>
-    ensures { result ≡ slice_index_or options.now number None }
-{
-    if number < options.len() {
-        options[number]
-    } else {
-        None
     }
 }

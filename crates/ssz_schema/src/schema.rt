@@ -1,21 +1,14 @@
 ghost use Rattle.std.specs.Prelude.{◌≡◌, ◌<◌, ◌≤◌, ◌^◌, [], ◌∷◌, ◌++◌, length, take, option_map, IfOk, OnOk, OnErr};
 ghost use Rattle.std.specs.List.{AllByRecursion};
 ghost use Rattle.std.specs.Option.{ForSome};
-ghost use Rattle.ssz_schema.specs.Unfolding.{type_of, tree_over, AreBelow, type_number};
-ghost use Rattle.ssz_schema.specs.Sizes.{is_variable, fixed_size, basic_size, chunk_count, depth, type_levels, default_length};
-ghost use Rattle.ssz_schema.specs.Types.{uint, boolean};
-ghost use Rattle.ssz_schema.specs.Legal.{IsLegal, IsSize, most_levels};
-ghost use Rattle.ssz_schema.specs.Lookup.{name_for};
-ghost use Rattle.ssz_schema.specs.NameTables.{IsInOrder};
+ghost use Rattle.ssz_types.specs.Unfolding.{type_of, tree_over, AreBelow, type_number};
+ghost use Rattle.ssz_types.specs.Sizes.{is_variable, fixed_size, basic_size, chunk_count, depth, type_levels, default_length};
+ghost use Rattle.ssz_types.specs.Types.{uint, boolean};
+ghost use Rattle.ssz_types.specs.Legal.{IsLegal, IsSize, most_levels};
+ghost use Rattle.ssz_types.specs.Lookup.{name_for};
+ghost use Rattle.ssz_types.specs.NameTables.{IsInOrder};
 
-use super::copying::copied_entries;
-use super::entry::Entry;
-use super::format::Format;
-use super::name::Name;
-use super::name_table::NameTable;
-use super::ty::Ty;
-use super::type_id::TypeId;
-use super::width::Width;
+use ssz_types::{Entry, Format, Name, NameTable, Ty, TypeId, Width, copied_entries};
 use std::alloc::{AllocError, Global};
 use std::marker::Model;
 
@@ -30,7 +23,7 @@ pub struct Schema {
 }
 
 impl Model for Schema {
-    ghost use Rattle.ssz_schema.specs.Unfolding.{Types, coded_types};
+    ghost use Rattle.ssz_types.specs.Unfolding.{Types, coded_types};
 
     ghost Value = { Types };
 

@@ -1,23 +1,17 @@
 // The walk of a definition.
 ghost use Rattle.std.specs.Prelude.{◌≡◌, Option, List, true, OnErr, map, option_map, IfOk, [], length, bytes_eq};
 ghost use Rattle.ssz_schema.specs.Forms.{form_of, field_form_of, field_forms, option_forms, container_form, union_form};
-ghost use Rattle.ssz_schema.specs.Walk.{resolved, resolved_fields, resolved_options, resolved_field, resolved_option, is_wrong_size, defined};
-ghost use Rattle.ssz_schema.specs.Unfolding.{known_in, type_of, fields_over, options_over};
+ghost use Rattle.ssz_schema.specs.Walk.{resolved, resolved_fields, resolved_options, resolved_field, resolved_option, defined};
+ghost use Rattle.ssz_types.specs.Unfolding.{known_in, type_of, fields_over, options_over};
 ghost use Rattle.ssz_schema.specs.Adding.{Resolves, IsType, AreFieldTypes, AreOptions, IsField, IsOption, Defines, Knows, AnswersWalk, DefinesOrExtends};
-ghost use Rattle.ssz_schema.specs.Repeats.{first_repeat, is_at};
+ghost use Rattle.ssz_types.specs.Repeats.{first_repeat, is_at};
 ghost use Rattle.std.specs.List.{IsDistinct};
-ghost use Rattle.ssz_schema.specs.Legal.{AreLegalFields, AreLegalOptions, IsNoneFirst, field_names};
+ghost use Rattle.ssz_types.specs.Legal.{AreLegalFields, AreLegalOptions, IsNoneFirst, field_names};
 
-use super::expr::TypeExpr;
-use super::name::{Name, is_name};
 use super::schema::Schema;
-use super::schema_fault::{SchemaError, SchemaFault};
-use super::type_id::TypeId;
-use std::alloc::{AllocError, Global};
-use std::collections::BTreeSet;
-
-// The most options of a union.
-const MOST_OPTIONS: usize = 128;
+use ssz_types::{
+    Name, SchemaError, SchemaFault, TypeExpr, TypeId, first_repeat, is_at, is_name, is_wrong_size,
+};
 
 impl Schema {
     /// Adds a definition: the type that the expression writes, under this name.
@@ -189,34 +183,4 @@ impl Schema {
             None => Err(SchemaError::Fault(SchemaFault::NonePlace)),
         }
     }
-}
-
-// Whether a union of so many options has none, or more than 128.
-fn is_wrong_size(count: usize) -> bool
-    ensures { result ≡ is_wrong_size count }
-{
-    count == 0 || count > MOST_OPTIONS
-}
-
-fn is_at(place: Option<usize>, i: usize) -> bool
-    ensures { result ≡ is_at place i }
-{
-    match place {
-        Some(place) => place == i,
-        None => false,
-    }
-}
-
-// The number of the first field that has the name of an earlier one.
-fn first_repeat(alloc: Global, fields: &[(Name, TypeExpr)]) -> Result<Option<usize>, AllocError>
-    ensures { IfOk result (λ repeat.
-        repeat ≡ first_repeat [] 0 (map (λ field. field.0) fields.now)) }
-{
-    let mut seen = BTreeSet::new(alloc);
-    for (i, field) in fields.iter().enumerate() {
-        if !seen.insert(field.0.as_bytes())? {
-            return Ok(Some(i));
-        }
-    }
-    Ok(None)
 }

@@ -4,8 +4,8 @@ use Rattle.std.proofs.lemmas.List.{nil_from_length}
 use Rattle.std.specs.Prelude.{bytes_eq}
 use Rattle.std.specs.Vec.Iter.{into_iter_items, into_iter_len, into_iter_steps}
 use Rattle.std.specs.declared.vec.IntoIter.{IntoIter}
-use Rattle.ssz_schema.specs.declared.expr.TypeExpr.{TypeExpr}
-use Rattle.ssz_schema.specs.declared.schema_fault.SchemaFault.{SchemaFault}
+use Rattle.ssz_schema.specs.expr.TypeExpr.{TypeExpr}
+use Rattle.ssz_schema.specs.schema_fault.SchemaFault.{SchemaFault}
 use Rattle.ssz_schema.specs.Types.{SszType}
 use Rattle.ssz_schema.specs.Forms.{form_of}
 use Rattle.ssz_schema.specs.Lookup.{lookup_name}

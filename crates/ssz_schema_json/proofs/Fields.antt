@@ -2,7 +2,7 @@
 use Rattle.std.proofs.Common.{◌≡◌, ℕ, List, [], ◌∷◌, ◌++◌, refl, ap, Option, Some, None, option_map}
 use Rattle.std.specs.Prelude.{option_and_then}
 use Rattle.serde_json.specs.Data.{Data, string, array, Items, no_items, item}
-use Rattle.ssz_schema.specs.declared.expr.TypeExpr.{TypeExpr}
+use Rattle.ssz_schema.specs.expr.TypeExpr.{TypeExpr}
 use Rattle.ssz_schema.specs.Forms.{TypeForm, FieldForms, no_field_forms, field_form, form_of}
 use Rattle.ssz_schema_json.specs.Document.{written_form, written_fields}
 use Rattle.ssz_schema_json.specs.Views.{fields_view}

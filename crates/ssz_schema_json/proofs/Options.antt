@@ -2,7 +2,7 @@
 use Rattle.std.proofs.Common.{◌≡◌, List, [], ◌∷◌, ◌++◌, refl, ap, Option, Some, None, option_map}
 use Rattle.std.specs.Prelude.{option_and_then}
 use Rattle.serde_json.specs.Data.{Data, null, Items, no_items, item}
-use Rattle.ssz_schema.specs.declared.expr.TypeExpr.{TypeExpr}
+use Rattle.ssz_schema.specs.expr.TypeExpr.{TypeExpr}
 use Rattle.ssz_schema.specs.Forms.{TypeForm, OptionForms, no_option_forms, none_form, option_form, form_of}
 use Rattle.ssz_schema_json.specs.Document.{written_form, written_options}
 use Rattle.ssz_schema_json.specs.Views.{options_view}

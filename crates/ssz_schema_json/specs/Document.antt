@@ -3,8 +3,8 @@
 use Rattle.std.specs.Prelude.{◌&&◌, ◌==◌, ℕ, List, if◌then◌else◌, Option, Some, None, option_map, option_and_then, codes}
 use Rattle.std.specs.Str.{bytes_eq}
 use Rattle.serde_json.specs.Data.{unsigned, Data, null, number, string, array, object, Items, no_items, item, Members, no_members, member}
-use Rattle.ssz_schema.specs.declared.format.Format.{Format}
-use Rattle.ssz_schema.specs.declared.format.Format.TheVariants.{One, Two}
+use Rattle.ssz_schema.specs.format.Format.{Format}
+use Rattle.ssz_schema.specs.format.Format.TheVariants.{One, Two}
 use Rattle.ssz_schema.specs.Forms.{TypeForm, FieldForms, OptionForms, named, container_form, vector_form, list_form, bitvector_form, bitlist_form, union_form, no_field_forms, field_form, no_option_forms, none_form, option_form}
 
 -- a format, and the definitions in order, each a name and a type form

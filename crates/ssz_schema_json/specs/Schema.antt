@@ -5,8 +5,8 @@ use Rattle.std.specs.Str.{is_utf8}
 use Rattle.serde_json.specs.Data.{Data}
 use Rattle.serde_json.specs.Read.{read}
 pub use Rattle.ssz_bind.specs.Results.{◌>>=◌}
-use Rattle.ssz_schema.specs.declared.format.Format.{Format}
-use Rattle.ssz_schema.specs.declared.schema_fault.SchemaFault.{SchemaFault}
+use Rattle.ssz_schema.specs.format.Format.{Format}
+use Rattle.ssz_schema.specs.schema_fault.SchemaFault.{SchemaFault}
 use Rattle.ssz_schema.specs.Types.{SszType}
 use Rattle.ssz_schema.specs.Forms.{FieldForms, no_field_forms, field_form}
 use Rattle.ssz_schema.specs.Lookup.{lookup_name}

@@ -5,7 +5,7 @@ use Rattle.serde_json.specs.Errors.{IsMemory}
 use Rattle.serde_json.specs.View.{view}
 use Rattle.serde_json.specs.declared.error.Error.{Error}
 use Rattle.serde_json.specs.declared.value.Value.{Value}
-use Rattle.ssz_schema.specs.declared.expr.TypeExpr.{TypeExpr}
+use Rattle.ssz_schema.specs.expr.TypeExpr.{TypeExpr}
 use Rattle.ssz_schema.specs.Forms.{FieldForms, OptionForms, form_of, field_forms, option_forms}
 use Rattle.ssz_schema_json.specs.declared.document.Definitions.{Definitions}
 use Rattle.ssz_schema_json.specs.declared.fault.SchemaRead.{SchemaRead}

@@ -60,7 +60,8 @@ two_is make a b (w ∷ v ∷ u ∷ rest) = refl
 
 all_is : {A B C S : Type 0} (make : A → B → C → S) (x : Option A) (y : Option B) (z : Option C)
     → (x >>= λ k. y >>= λ l. z >>= λ m. Some (make k l m))
-    ≡ option_map (λ (p : A × B × C). make p.0 p.1 p.2) (x >>= λ k. y >>= λ l. z >>= λ m. Some (k, l, m))
+    ≡ option_map (λ (p : A × B × C). make p.0 p.1 p.2)
+    (x >>= λ k. y >>= λ l. z >>= λ m. Some (k, l, m))
 all_is make None y z = refl
 all_is make (Some k) None z = refl
 all_is make (Some k) (Some l) None = refl

@@ -21,8 +21,8 @@ fn push_line(out: &mut Vec<u8>, front: &[u8], text: &[u8]) -> Result<(), AllocEr
     Ok(())
 }
 
-// Appends the bytes in hexadecimal with what stands in front of them and a line feed, or nothing. Room
-// for all is taken once, and no text is made beside it.
+// Appends the bytes in hexadecimal with what stands in front of them and a line feed, or nothing.
+// Room for all is taken once, and no text is made beside it.
 fn push_hexadecimal(out: &mut Vec<u8>, front: &[u8], bytes: &[u8]) -> Result<(), AllocError>
     ensures ok { OnOk result
         (out.new.items ≡ out.old.items ++ (front.now ++ (encode_lower bytes.now ++ 10 ∷ []))) }

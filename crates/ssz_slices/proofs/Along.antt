@@ -4,9 +4,9 @@ use Rattle.std.specs.Prelude.{option_and_then, unwrap_or, is_some, if◌then◌e
 use Rattle.std.specs.Result.{result_map_both}
 use Rattle.std.proofs.Math.Seq.{drop-cons}
 use Rattle.std.proofs.lemmas.List.{drop-take, take-take, drop_all}
-use Rattle.ssz_schema.specs.declared.format.Format.{Format}
+use Rattle.ssz_schema.specs.format.Format.{Format}
 use Rattle.ssz_schema.specs.declared.path.PathStep.{PathStep}
-use Rattle.ssz_schema.specs.declared.width.Width.TheVariants.{W64}
+use Rattle.ssz_schema.specs.width.Width.TheVariants.{W64}
 use Rattle.ssz_schema.specs.Types.{SszType, uint, boolean}
 use Rattle.ssz_schema.specs.Legal.{IsLegal}
 use Rattle.ssz_schema.specs.Paths.{Path, path_type, step_type}

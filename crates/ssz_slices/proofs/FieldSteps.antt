@@ -1,10 +1,10 @@
 -- The fields of a type of a schema, by their numbers.
-use Rattle.std.proofs.Common.{ℕ, suc, ◌<◌, ◌≡◌, cond, List, [], ◌∷◌, length, Some, None, Vec, Global, is_some, refl, sym, ap, ◌∙◌, subst}
+use Rattle.std.proofs.Common.{ℕ, ◌<◌, ◌≡◌, cond, List, length, Some, None, Vec, Global, is_some, sym, ap, ◌∙◌, subst}
 use Rattle.std.specs.List.{AllByRecursion}
 use Rattle.ssz_schema.specs.declared.lead.Lead.{Lead}
 use Rattle.ssz_schema.specs.declared.path.PathStep.TheVariants.{Field}
-use Rattle.ssz_schema.specs.declared.ty.Ty.{Ty}
-use Rattle.ssz_schema.specs.declared.ty.Ty.TheVariants.{Container}
+use Rattle.ssz_schema.specs.ty.Ty.{Ty}
+use Rattle.ssz_schema.specs.ty.Ty.TheVariants.{Container}
 use Rattle.ssz_schema.specs.Types.{SszType, uint, boolean, container, vector, list, bitvector, bitlist, union}
 use Rattle.ssz_schema.specs.Sizes.{part_sizes}
 use Rattle.ssz_schema.specs.Unfolding.{Types, type_of, tree_over, fields_over, AreBelow}
@@ -12,7 +12,7 @@ use Rattle.ssz_schema.specs.Paths.{step_type, field_number}
 use Rattle.ssz_schema.specs.Steps.{lead_number, IsLead}
 use Rattle.ssz_value.specs.Faults.{first_fault, head_fault, fields_fault, scopes}
 use Rattle.ssz_value.proofs.Agree.{no_faults}
-use Rattle.ssz_value.proofs.PartLemmas.{Part, sizes_of, known_weaker}
+use Rattle.ssz_value.proofs.PartLemmas.{Part, length-sizes_of, known_weaker}
 use Rattle.ssz_slices.specs.Held.{held_at_step, stretch, field_sizes, field_range}
 use Rattle.ssz_slices.proofs.FieldParts.{field_below}
 
@@ -39,11 +39,6 @@ head_of types id parts b are h =
     (no_faults (head_fault (part_sizes fs) 0 b) (fields_fault fs 0 (scopes (part_sizes fs) 0 b))
     (ap (λ t. first_fault t 0 b) are.type ∙ h)).0
 
-many_sizes : (trees : List SszType) (parts : List Part)
-    → length (sizes_of trees parts) ≡ length parts
-many_sizes trees [] = refl
-many_sizes trees (p ∷ parts) = ap suc (many_sizes trees parts)
-
 pub sizes_are : (types : Types) (id : ℕ) (parts : List Part) → AreFieldsOf types id parts
     → part_sizes (fields_over types.trees parts) ≡ field_sizes (type_of types id)
 sizes_are types id parts are = ap field_sizes are.type
@@ -52,7 +47,7 @@ pub number_below : (types : Types) (id : ℕ) (parts : List Part) (k : ℕ)
     → AreFieldsOf types id parts → k < length (field_sizes (type_of types id)) → k < length parts
 number_below types id parts k are below =
     subst (λ n. k < n) (sym (ap length (sizes_are types id parts are))
-    ∙ many_sizes types.trees parts) below
+    ∙ length-sizes_of types.trees parts) below
 
 -- a step to a field leads to one of them
 named_below : (t u : SszType) (name : List ℕ) → step_type t (Field name) ≡ Some u

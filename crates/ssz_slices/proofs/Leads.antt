@@ -1,10 +1,10 @@
 -- The part to which a step leads from bytes without a fault, for each type and step.
 use Rattle.std.proofs.Common.{ℕ, ◌≡◌, cond, List, length, map, slice_get, is_some, Option, Some, None, refl, sym, ap, ◌∙◌, subst}
 use Rattle.std.proofs.lemmas.List.{length-map}
-use Rattle.ssz_schema.specs.declared.format.Format.{Format}
+use Rattle.ssz_schema.specs.format.Format.{Format}
 use Rattle.ssz_schema.specs.declared.path.PathStep.{PathStep}
 use Rattle.ssz_schema.specs.declared.path.PathStep.TheVariants.{Field, Index, Len, Selector, Option as Chosen}
-use Rattle.ssz_schema.specs.declared.width.Width.TheVariants.{W8, W64}
+use Rattle.ssz_schema.specs.width.Width.TheVariants.{W8, W64}
 use Rattle.ssz_schema.specs.Types.{SszType, Fields, uint, boolean, container, vector, list, bitvector, bitlist, union}
 use Rattle.ssz_schema.specs.Sizes.{fixed_size}
 use Rattle.ssz_bytes.specs.Bytes.{le_number}

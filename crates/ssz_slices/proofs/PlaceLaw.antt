@@ -2,7 +2,7 @@
 use Rattle.std.proofs.Common.{ℕ, ◌+◌, ◌-◌, ◌^◌, ◌<◌, ◌≤◌, ◌≡◌, List, [], ◌∷◌, length, slice_range, Option, Some, None, option_map, refl, sym, ap, ◌∙◌, subst, arith}
 use Rattle.std.specs.Prelude.{option_and_then}
 use Rattle.std.proofs.lemmas.List.{take_all}
-use Rattle.ssz_schema.specs.declared.format.Format.{Format}
+use Rattle.ssz_schema.specs.format.Format.{Format}
 use Rattle.ssz_schema.specs.declared.path.PathStep.{PathStep}
 use Rattle.ssz_schema.specs.Types.{SszType}
 use Rattle.ssz_schema.specs.Legal.{IsLegal}

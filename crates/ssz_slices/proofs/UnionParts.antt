@@ -1,9 +1,9 @@
 -- Steps into unions.
 use Rattle.std.proofs.Common.{ℕ, zero, suc, ◌+◌, ◌*◌, ◌-◌, ◌≡◌, Bool, true, false, cond, eqb, eqb-true, ltb, List, [], ◌∷◌, length, slice_range, get_or, Some, None, refl, sym, ap, ◌∙◌, subst, arith}
 use Rattle.std.proofs.lemmas.List.{take_rest}
-use Rattle.ssz_schema.specs.declared.format.Format.{Format}
+use Rattle.ssz_schema.specs.format.Format.{Format}
 use Rattle.ssz_schema.specs.declared.path.PathStep.TheVariants.{Selector, Option as Chosen}
-use Rattle.ssz_schema.specs.declared.width.Width.TheVariants.{W8}
+use Rattle.ssz_schema.specs.width.Width.TheVariants.{W8}
 use Rattle.ssz_schema.specs.Types.{SszType, Options, uint, union, no_options, none_option, option}
 use Rattle.ssz_schema.specs.Legal.{IsLegal, AreLegalOptions}
 use Rattle.ssz_schema.specs.Paths.{option_type}

@@ -2,7 +2,7 @@
 use Rattle.std.specs.Prelude.{ℕ, ◌≡◌, ◌+◌, ◌-◌, ◌*◌, ◌/◌, ◌%◌, ◌^◌, ◌==◌, ◌<◌, ◌≤◌, nat_lt, if◌then◌else◌, is_some, List, [], length, replicate, take, drop, slice_range, slice_index, slice_index_or, Option, Some, None, option_map}
 use Rattle.ssz_schema.specs.declared.path.PathStep.{PathStep}
 use Rattle.ssz_schema.specs.declared.path.PathStep.TheVariants.{Field, Index, Len, Selector, Option as Chosen}
-use Rattle.ssz_schema.specs.declared.width.Width.TheVariants.{W64}
+use Rattle.ssz_schema.specs.width.Width.TheVariants.{W64}
 use Rattle.ssz_schema.specs.Types.{SszType, uint, boolean, container, vector, list, bitvector, bitlist, union}
 use Rattle.ssz_schema.specs.Sizes.{fixed_size, part_sizes, head_size}
 use Rattle.ssz_bytes.specs.Bytes.{le_number}
@@ -96,10 +96,13 @@ held_moved from (Count n) = Count n
 
 abbrev pub HasRoom : ℕ → Held → Type 0
 HasRoom from (Bytes start end) = (from + start < 2 ^ 64) × (from + end < 2 ^ 64)
-HasRoom from _ = Unit {0}
+HasRoom from (Bit bit) = Unit {0}
+HasRoom from (Count n) = Unit {0}
 
--- the same from a part of the bytes, if that is present
+-- the same from a part of the bytes, if that is present; nothing goes on from a bit or a length
 abbrev pub held_from : SszType → List ℕ → PathStep → Option Held → Option Held
 held_from t b step (Some (Bytes from to)) =
     option_map (held_moved from) (held_at_step t (slice_range b from to) step)
-held_from t b step _ = None
+held_from t b step (Some (Bit bit)) = None
+held_from t b step (Some (Count n)) = None
+held_from t b step None = None

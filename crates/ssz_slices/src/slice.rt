@@ -12,7 +12,7 @@ use super::held::Held;
 use super::reading::{boolean_in, len_in, selector_in, uint_in};
 use super::steps::{field_part, moved, step_from};
 use ssz_bytes::Fault;
-use ssz_codec::check;
+use ssz_checking::check;
 use ssz_schema::{PathStep, Schema, TypeId};
 use ssz_value::PathFault;
 use std::marker::Model;

@@ -10,7 +10,7 @@ use Rattle.ssz_outside.specs.declared.status.Status.{Status}
 use Rattle.ssz_outside.specs.declared.status.Status.TheVariants as status
 use Rattle.ssz_schema.specs.FaultCodes.{schema_code}
 use Rattle.ssz_bytes.specs.declared.fault.Fault.{Fault}
-use Rattle.ssz_schema.specs.declared.schema_fault.SchemaFault.{SchemaFault}
+use Rattle.ssz_schema.specs.schema_fault.SchemaFault.{SchemaFault}
 use Rattle.ssz_tool.specs.declared.line.Line.{Line}
 use Rattle.ssz_tool.specs.declared.line.Line.TheVariants as line
 

@@ -4,7 +4,7 @@ use Rattle.std.specs.List.{AllByRecursion}
 use Rattle.ssz_line.specs.declared.index.Index.{Index}
 use Rattle.ssz_outside.specs.Content.{Content, contents}
 use Rattle.ssz_proof.specs.Calculation.{PairOf}
-use Rattle.ssz_schema.specs.declared.format.Format.{Format}
+use Rattle.ssz_schema.specs.format.Format.{Format}
 use Rattle.ssz_script.specs.declared.reply.Reply.{Reply}
 use Rattle.ssz_script.specs.declared.reply.Reply.TheVariants.{Proof}
 use Rattle.ssz_script.specs.declared.statement.Statement.TheVariants.{Prove}

@@ -1,6 +1,6 @@
 -- The nodes that an upgrade makes, and that they are few beside its charge.
 use Rattle.std.proofs.Common.{◌≡◌, ℕ, ◌+◌, ◌*◌, ◌≤◌, List, ◌∷◌, map, Option, Some, None, refl, ap, ◌∙◌, slice_get, arith}
-use Rattle.ssz_schema.specs.declared.format.Format.{Format}
+use Rattle.ssz_schema.specs.format.Format.{Format}
 use Rattle.ssz_schema.specs.Types.{SszType, Fields, container, no_fields, field}
 use Rattle.ssz_schema.specs.Legal.{IsLegal, AreLegalFields}
 use Rattle.ssz_arena.specs.declared.node.NodeId.{NodeId}

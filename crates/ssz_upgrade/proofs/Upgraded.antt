@@ -6,7 +6,7 @@ use Rattle.std.proofs.lemmas.Option.{none-some, same_Some}
 use Rattle.ssz_chunk.specs.Index.{at}
 use Rattle.ssz_chunk.specs.Tree.{merkle_tree, place, merkle_pairs}
 use Rattle.ssz_chunk.proofs.FullTrees.{at-full}
-use Rattle.ssz_schema.specs.declared.format.Format.{Format}
+use Rattle.ssz_schema.specs.format.Format.{Format}
 use Rattle.ssz_schema.specs.Types.{SszType, Fields, container, no_fields, field}
 use Rattle.ssz_schema.specs.Sizes.{depth, field_count}
 use Rattle.ssz_schema.specs.Legal.{IsLegal}

@@ -4,7 +4,7 @@ use Rattle.std.specs.Prelude.{option_and_then, IsSome, is_some, bytes_eq}
 use Rattle.std.specs.List.{position_from}
 use Rattle.std.proofs.Math.Nat.{pow-le-pow_right}
 use Rattle.ssz_chunk.specs.Index.{at, way}
-use Rattle.ssz_schema.specs.declared.format.Format.{Format}
+use Rattle.ssz_schema.specs.format.Format.{Format}
 use Rattle.ssz_schema.specs.declared.path.PathStep.TheVariants.{Field}
 use Rattle.ssz_schema.specs.Types.{SszType, container}
 use Rattle.ssz_schema.specs.Sizes.{depth}

@@ -1,6 +1,6 @@
 use Rattle.std.proofs.Common.{◌∙◌, ◌+◌, ◌*◌, Some, sym, subst, arith}
 use Rattle.std.specs.List.{AllByRecursion}
-use Rattle.ssz_schema.specs.declared.width.Width.TheVariants.{W64}
+use Rattle.ssz_schema.specs.width.Width.TheVariants.{W64}
 use Rattle.ssz_schema.specs.Types.{uint}
 use Rattle.ssz_value.specs.Standing.{IsFormed}
 use Rattle.ssz_value.proofs.PartLemmas.{values_push}

@@ -1,6 +1,6 @@
 use Rattle.std.proofs.Common.{◌*◌, ◌≡◌, map, Some, vec_len, vec_capacity}
 use Rattle.std.specs.List.{AllByRecursion}
-use Rattle.ssz_schema.specs.declared.width.Width.TheVariants.{W64}
+use Rattle.ssz_schema.specs.width.Width.TheVariants.{W64}
 use Rattle.ssz_schema.specs.Types.{uint}
 use Rattle.ssz_value.specs.Standing.{value_of, IsFormed}
 use Rattle.ssz_codec.proofs.ReadLemmas.{ReadFrom}

@@ -12,8 +12,9 @@ use Rattle.ssz_value.specs.Values.{chosen, sequence, values}
 use Rattle.ssz_value.specs.Reading.{value_in, elements_in}
 use Rattle.ssz_value.specs.Shapes.{StandAlike}
 use Rattle.ssz_value.proofs.Agree.{length_from_fault, same_some}
-use Rattle.ssz_codec.specs.Plain.{has_plain_encoding}
-use Rattle.ssz_codec.proofs.PlainLemmas.{clean_of, elements_clean}
+use Rattle.ssz_checking.specs.Plain.{has_plain_encoding}
+use Rattle.ssz_checking.proofs.PlainLemmas.{clean_of, elements_clean}
+use Rattle.ssz_checking.proofs.RangeLemmas.{field_range, field_room}
 use Rattle.ssz_value.specs.Standing.{value_of, Stands, IsFormed, FieldsFormed}
 use Rattle.ssz_value.proofs.ValueLemmas.{chosen_is, seq_is}
 use Rattle.ssz_parts.proofs.UnionLemmas.{union_past, union_some, some_byte}
@@ -23,7 +24,7 @@ use Rattle.ssz_value.proofs.OptionLemmas.{option_below}
 use Rattle.ssz_value.proofs.PartLemmas.{known_weaker, part_known, values_push}
 use Rattle.ssz_value.proofs.FormLemmas.{formed_push, seq_formed_alike, chosen_formed, seq_formed_fields, no_fields_formed, fields_push}
 use Rattle.ssz_codec.specs.Answers.{Decodes, Faulty}
-use Rattle.ssz_codec.proofs.ReadLemmas.{ReadFrom, ReadFrom-start, ReadFrom-fixed, ReadFrom-variable, ReadFrom-end, FieldsRead, FieldsRead-start, FieldsRead-more, FieldsRead-end, error_of_part, list_decodes, field_range, field_room}
+use Rattle.ssz_codec.proofs.ReadLemmas.{ReadFrom, ReadFrom-start, ReadFrom-fixed, ReadFrom-variable, ReadFrom-end, FieldsRead, FieldsRead-start, FieldsRead-more, FieldsRead-end, error_of_part, list_decodes}
 use Rattle.ssz_codec.proofs.OptionLemmas.{union_value, none_decodes}
 use Rattle.ssz_codec.proofs.decoding.+scope.Goals as goal
 
@@ -147,9 +148,9 @@ container-loop-i-init t c = record {
 }
 
 pub
-    container-part_range-from-requires-clause-known :
-    goal.container-part_range-from-requires-clause-known
-container-part_range-from-requires-clause-known t c =
+    container-field_range-from-requires-clause-known :
+    goal.container-field_range-from-requires-clause-known
+container-field_range-from-requires-clause-known t c =
     known_weaker c.args.id (length c.args.schema.now.trees) c.args.fields.now c.requires.known
     c.requires.before
 
@@ -159,9 +160,9 @@ container-returns-in_err-put_field t c =
     c.from_residual-in_err-put_field.ensures.1 in
     rw (p.1, p.2) (error_of_part _ _ _ c.in_err-put_field.ensures.put
     (λ f found. FieldsFrom-found c.args.schema.now.trees c.args.fields.now c.args.start
-    c.args.bytes.now c.loop-i.i c.loop-i.place c.part_range-from.result.0
-    c.part_range-from.result.1 c.index-fields-i.result f
-    c.loop-i.invariant.faultless c.loop-i-test.true c.index-fields-i.is c.part_range-from.ensures
+    c.args.bytes.now c.loop-i.i c.loop-i.place c.field_range-from.result.0
+    c.field_range-from.result.1 c.index-fields-i.result f
+    c.loop-i.invariant.faultless c.loop-i-test.true c.index-fields-i.is c.field_range-from.ensures
     found))
 
 pub container-loop-i-preserved : goal.container-loop-i-preserved
@@ -169,16 +170,17 @@ container-loop-i-preserved t c =
     let trees = c.args.schema.now.trees in
     let size : head_size (fixed_size
     (type_tree_at c.args.schema.now.trees c.index-fields-i.result.1))
-    ≡ c.head_len.result = sym (c.head_len.ensures ∙ ap head_size c.fixed_size.ensures.exact) in
+    ≡ c.head_len-head.result =
+    sym (c.head_len-head.ensures ∙ ap head_size c.fixed_size.ensures.exact) in
     let next = ap (λ n. c.loop-i.place + n) size in
     record {
       faultless = subst (FieldsFrom c.args.schema.now.trees c.args.fields.now c.args.start
           c.args.bytes.now (c.loop-i.i + 1)) next
           (FieldsFrom-more c.args.schema.now.trees c.args.fields.now c.args.start c.args.bytes.now
-          c.loop-i.i c.loop-i.place c.part_range-from.result.0 c.part_range-from.result.1
+          c.loop-i.i c.loop-i.place c.field_range-from.result.0 c.field_range-from.result.1
           c.index-fields-i.result
           c.loop-i.invariant.faultless c.loop-i-test.true c.index-fields-i.is
-          c.part_range-from.ensures c.in_ok-put_field.ensures.put.0);
+          c.field_range-from.ensures c.in_ok-put_field.ensures.put.0);
       read = subst (λ (place : ℕ).
           FieldsRead c.args.schema.now.trees c.args.fields.now c.args.bytes.now
           (c.loop-i.i + 1) place (map value_of c.put_field.new.parts.items)) next
@@ -187,9 +189,9 @@ container-loop-i-preserved t c =
           (fixed_size (type_tree_at c.args.schema.now.trees c.index-fields-i.result.1))))
           (sym (values_push _ _ c.in_ok-put_field.ensures.put.1.value c.in_ok-put_field.ensures.put.1.items))
           (FieldsRead-more c.args.schema.now.trees c.args.fields.now c.args.bytes.now c.loop-i.i
-          c.loop-i.place c.part_range-from.result.0 c.part_range-from.result.1
+          c.loop-i.place c.field_range-from.result.0 c.field_range-from.result.1
           c.index-fields-i.result _ _
-          c.loop-i.invariant.read c.loop-i-test.true c.index-fields-i.is c.part_range-from.ensures
+          c.loop-i.invariant.read c.loop-i-test.true c.index-fields-i.is c.field_range-from.ensures
           c.in_ok-put_field.ensures.put.1.stands.value));
       formed = subst (FieldsFormed (fields_over c.args.schema.now.trees c.args.fields.now))
           (sym c.in_ok-put_field.ensures.put.1.items)
@@ -399,18 +401,18 @@ container-fixed_size-requires t c =
     omega (arith, below, c.requires.known)
 
 pub
-    container-part_range-from-requires-clause-field :
-    goal.container-part_range-from-requires-clause-field
-container-part_range-from-requires-clause-field t c =
+    container-field_range-from-requires-clause-field :
+    goal.container-field_range-from-requires-clause-field
+container-field_range-from-requires-clause-field t c =
     let below : c.index-fields-i.result.1 < c.args.id =
     part_known c.args.id c.args.fields.now c.loop-i.i c.index-fields-i.result c.loop-i-test.true
     c.index-fields-i.is c.requires.before in
     omega (arith, below, c.requires.known)
 
 pub
-    container-part_range-from-requires-clause-room :
-    goal.container-part_range-from-requires-clause-room
-container-part_range-from-requires-clause-room t c =
+    container-field_range-from-requires-clause-room :
+    goal.container-field_range-from-requires-clause-room
+container-field_range-from-requires-clause-room t c =
     field_room c.args.schema.now.trees c.args.fields.now c.args.start c.args.bytes.now
     c.loop-i.i c.loop-i.place c.index-fields-i.result c.loop-i.invariant.faultless
     c.loop-i-test.true c.index-fields-i.is
@@ -418,34 +420,34 @@ container-part_range-from-requires-clause-room t c =
 pub container-slice_bounds-part-count : goal.container-slice_bounds-part-count
 container-slice_bounds-part-count t c =
     let range = field_range c.args.schema.now.trees c.args.fields.now c.args.start
-    c.args.bytes.now c.loop-i.i c.loop-i.place c.part_range-from.result.0
-    c.part_range-from.result.1 c.index-fields-i.result c.loop-i.invariant.faultless
-    c.loop-i-test.true c.index-fields-i.is c.part_range-from.ensures in
+    c.args.bytes.now c.loop-i.i c.loop-i.place c.field_range-from.result.0
+    c.field_range-from.result.1 c.index-fields-i.result c.loop-i.invariant.faultless
+    c.loop-i-test.true c.index-fields-i.is c.field_range-from.ensures in
     omega (arith, range.0, range.1)
 
 pub container-slice_bounds-part-end : goal.container-slice_bounds-part-end
 container-slice_bounds-part-end t c =
     let range = field_range c.args.schema.now.trees c.args.fields.now c.args.start
-    c.args.bytes.now c.loop-i.i c.loop-i.place c.part_range-from.result.0
-    c.part_range-from.result.1 c.index-fields-i.result c.loop-i.invariant.faultless
-    c.loop-i-test.true c.index-fields-i.is c.part_range-from.ensures in
+    c.args.bytes.now c.loop-i.i c.loop-i.place c.field_range-from.result.0
+    c.field_range-from.result.1 c.index-fields-i.result c.loop-i.invariant.faultless
+    c.loop-i-test.true c.index-fields-i.is c.field_range-from.ensures in
     omega (arith, range.0, range.1)
 
 pub container-slice_bounds-part-start : goal.container-slice_bounds-part-start
 container-slice_bounds-part-start t c =
     let range = field_range c.args.schema.now.trees c.args.fields.now c.args.start
-    c.args.bytes.now c.loop-i.i c.loop-i.place c.part_range-from.result.0
-    c.part_range-from.result.1 c.index-fields-i.result c.loop-i.invariant.faultless
-    c.loop-i-test.true c.index-fields-i.is c.part_range-from.ensures in
+    c.args.bytes.now c.loop-i.i c.loop-i.place c.field_range-from.result.0
+    c.field_range-from.result.1 c.index-fields-i.result c.loop-i.invariant.faultless
+    c.loop-i-test.true c.index-fields-i.is c.field_range-from.ensures in
     omega (arith, range.0, range.1)
 
 pub container-overflow_add-start : goal.container-overflow_add-start
 container-overflow_add-start t c =
     let range = field_range c.args.schema.now.trees c.args.fields.now c.args.start
-    c.args.bytes.now c.loop-i.i c.loop-i.place c.part_range-from.result.0
-    c.part_range-from.result.1 c.index-fields-i.result c.loop-i.invariant.faultless
-    c.loop-i-test.true c.index-fields-i.is c.part_range-from.ensures in
-    let inside : c.part_range-from.result.0 ≤ length c.args.bytes.now =
+    c.args.bytes.now c.loop-i.i c.loop-i.place c.field_range-from.result.0
+    c.field_range-from.result.1 c.index-fields-i.result c.loop-i.invariant.faultless
+    c.loop-i-test.true c.index-fields-i.is c.field_range-from.ensures in
+    let inside : c.field_range-from.result.0 ≤ length c.args.bytes.now =
     omega (arith, range.0, range.1) in
     search rules
 
@@ -455,11 +457,11 @@ container-put_field-requires t c =
     part_known c.args.id c.args.fields.now c.loop-i.i c.index-fields-i.result c.loop-i-test.true
     c.index-fields-i.is c.requires.before in
     let range = field_range c.args.schema.now.trees c.args.fields.now c.args.start
-    c.args.bytes.now c.loop-i.i c.loop-i.place c.part_range-from.result.0
-    c.part_range-from.result.1 c.index-fields-i.result c.loop-i.invariant.faultless
-    c.loop-i-test.true c.index-fields-i.is c.part_range-from.ensures in
-    let up : c.part_range-from.result.0 ≤ c.part_range-from.result.1 = range.0 in
-    let within : c.part_range-from.result.1 ≤ length c.args.bytes.now = range.1 in
+    c.args.bytes.now c.loop-i.i c.loop-i.place c.field_range-from.result.0
+    c.field_range-from.result.1 c.index-fields-i.result c.loop-i.invariant.faultless
+    c.loop-i-test.true c.index-fields-i.is c.field_range-from.ensures in
+    let up : c.field_range-from.result.0 ≤ c.field_range-from.result.1 = range.0 in
+    let within : c.field_range-from.result.1 ≤ length c.args.bytes.now = range.1 in
     search rules
 
 pub chosen-scope-requires : goal.chosen-scope-requires
@@ -517,8 +519,8 @@ elements-returns-in_ok-parts-in-None t c =
     )
 
 -- of the form that the type is found to have, the value is put
-pub put-elements-requires : goal.put-elements-requires
-put-elements-requires t c =
+pub put_field-elements-requires : goal.put_field-elements-requires
+put_field-elements-requires t c =
     let is = sym c.ty.ensures.form ∙ ap (tree_over c.args.schema.now.trees) c.in-Vector.is in
     let few : c.in-Vector.count ≤ 2 ^ 24 =
     vector_few c.args.schema.now.format
@@ -528,6 +530,21 @@ put-elements-requires t c =
 
 pub put-container-requires : goal.put-container-requires
 put-container-requires t c =
+    let P : List (List ℕ × ℕ) → Type 0 =
+    AllByRecursion (λ (part : List ℕ × ℕ). part.1 < c.args.id) in
+    let all : P c.in-Container.fields.items =
+    subst (AreBelow c.args.id) c.in-Container.is c.ty.ensures.before in
+    let known : P c.as_slice.result.now =
+    subst P (sym c.as_slice.ensures.value) all in
+    let form : type_of c.args.schema.now c.args.id
+    ≡ container (fields_over c.args.schema.now.trees c.as_slice.result.now) =
+    sym c.ty.ensures.form ∙ ap (tree_over c.args.schema.now.trees) c.in-Container.is
+    ∙ ap (λ fs. container (fields_over c.args.schema.now.trees fs))
+    (sym c.as_slice.ensures.value) in
+    search rules
+
+pub put_other-container-requires : goal.put_other-container-requires
+put_other-container-requires t c =
     let P : List (List ℕ × ℕ) → Type 0 =
     AllByRecursion (λ (part : List ℕ × ℕ). part.1 < c.args.id) in
     let all : P c.in-Container.fields.items =

@@ -18,22 +18,25 @@ abbrev pub decreases-container : goal.decreases-container
 decreases-container l = 8 * l.id + 3
 
 abbrev pub decreases-put : goal.decreases-put
-decreases-put l = 8 * l.id + 5
+decreases-put l = 8 * l.id + 7
 
 abbrev pub decreases-put_field : goal.decreases-put_field
 decreases-put_field l = 8 * l.id + 6
 
+abbrev pub decreases-put_other : goal.decreases-put_other
+decreases-put_other l = 8 * l.id + 5
+
 abbrev pub decreases-elements : goal.decreases-elements
-decreases-elements l = 8 * l.elem + 7
+decreases-elements l = 8 * l.elem + 9
 
 abbrev pub decreases-fixed_elements : goal.decreases-fixed_elements
-decreases-fixed_elements l = 8 * l.elem + 6
+decreases-fixed_elements l = 8 * l.elem + 8
 
 abbrev pub decreases-variable_elements : goal.decreases-variable_elements
-decreases-variable_elements l = 8 * l.elem + 6
+decreases-variable_elements l = 8 * l.elem + 8
 
 abbrev pub decreases-list : goal.decreases-list
-decreases-list l = 8 * l.elem + 8
+decreases-list l = 8 * l.elem + 10
 
 abbrev pub invariant-fixed_elements-loop-i : goal.invariant-fixed_elements-loop-i
 invariant-fixed_elements-loop-i l = record {

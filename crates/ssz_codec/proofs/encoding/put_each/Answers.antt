@@ -1,5 +1,5 @@
 use Rattle.std.proofs.Common.{◌+◌, ◌-◌, [], length, map, Some, refl, ap, arith}
-use Rattle.ssz_schema.specs.declared.format.Format.TheVariants.{One}
+use Rattle.ssz_schema.specs.format.Format.TheVariants.{One}
 use Rattle.ssz_schema.specs.Types.{uint}
 use Rattle.ssz_schema.specs.Sizes.{byte_count}
 use Rattle.ssz_value.specs.Encoding.{serialize}

@@ -32,7 +32,8 @@ returns-clause-answers g c =
     c.in-Ok.ensures.ok in
     subst (λ (s : EngineContent). AnswersAnew pair_of
     (λ rules versions. new rules versions v.now c.args.t.now) (puts v.now) w s
-    (over schema c.store.inside.max entries c.store.inside.base arena) (Made v id node c.in_ok-room.room))
+    (over schema c.store.inside.max entries c.store.inside.base arena)
+    (Made v id node c.in_ok-room.room))
     c.store.view_is
     (made-answers pair_of schema c.store.inside.max entries c.store.inside.base
     c.store.inside.arena arena (λ rules versions. new rules versions v.now c.args.t.now) w v

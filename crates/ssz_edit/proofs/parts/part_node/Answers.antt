@@ -31,7 +31,8 @@ returns-in-Byte-clause-part g c =
     → IsPartNode c.byte_part.new.arena (edited_part (spot_of s) u x tree) c.byte_part.result)
     (sym c.in-Byte.is) (λ holds. byte_made c.byte_part.new.arena u c.in-Byte.at tree
     c.byte_part.result c.byte_part.ensures.node c.byte_part.ensures.due x
-    c.given_chunk-bytes.result.0 (subst (λ s. LiesWithin u (spot_of s)) c.in-Byte.is c.requires.lies)
+    c.given_chunk-bytes.result.0
+    (subst (λ s. LiesWithin u (spot_of s)) c.in-Byte.is c.requires.lies)
     c.fitting.ensures c.given_chunk-bytes.ensures holds c.byte_part.ensures.tree)
 
 pub given_flag-requires : goal.given_flag-requires

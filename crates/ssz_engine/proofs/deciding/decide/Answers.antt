@@ -8,7 +8,8 @@ use Rattle.ssz_engine.proofs.EngineSteps.{finds_alone}
 use Rattle.ssz_engine.proofs.Found.{decides, loads-ok}
 use Rattle.ssz_engine.proofs.deciding.decide.Goals as goal
 
-pub returns-in_ok-decide_alone-in_default-clause-decides : goal.returns-in_ok-decide_alone-in_default-clause-decides
+pub returns-in_ok-decide_alone-in_default-clause-decides
+    : goal.returns-in_ok-decide_alone-in_default-clause-decides
 returns-in_ok-decide_alone-in_default-clause-decides g c =
     decides g.H.PairHash.pair_of c.args.place
     (g.H.PairHash.pairs c.args.hasher.now - c.args.store.now.base) c.args.writer.0
@@ -27,7 +28,8 @@ returns-in-Load-clause-decides g c =
     (puts c.in-Load.v) c.args.statement.now _ c.load.result c.in-Load.is (λ files. refl) refl refl
     c.load.ensures.answers
 
-pub returns-in_ok-decide_alone-in_default-clause-found : goal.returns-in_ok-decide_alone-in_default-clause-found
+pub returns-in_ok-decide_alone-in_default-clause-found
+    : goal.returns-in_ok-decide_alone-in_default-clause-found
 returns-in_ok-decide_alone-in_default-clause-found g c =
     finds_alone g.H.PairHash.pair_of c.args.store.now
     c.args.writer.0 c.args.statement.now (g.F.Files.content c.args.files.now)

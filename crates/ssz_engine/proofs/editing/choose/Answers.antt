@@ -73,12 +73,14 @@ returns-in-Some-clause-answers g c =
     c.store.view_is c.in-Ok-open_choice.ensures.at in
     let result = c.choose_literal.result in
     let new = c.choose_literal.new.store in
-    let literal : Some c.as_slice.result.now ≡ c.args.literal.now = ap Some c.as_slice.ensures.value ∙ sym c.in-Some.is in
+    let literal : Some c.as_slice.result.now ≡ c.args.literal.now
+    = ap Some c.as_slice.ensures.value ∙ sym c.in-Some.is in
     subst (λ (l : Option (List ℕ)). IfOk result (AnswersWith pair_of
     (λ rules versions. choose versions v c.args.path.now k l) (puts v) w c.args.store.now new))
     literal
     (subst (λ (p : Path). IfOk result (AnswersWith pair_of
-    (λ rules versions. choose versions v p k (Some c.as_slice.result.now)) (puts v) w c.args.store.now new)) is
+    (λ rules versions. choose versions v p k (Some c.as_slice.result.now)) (puts v) w
+    c.args.store.now new)) is
     (c.choose_literal.ensures.answers w held.0 k path way.there at))
 
 pub returns-clause-answers : goal.returns-clause-answers

@@ -91,7 +91,8 @@ returns-clause-answers g c =
     (λ rules versions. upgrade rules versions v w.now t) (puts w.now) writer seen
     (over schema most entries base new) (Made w id c.in-Ok.node c.in_ok-room.room)) c.store.view_is
     (upgrade-answers pair_of schema most entries base old new writer v w t id held c.in-Ok.node
-    c.in_ok-room.room (c.in-Some.ensures.known id refl) known c.store.invariant there free c.in-Ok.ensures.answers)
+    c.in_ok-room.room (c.in-Some.ensures.known id refl) known c.store.invariant there free
+    c.in-Ok.ensures.answers)
 
 pub returns-clause-upgrades : goal.returns-clause-upgrades
 returns-clause-upgrades g c =

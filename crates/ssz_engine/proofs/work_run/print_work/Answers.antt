@@ -16,7 +16,8 @@ returns-in-Err-clause-ends g c = λ held.
 pub returns-clause-ends : goal.returns-clause-ends
 returns-clause-ends g c = λ held.
     let first : List ℕ = line (codes "work" ∷ decimal c.args.count ∷ decimal c.args.edits ∷ []) in
-    lines_second (g.S.Sink.ample c.args.out.now) held first c.args.root.now (g.S.Sink.pieces c.args.out.now)
+    lines_second (g.S.Sink.ample c.args.out.now) held first c.args.root.now
+    (g.S.Sink.pieces c.args.out.now)
     (g.S.Sink.pieces c.print.new.out) (g.S.Sink.pieces c.print-2.new.out)
     (subst (λ (text : List ℕ). PrintsLine {T = Unit {0}} (Ok tt) text
     (g.S.Sink.pieces c.args.out.now) (g.S.Sink.pieces c.print.new.out))

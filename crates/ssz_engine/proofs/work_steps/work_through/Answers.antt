@@ -165,7 +165,8 @@ returns-in_err-answer_root-clause-works g c = λ state at.
     let exit = err_from_is_err_and c.from_residual-in_err-answer_root.result
     c.from_residual-in_err-answer_root.ensures.1 in
     works_exit c.from_residual-in_err-answer_root.result whole _ before after exit.0 fault exit.1
-    exit.2 (broken_then work.turns (asked rules ∷ []) work.state fault before late after both broken)
+    exit.2
+    (broken_then work.turns (asked rules ∷ []) work.state fault before late after both broken)
 
 pub returns-clause-tries : goal.returns-clause-tries
 returns-clause-tries g c =

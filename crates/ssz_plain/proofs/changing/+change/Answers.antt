@@ -71,8 +71,8 @@ change_item-returns-else-path-gt1 t c =
     let led = c.requires.led in
     byte_changed _ _ _ _ _ _ _ c.args.at.1 led.path_is led.typed
     led.numbered c.requires.value c.requires.suits c.in-Bytes.run'
-    c.in-Bytes.is (last_is _ _ _ led.path_is (search rules)) _ _ c.change_byte.new.run _ (search rules)
-    (rw c.in-Bytes.run-is at c.change_byte.ensures)
+    c.in-Bytes.is (last_is _ _ _ led.path_is (search rules)) _ _ c.change_byte.new.run _
+    (search rules) (rw c.in-Bytes.run-is at c.change_byte.ensures)
 
 pub change_item-returns-then-path-gt1-2 : goal.change_item-returns-then-path-gt1-2
 change_item-returns-then-path-gt1-2 t c =
@@ -85,8 +85,8 @@ change_item-returns-else-path-gt1-2 t c =
     let led = c.requires.led in
     bit_changed _ _ _ _ _ _ _ c.args.at.1 led.path_is led.typed
     led.numbered c.requires.value c.requires.suits c.in-Bits.run'
-    c.in-Bits.is (last_is _ _ _ led.path_is (search rules)) _ _ c.change_bit.new.run _ (search rules)
-    (rw c.in-Bits.run-is at c.change_bit.ensures)
+    c.in-Bits.is (last_is _ _ _ led.path_is (search rules)) _ _ c.change_bit.new.run _
+    (search rules) (rw c.in-Bits.run-is at c.change_bit.ensures)
 
 pub change_item-change-requires : goal.change_item-change-requires
 change_item-change-requires t c =

@@ -1,4 +1,4 @@
-use Rattle.ssz_schema.proofs.DepthLemmas.{depth_of-holds, depth_of-least}
+use Rattle.ssz_types.proofs.DepthLemmas.{depth_of-holds, depth_of-least}
 use Rattle.ssz_schema.proofs.law.depth_is_next_power.Goals as goal
 
 pub returns-clause-holds : goal.returns-clause-holds

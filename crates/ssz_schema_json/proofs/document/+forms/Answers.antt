@@ -4,7 +4,7 @@ use Rattle.std.specs.Box.{box_value}
 use Rattle.std.specs.Prelude.{Box}
 use Rattle.serde_json.specs.Data.{item, no_items}
 use Rattle.serde_json.specs.View.{view}
-use Rattle.ssz_schema.specs.declared.expr.TypeExpr.{TypeExpr}
+use Rattle.ssz_schema.specs.expr.TypeExpr.{TypeExpr}
 use Rattle.ssz_schema.specs.Forms.{TypeForm, FieldForms, form_of, field_form, no_field_forms}
 use Rattle.ssz_schema_json.specs.Document.{written_form, written_fields, written_options}
 use Rattle.ssz_schema_json.specs.Views.{fields_view, options_view}

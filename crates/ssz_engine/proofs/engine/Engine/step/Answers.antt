@@ -101,7 +101,8 @@ returns-clause-stops g c =
     c.in_ok-decision.ensures.decides in
     subst (λ (s : EngineContent).
     IfErr c.carry_out.result (λ fault. Stops fault pair_of c.args.place w
-    c.args.line (before - s.base) statement s (g.F.Files.content c.args.files.now) told_new)) c.self.view_is
+    c.args.line (before - s.base) statement s (g.F.Files.content c.args.files.now) told_new))
+    c.self.view_is
     (subst (λ (told : Option Files). IfErr c.carry_out.result (λ fault. Stops fault pair_of
     c.args.place w c.args.line (before - first.base) statement first told told_new)) same
     (err-of (λ fault. Fails fault made told_mid told_new)

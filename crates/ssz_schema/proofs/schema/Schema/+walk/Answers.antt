@@ -4,17 +4,18 @@ use Rattle.ssz_schema.proofs.WalkFields.{FieldsFrom, FieldsFrom-start, FieldsFro
 use Rattle.ssz_schema.proofs.WalkOptions.{Written as Choice, OptionsFrom, OptionsFrom-more, options_stop, options_end, options_end-legal}
 use Rattle.ssz_schema.proofs.FormLemmas.{container_is, vector_is, list_is, bitvector_is, bitlist_is, element_then, union_is, container_walk, container_then, union_walk, union_refused, union_then}
 use Rattle.ssz_schema.proofs.WalkLemmas.{refused, same_walk, ends}
-use Rattle.ssz_schema.specs.declared.schema_fault.SchemaFault.TheVariants.{UnionSize}
-use Rattle.ssz_schema.specs.Types.{vector, list, union}
+use Rattle.ssz_types.specs.declared.schema_fault.SchemaFault.TheVariants.{UnionSize}
+use Rattle.ssz_types.specs.Types.{vector, list, union}
 use Rattle.ssz_schema.specs.Forms.{form_of, vector_form, list_form}
-use Rattle.ssz_schema.specs.Repeats.{first_repeat}
-use Rattle.ssz_schema.specs.Walk.{is_wrong_size, resolved, within_limits, of_length, of_limit}
-use Rattle.ssz_schema.specs.Unfolding.{known_in}
+use Rattle.ssz_types.specs.Repeats.{first_repeat}
+use Rattle.ssz_schema.specs.Walk.{resolved, within_limits, of_length, of_limit}
+use Rattle.ssz_types.specs.Legal.{is_wrong_size}
+use Rattle.ssz_types.specs.Unfolding.{known_in}
 use Rattle.ssz_schema.specs.Adding.{IsType, AreOptions}
 use Rattle.std.proofs.lemmas.Bool.{eqb-false}
 use Rattle.std.proofs.lemmas.Result.{err_from_is_err_and}
 use denote.Param.Weighed.{at_most, most}
-use Rattle.ssz_schema.proofs.expr.TypeExpr.TheLaws.{the_size}
+use Rattle.ssz_types.proofs.expr.TypeExpr.TheLaws.{the_size}
 use Rattle.ssz_schema.proofs.schema.Schema.+walk.Goals as goal
 
 pub resolve_fields-resolve_field-requires : goal.resolve_fields-resolve_field-requires

@@ -2,7 +2,7 @@ use Rattle.std.proofs.Common.{Ok, Err}
 use Rattle.std.specs.Prelude.{IfOk}
 use Rattle.ssz_schema.specs.Forms.{form_of}
 use Rattle.ssz_schema.specs.Walk.{resolved}
-use Rattle.ssz_schema.specs.Unfolding.{known_in, type_of}
+use Rattle.ssz_types.specs.Unfolding.{known_in, type_of}
 use Rattle.ssz_schema.specs.Adding.{Knows, DefinesOrExtends}
 use Rattle.ssz_schema.proofs.KnownLemmas.{knows-Defines}
 use Rattle.ssz_schema.proofs.schema.Schema.add.Goals as goal

@@ -1,7 +1,7 @@
 use Rattle.std.proofs.Common.{List, ◌∙◌, ◌≡◌, subst, arith}
-use Rattle.ssz_schema.specs.Sizes.{field_count}
+use Rattle.ssz_types.specs.Sizes.{field_count}
 use Rattle.ssz_schema.specs.Sums.{AreSums}
-use Rattle.ssz_schema.specs.Unfolding.{fields_over}
+use Rattle.ssz_types.specs.Unfolding.{fields_over}
 use Rattle.ssz_schema.proofs.FactLemmas.{container_facts}
 use Rattle.ssz_schema.proofs.SumLemmas.{field_count-over, Part}
 use Rattle.ssz_schema.proofs.schema.Schema.add_container.Goals as goal

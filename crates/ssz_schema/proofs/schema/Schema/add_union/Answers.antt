@@ -1,7 +1,7 @@
 use Rattle.std.proofs.Common.{ℕ, List, Option, ◌∙◌, ap, subst, arith}
-use Rattle.ssz_schema.specs.Sizes.{default_option_length}
+use Rattle.ssz_types.specs.Sizes.{default_option_length}
 use Rattle.ssz_schema.specs.Sums.{AreOptionSums}
-use Rattle.ssz_schema.specs.Unfolding.{options_over}
+use Rattle.ssz_types.specs.Unfolding.{options_over}
 use Rattle.ssz_schema.proofs.FactLemmas.{union_facts}
 use Rattle.ssz_schema.proofs.OptionLemmas.{option_count-over}
 use Rattle.ssz_schema.proofs.schema.Schema.add_union.Goals as goal

@@ -1,7 +1,7 @@
 use Rattle.std.proofs.Common.{ℕ, Option, ◌∙◌, ◌*◌, ap, cond, Some, None, arith}
-use Rattle.ssz_schema.specs.Sizes.{element_chunks}
+use Rattle.ssz_types.specs.Sizes.{element_chunks}
 use Rattle.ssz_schema.specs.Inside.{capped}
-use Rattle.ssz_schema.specs.Unfolding.{type_of}
+use Rattle.ssz_types.specs.Unfolding.{type_of}
 use Rattle.ssz_schema.proofs.FactLemmas.{vector_facts}
 use Rattle.ssz_schema.proofs.schema.Schema.add_vector.Goals as goal
 

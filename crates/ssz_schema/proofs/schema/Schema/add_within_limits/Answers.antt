@@ -1,6 +1,6 @@
 use Rattle.std.proofs.Common.{◌≡◌, ◌∙◌, ap, arith}
-use Rattle.ssz_schema.specs.Legal.{IsWithinLimits, most_levels}
-use Rattle.ssz_schema.specs.Unfolding.{tree_over}
+use Rattle.ssz_types.specs.Legal.{IsWithinLimits, most_levels}
+use Rattle.ssz_types.specs.Unfolding.{tree_over}
 use Rattle.ssz_schema.proofs.WalkLemmas.{sound_within}
 use Rattle.ssz_schema.proofs.schema.Schema.add_within_limits.Goals as goal
 

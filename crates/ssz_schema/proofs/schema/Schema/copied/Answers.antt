@@ -1,8 +1,8 @@
 use Rattle.std.proofs.Common.{List, refl, subst, ◌∙◌}
 use Rattle.std.specs.List.{AllZip}
-use Rattle.ssz_schema.specs.declared.entry.Entry.{Entry}
+use Rattle.ssz_types.specs.declared.entry.Entry.{Entry}
 use Rattle.ssz_schema.specs.declared.schema.Schema.TheInside.{Inside}
-use Rattle.ssz_schema.specs.Copies.{IsSameEntry}
+use Rattle.ssz_types.specs.Copies.{IsSameEntry}
 use Rattle.ssz_schema.proofs.CopyLemmas.{IsSchema-copied, types_of-copied}
 use Rattle.ssz_schema.proofs.schema.Schema.copied.Goals as goal
 

@@ -1,6 +1,6 @@
 use Rattle.std.proofs.Common.{ℕ, arith, get_or, ap, ◌∙◌}
 use Rattle.ssz_schema.specs.Inside.{IsSchemaEntry}
-use Rattle.ssz_schema.specs.Unfolding.{type_of}
+use Rattle.ssz_types.specs.Unfolding.{type_of}
 use Rattle.ssz_schema.proofs.Entries.{count_is, entry_is}
 use Rattle.ssz_schema.proofs.SmallLemmas.{small_facts}
 use Rattle.ssz_schema.proofs.schema.Schema.entry.Goals as goal

@@ -1,5 +1,5 @@
 use Rattle.std.proofs.Common.{sym, ◌∙◌, subst, length, ◌<◌}
-use Rattle.ssz_schema.specs.Unfolding.{Types}
+use Rattle.ssz_types.specs.Unfolding.{Types}
 use Rattle.ssz_schema.proofs.schema.Schema.find_bytes.Goals as goal
 
 pub returns-clause-known : goal.returns-clause-known

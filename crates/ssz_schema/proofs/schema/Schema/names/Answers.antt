@@ -1,8 +1,8 @@
 use Rattle.std.proofs.Common.{◌≡◌, subst}
 use Rattle.std.specs.Prelude.{IfOk}
 use Rattle.ssz_schema.specs.Inside.{IsWhole}
-use Rattle.ssz_schema.specs.Unfolding.{Types}
-use Rattle.ssz_schema.proofs.NameLemmas.{names_known}
+use Rattle.ssz_types.specs.Unfolding.{Types}
+use Rattle.ssz_schema.proofs.ListedLemmas.{names_known}
 use Rattle.ssz_schema.proofs.schema.Schema.names.Goals as goal
 
 pub returns-clause-known : goal.returns-clause-known

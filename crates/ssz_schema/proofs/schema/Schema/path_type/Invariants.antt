@@ -1,6 +1,6 @@
 use Rattle.std.proofs.Common.{◌≡◌, ◌<◌, length, drop}
 use Rattle.ssz_schema.specs.Paths.{path_type}
-use Rattle.ssz_schema.specs.Unfolding.{type_of}
+use Rattle.ssz_types.specs.Unfolding.{type_of}
 use Rattle.ssz_schema.proofs.schema.Schema.path_type.Given as goal
 
 abbrev pub invariant-loop-step : goal.invariant-loop-step

@@ -1,0 +1,4 @@
+pub mod PlainLemmas
+pub mod SoundLemmas
+pub mod RangeLemmas
+pub mod NumberLemmas

@@ -1,0 +1,12 @@
+//! Whether bytes are the encoding of a value of a type, and their first fault where they are none
+//! (simple-serialize.md, Deserialization).
+//!
+//! `check` goes over the bytes once. It takes no memory, whatever counts and limits the bytes or
+//! the schema claim.
+#![tactic(auto)]
+
+mod checking;
+mod plain;
+mod sound;
+
+pub use checking::check;

@@ -1,7 +1,0 @@
-use Rattle.std.proofs.Common.{take}
-use Rattle.std.specs.List.{AllZip}
-use Rattle.ssz_schema.specs.Copies.{IsSameEntry}
-use Rattle.ssz_schema.proofs.copying.copied_entries.Given as goal
-
-abbrev pub invariant-loop-entry : goal.invariant-loop-entry
-invariant-loop-entry l = AllZip IsSameEntry (take l.entry-index l.entries) l.copies.items

@@ -1,6 +1,0 @@
-use Rattle.std.proofs.Common.{◌≡◌, ◌+◌}
-use Rattle.ssz_schema.specs.Sizes.{depth_of}
-use Rattle.ssz_schema.proofs.depth.depth_of_count.Given as goal
-
-abbrev pub invariant-loop-depth : goal.invariant-loop-depth
-invariant-loop-depth l = l.depth + depth_of l.rest ≡ depth_of l.count

@@ -1,5 +1,0 @@
-use Rattle.ssz_schema.proofs.BasicLemmas.{IsBasicEntry-boolean}
-use Rattle.ssz_schema.proofs.entry.Entry.boolean.Goals as goal
-
-pub returns : goal.returns
-returns c = IsBasicEntry-boolean c.basic.result c.basic.ensures

@@ -1,6 +1,0 @@
-use Rattle.ssz_schema.proofs.BasicLemmas.{IsBasicEntry-uint}
-use Rattle.ssz_schema.proofs.entry.Entry.uint.Goals as goal
-
-pub returns : goal.returns
-returns c = IsBasicEntry-uint c.args.width c.basic.result c.byte_count.result
-    c.byte_count.ensures.exact c.basic.ensures

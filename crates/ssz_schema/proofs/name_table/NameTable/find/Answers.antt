@@ -1,9 +1,0 @@
-use Rattle.std.proofs.Common.{ap, ◌∙◌}
-use Rattle.ssz_schema.specs.Lookup.{lookup_name}
-use Rattle.ssz_schema.proofs.NameLemmas.{lookup-named}
-use Rattle.ssz_schema.proofs.name_table.NameTable.find.Goals as goal
-
-pub returns : goal.returns
-returns c =
-    c.copied.ensures ∙ c.get.ensures.value ∙ lookup-named c.self.inside.map.entries c.args.name.now
-    ∙ ap (λ ns. lookup_name ns c.args.name.now) c.self.view_is

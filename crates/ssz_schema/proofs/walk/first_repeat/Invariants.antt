@@ -1,5 +1,0 @@
-use Rattle.ssz_schema.proofs.RepeatLemmas.{SearchedTo}
-use Rattle.ssz_schema.proofs.walk.first_repeat.Given as goal
-
-abbrev pub invariant-loop-i : goal.invariant-loop-i
-invariant-loop-i l = SearchedTo l.seen l.fields l.i

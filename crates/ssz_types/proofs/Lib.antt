@@ -1,0 +1,5 @@
+pub mod DepthLemmas
+pub mod WidthLemmas
+pub mod BasicLemmas
+pub mod NameLemmas
+pub mod RepeatLemmas

@@ -1,0 +1,12 @@
+pub mod Types
+pub mod Sizes
+pub mod Names
+pub mod Legal
+pub mod FaultCodes
+pub mod Codes
+pub mod Lookup
+pub mod NameTables
+pub mod Unfolding
+pub mod Repeats
+pub mod Facts
+pub mod Copies
