@@ -9,7 +9,9 @@ cd "$(dirname "$0")/.."
 out=$(mktemp -d)
 trap 'rm -rf "$out"' EXIT
 kit=$(dirname "$(rt doc)")
-cc -std=gnu11 -O2 -Iinclude -o "$out/calls" bench/calls.c crates/ssz_c/out/libssz_c.a "$kit/c/liblibc_c.a"
+ssz=${BUILD:+$BUILD/ssz}
+ssz=${ssz:-crates/ssz_cli/out/ssz_cli}
+cc -std=gnu11 -O2 -Iinclude -o "$out/calls" bench/calls.c "${BUILD:-crates/ssz_c/out}/libssz_c.a" "$kit/c/liblibc_c.a"
 printf '{"ssz":1,"types":[["L",{"list":["uint64",1099511627776]}]]}' >"$out/l.json"
 head -c $((256 << 20)) /dev/urandom >"$out/l.ssz"
 
@@ -20,7 +22,7 @@ seconds() {
 
 # The two take turns, and the least of each counts: other work, of the machine's other guests too, only adds.
 for _ in $(seq "$rounds"); do
-    seconds crates/ssz_cli/out/ssz_cli root "$out/l.json" L "$out/l.ssz" >>"$out/program"
+    seconds "$ssz" root "$out/l.json" L "$out/l.ssz" >>"$out/program"
     seconds "$out/calls" "$out/l.json" L "$out/l.ssz" >>"$out/library"
 done
 program=$(sort -n "$out/program" | head -1)

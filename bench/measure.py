@@ -6,7 +6,12 @@ import sys
 import tempfile
 
 TOP = os.path.dirname(os.path.dirname(os.path.abspath(__file__)))
-BENCH, SSZ = (f"{TOP}/crates/{it}/out/{it}" for it in ("bench", "ssz_cli"))
+# The programs that are measured: those of `rt run`, or with BUILD=FOLDER those that ./build-v3 FOLDER put there.
+BUILD = os.environ.get("BUILD")
+BENCH, SSZ = (
+    os.path.join(os.path.abspath(BUILD), name) if BUILD else f"{TOP}/crates/{crate}/out/{crate}"
+    for crate, name in (("bench", "bench"), ("ssz_cli", "ssz"))
+)
 TYPES, DENEB = f"{TOP}/crates/bench/data/schema.json", f"{TOP}/examples/ethereum/deneb.json"
 
 # From an element to the next one: an odd number that leads all over a list.

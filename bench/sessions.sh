@@ -13,7 +13,7 @@ cd "$(dirname "$0")/.."
 out=$(mktemp -d)
 trap 'rm -rf "$out"' EXIT
 kit=$(dirname "$(rt doc)")
-library=${SSZ_LIB:-crates/ssz_c/out/libssz_c.a}
+library=${BUILD:-crates/ssz_c/out}/libssz_c.a
 cc -std=gnu11 -O2 -Iinclude -o "$out/sessions" bench/sessions.c "$library" "$kit/c/liblibc_c.a"
 exec env PYTHONPATH=bench python3 - "$out" "$@" <<'PY'
 import os, re, subprocess, sys

@@ -187,11 +187,22 @@ def calls(crate):
             continue
         origin = {}
         for low, module, many, single in IMPORT.findall(text):
+            low, module = home(low, module)
             for one in () if module.startswith("declared") else (many or single).split(","):
                 name, _, other = one.strip().partition(" as ")
                 origin[(other or name).strip("◌")] = (low, module, name)
         for item in items(text, names):
             yield item, origin
+
+
+def home(crate, module):
+    """Where a module of definitions stands that a crate may pass on: the crate, and its name there."""
+    lines = read(f"crates/{crate}/specs/Lib.antt") if os.path.exists(f"{TOP}/crates/{crate}/specs/Lib.antt") else ""
+    for low, passed in re.findall(r"^pub use Rattle\.(\w+)\.specs\.([\w.]+)$", lines, re.M):
+        name = passed.rpartition(".")[2]
+        if f"{module}.".startswith(f"{name}."):
+            return low, passed + module.removeprefix(name)
+    return crate, module
 
 
 def words(clause):
