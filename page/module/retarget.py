@@ -4,7 +4,8 @@
 
 It changes the two lines that name the target, drops the attributes that are x86's, and gives the three functions of the
 heap that the kit declares in C bodies over runtime.c. Sizes, alignments and byte order are the same on both. It stops at
-what it does not know: any other function that is declared and is not LLVM's own, any intrinsic of x86, any assembly."""
+what it does not know: any other function that is declared and is not LLVM's own, any intrinsic of x86, any assembly but
+the empty one, which is no instruction and only holds accesses of memory in their order (an `Arc` has it)."""
 import re
 import sys
 
@@ -40,6 +41,7 @@ define internal void @rattle_dealloc(ptr %p) alwaysinline {
   ret void
 }
 """
+ORDER = 'call void asm sideeffect "", "~{memory}"()'
 OURS = {"rattle_alloc", "rattle_realloc", "rattle_dealloc"}
 
 
@@ -60,7 +62,7 @@ def retargeted(lines):
                 continue
             if not name.startswith("llvm.") or ".x86." in name:
                 sys.exit(f"retarget: what is {name}?")
-        elif re.search(r"\basm\b (sideeffect|\")", line):
+        elif re.search(r"\basm\b (sideeffect|\")", line) and ORDER not in line:
             sys.exit(f"retarget: assembly: {line}")
         yield line
     if seen != OURS:
