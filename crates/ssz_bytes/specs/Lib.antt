@@ -1,3 +1,4 @@
 pub mod Bytes
 pub mod ByteLaws
 pub mod Faults
+pub mod Forms

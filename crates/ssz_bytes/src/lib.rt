@@ -5,6 +5,7 @@
 mod fault;
 mod law;
 mod runs;
+mod short;
 
 pub use fault::Fault;
 pub use law::{bits_tell_numbers, bytes_tell_numbers};

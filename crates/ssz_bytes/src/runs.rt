@@ -1,7 +1,9 @@
-ghost use Rattle.std.specs.Prelude.{◌≡◌, ◌-◌, ◌<◌, [], ◌∷◌, ◌++◌, length, take, set, IfOk, OnOk, OnErr};
+ghost use Rattle.std.specs.Prelude.{◌≡◌, ◌-◌, ◌<◌, ◌≤◌, [], ◌∷◌, ◌++◌, length, take, set, IfOk, IsOk, OnOk, OnErr};
 ghost use Rattle.ssz_bytes.specs.Bytes.{IsBytes};
 
+use super::short::Short;
 use std::alloc::{AllocError, Global};
+use std::fmt::{self, Debug, Formatter};
 use std::marker::Model;
 
 /// The same slice, known to hold bytes.
@@ -12,34 +14,54 @@ pub fn as_bytes(bytes: &[u8]) -> &[u8]
     bytes
 }
 
-/// Bytes in order, seen as a list.
-#[derive(Debug, Drop)]
+/// Bytes in order, seen as a list. Up to 32 of them take no memory beside the run itself.
+#[derive(Drop)]
 pub struct ByteRun {
-    bytes: Vec<u8>,
+    form: Form,
+}
+
+// Where the bytes are: in the run itself, or in memory of their own.
+#[derive(Drop)]
+enum Form {
+    Inside(Short),
+    Outside(Vec<u8>),
 }
 
 impl Model for ByteRun {
     ghost use Rattle.std.specs.Prelude.{ℕ, List};
+    ghost use Rattle.ssz_bytes.specs.Forms.{bytes_of};
 
     ghost Value = { List ℕ };
 
-    ghost view = { λ a. a.bytes.items };
+    ghost view = { λ a. bytes_of a.form };
 }
 
 impl ByteRun {
+    /// Up to so many bytes stand in the run itself.
+    pub const INSIDE: usize = 32;
+
     /// The bytes of this vector.
     pub fn from_bytes(bytes: Vec<u8>) -> Self
         ensures { result ≡ bytes.items }
     {
-        ByteRun { bytes }
+        ByteRun {
+            form: Form::Outside(bytes),
+        }
     }
 
-    /// A copy of these bytes.
+    /// A copy of these bytes. It fails for want of memory, and of up to 32 bytes never.
+    #[inline(always)]
     pub fn copy_of(alloc: Global, bytes: &[u8]) -> Result<Self, AllocError>
-        ensures { IfOk result (λ run. run ≡ bytes.now) }
+        ensures copy { IfOk result (λ run. run ≡ bytes.now) }
+        ensures few { length bytes.now ≤ 32 → IsOk result }
     {
+        if bytes.len() <= Self::INSIDE {
+            return Ok(ByteRun {
+                form: Form::Inside(Short::copy_of(alloc, bytes)),
+            });
+        }
         Ok(ByteRun {
-            bytes: bytes.to_vec(alloc)?,
+            form: Form::Outside(bytes.to_vec(alloc)?),
         })
     }
 
@@ -48,14 +70,17 @@ impl ByteRun {
         ensures value { result.now ≡ self.now }
         ensures bytes { IsBytes self.now }
     {
-        as_bytes(self.bytes.as_slice())
+        match &self.form {
+            Form::Inside(short) => as_bytes(short.as_slice()),
+            Form::Outside(bytes) => as_bytes(bytes.as_slice()),
+        }
     }
 
     /// How many bytes there are.
     pub fn len(&self) -> usize
         ensures { result ≡ length self.now }
     {
-        self.bytes.len()
+        self.as_slice().len()
     }
 
     /// Puts a byte in the place of number i.
@@ -63,7 +88,10 @@ impl ByteRun {
         requires { i < length self.old }
         ensures { self.new ≡ set self.old i byte }
     {
-        self.bytes[i] = byte;
+        match &mut self.form {
+            Form::Inside(short) => short.set(i, byte),
+            Form::Outside(bytes) => bytes[i] = byte,
+        }
     }
 
     /// Puts a byte behind the others. It fails for want of memory alone, and changes nothing then.
@@ -71,7 +99,19 @@ impl ByteRun {
         ensures pushed { OnOk result (self.new ≡ self.old ++ byte ∷ []) }
         ensures kept { OnErr result (self.new ≡ self.old) }
     {
-        self.bytes.push(byte)?;
+        match &mut self.form {
+            Form::Inside(short) => {
+                if short.as_slice().len() < Self::INSIDE {
+                    short.push(byte);
+                    return Ok(());
+                }
+                let mut bytes = Vec::with_capacity(short.alloc, 2 * Self::INSIDE)?;
+                bytes.extend_from_slice(short.as_slice())?;
+                bytes.push(byte)?;
+                self.form = Form::Outside(bytes);
+            }
+            Form::Outside(bytes) => bytes.push(byte)?,
+        }
         Ok(())
     }
 
@@ -79,7 +119,21 @@ impl ByteRun {
     pub fn pop(&mut self)
         ensures { self.new ≡ take (length self.old - 1) self.old }
     {
-        let _last = self.bytes.pop();
+        match &mut self.form {
+            Form::Inside(short) => short.pop(),
+            Form::Outside(bytes) => {
+                let _last = bytes.pop();
+            }
+        }
+    }
+}
+
+// As a run of bytes is shown, wherever they are.
+impl Debug for ByteRun {
+    fn fmt<W: fmt::Write>(&self, f: &mut Formatter<W>) -> fmt::Result {
+        f.debug_struct("ByteRun")
+            .field("bytes", &self.as_slice())
+            .finish()
     }
 }
 

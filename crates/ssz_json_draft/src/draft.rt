@@ -7,7 +7,7 @@ use super::fault::NoDraft;
 use super::left::Left;
 use super::row::{Row, row_of};
 use super::strings::{bits_of, bytes_of, decimal_of, wide_of};
-use ssz_bytes::{BitRun, ByteRun};
+use ssz_bytes::BitRun;
 use ssz_decimal::number_of_8_bits;
 use ssz_schema::{Name, Schema, Ty, TypeId, Width};
 use ssz_value::{Value, is_byte, option_at};
@@ -79,8 +79,7 @@ fn bits_in(alloc: Global, left: &mut Left<'_>) -> Result<Value, NoDraft> {
 fn bytes_in(alloc: Global, left: &mut Left<'_>) -> Result<Value, NoDraft> {
     left.pass_all(b"\"0x")?;
     let digits = left.up_to(b'"')?;
-    let bytes = bytes_of(alloc, digits)?;
-    Ok(Value::Bytes(ByteRun::from_bytes(bytes)))
+    Ok(Value::Bytes(bytes_of(alloc, digits)?))
 }
 
 // Of elements of this type.

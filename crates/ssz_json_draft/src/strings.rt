@@ -1,5 +1,6 @@
 //! What digits may say. Other bytes among them say anything.
 use super::fault::NoDraft;
+use ssz_bytes::ByteRun;
 use ssz_chunk::Chunk;
 use ssz_value::Value;
 use std::alloc::{AllocError, Global};
@@ -54,13 +55,23 @@ pub(crate) fn bits_of(alloc: Global, digits: &[u8]) -> Result<Vec<bool>, AllocEr
 }
 
 /// A byte for each two digits.
-pub(crate) fn bytes_of(alloc: Global, digits: &[u8]) -> Result<Vec<u8>, AllocError> {
+pub(crate) fn bytes_of(alloc: Global, digits: &[u8]) -> Result<ByteRun, AllocError> {
     let (pairs, _) = digits.as_chunks::<2>();
+    if pairs.len() <= ByteRun::INSIDE {
+        let mut few = [0; ByteRun::INSIDE];
+        put_bytes(pairs, &mut few);
+        return ByteRun::copy_of(alloc, &few[..pairs.len()]);
+    }
     let mut bytes = vec![in alloc; 0; pairs.len()]?;
-    for (byte, pair) in bytes.iter_mut().zip(pairs) {
+    put_bytes(pairs, &mut bytes);
+    Ok(ByteRun::from_bytes(bytes))
+}
+
+// Puts the byte of each two digits where there is room for it.
+fn put_bytes(pairs: &[[u8; 2]], room: &mut [u8]) {
+    for (byte, pair) in room.iter_mut().zip(pairs) {
         *byte = byte_of(pair[0], pair[1]);
     }
-    Ok(bytes)
 }
 
 // The byte of two digits.

@@ -59,6 +59,19 @@ fn append_many<H: PairHash>(
     append_leaf(arena, left as usize, places.next(arena), out)
 }
 
+/// The first len bytes of the chunks at the places of a full tree, where the first has them all.
+pub fn few_bytes<H: PairHash>(arena: &Arena<H>, top: Top, len: usize) -> &[u8]
+    requires depth { top.depth < 64 }
+    requires node { IsNodeOf arena.now top.node }
+    requires few { len ≤ 32 }
+    ensures { (bytes : List ℕ) → ArePacked top.depth len bytes (tree_of arena.now top.node)
+        → result.now ≡ bytes }
+{
+    let first = node_of_place(arena, top, 0);
+    let chunk = chunk_of(arena, first);
+    &chunk.0[..len]
+}
+
 /// Appends the first len bytes of the chunk of a leaf. The whole chunk is copied, and the others of
 /// its bytes taken away again, since the compiler then knows how many bytes it copies.
 #[inline(always)]

@@ -13,12 +13,12 @@ ghost use Rattle.ssz_nodes.specs.Shown.{AreBits, AreElements, ForElements, basic
 use ssz_arena::Arena;
 use ssz_bytes::{BitRun, ByteRun};
 use ssz_chunk::{Chunk, PairHash};
-use ssz_nodes::{Basic, Places, Top, append_chunks, bit_of, chunk_of};
+use ssz_nodes::{Basic, Places, Top, append_chunks, bit_of, chunk_of, few_bytes};
 use ssz_schema::Width;
 use ssz_value::Value;
 use std::alloc::{AllocError, Global};
 
-/// Count bytes.
+/// Count bytes. Those of one chunk take no memory.
 pub fn read_bytes<H: PairHash>(
     alloc: Global,
     arena: &Arena<H>,
@@ -30,6 +30,9 @@ pub fn read_bytes<H: PairHash>(
     ensures { ForElements (uint W8) top.depth count (tree_of arena.now top.node)
         (λ vs. IfOk result (λ run. map number run ≡ vs)) }
 {
+    if count <= 32 {
+        return ByteRun::copy_of(alloc, few_bytes(arena, top, count as usize));
+    }
     let mut bytes = Vec::with_capacity(alloc, count as usize)?;
     append_chunks(arena, top, u128::from(count), &mut bytes)?;
     Ok(ByteRun::from_bytes(bytes))

@@ -17,7 +17,7 @@ returns c =
       bytes_clean c.args.count c.args.start c.args.bytes.now whole,
       record {
         value = bytes_are c.in_ok-copy_of.field-0
-            ∙ ap (λ bytes. sequence (values (map number bytes))) c.in_ok-copy_of.ensures
+            ∙ ap (λ bytes. sequence (values (map number bytes))) c.in_ok-copy_of.ensures.copy
             ∙ ap (λ vs. sequence (values vs))
             (sym (bytes_read c.args.count c.args.bytes.now whole));
         formed = bytes_are_formed c.args.count c.in_ok-copy_of.field-0;
