@@ -6,3 +6,6 @@ pub mod FieldGathering
 pub mod Alike
 pub mod Chunks
 pub mod ValueForms
+mod Saturating
+mod Tallying
+mod Summing

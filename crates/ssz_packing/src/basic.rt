@@ -1,4 +1,4 @@
-ghost use Rattle.std.specs.Prelude.{ℕ, ◌≡◌, ◌*◌, ◌/◌, ◌<◌, length, map, Some};
+ghost use Rattle.std.specs.Prelude.{ℕ, ◌≡◌, ◌+◌, ◌*◌, ◌/◌, ◌^◌, ◌<◌, length, map, Some};
 ghost use Rattle.std.specs.List.{concat, AllByRecursion};
 ghost use Rattle.ssz_schema.specs.Types.{SszType};
 ghost use Rattle.ssz_schema.specs.Sizes.{basic_size};
@@ -24,6 +24,16 @@ pub fn basic_chunk(value: &Value) -> Chunk
         Value::Wide(chunk) => *chunk,
         _ => Chunk::ZERO,
     }
+}
+
+/// How many chunks so many values of a basic type of this size take.
+pub fn chunk_count(size: usize, len: usize) -> usize
+    requires size { size * (32 / size) ≡ 32 }
+    requires len { len < 2 ^ 63 }
+    ensures { result ≡ (len * size + 31) / 32 }
+{
+    let per = 32 / size;
+    (len + (per - 1)) / per
 }
 
 /// Chunk i of values of a basic type of this size, packed, with zeros behind the last one.

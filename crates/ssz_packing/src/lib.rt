@@ -10,7 +10,7 @@ mod bit_values;
 mod bits;
 mod mixing;
 
-pub use basic::{basic_chunk, values_chunk};
+pub use basic::{basic_chunk, chunk_count, values_chunk};
 pub use bit_values::bits_chunk;
 pub use bits::{bit_chunk_at, bitlist_len};
 pub use mixing::number_chunk;

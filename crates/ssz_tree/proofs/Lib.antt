@@ -6,8 +6,6 @@ pub mod Gathering
 pub mod GivenGathering
 pub mod FewNodes
 pub mod Chunks
-pub mod Saturating
-pub mod Sums
 pub mod Copies
 pub mod Zeros
 pub mod DefaultForms
@@ -15,5 +13,4 @@ pub mod Sharing
 pub mod FieldPieces
 pub mod GivenFields
 mod Rooms
-mod Summing
 mod Two

@@ -7,12 +7,11 @@ ghost use Rattle.ssz_making.specs.Parts.{part_of_value};
 ghost use Rattle.ssz_making.specs.Nodes.{new_nodes};
 ghost use Rattle.ssz_tree.specs.Added.{AddsNodes, IsPartNode, MakesNode};
 
-use super::counting::Counting;
 use super::growing::Growing;
 use super::room::{nodes_for, reserve_nodes};
 use ssz_arena::{Arena, NodeId};
 use ssz_chunk::PairHash;
-use ssz_making::bytes_part;
+use ssz_making::{bytes_part, bytes_tally};
 use ssz_schema::{Schema, TypeId};
 use std::alloc::AllocError;
 
@@ -37,7 +36,7 @@ pub fn build_bytes<H: PairHash>(
         new_nodes t (value_in t bytes.now) ≤ arena.old.spare → IsOk result }
     ensures err { OnErr result (arena.new ≡ arena.old) }
 {
-    let tally = bytes_part(&mut Counting, schema, id, bytes);
+    let tally = bytes_tally(schema, id, bytes);
     reserve_nodes(arena, tally.nodes)?;
     Ok(bytes_node(arena, schema, id, bytes))
 }
@@ -71,5 +70,5 @@ pub fn bytes_needed(schema: &Schema, id: TypeId, bytes: &[u8]) -> usize
     ensures { let t = type_of schema.now id in
         result ≡ min (2 * pairs t (value_in t bytes.now) + 1) (2 ^ 64 - 1) }
 {
-    nodes_for(bytes_part(&mut Counting, schema, id, bytes).pairs) as usize
+    nodes_for(bytes_tally(schema, id, bytes).pairs) as usize
 }

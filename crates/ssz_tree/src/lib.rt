@@ -7,7 +7,7 @@
 //!
 //! Each call first counts how many nodes it makes at most, takes room for them at once, and then
 //! makes them without taking memory: after want of memory the arena is as it was. Both are the walk
-//! of `ssz_making`, with the makers `Counting` and `Growing`. What a call adds to an arena is
+//! of `ssz_making`: its own count, and the maker `Growing`. What a call adds to an arena is
 //! defined in `specs/Added.antt`, how many nodes are made for a value in `ssz_making`, and what is
 //! counted for a default in `specs/Shared.antt`. One builder takes nodes one after another and
 //! finishes at a depth; a zero part of a full tree is the arena's own zero tree, and so is
@@ -20,7 +20,6 @@
 
 mod builder;
 mod bytes;
-mod counting;
 mod defaults;
 mod fields;
 mod given;
@@ -30,7 +29,6 @@ mod packed;
 mod packed_values;
 mod room;
 mod shared_nodes;
-mod tally;
 mod values;
 
 pub use bytes::{build_bytes, bytes_needed, bytes_node};

@@ -12,11 +12,10 @@ ghost use Rattle.ssz_tree.specs.Added.{MakesNode};
 ghost use Rattle.ssz_making.specs.Parts.{whole_of, chunk_part, AreBasic};
 
 use super::builder::Builder;
-use super::counting::chunk_count;
 use super::leaves::leaf_node;
 use ssz_arena::{Arena, NodeId};
 use ssz_chunk::PairHash;
-use ssz_packing::{bits_chunk, values_chunk};
+use ssz_packing::{bits_chunk, chunk_count, values_chunk};
 use ssz_value::Value;
 
 /// The full tree of this depth over values of a basic type of this size, packed.

@@ -1,6 +1,5 @@
 ghost use Rattle.std.specs.Prelude.{◌≡◌, ℕ, ◌+◌, ◌*◌, ◌-◌, ◌^◌, ◌≤◌, min, max, IsOk, OnOk, OnErr};
 ghost use Rattle.ssz_arena.specs.Content.{node_count};
-ghost use Rattle.ssz_chunk.specs.Tree.{merkle_pairs};
 
 use ssz_arena::Arena;
 use ssz_chunk::PairHash;
@@ -37,18 +36,4 @@ pub fn nodes_for(pairs: u64) -> u64
     ensures { (n : ℕ) → pairs ≡ min n (2 ^ 64 - 1) → result ≡ min (2 * n + 1) (2 ^ 64 - 1) }
 {
     pairs.saturating_add(pairs).saturating_add(1)
-}
-
-/// The pairs of a full tree of depth d above its first n places; u64::MAX stands for all numbers
-/// from there on.
-pub fn pairs_above(depth: u32, n: u64) -> u64
-    ensures { result ≡ min (merkle_pairs depth n) (2 ^ 64 - 1) }
-{
-    let mut left = n;
-    let mut pairs = 0u64;
-    for _j in 0..depth {
-        left = left / 2 + left % 2;
-        pairs = pairs.saturating_add(left);
-    }
-    pairs
 }

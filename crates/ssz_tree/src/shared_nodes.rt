@@ -8,8 +8,8 @@ ghost use Rattle.ssz_tree.specs.Shared.{shared, shared_fields, shared_vector};
 ghost use Rattle.ssz_tree.specs.Given.{left_fields, made_at};
 
 use super::given::given_at;
-use super::room::pairs_above;
 use ssz_arena::NodeId;
+use ssz_making::pairs_above;
 use ssz_schema::{Name, Schema, Ty, TypeId};
 use ssz_value::option_at;
 

@@ -6,12 +6,11 @@ ghost use Rattle.ssz_making.specs.Parts.{part_of_value};
 ghost use Rattle.ssz_making.specs.Nodes.{new_nodes};
 ghost use Rattle.ssz_tree.specs.Added.{AddsNodes, IsPartNode, MakesNode};
 
-use super::counting::Counting;
 use super::growing::Growing;
 use super::room::{nodes_for, reserve_nodes};
 use ssz_arena::{Arena, NodeId};
 use ssz_chunk::PairHash;
-use ssz_making::value_part;
+use ssz_making::{value_part, value_tally};
 use ssz_schema::{Schema, TypeId};
 use ssz_value::Value;
 use std::alloc::AllocError;
@@ -35,7 +34,7 @@ pub fn build<H: PairHash>(
         → IsOk result }
     ensures err { OnErr result (arena.new ≡ arena.old) }
 {
-    let tally = value_part(&mut Counting, schema, id, value);
+    let tally = value_tally(schema, id, value);
     reserve_nodes(arena, tally.nodes)?;
     Ok(value_node(arena, schema, id, value))
 }
@@ -69,5 +68,5 @@ pub fn nodes_needed(schema: &Schema, id: TypeId, value: &Value) -> usize
     ensures enough { let t = type_of schema.now id in let v = value_of value.now in
         new_nodes t v ≤ 2 * pairs t v + 1 }
 {
-    nodes_for(value_part(&mut Counting, schema, id, value).pairs) as usize
+    nodes_for(value_tally(schema, id, value).pairs) as usize
 }

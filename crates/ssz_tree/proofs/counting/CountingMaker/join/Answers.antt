@@ -1,4 +1,0 @@
-use Rattle.ssz_tree.proofs.counting.CountingMaker.join.Goals as goal
-
-pub returns : goal.returns
-returns c = λ start one is. c.joined.ensures _ _ is

@@ -1,5 +1,0 @@
-use Rattle.ssz_tree.proofs.Summing.{sums_none}
-use Rattle.ssz_tree.proofs.counting.CountingMaker.start.Goals as goal
-
-pub returns : goal.returns
-returns c = sums_none _ _ c.above.ensures
