@@ -2,3 +2,5 @@ pub mod WordsLemmas
 pub mod SplitLemmas
 pub mod ReadAll
 pub mod FileLemmas
+pub mod LinesLemmas
+pub mod LinesLength

@@ -14,7 +14,8 @@ use Rattle.ssz_line.specs.Paths.{◌>>=◌, path}
 use Rattle.ssz_script.specs.declared.partial.PartialStatement.{PartialStatement}
 use Rattle.ssz_script.specs.declared.partial.PartialStatement.TheVariants.{Get, Set, Root}
 use Rattle.ssz_script.specs.Grammar.{Word, Form, alone, one, two, partial_statements, grammar_form, statement_of, is_comment, said_by, line_of}
-use Rattle.ssz_script.specs.Lines.{numbered_lines, before, lines_said, partial_statements_in}
+use Rattle.ssz_line.specs.Lines.{numbered_lines}
+use Rattle.ssz_script.specs.Lines.{before, lines_said, partial_statements_in}
 use Rattle.ssz_partial_script.specs.Plays.{PartialScriptLine}
 
 -- a literal holds bytes

@@ -1,5 +1,3 @@
-pub mod LinesLemmas
-pub mod LinesLength
 pub mod OneLineLemmas
 pub mod Shapes
 pub mod TextsLemmas

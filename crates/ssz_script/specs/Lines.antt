@@ -1,19 +1,9 @@
--- The lines of a script with their numbers, and the statements among them (this project's).
-use Rattle.std.specs.Prelude.{ℕ, suc, List, [], ◌∷◌, Option, Some, None}
-use Rattle.std.specs.Str.Lines.{lines}
+-- The statements among the lines of a script (this project's).
+use Rattle.std.specs.Prelude.{ℕ, List, [], ◌∷◌, Option, Some, None}
+use Rattle.ssz_line.specs.Lines.{numbered_lines}
 use Rattle.ssz_script.specs.declared.statement.Statement.{Statement}
 use Rattle.ssz_script.specs.declared.partial.PartialStatement.{PartialStatement}
 use Rattle.ssz_script.specs.Grammar.{Word, Form, statements, partial_statements, line_of}
-
--- lines that are numbered on from n
-abbrev pub numbered_from : ℕ → List (List ℕ) → List (ℕ × List ℕ)
-numbered_from n [] = []
-numbered_from n (line ∷ more) = (n, line) ∷ numbered_from (suc n) more
-
--- The lines of a text, numbered from 1. A line feed ends a line; the last line may lack it. One
--- carriage return before a line feed is dropped.
-abbrev pub numbered_lines : List ℕ → List (ℕ × List ℕ)
-numbered_lines text = numbered_from 1 (lines text)
 
 -- a line's number and its statement, if it is one, before others; nothing where the line says
 -- nothing

@@ -8,11 +8,11 @@ ghost use Rattle.ssz_script.specs.declared.statement.Statement.TheVariants.{New,
 
 use super::indices::Indices;
 use super::statement::Statement;
-use super::words::{end, one_word, three_or_four_words, three_words, two_words, word};
 use ssz_bytes::ByteRun;
 use ssz_line::{
-    FileName, Identifier, Index, LineFault, Steps, Words, read_file, read_index, read_literal,
-    read_name, read_path, read_selector,
+    FileName, Identifier, Index, LineFault, Steps, Words, end, one_word, read_file, read_index,
+    read_literal, read_name, read_path, read_selector, three_or_four_words, three_words, two_words,
+    word,
 };
 use std::alloc::Global;
 

@@ -9,7 +9,6 @@
 mod forms;
 mod indices;
 mod laws;
-mod lines;
 mod literals;
 mod partial;
 mod read;
@@ -17,16 +16,14 @@ mod reply;
 mod statement;
 mod statements;
 mod texts;
-mod words;
 
 pub use indices::Indices;
 pub use laws::replies_are_lines;
-pub use lines::{Line, Lines};
 pub use literals::is_short;
 pub use partial::{PartialStatement, read_partial};
 pub use read::read_line;
 pub use reply::Reply;
-pub use ssz_line::{FileName, Identifier, Index, LineFault, Steps, read_path};
+pub use ssz_line::{FileName, Identifier, Index, Line, LineFault, Lines, Steps, read_path};
 pub use statement::Statement;
 pub use statements::{ScriptStatement, Statements};
 pub use texts::reply_text;

@@ -5,9 +5,8 @@ ghost use Rattle.ssz_line.specs.Reading.{Reads};
 ghost use Rattle.ssz_script.specs.Grammar.{alone, one, two, partial_statements, statement_of, line_of};
 ghost use Rattle.ssz_script.specs.declared.partial.PartialStatement.TheVariants.{Get, Set, Root};
 
-use super::words::{end, one_word, two_words};
 use ssz_bytes::ByteRun;
-use ssz_line::{LineFault, Steps, Words, read_literal, read_path};
+use ssz_line::{LineFault, Steps, Words, end, one_word, read_literal, read_path, two_words};
 use std::alloc::Global;
 
 /// A statement of a script for a partial tree.

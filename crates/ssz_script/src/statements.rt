@@ -3,10 +3,9 @@ ghost use Rattle.ssz_script.specs.Grammar.{statements};
 ghost use Rattle.ssz_script.specs.Lines.{lines_said};
 ghost use Rattle.ssz_script.specs.Next.{IsNext};
 
-use super::lines::Lines;
 use super::read::read_line;
 use super::statement::Statement;
-use ssz_line::LineFault;
+use ssz_line::{LineFault, Lines};
 use std::alloc::{AllocError, Global};
 use std::marker::Model;
 

@@ -60,7 +60,7 @@ pub struct Lines<'a> {
 impl<'a> Model for Lines<'a> {
     ghost use Rattle.std.specs.Prelude.{List, ℕ, suc, ◌+◌, ◌≤◌, ◌^◌, ◌<◌, length};
     ghost use Rattle.std.specs.Str.Lines.{lines};
-    ghost use Rattle.ssz_script.specs.Lines.{numbered_from};
+    ghost use Rattle.ssz_line.specs.Lines.{numbered_from};
 
     ghost Value = { List (ℕ × List ℕ) };
 
@@ -70,7 +70,7 @@ impl<'a> Model for Lines<'a> {
 }
 
 impl<'a> Lines<'a> {
-    ghost use Rattle.ssz_script.specs.Lines.{numbered_lines};
+    ghost use Rattle.ssz_line.specs.Lines.{numbered_lines};
 
     /// The lines of this script.
     pub fn new(script: &'a [u8]) -> Self
@@ -82,8 +82,8 @@ impl<'a> Lines<'a> {
         }
     }
 
-    // The same lines once more.
-    pub(crate) fn same(&self) -> Lines<'a>
+    /// The same lines once more.
+    pub fn same(&self) -> Lines<'a>
         ensures { result ≡ self.now }
     {
         Lines {

@@ -1,8 +1,10 @@
+// The words of a line, where they have to be so many.
 ghost use Rattle.std.specs.Prelude.{◌≡◌, ◌≢◌, ◌<◌, ◌∷◌, [], length, MatchOption, IfOk, IfErr};
 
-use ssz_line::{LineFault, Words};
+use super::fault::LineFault;
+use super::words::Words;
 
-// The next word.
+/// The next word.
 pub fn word<'a>(words: &mut Words<'a>) -> Result<&'a [u8], LineFault>
     ensures word { IfOk result (λ word. words.old ≡ word.now ∷ words.new) }
     ensures none { IfErr result (λ e. (e ≡ LineFault.Syntax) × (words.old ≡ [])) }

@@ -1,8 +1,8 @@
 use Rattle.std.proofs.Common.{◌≡◌, ◌==◌, false, length, sym, ◌∙◌, arith}
 use Rattle.std.proofs.lemmas.List.{take_all}
 use Rattle.std.proofs.Math.Seq.{drop-length}
-use Rattle.ssz_script.proofs.LinesLemmas.{lines-feed, lines-last}
-use Rattle.ssz_script.proofs.lines.split_line.Goals as goal
+use Rattle.ssz_line.proofs.LinesLemmas.{lines-feed, lines-last}
+use Rattle.ssz_line.proofs.lines.split_line.Goals as goal
 
 pub returns-then-end-text : goal.returns-then-end-text
 returns-then-end-text c =
