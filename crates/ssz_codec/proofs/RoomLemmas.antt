@@ -11,13 +11,13 @@ use Rattle.ssz_value.specs.declared.value.Value.{Value}
 use Rattle.ssz_value.specs.Standing.{value_of, IsValue}
 use Rattle.ssz_bytes.specs.Bytes.{le_bytes}
 use Rattle.ssz_value.specs.Encoding.{serialize, heads, bodies, heads_length, joined, joined_alike, field_encodings}
-use Rattle.ssz_value.specs.Values.{Fits}
 use Rattle.ssz_bytes.proofs.Numbers.{length-le_bytes}
 use Rattle.ssz_parts.proofs.PartSizes.{heads_alike}
 use Rattle.ssz_value.proofs.Cut.{AreParts, length-heads}
 use Rattle.ssz_value.proofs.Sequences.{AreParts-alike}
 use Rattle.ssz_value.proofs.ExactLaw.{agrees, fields_agree}
 use Rattle.ssz_value.proofs.FitLemmas.{fit_fields}
+use Rattle.ssz_value.proofs.FormLemmas.{all_fit}
 use Rattle.ssz_value.specs.Shapes.{AreFields}
 use Rattle.ssz_codec.specs.Writing.{WritesEncoding, PutsPart, Place}
 
@@ -121,11 +121,6 @@ pub joined_elements : (t : SszType) (vs : List Value)
 joined_elements t vs =
     ap (λ n. joined (replicate n (fixed_size t)) (map (serialize t) (map value_of vs)))
     (length-map (map value_of vs) (serialize t) ∙ length-map vs value_of)
-
-all_fit : (t : SszType) (vs : List Value) → AllByRecursion (IsValue t) vs
-    → AllByRecursion (Fits t) (map value_of vs)
-all_fit t [] h = tt
-all_fit t (v ∷ vs) h = (h.0.fits, all_fit t vs h.1)
 
 pub elements_length : (format : Format) (t : SszType) (vs : List Value) → IsLegal format t
     → AllByRecursion (IsValue t) vs

@@ -19,8 +19,7 @@ use Rattle.ssz_schema.specs.Indices.{Spot, whole, byte, bit}
 use Rattle.ssz_value.specs.declared.value.Value.{Value}
 use Rattle.ssz_value.specs.declared.edit_fault.EditFault.TheVariants.{NotThat, BadSelector}
 use Rattle.ssz_value.specs.Values.{SszValue, Fits, FitsOption, IsNoneOption}
-use Rattle.ssz_value.proofs.FitLemmas.{none_value}
-use Rattle.ssz_value.proofs.ValueLemmas.{chosen_none_is}
+use Rattle.ssz_value.proofs.FitLemmas.{at_none_option}
 use Rattle.ssz_value.specs.Standing.{value_of, IsValue, OptionFormed}
 use Rattle.ssz_value.specs.Trees.{tree, option_tree, mixed_in, number_chunk}
 use Rattle.ssz_value.specs.Pairs.{pairs, option_pairs}
@@ -108,12 +107,6 @@ fits_there trees (None ∷ ids) (suc k) id x there fits = fits_there trees ids k
 fits_there trees (Some other ∷ ids) (suc k) id x there fits =
     fits_there trees ids k id x there fits
 
-none_there : (trees : List SszType) (ids : List (Option ℕ)) (k : ℕ)
-    → Some None ≡ slice_get ids k → IsNoneOption (options_over trees ids) k
-none_there trees ids k there =
-    subst (Fits (union (options_over trees ids))) (chosen_none_is k)
-    (none_value trees ids k there).fits
-
 -- None has no value, and a type is not None
 no_value : {X : Type 0} (trees : List SszType) (ids : List (Option ℕ)) (k : ℕ) (x : SszValue)
     → Some None ≡ slice_get ids k → FitsOption (options_over trees ids) k x → X
@@ -194,7 +187,7 @@ module _ (types : Types) (ids : List (Option ℕ)) (k : ℕ) (option : Option �
   is_choice : (o : Option ℕ) (x : Option SszValue) → o ≡ option → FitsOf types o x
       → IsChoice (union os) k x
   is_choice (Some id) (Some x) is fits = fits_there types.trees ids k id x (ap Some is ∙ there) fits
-  is_choice None None is fits = none_there types.trees ids k (ap Some is ∙ there)
+  is_choice None None is fits = at_none_option types.trees ids k (ap Some is ∙ there)
   is_choice (Some id) None is fits = absurd fits
   is_choice None (Some x) is fits = absurd fits
 

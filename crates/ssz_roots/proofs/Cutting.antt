@@ -11,10 +11,10 @@ use Rattle.ssz_value.specs.Faults.{first_fault}
 use Rattle.ssz_value.specs.Reading.{value_in}
 use Rattle.ssz_value.specs.Trees.{tree}
 use Rattle.ssz_value.specs.Pairs.{pairs}
-use Rattle.ssz_value.proofs.PartLemmas.{Part, sizes_of, size_at, known_from}
+use Rattle.ssz_value.proofs.PartLemmas.{Part, sizes_of, size_at, known_from, length-sizes_of}
 use Rattle.ssz_roots.specs.Eights.{pieces, AreFixed, AreFaultless}
 use Rattle.ssz_roots.proofs.Halves.{root-halves, grow-halves}
-use Rattle.ssz_roots.proofs.Pieces.{pieces-append, length-pieces, fixed-front, fixed-back, heads-append, sizes-append, length-sizes, trees_in, pairs_in, trees-append, pairs-append, length-trees_in, faultless-append}
+use Rattle.ssz_roots.proofs.Pieces.{pieces-append, length-pieces, fixed-front, fixed-back, heads-append, sizes-append, trees_in, pairs_in, trees-append, pairs-append, length-trees_in, faultless-append}
 
 -- fields, and others behind them, from a place on
 pub record CutFields (trees : List SszType) (parts front back : List Part) (a : ℕ) (b : List ℕ)
@@ -56,9 +56,9 @@ cut trees front back a b fixed =
     ap (λ sizes. pieces sizes a b) (sizes-append trees front back)
     ∙ pieces-append (sizes_of trees front) (sizes_of trees back) a b one in
     let long : length (pieces (sizes_of trees front) a b) ≡ length front =
-    length-pieces (sizes_of trees front) a b one ∙ length-sizes trees front in
+    length-pieces (sizes_of trees front) a b one ∙ length-sizes_of trees front in
     let rest : length (pieces (sizes_of trees back) place b) ≡ length back =
-    length-pieces (sizes_of trees back) place b two ∙ length-sizes trees back in
+    length-pieces (sizes_of trees back) place b two ∙ length-sizes_of trees back in
     record {
       front_fixed = one;
       back_fixed = two;
