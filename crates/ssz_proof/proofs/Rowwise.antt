@@ -319,8 +319,8 @@ pub placed_row : (pair_of : PairOf) (known : Known) (indices unknown places : Li
     → (k : ℕ) → (row_at row k ≡ f k) ⊎ IsPlaced (take count places) (length (take count places)) k
     → row_at new k ≡ f k)
     → AreCalculated pair_of known indices new
-placed_row pair_of known indices unknown places count row made new few long placed in_row in_made puts
-    i within =
+placed_row pair_of known indices unknown places count row made new few long placed in_row in_made
+    puts i within =
     let f : ℕ → List ℕ = λ k. calculate_root pair_of known (get_or indices k 0) in
     let counted : length (take count places) ≡ count = omega (arith, length-take count places) in
     let counted_unknown : length (take count unknown) ≡ count =

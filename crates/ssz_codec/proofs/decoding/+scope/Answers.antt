@@ -187,7 +187,8 @@ container-loop-i-preserved t c =
           (subst (FieldsRead c.args.schema.now.trees c.args.fields.now c.args.bytes.now
           (c.loop-i.i + 1) (c.loop-i.place + head_size
           (fixed_size (type_tree_at c.args.schema.now.trees c.index-fields-i.result.1))))
-          (sym (values_push _ _ c.in_ok-put_field.ensures.put.1.value c.in_ok-put_field.ensures.put.1.items))
+          (sym (values_push _ _ c.in_ok-put_field.ensures.put.1.value
+          c.in_ok-put_field.ensures.put.1.items))
           (FieldsRead-more c.args.schema.now.trees c.args.fields.now c.args.bytes.now c.loop-i.i
           c.loop-i.place c.field_range-from.result.0 c.field_range-from.result.1
           c.index-fields-i.result _ _
@@ -277,7 +278,8 @@ fixed_elements-loop-i-preserved t c =
       formed = subst (AllByRecursion (IsFormed (type_of c.args.schema.now c.args.elem)))
           (sym c.in_ok-put.ensures.put.1.items)
           (formed_push (type_of c.args.schema.now c.args.elem) c.loop-i.parts.items
-          c.in_ok-put.ensures.put.1.value c.loop-i.invariant.formed c.in_ok-put.ensures.put.1.stands.formed);
+          c.in_ok-put.ensures.put.1.value c.loop-i.invariant.formed
+          c.in_ok-put.ensures.put.1.stands.formed);
       count = omega (arith, c.in_ok-put.ensures.len, c.loop-i.invariant.count);
       room = omega (arith, c.in_ok-put.ensures.capacity, c.loop-i.invariant.room);
     }
@@ -381,7 +383,8 @@ variable_elements-loop-i-preserved t c =
       formed = subst (AllByRecursion (IsFormed (type_of c.args.schema.now c.args.elem)))
           (sym c.in_ok-put.ensures.put.1.items)
           (formed_push (type_of c.args.schema.now c.args.elem) c.loop-i.parts.items
-          c.in_ok-put.ensures.put.1.value c.loop-i.invariant.formed c.in_ok-put.ensures.put.1.stands.formed);
+          c.in_ok-put.ensures.put.1.value c.loop-i.invariant.formed
+          c.in_ok-put.ensures.put.1.stands.formed);
       count = omega (arith, c.in_ok-put.ensures.len, c.loop-i.invariant.count);
       room = omega (arith, c.in_ok-put.ensures.capacity, c.loop-i.invariant.room);
     }

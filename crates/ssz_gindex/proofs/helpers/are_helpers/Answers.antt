@@ -19,7 +19,8 @@ returns-then-not-branch c =
 
 pub loop-node-preserved : goal.loop-node-preserved
 loop-node-preserved c =
-    subst (λ (nodes : List ℕ). WalksHelpers c.args.indices.now c.next_is.new.walk.indices.items c.next_is.new.walk.parents.items nodes)
+    subst (λ (nodes : List ℕ). WalksHelpers c.args.indices.now c.next_is.new.walk.indices.items
+    c.next_is.new.walk.parents.items nodes)
     (sym (take-next c.args.nodes.now c.loop-node.node-index c.node-item.result
     c.loop-node-test.true c.node-item.is))
     (c.in_ok-next_is.ensures.same c.if-not-branch.false c.args.indices.now
@@ -30,7 +31,7 @@ returns c =
     let all : c.loop-node.node-index ≡ length c.args.nodes.now =
     omega (arith, c.loop-node-test.false, c.loop-node.auto.node-index-end) in
     let whole = ap (λ n. take n c.args.nodes.now) all ∙ take-length c.args.nodes.now in
-    ends-all c.args.indices.now c.args.nodes.now c.loop-node.walk.indices.items c.loop-node.walk.parents.items c.is_at_root.result
-    (subst (λ (nodes : List ℕ). WalksHelpers c.args.indices.now c.loop-node.walk.indices.items c.loop-node.walk.parents.items nodes)
-    whole
-    c.loop-node.invariant) c.is_at_root.ensures
+    ends-all c.args.indices.now c.args.nodes.now c.loop-node.walk.indices.items
+    c.loop-node.walk.parents.items c.is_at_root.result
+    (subst (λ (nodes : List ℕ). WalksHelpers c.args.indices.now c.loop-node.walk.indices.items
+    c.loop-node.walk.parents.items nodes) whole c.loop-node.invariant) c.is_at_root.ensures

@@ -8,10 +8,10 @@ loop-found-preserved c =
     let comes = c.in_ok-helper.ensures.comes c.args.indices.now c.loop-found.found.items
     c.loop-found.invariant in
     let walks = subst (λ (s : Step).
-    WalkReaches c.args.indices.now c.loop-found.found.items c.step.new.self.indices.items c.step.new.self.parents.items s)
-    c.in-Helper.is
-    comes in
-    subst (λ (found : List ℕ). WalksHelpers c.args.indices.now c.step.new.self.indices.items c.step.new.self.parents.items found)
+    WalkReaches c.args.indices.now c.loop-found.found.items c.step.new.self.indices.items
+    c.step.new.self.parents.items s) c.in-Helper.is comes in
+    subst (λ (found : List ℕ). WalksHelpers c.args.indices.now c.step.new.self.indices.items
+    c.step.new.self.parents.items found)
     (sym c.in_ok-push-in-Helper.ensures.items) walks
 
 pub returns-in-Root-clause-helpers : goal.returns-in-Root-clause-helpers
@@ -19,8 +19,8 @@ returns-in-Root-clause-helpers c =
     let comes = c.in_ok-helper.ensures.comes c.args.indices.now c.loop-found.found.items
     c.loop-found.invariant in
     let ends = subst (λ (s : Step).
-    WalkReaches c.args.indices.now c.loop-found.found.items c.step.new.self.indices.items c.step.new.self.parents.items s) c.in-Root.is
-    comes in
+    WalkReaches c.args.indices.now c.loop-found.found.items c.step.new.self.indices.items
+    c.step.new.self.parents.items s) c.in-Root.is comes in
     ends.0
 
 pub returns-in-Root-clause-flat : goal.returns-in-Root-clause-flat
@@ -28,8 +28,8 @@ returns-in-Root-clause-flat c =
     let comes = c.in_ok-helper.ensures.comes c.args.indices.now c.loop-found.found.items
     c.loop-found.invariant in
     let ends = subst (λ (s : Step).
-    WalkReaches c.args.indices.now c.loop-found.found.items c.step.new.self.indices.items c.step.new.self.parents.items s) c.in-Root.is
-    comes in
+    WalkReaches c.args.indices.now c.loop-found.found.items c.step.new.self.indices.items
+    c.step.new.self.parents.items s) c.in-Root.is comes in
     ends.1
 
 pub greatest_below-requires : goal.greatest_below-requires

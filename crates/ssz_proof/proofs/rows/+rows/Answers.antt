@@ -31,7 +31,8 @@ calculate-calculate_row-requires g t c κs within =
     let nodes = c.args.nodes.now in
     let index = c.args.index in
     let come : AreReached leaves nodes (index ∷ []) =
-    alone (λ i. (0 < i) × IsReached leaves nodes i) index (c.requires.positive, c.requires.reached) in
+    alone (λ i. (0 < i) × IsReached leaves nodes i) index
+    (c.requires.positive, c.requires.reached) in
     let unknown : AreUnknown (leaves ++ nodes) (index ∷ []) =
     alone (λ i. None ≡ chunk_at (leaves ++ nodes) i) index c.requires.unknown in
     let fewer : levels_left leaves (children (index ∷ [])) < levels_left leaves (index ∷ []) =
@@ -62,7 +63,8 @@ calculate-calculate_row-requires g t c κs within =
       ),
     )
 
-pub calculate-returns-then-is_none-2-clause-value : goal.calculate-returns-then-is_none-2-clause-value
+pub calculate-returns-then-is_none-2-clause-value
+    : goal.calculate-returns-then-is_none-2-clause-value
 calculate-returns-then-is_none-2-clause-value g t c =
     let down : _ = goes_down c.args.leaves.now c.args.nodes.now c.requires.ordered
     g.H.PairHash.pair_of c.args.index c.requires.positive c.requires.reached c.requires.unknown in
@@ -71,7 +73,8 @@ calculate-returns-then-is_none-2-clause-value g t c =
     (c.calculate_row.ensures.value 1 (omega arith))
     ∙ sym down.chunk
 
-pub calculate-returns-then-is_none-2-clause-pairs : goal.calculate-returns-then-is_none-2-clause-pairs
+pub calculate-returns-then-is_none-2-clause-pairs
+    : goal.calculate-returns-then-is_none-2-clause-pairs
 calculate-returns-then-is_none-2-clause-pairs g t c =
     let down : _ = goes_down c.args.leaves.now c.args.nodes.now c.requires.ordered
     g.H.PairHash.pair_of c.args.index c.requires.positive c.requires.reached c.requires.unknown in
@@ -132,7 +135,8 @@ calculate-returns-clause-pairs g t c =
       c.found_or_calculated-right.ensures.pairs,
     )
 
-pub calculate_row-children-below-requires-clause-fits : goal.calculate_row-children-below-requires-clause-fits
+pub calculate_row-children-below-requires-clause-fits
+    : goal.calculate_row-children-below-requires-clause-fits
 calculate_row-children-below-requires-clause-fits g t c =
     children_fit g.H.PairHash.pair_of c.args.leaves.now c.args.nodes.now c.requires.ordered
     c.args.indices.now c.requires.reached c.requires.unknown
@@ -200,7 +204,8 @@ calculate_row-returns-clause-value g t c j inside =
     (c.look-looked.ensures.placed ∙ sym c.look-looked.ensures.long) c.look-looked.ensures.places
     (c.look-looked.ensures.row p)
     (front_row p known (take look.count look.unknown) look.count c.calculate_rows.new.row _
-    (c.calculate_rows.auto.row ∙ length-take look.count _ ∙ short) (omega (arith, counted)) c.calculate_rows.ensures.value)
+    (c.calculate_rows.auto.row ∙ length-take look.count _ ∙ short) (omega (arith, counted))
+    c.calculate_rows.ensures.value)
     c.place_all.ensures in
     let below : AreCalculated p known (children indices) placed =
     subst (λ (l : List ℕ). AreCalculated p known l placed) c.children-below.ensures.value all in

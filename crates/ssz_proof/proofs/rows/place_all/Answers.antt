@@ -16,8 +16,8 @@ places-preserved c = record {
       omega (arith, c.places.invariant.long, c.requires.inside j c.places-test.true) in
       elim (cases_eq k place) [
         | inl here ↦
-            ap (λ n. row_at (set c.places.row place (get_or c.args.made.now j (record { 0 = [] }))) n)
-            here
+            ap (λ n. row_at (set c.places.row place (get_or c.args.made.now j (record { 0 = [] })))
+            n) here
             ∙ ap (λ (chunk : Chunk). chunk.0)
             (get_or-set_same c.places.row place (get_or c.args.made.now j (record { 0 = [] }))
             (record { 0 = [] }) room)
@@ -26,7 +26,8 @@ places-preserved c = record {
             ap (λ (chunk : Chunk). chunk.0)
             (get_or-set_other c.places.row place k (get_or c.args.made.now j (record { 0 = [] }))
             (record { 0 = [] }) other)
-            ∙ c.places.invariant.row f made k (earlier c.args.places.now j k (λ same. other same) is)
+            ∙ c.places.invariant.row f made k
+            (earlier c.args.places.now j k (λ same. other same) is)
       ];
 }
 

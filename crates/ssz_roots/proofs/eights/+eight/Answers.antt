@@ -568,8 +568,10 @@ roots_of_eight-chunks_of_eight-requires-clause-few g t c =
     c.ty.ensures.legal (IsInput-range c.args.lanes.now.bytes.now _ _ input)
     (c.requires.faultless 0 (omega arith)) in
     let long : length bytes ≡ c.args.span.size = length-lane c.args.lanes.now.bytes.now
-    (c.args.span.from + 0 * c.args.lanes.now.stride) c.args.span.size (omega (arith, c.requires.room)) in
-    let few : (c.args.span.size + 31) / 32 ≤ 2 ^ depth (type_of c.args.lanes.now.schema.now c.args.id) =
+    (c.args.span.from + 0 * c.args.lanes.now.stride) c.args.span.size
+    (omega (arith, c.requires.room)) in
+    let few : (c.args.span.size + 31) / 32
+    ≤ 2 ^ depth (type_of c.args.lanes.now.schema.now c.args.id) =
     subst (λ n. (n + 31) / 32 ≤ 2 ^ depth (type_of c.args.lanes.now.schema.now c.args.id)) long
     h.few in
     subst (λ d. c.chunk_count-count.result ≤ 2 ^ d) (sym c.depth.ensures.exact)
@@ -590,8 +592,8 @@ roots_of_eight-returns-in-Bitvector-clause-roots g t c j below =
     (c.requires.faultless j below) in
     let long : length bytes ≡ c.args.span.size = length-lane c.args.lanes.now.bytes.now
     (c.args.span.from + j * c.args.lanes.now.stride) c.args.span.size
-    (lane_room c.args.span.from c.args.lanes.now.stride c.args.span.size (length c.args.lanes.now.bytes.now) j
-    below c.requires.room) in
+    (lane_room c.args.span.from c.args.lanes.now.stride c.args.span.size
+    (length c.args.lanes.now.bytes.now) j below c.requires.room) in
     c.chunks_of_eight.ensures.roots j below
     ∙ ap (λ n. root g.H.PairHash.pair_of (merkle_tree c.depth.result
     (leaves (chunks n bytes)))) (c.chunk_count-count.ensures
@@ -617,8 +619,8 @@ roots_of_eight-returns-in-Bitvector-clause-counts g t c =
     (c.requires.faultless j below) in
     let long : length (bytes j) ≡ c.args.span.size = length-lane c.args.lanes.now.bytes.now
     (c.args.span.from + j * c.args.lanes.now.stride) c.args.span.size
-    (lane_room c.args.span.from c.args.lanes.now.stride c.args.span.size (length c.args.lanes.now.bytes.now) j
-    below c.requires.room) in
+    (lane_room c.args.span.from c.args.lanes.now.stride c.args.span.size
+    (length c.args.lanes.now.bytes.now) j below c.requires.room) in
     ap (merkle_pairs c.depth.result) (c.chunk_count-count.ensures
     ∙ ap (λ n. (n + 31) / 32) (sym long))
     ∙ ap (λ d. merkle_pairs d ((length (bytes j) + 31) / 32)) c.depth.ensures.exact
@@ -638,8 +640,8 @@ vector_of_eight-chunks_of_eight-requires-clause-few g t c =
     let ty = type_of c.args.lanes.now.schema.now c.args.elem in
     let room = lane_room c.args.span.from c.args.lanes.now.stride c.args.span.size
     (length c.args.lanes.now.bytes.now) 0 (omega arith) c.requires.room in
-    let long = length-lane c.args.lanes.now.bytes.now (c.args.span.from + 0 * c.args.lanes.now.stride)
-    c.args.span.size room in
+    let long = length-lane c.args.lanes.now.bytes.now
+    (c.args.span.from + 0 * c.args.lanes.now.stride) c.args.span.size room in
     let packed = packed_lane g.H.PairHash.pair_of c.args.depth c.args.lanes.now.schema.now.format ty
     c.in-Some.field-0 c.args.count (c.args.span.from + 0 * c.args.lanes.now.stride) c.args.span.size
     c.args.lanes.now.bytes.now (sym c.in-Some.ensures.exact) c.requires.legal input room
@@ -656,8 +658,8 @@ vector_of_eight-returns-in-Some-clause-roots g t c j below =
     c.args.lanes.now.bytes.now j in
     let room = lane_room c.args.span.from c.args.lanes.now.stride c.args.span.size
     (length c.args.lanes.now.bytes.now) j below c.requires.room in
-    let long = length-lane c.args.lanes.now.bytes.now (c.args.span.from + j * c.args.lanes.now.stride)
-    c.args.span.size room in
+    let long = length-lane c.args.lanes.now.bytes.now
+    (c.args.span.from + j * c.args.lanes.now.stride) c.args.span.size room in
     let packed = packed_lane g.H.PairHash.pair_of c.args.depth c.args.lanes.now.schema.now.format ty
     c.in-Some.field-0 c.args.count (c.args.span.from + j * c.args.lanes.now.stride) c.args.span.size
     c.args.lanes.now.bytes.now (sym c.in-Some.ensures.exact) c.requires.legal input room
@@ -682,8 +684,8 @@ vector_of_eight-returns-in-Some-clause-counts g t c =
     λ j below.
     let room = lane_room c.args.span.from c.args.lanes.now.stride c.args.span.size
     (length c.args.lanes.now.bytes.now) j below c.requires.room in
-    let long = length-lane c.args.lanes.now.bytes.now (c.args.span.from + j * c.args.lanes.now.stride)
-    c.args.span.size room in
+    let long = length-lane c.args.lanes.now.bytes.now
+    (c.args.span.from + j * c.args.lanes.now.stride) c.args.span.size room in
     let packed = packed_lane g.H.PairHash.pair_of d c.args.lanes.now.schema.now.format ty
     c.in-Some.field-0 c.args.count (c.args.span.from + j * c.args.lanes.now.stride) c.args.span.size
     c.args.lanes.now.bytes.now (sym c.in-Some.ensures.exact) c.requires.legal input room
@@ -712,8 +714,8 @@ vector_of_eight-elements_of_eight-made-requires g t c κs within =
     + heads_length (replicate c.args.count (fixed_size ty)) ≤ length c.args.lanes.now.bytes.now =
     omega (arith, law.1, c.requires.room) in
     let good : (j i : ℕ) → j < 8 → i < c.args.count → first_fault ty 0 (get_or
-    (pieces (replicate c.args.count (fixed_size ty)) (c.args.span.from + j * c.args.lanes.now.stride)
-    c.args.lanes.now.bytes.now) i []) ≡ None =
+    (pieces (replicate c.args.count (fixed_size ty))
+    (c.args.span.from + j * c.args.lanes.now.stride) c.args.lanes.now.bytes.now) i []) ≡ None =
     λ j i below inside. elements_none c.args.lanes.now.schema.now.format ty c.args.count
     (c.args.span.from + j * c.args.lanes.now.stride) c.args.span.size c.args.lanes.now.bytes.now
     c.requires.legal input law.0 law.1 (c.requires.faultless j below) i inside in
@@ -728,8 +730,9 @@ vector_of_eight-returns-in-None-clause-roots g t c j below =
     j) in
     c.elements_of_eight-made.ensures.roots j below
     ∙ ap (λ xs. root g.H.PairHash.pair_of (merkle_tree c.args.depth (trees_of ty xs)))
-    (sym (elements_within (fixed_size ty) c.args.count (c.args.span.from + j * c.args.lanes.now.stride)
-    c.args.span.size c.args.lanes.now.bytes.now law.0 law.1))
+    (sym (elements_within (fixed_size ty) c.args.count
+    (c.args.span.from + j * c.args.lanes.now.stride) c.args.span.size c.args.lanes.now.bytes.now
+    law.0 law.1))
     ∙ ap (λ size. root g.H.PairHash.pair_of (merkle_tree c.args.depth (element_leaves size
     (map (serialize ty) vs) (map (tree ty) vs)))) c.in-None.ensures.exact
 
