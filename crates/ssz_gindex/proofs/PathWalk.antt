@@ -89,9 +89,10 @@ field_position t step name is =
 
 -- The loop over a path's steps.
 
-rest-at : (path : Path) (i : ℕ) (step : PathStep) → i < length path → step ≡ get_or path i step
+-- the next of the steps of a path
+pub rest_at : (path : Path) (i : ℕ) (step : PathStep) → i < length path → step ≡ get_or path i step
     → drop i path ≡ step ∷ drop (i + 1) path
-rest-at path i step below item =
+rest_at path i step below item =
     drop-cons path i step below
     ∙ ap₂ (λ s ss. s ∷ ss) (sym item)
     (ap (λ n. drop n path) (let e : suc i ≡ i + 1 = omega arith in e))
@@ -103,7 +104,7 @@ pub next-along : (t : SszType) (path : Path) (index : ℕ) (u : SszType) (i : �
     → IsAlong t path (step_index index u step) part (drop (i + 1) path)
 next-along t path index u i step part along below item fits =
     along-step t path index u step (drop (i + 1) path) part
-    (subst (IsAlong t path index u) (rest-at path i step below item) along) fits
+    (subst (IsAlong t path index u) (rest_at path i step below item) along) fits
 
 -- one that does not fit ends it
 pub ends-along : (t : SszType) (path : Path) (index : ℕ) (u : SszType) (i : ℕ) (step : PathStep)
@@ -111,4 +112,4 @@ pub ends-along : (t : SszType) (path : Path) (index : ℕ) (u : SszType) (i : �
     → step_type u step ≡ None → None ≡ generalized_index t path
 ends-along t path index u i step along below item misfits =
     along-none t path index u step (drop (i + 1) path)
-    (subst (IsAlong t path index u) (rest-at path i step below item) along) misfits
+    (subst (IsAlong t path index u) (rest_at path i step below item) along) misfits

@@ -2,7 +2,6 @@
 use Rattle.std.proofs.Common.{ℕ, suc, ◌+◌, ◌-◌, ◌<◌, ◌≤◌, ◌≡◌, List, [], ◌∷◌, length, take, drop, get_or, slice_range, Option, Some, None, option_map, Result, Ok, Err, refl, sym, ap, ap₂, ◌∙◌, subst, arith, drop-drop}
 use Rattle.std.specs.Prelude.{option_and_then, unwrap_or, is_some, if◌then◌else◌, IfSome}
 use Rattle.std.specs.Result.{result_map_both}
-use Rattle.std.proofs.Math.Seq.{drop-cons}
 use Rattle.std.proofs.lemmas.List.{drop-take, take-take, drop_all}
 use Rattle.ssz_schema.specs.format.Format.{Format}
 use Rattle.ssz_schema.specs.declared.path.PathStep.{PathStep}
@@ -17,6 +16,7 @@ use Rattle.ssz_value.specs.Reading.{value_in}
 use Rattle.ssz_value.specs.Sizes.{size}
 use Rattle.ssz_value.specs.Parts.{part, step_part, or_absent}
 use Rattle.ssz_value.proofs.Agree.{IsInput, IsInput-range}
+use Rattle.ssz_gindex.proofs.PathWalk.{rest_at}
 use Rattle.ssz_slices.specs.declared.held.Held.{Held}
 use Rattle.ssz_slices.specs.declared.held.Held.TheVariants.{Bytes, Bit, Count}
 use Rattle.ssz_value.specs.declared.path_fault.PathFault.{PathFault}
@@ -263,14 +263,6 @@ along-end format whole path t held legal input along =
     ∙ ap (λ y. answer_by whole (Some t) y p) along.present.part
     ∙ ap (λ z. answer_by whole (Some t) (Some v) z) (along.present.place
     ∙ held_placed format t whole.input held legal input along.present.holds))
-
--- the next of the steps of a path
-pub rest_at : (path : Path) (i : ℕ) (step : PathStep) → i < length path
-    → step ≡ get_or path i step → drop i path ≡ step ∷ drop (i + 1) path
-rest_at path i step below is =
-    drop-cons path i step below
-    ∙ ap₂ (λ s ss. s ∷ ss) (sym is)
-    (ap (λ n. drop n path) (let next : suc i ≡ i + 1 = omega arith in next))
 
 -- the next step of a path, that fits
 pub along-next : (types : Types) (whole : Part) (path : Path) (id next i : ℕ)
