@@ -1,6 +1,6 @@
 use Rattle.std.proofs.Common.{ap, sym}
 use Rattle.ssz_merkle.specs.Packing.{padded}
-use Rattle.ssz_merkle.proofs.Padding.{all-values}
+use Rattle.ssz_lanes.proofs.Few.{all-values}
 use Rattle.ssz_merkle.proofs.packing.chunk_of_eight.Goals as goal
 
 pub returns : goal.returns
