@@ -17,14 +17,15 @@ impl Model for TypeId {
 }
 
 impl TypeId {
-    /// The type of this number.
+    /// The type of this number. For `ssz_schema` alone, which numbers types: public, since nothing
+    /// narrower reaches another crate.
     pub fn new(index: usize) -> Self
         ensures { result ≡ index }
     {
         TypeId { index }
     }
 
-    /// The number.
+    /// The number. For `ssz_schema` alone, as `new` is.
     pub fn index(self) -> usize
         ensures { result ≡ self }
     {
