@@ -9,8 +9,8 @@ use Rattle.ssz_arena.proofs.batch.roots_of.Given as goal
 abbrev pub invariant-ids : goal.invariant-ids
 invariant-ids l = record {
   long : length l.row ≡ 16;
-  roots : (pair_of : List ℕ → List ℕ → List ℕ) → IsArena pair_of l.nodes
-      → AreHashed l.nodes l.ids → (j : ℕ) → j < l.i
+  roots : (pair_of : List ℕ → List ℕ → List ℕ) → IsArena pair_of l.store.nodes
+      → AreHashed l.store.nodes l.ids → (j : ℕ) → j < l.i
       → chunk_in_row l.row j
-      ≡ root pair_of (slice_index_or (trees l.nodes) (id_at l.ids j).0 (leaf []));
+      ≡ root pair_of (slice_index_or (trees l.store.nodes) (id_at l.ids j).0 (leaf []));
 }

@@ -24,7 +24,7 @@ fill_one-returns-clause-todo g t c =
 
 pub fill_below-fill_all-requires : goal.fill_below-fill_all-requires
 fill_below-fill_all-requires g t c κs within =
-    let nodes = c.args.nodes.now in
+    let nodes = c.args.store.now.nodes in
     let is : is_due nodes c.args.id ≡ true = search rules in
     let low_left : c.children_of.result.0.0 < c.args.id.0 =
     left_low g.H.PairHash.pair_of nodes c.args.id _ _ c.requires.arena c.requires.inside is
@@ -48,7 +48,7 @@ fill_below-fill_all-requires g t c κs within =
 pub fill_below-returns-clause-todo : goal.fill_below-returns-clause-todo
 fill_below-returns-clause-todo g t c =
     let p = g.H.PairHash.pair_of in
-    let nodes = c.args.nodes.now in
+    let nodes = c.args.store.now.nodes in
     let is : is_due nodes c.args.id ≡ true = search rules in
     omega (
       arith,
@@ -60,13 +60,13 @@ fill_below-returns-clause-todo g t c =
           c.children_of.ensures.left c.children_of.ensures.right,
       due_then p nodes c.args.id _ _ c.requires.arena c.requires.inside is
           c.children_of.ensures.left c.children_of.ensures.right c.args.id.0
-          c.fill_all.new.nodes c.fill_all.ensures.fills,
+          c.fill_all.new.store.nodes c.fill_all.ensures.fills,
     )
 
 pub fill_all-returns-then-count-eq0-clause-hashed :
     goal.fill_all-returns-then-count-eq0-clause-hashed
 fill_all-returns-then-count-eq0-clause-hashed g t c =
-    let nodes = c.args.nodes.now in
+    let nodes = c.args.store.now.nodes in
     let n = c.due_of-count.result.1 in
     let none : AreHashed nodes (take n c.due_of-count.result.0) =
     λ j inner. absurd (omega (arith, c.if-count-eq0.true, length-take n c.due_of-count.result.0)) in
@@ -80,7 +80,7 @@ fill_all-fill_one-requires g t c κs within =
     let low : (id_at found 0).0 < c.args.limit =
     one_below found c.due_of-count.result.1 c.if-count-eq1.true c.args.limit
     c.due_of-count.ensures.long
-    (due_below c.args.nodes.now c.args.ids.now _ c.args.limit c.due_of-count.ensures.due
+    (due_below c.args.store.now.nodes c.args.ids.now _ c.args.limit c.due_of-count.ensures.due
     c.requires.below) in (
       omega (arith, c.decreases, low),
       (within, (c.requires.arena, omega (arith, low, c.requires.inside))),
@@ -91,39 +91,39 @@ pub fill_all-returns-then-count-eq1-clause-fills :
 fill_all-returns-then-count-eq1-clause-fills g t c =
     let low : _ = one_below c.due_of-count.result.0 c.due_of-count.result.1 c.if-count-eq1.true
     c.args.limit c.due_of-count.ensures.long
-    (due_below c.args.nodes.now c.args.ids.now _ c.args.limit c.due_of-count.ensures.due
+    (due_below c.args.store.now.nodes c.args.ids.now _ c.args.limit c.due_of-count.ensures.due
     c.requires.below) in
     fills_wider _ _ _ _ (omega (arith, low)) c.fill_one.ensures.fills
 
 pub fill_all-returns-then-count-eq1-clause-hashed :
     goal.fill_all-returns-then-count-eq1-clause-hashed
 fill_all-returns-then-count-eq1-clause-hashed g t c =
-    due_hashed c.args.nodes.now c.fill_one.new.nodes c.args.ids.now
+    due_hashed c.args.store.now.nodes c.fill_one.new.store.nodes c.args.ids.now
     (λ j inner. omega (arith, c.requires.below j inner, c.requires.inside))
     c.fill_one.ensures.fills.todo
-    (subst (AreHashed c.fill_one.new.nodes) c.due_of-count.ensures.due
+    (subst (AreHashed c.fill_one.new.store.nodes) c.due_of-count.ensures.due
     (one_hashed c.due_of-count.result.0 c.due_of-count.result.1 c.if-count-eq1.true
-    c.fill_one.new.nodes c.fill_one.ensures.hashed))
+    c.fill_one.new.store.nodes c.fill_one.ensures.hashed))
 
 pub fill_all-returns-then-count-eq1-clause-todo : goal.fill_all-returns-then-count-eq1-clause-todo
 fill_all-returns-then-count-eq1-clause-todo g t c =
     omega (
       arith,
       c.fill_one.ensures.todo,
-      one_sum c.args.nodes.now c.due_of-count.result.0 c.due_of-count.result.1 c.if-count-eq1.true
+      one_sum c.args.store.now.nodes c.due_of-count.result.0 c.due_of-count.result.1 c.if-count-eq1.true
           c.due_of-count.ensures.long,
-      due_sum c.args.nodes.now c.args.ids.now _ c.due_of-count.ensures.due,
+      due_sum c.args.store.now.nodes c.args.ids.now _ c.due_of-count.ensures.due,
     )
 
 pub fill_all-children-kids-requires-clause-inside :
     goal.fill_all-children-kids-requires-clause-inside
 fill_all-children-kids-requires-clause-inside g t c =
-    due_below c.args.nodes.now c.args.ids.now _ (length c.args.nodes.now) c.due_of-count.ensures.due
+    due_below c.args.store.now.nodes c.args.ids.now _ (length c.args.store.now.nodes) c.due_of-count.ensures.due
     (λ j inner. omega (arith, c.requires.below j inner, c.requires.inside))
 
 pub fill_all-fill_all-requires : goal.fill_all-fill_all-requires
 fill_all-fill_all-requires g t c κs within =
-    let nodes = c.args.nodes.now in
+    let nodes = c.args.store.now.nodes in
     let n = c.due_of-count.result.1 in
     let found = take n c.due_of-count.result.0 in
     let long : length found ≡ n =
@@ -157,7 +157,7 @@ fill_all-fill_all-requires g t c κs within =
 
 pub fill_all-fill_all-requires-2 : goal.fill_all-fill_all-requires-2
 fill_all-fill_all-requires-2 g t c κs within =
-    let nodes = c.args.nodes.now in
+    let nodes = c.args.store.now.nodes in
     let n = c.due_of-count.result.1 in
     let found = take n c.due_of-count.result.0 in
     let long : length found ≡ n =
@@ -194,12 +194,12 @@ fill_all-fill_all-requires-2 g t c κs within =
 
 pub fill_all-fill_level-requires-clause-below : goal.fill_all-fill_level-requires-clause-below
 fill_all-fill_level-requires-clause-below g t c =
-    due_below c.args.nodes.now c.args.ids.now _ c.args.limit c.due_of-count.ensures.due
+    due_below c.args.store.now.nodes c.args.ids.now _ c.args.limit c.due_of-count.ensures.due
     c.requires.below
 
 pub fill_all-fill_level-requires-clause-ready : goal.fill_all-fill_level-requires-clause-ready
 fill_all-fill_level-requires-clause-ready g t c =
-    let nodes = c.args.nodes.now in
+    let nodes = c.args.store.now.nodes in
     let n = c.due_of-count.result.1 in
     let found = take n c.due_of-count.result.0 in
     let long : length found ≡ n =
@@ -221,35 +221,35 @@ fill_all-fill_level-requires-clause-ready g t c =
     c.args.limit c.requires.arena inside below pairs long c.if-count-eq0.false
     (omega (arith, c.due_of-count.ensures.few, c.requires.few)) c.min-first.ensures
     c.children-kids.ensures in
-    let first : AreHashed c.fill_all-2.new.nodes (take c.min-first.result (kids nodes found)) =
-    subst (AreHashed c.fill_all-2.new.nodes) parts.first_is (λ j inner. omega (
+    let first : AreHashed c.fill_all-2.new.store.nodes (take c.min-first.result (kids nodes found)) =
+    subst (AreHashed c.fill_all-2.new.store.nodes) parts.first_is (λ j inner. omega (
       arith,
       c.fill_all.ensures.hashed j inner,
       c.fill_all-2.ensures.fills.todo
           (id_at (take c.min-first.result c.children-kids.result) j).0,
     )) in
-    let rest : AreHashed c.fill_all-2.new.nodes (drop c.min-first.result (kids nodes found)) =
-    subst (AreHashed c.fill_all-2.new.nodes) parts.rest_is c.fill_all-2.ensures.hashed in
-    let hashed : AreHashed c.fill_all-2.new.nodes (kids nodes found) =
-    hashed_join c.fill_all-2.new.nodes (kids nodes found) c.min-first.result parts.cut first rest in
-    let fills : FillsUpTo c.args.limit nodes c.fill_all-2.new.nodes =
-    fills_then (c.args.limit - 1) (c.args.limit - 1) c.args.limit nodes c.fill_all.new.nodes
-    c.fill_all-2.new.nodes (omega arith) (omega arith) c.fill_all.ensures.fills
+    let rest : AreHashed c.fill_all-2.new.store.nodes (drop c.min-first.result (kids nodes found)) =
+    subst (AreHashed c.fill_all-2.new.store.nodes) parts.rest_is c.fill_all-2.ensures.hashed in
+    let hashed : AreHashed c.fill_all-2.new.store.nodes (kids nodes found) =
+    hashed_join c.fill_all-2.new.store.nodes (kids nodes found) c.min-first.result parts.cut first rest in
+    let fills : FillsUpTo c.args.limit nodes c.fill_all-2.new.store.nodes =
+    fills_then (c.args.limit - 1) (c.args.limit - 1) c.args.limit nodes c.fill_all.new.store.nodes
+    c.fill_all-2.new.store.nodes (omega arith) (omega arith) c.fill_all.ensures.fills
     c.fill_all-2.ensures.fills in
     ready_later g.H.PairHash.pair_of nodes found c.requires.arena inside pairs c.args.limit
-    c.fill_all-2.new.nodes fills hashed
+    c.fill_all-2.new.store.nodes fills hashed
 
 pub fill_all-returns-clause-fills : goal.fill_all-returns-clause-fills
 fill_all-returns-clause-fills g t c =
-    fills_then (c.args.limit - 1) c.args.limit c.args.limit c.args.nodes.now c.fill_all.new.nodes _
+    fills_then (c.args.limit - 1) c.args.limit c.args.limit c.args.store.now.nodes c.fill_all.new.store.nodes _
     (omega arith) (omega arith) c.fill_all.ensures.fills
-    (fills_then (c.args.limit - 1) c.args.limit c.args.limit c.fill_all.new.nodes
-    c.fill_all-2.new.nodes _ (omega arith) (omega arith) c.fill_all-2.ensures.fills
+    (fills_then (c.args.limit - 1) c.args.limit c.args.limit c.fill_all.new.store.nodes
+    c.fill_all-2.new.store.nodes _ (omega arith) (omega arith) c.fill_all-2.ensures.fills
     c.fill_level.ensures.fills)
 
 pub fill_all-returns-clause-hashed : goal.fill_all-returns-clause-hashed
 fill_all-returns-clause-hashed g t c =
-    due_hashed c.args.nodes.now _ c.args.ids.now
+    due_hashed c.args.store.now.nodes _ c.args.ids.now
     (λ j inner. omega (arith, c.requires.below j inner, c.requires.inside))
     (λ j. omega (
       arith,
@@ -257,12 +257,12 @@ fill_all-returns-clause-hashed g t c =
       c.fill_all-2.ensures.fills.todo j,
       c.fill_level.ensures.fills.todo j,
     ))
-    (subst (AreHashed c.fill_level.new.nodes) c.due_of-count.ensures.due
+    (subst (AreHashed c.fill_level.new.store.nodes) c.due_of-count.ensures.due
     c.fill_level.ensures.hashed)
 
 pub fill_all-returns-clause-todo : goal.fill_all-returns-clause-todo
 fill_all-returns-clause-todo g t c =
-    let nodes = c.args.nodes.now in
+    let nodes = c.args.store.now.nodes in
     let n = c.due_of-count.result.1 in
     let found = take n c.due_of-count.result.0 in
     let long : length found ≡ n =
@@ -296,7 +296,7 @@ fill_all-returns-clause-todo g t c =
       c.fill_level.ensures.todo,
       ap (todo_all nodes) parts.first_is,
       ap (todo_all nodes) parts.rest_is,
-      sum_less nodes c.fill_all.new.nodes
+      sum_less nodes c.fill_all.new.store.nodes
           (take (2 * n - c.min-first.result) (drop c.min-first.result c.children-kids.result))
           c.fill_all.ensures.fills.todo,
       kids_sum g.H.PairHash.pair_of nodes found c.requires.arena inside pairs,

@@ -10,12 +10,13 @@ use Rattle.ssz_arena.proofs.levels.fill_level.Given as goal
 abbrev pub invariant-eights : goal.invariant-eights
 invariant-eights g l = record {
   place : l.done ≤ length l.ids;
-  arena : IsArena g.H.PairHash.pair_of l.nodes;
-  fills : FillsUpTo l.limit l.fn.nodes l.nodes;
-  hashed : (j : ℕ) → j < l.done → slice_index (todos l.nodes) (id_at l.ids j).0 ≡ 0;
+  arena : IsArena g.H.PairHash.pair_of l.store.nodes;
+  spare : l.store.spare ≡ l.fn.store.spare;
+  fills : FillsUpTo l.limit l.fn.store.nodes l.store.nodes;
+  hashed : (j : ℕ) → j < l.done → slice_index (todos l.store.nodes) (id_at l.ids j).0 ≡ 0;
   todo : g.H.PairHash.pairs l.hasher ≤ g.H.PairHash.pairs l.fn.hasher + l.done;
-  falls : count_by is_unhashed l.nodes ≤ count_by is_unhashed l.fn.nodes;
-  counts : CountsUp (count_by is_unhashed l.fn.nodes - count_by is_unhashed l.nodes)
+  falls : count_by is_unhashed l.store.nodes ≤ count_by is_unhashed l.fn.store.nodes;
+  counts : CountsUp (count_by is_unhashed l.fn.store.nodes - count_by is_unhashed l.store.nodes)
       (g.H.PairHash.pairs l.fn.hasher) (g.H.PairHash.pairs l.hasher);
 }
 

@@ -1,0 +1,559 @@
+-- Nodes as they are kept: at a place, and after a push.
+use Rattle.std.proofs.Common.{◌≡◌, ◌≢◌, ℕ, ◌+◌, ◌-◌, ◌*◌, ◌/◌, ◌%◌, ◌^◌, ◌<◌, ◌≤◌, Bool, true, false, cond, eqb, List, [], ◌∷◌, ◌++◌, length, get_or, refl, sym, ap, ◌∙◌, subst, slice_get, Option, Some, None, inl, inr, arith, length-append, length-set, leb, set}
+use Rattle.std.proofs.lemmas.Bool.{cases_eq, cases_lt, eq-eqb, le-leb}
+use Rattle.std.proofs.lemmas.Bool.Decides.{nat_tests}
+use Rattle.std.proofs.lemmas.List.{get_or_append_left, get_or_push, get_or-append-add, get_or-set_same, get_or-set_other}
+use Rattle.std.proofs.lemmas.List.FromFn.{length-map-range_with_len, get_or-map-range_with_len, fill_by_all}
+use Rattle.std.proofs.lemmas.Option.{same_Some, slice_get-get_or}
+use Rattle.ssz_chunk.specs.declared.Chunk.{Chunk}
+use Rattle.ssz_arena.specs.declared.node.NodeId.{NodeId}
+use Rattle.ssz_arena.specs.declared.node.Node.{Node}
+use Rattle.ssz_arena.specs.declared.node.Node.TheVariants.{Leaf, Pair}
+use Rattle.ssz_arena.specs.Batches.{left_child, right_child}
+use Rattle.ssz_arena.specs.Content.{is_unhashed}
+use Rattle.ssz_arena.specs.Stored.{chunk_of, link_count, first_link, links_with, links_at, pair_in, node_with, no_chunk, node_in, nodes_in, IsStored, pair_links, blocks_for}
+
+-- ---- the node at a place
+
+pub length-nodes_in : (cs : List Chunk) (ks fs ls : List ℕ)
+    → length (nodes_in cs ks fs ls) ≡ length cs
+unfolding nodes_in
+length-nodes_in cs ks fs ls = length-map-range_with_len (node_in cs ks fs ls) 0 (length cs)
+
+pub get-nodes_in : (cs : List Chunk) (ks fs ls : List ℕ) (i : ℕ) (d : Node) → i < length cs
+    → get_or (nodes_in cs ks fs ls) i d ≡ node_in cs ks fs ls i
+unfolding nodes_in
+get-nodes_in cs ks fs ls i d within =
+    get_or-map-range_with_len (node_in cs ks fs ls) 0 (length cs) i i d within (omega arith)
+
+-- a list that has each of these nodes
+pub nodes_in-is : (cs : List Chunk) (ks fs ls : List ℕ) (ns : List Node) (d : Node)
+    → length ns ≡ length cs
+    → ((i : ℕ) → i < length cs → get_or ns i d ≡ node_in cs ks fs ls i)
+    → ns ≡ nodes_in cs ks fs ls
+unfolding nodes_in
+nodes_in-is cs ks fs ls ns d count each =
+    fill_by_all (node_in cs ks fs ls) ns (length cs) d count each
+
+-- no nodes
+pub nodes_in-none : (cs : List Chunk) (ks fs ls : List ℕ) → cs ≡ [] → nodes_in cs ks fs ls ≡ []
+nodes_in-none cs ks fs ls none =
+    sym (nodes_in-is cs ks fs ls [] (Leaf no_chunk) (sym (ap (λ (xs : List Chunk). length xs) none))
+    (λ i within. absurd (omega (arith, within, ap (λ (xs : List Chunk). length xs) none))))
+
+pub found : (nodes : List Node) (cs : List Chunk) (ks fs ls : List ℕ) (i : ℕ)
+    → nodes_in cs ks fs ls ≡ nodes → i < length nodes
+    → slice_get nodes i ≡ Some (node_in cs ks fs ls i)
+found nodes cs ks fs ls i is within =
+    let inside : i < length cs =
+    omega (arith, within, length-nodes_in cs ks fs ls, ap (λ (ns : List Node). length ns) is) in
+    slice_get-get_or nodes i (Leaf no_chunk) within
+    ∙ ap (λ ns. Some (get_or ns i (Leaf no_chunk))) (sym is)
+    ∙ ap Some (get-nodes_in cs ks fs ls i (Leaf no_chunk) inside)
+
+-- of a pair that has no root yet
+pub pair_in-due : (chunk : Chunk) (link right : ℕ) → 2 ^ 31 ≤ link
+    → pair_in chunk link right ≡ Pair (record { 0 = link - 2 ^ 31 }) (record { 0 = right }) None
+pair_in-due chunk link right marked =
+    ap (λ t. cond t (Pair (record { 0 = link - 2 ^ 31 }) (record { 0 = right }) None)
+    (Pair (record { 0 = link }) (record { 0 = right }) (Some chunk))) (le-leb (2 ^ 31) link marked)
+
+-- of one that has its root
+pub pair_in-kept : (chunk : Chunk) (link right : ℕ) → link < 2 ^ 31
+    → pair_in chunk link right ≡ Pair (record { 0 = link }) (record { 0 = right }) (Some chunk)
+pair_in-kept chunk link right low =
+    let not : leb (2 ^ 31) link ≡ false = grind (arith, nat_tests) in
+    ap (λ t. cond t (Pair (record { 0 = link - 2 ^ 31 }) (record { 0 = right }) None)
+    (Pair (record { 0 = link }) (record { 0 = right }) (Some chunk))) not
+
+-- of the marked link of a pair
+pub due_made : (chunk : Chunk) (left right : NodeId)
+    → pair_in chunk (left.0 + 2 ^ 31) right.0 ≡ Pair left right None
+due_made chunk left right =
+    let back : left.0 + 2 ^ 31 - 2 ^ 31 ≡ left.0 = omega arith in
+    pair_in-due chunk (left.0 + 2 ^ 31) right.0 (omega arith)
+    ∙ ap (λ l. Pair (record { 0 = l }) right None) back
+
+-- ---- links
+
+abbrev of_links : Bool → Bool → ℕ → ℕ → ℕ → Option (ℕ × ℕ)
+of_links none one x y z = cond none None (Some (x, cond one z y))
+
+two_links : (none one : Bool) (x y x' y' z : ℕ) → (none ≡ false → x' ≡ x)
+    → (none ≡ false → one ≡ false → y' ≡ y) → of_links none one x' y' z ≡ of_links none one x y z
+two_links true one x y x' y' z left right = refl
+two_links false true x y x' y' z left right = ap (λ a. of_links false true a y z) (left refl)
+two_links false false x y x' y' z left right =
+    ap (λ a. of_links false false a y' z) (left refl)
+    ∙ ap (λ b. of_links false false x b z) (right refl refl)
+
+-- the links of a node are the same in both lists
+pub links_with-as : (count first : ℕ) (ls ls' : List ℕ) (i : ℕ)
+    → (0 < count → get_or ls' first 0 ≡ get_or ls first 0)
+    → (1 < count → get_or ls' (first + 1) 0 ≡ get_or ls (first + 1) 0)
+    → links_with count first ls' i ≡ links_with count first ls i
+links_with-as count first ls ls' i left right =
+    two_links (eqb count 0) (eqb count 1) _ _ _ _ (i - 1)
+    (λ some. let more : 0 < count = grind (arith, nat_tests) in left more)
+    (λ some many. let more : 1 < count = grind (arith, nat_tests) in right more)
+
+-- ---- a block that begins
+
+record Begun (n : ℕ) (fs fs' : List ℕ) (total : ℕ) : Type 0 where
+  kept : (b : ℕ) → b < length fs → get_or fs' b 0 ≡ get_or fs b 0
+  blocks : n < 32 * length fs'
+  no_more : 32 * length fs' ≤ n + 32
+  begins : (b : ℕ) → b < length fs'
+      → (get_or fs' b 0 ≤ total) × (total + 64 * b ≤ get_or fs' b 0 + 2 * n)
+
+begun : (n : ℕ) (ks fs : List ℕ) (total : ℕ) → IsStored n ks fs total
+    → Begun n fs (blocks_for fs n total) total
+begun n ks fs total stored = elim (cases_eq (32 * length fs) n) [
+  | inl same ↦
+      let more : _ = length-append fs (total ∷ []) in
+      subst (λ xs. Begun n fs xs total)
+      (sym (ap (λ t. cond t (fs ++ total ∷ []) fs) (eq-eqb _ _ same))) (record {
+        kept = λ b h. get_or_append_left fs (total ∷ []) 0 b h;
+        blocks = omega (arith, more, same);
+        no_more = omega (arith, more, same);
+        begins = λ b h. elim (cases_lt b (length fs)) [
+          | inl old ↦
+              let is : _ = get_or_append_left fs (total ∷ []) 0 b old in (
+                omega (arith, is, (stored.begins b old).0),
+                omega (arith, is, (stored.begins b old).1),
+              )
+          | inr last ↦
+              let here : length fs ≡ b = omega (arith, more, h, last) in
+              let is : _ = get_or_push fs total 0 b here in
+              (omega (arith, is), omega (arith, is, here, same))
+        ];
+      })
+  | inr other ↦
+      let not : eqb (32 * length fs) n ≡ false = grind (arith, nat_tests) in
+      subst (λ xs. Begun n fs xs total) (sym (ap (λ t. cond t (fs ++ total ∷ []) fs) not)) (record {
+        kept = λ b h. refl;
+        blocks = omega (arith, stored.enough, other);
+        no_more = omega (arith, stored.no_more);
+        begins = stored.begins;
+      })
+]
+
+-- ---- one node more, with these links
+
+module _ (n : ℕ) (ks fs : List ℕ) (total : ℕ) (stored : IsStored n ks fs total) (count kind before : ℕ)
+    (few : count < 3) (first : n ≡ 0 → count ≢ 1) (byte : kind ≡ count + 4 * before)
+    (sum : get_or (blocks_for fs n total) (n / 32) 0 + before ≡ total) where
+  abbrev fs' : List ℕ
+  fs' = blocks_for fs n total
+
+  abbrev ks' : List ℕ
+  ks' = ks ++ kind ∷ []
+
+  opened : Begun n fs fs' total
+  opened = begun n ks fs total stored
+
+  old_kind : (i : ℕ) → i < n → get_or ks' i 0 ≡ get_or ks i 0
+  old_kind i h = get_or_append_left ks (kind ∷ []) 0 i (omega (arith, stored.count, h))
+
+  old_count : (i : ℕ) → i < n → link_count ks' i ≡ link_count ks i
+  old_count i h = ap (λ k. k % 4) (old_kind i h)
+
+  old_first : (i : ℕ) → i < n → first_link ks' fs' i ≡ first_link ks fs i
+  old_first i h =
+      let block : i / 32 < length fs = omega (arith, stored.enough, h) in
+      ap (λ f. f + get_or ks' i 0 / 4) (opened.kept (i / 32) block)
+      ∙ ap (λ k. get_or fs (i / 32) 0 + k / 4) (old_kind i h)
+
+  new_kind : get_or ks' n 0 ≡ count + 4 * before
+  new_kind = get_or_push ks kind 0 n stored.count ∙ byte
+
+  new_count : link_count ks' n ≡ count
+  new_count =
+      let rest : (count + 4 * before) % 4 ≡ count = omega (arith, few) in
+      ap (λ k. k % 4) new_kind ∙ rest
+
+  new_first : first_link ks' fs' n ≡ total
+  new_first =
+      let rest : (count + 4 * before) / 4 ≡ before = omega (arith, few) in
+      ap (λ k. get_or fs' (n / 32) 0 + k / 4) new_kind
+      ∙ ap (λ k. get_or fs' (n / 32) 0 + k) rest ∙ sum
+
+  pub pushed : IsStored (n + 1) ks' fs' (total + count)
+  pushed = record {
+    count = length-append ks (kind ∷ []) ∙ omega (arith, stored.count);
+    all = omega (arith, stored.all, few);
+    first = elim (cases_eq n 0) [
+      | inl none ↦ λ one.
+          first none (sym new_count ∙ ap (λ k. link_count ks' k) none ∙ one)
+      | inr some ↦ λ one.
+          let here : 0 < n = omega (arith, some) in
+          stored.first (sym (old_count 0 here) ∙ one)
+    ];
+    enough = omega (arith, opened.blocks);
+    no_more = omega (arith, opened.no_more);
+    begins = λ b h. (
+      omega (arith, (opened.begins b h).0),
+      omega (arith, (opened.begins b h).1, few),
+    );
+    inside = λ i h. elim (cases_lt i n) [
+      | inl old ↦ omega (arith, old_count i old, old_first i old, stored.inside i old)
+      | inr last ↦
+          let here : n ≡ i = omega (arith, h, last) in
+          subst (λ k. first_link ks' fs' k + link_count ks' k ≤ total + count) here
+          (omega (arith, new_first, new_count))
+    ];
+    apart = λ i j less h. elim (cases_lt j n) [
+      | inl old ↦
+          let under : i < n = omega (arith, less, old) in
+          omega (
+            arith,
+            old_count i under,
+            old_first i under,
+            old_first j old,
+            stored.apart i j less old,
+          )
+      | inr last ↦
+          let here : n ≡ j = omega (arith, h, last) in
+          let under : i < n = omega (arith, less, here) in
+          subst (λ k. first_link ks' fs' i + link_count ks' i ≤ first_link ks' fs' k) here
+          (omega (arith, new_first, old_count i under, old_first i under, stored.inside i under))
+    ];
+  }
+
+  module _ (cs : List Chunk) (ls ws : List ℕ) (chunk : Chunk) (long : length cs ≡ n)
+      (links : length ls ≡ total) where
+    abbrev cs' : List Chunk
+    cs' = cs ++ chunk ∷ []
+
+    abbrev ls' : List ℕ
+    ls' = ls ++ ws
+
+    old_links : (i : ℕ) → i < n → links_at ks' fs' ls' i ≡ links_at ks fs ls i
+    old_links i h =
+        ap (λ c. links_with c (first_link ks' fs' i) ls' i) (old_count i h)
+        ∙ ap (λ f. links_with (link_count ks i) f ls' i) (old_first i h)
+        ∙ links_with-as (link_count ks i) (first_link ks fs i) ls ls' i
+        (λ some. get_or_append_left ls ws 0 (first_link ks fs i)
+        (omega (arith, some, stored.inside i h, links)))
+        (λ many. get_or_append_left ls ws 0 (first_link ks fs i + 1)
+        (omega (arith, many, stored.inside i h, links)))
+
+    old_node : (i : ℕ) → i < n → node_in cs' ks' fs' ls' i ≡ node_in cs ks fs ls i
+    old_node i h =
+        ap (node_with (get_or cs' i no_chunk)) (old_links i h)
+        ∙ ap (λ c. node_with c (links_at ks fs ls i))
+        (get_or_append_left cs (chunk ∷ []) no_chunk i (omega (arith, h, long)))
+
+    new_node : node_in cs' ks' fs' ls' n ≡ node_with chunk (links_with count total ls' n)
+    new_node =
+        ap (λ c. node_with c (links_at ks' fs' ls' n)) (get_or_push cs chunk no_chunk n long)
+        ∙ ap (λ c. node_with chunk (links_with c (first_link ks' fs' n) ls' n)) new_count
+        ∙ ap (λ f. node_with chunk (links_with count f ls' n)) new_first
+
+    pub pushed_nodes : (node : Node) → node_with chunk (links_with count total ls' n) ≡ node
+        → nodes_in cs' ks' fs' ls' ≡ nodes_in cs ks fs ls ++ node ∷ []
+    pushed_nodes node made =
+        let old : List Node = nodes_in cs ks fs ls in
+        let d : Node = Leaf no_chunk in
+        let size : length old ≡ n = length-nodes_in cs ks fs ls ∙ long in
+        sym (nodes_in-is cs' ks' fs' ls' (old ++ node ∷ []) d
+        (omega (arith, length-append old (node ∷ []), length-append cs (chunk ∷ []), size, long))
+        (λ i h. elim (cases_lt i n) [
+          | inl before_it ↦
+              get_or_append_left old (node ∷ []) d i (omega (arith, before_it, size))
+              ∙ get-nodes_in cs ks fs ls i d (omega (arith, before_it, long))
+              ∙ sym (old_node i before_it)
+          | inr last ↦
+              let here : n ≡ i = omega (arith, h, last, long, length-append cs (chunk ∷ [])) in
+              subst (λ k. get_or (old ++ node ∷ []) k d ≡ node_in cs' ks' fs' ls' k) here
+              (get_or_push old node d n size ∙ sym made ∙ sym new_node)
+        ]))
+
+-- ---- the links of a pair
+
+pub pair_few : (link right n : ℕ) → length (pair_links link right n) < 3
+pair_few link right n = short (eqb (right + 1) n)
+  where
+    short : (t : Bool) → length (cond t (link ∷ []) (link ∷ right ∷ [])) < 3
+    short true = omega arith
+    short false = omega arith
+
+pub pair_first : (link right n : ℕ) → n ≡ 0 → length (pair_links link right n) ≢ 1
+pair_first link right n none =
+    let not : eqb (right + 1) n ≡ false = grind (arith, nat_tests) in
+    λ one. absurd (omega (arith, ap (λ t. length (cond t (link ∷ []) (link ∷ right ∷ []))) not, one))
+
+pub pair_made : (chunk : Chunk) (ls : List ℕ) (link right n total : ℕ) → length ls ≡ total
+    → node_with chunk (links_with (length (pair_links link right n)) total
+    (ls ++ pair_links link right n) n)
+    ≡ pair_in chunk link right
+pair_made chunk ls link right n total long = elim (cases_eq (right + 1) n) [
+  | inl near ↦
+      ap (λ t. node_with chunk (links_with (length (cond t (link ∷ []) (link ∷ right ∷ []))) total
+      (ls ++ cond t (link ∷ []) (link ∷ right ∷ [])) n)) (eq-eqb _ _ near)
+      ∙ ap (λ l. pair_in chunk l (n - 1)) (get_or_push ls link 0 total long)
+      ∙ ap (pair_in chunk link) (omega (arith, near))
+  | inr wide ↦
+      let not : eqb (right + 1) n ≡ false = grind (arith, nat_tests) in
+      let one : get_or (ls ++ link ∷ right ∷ []) total 0 ≡ link =
+      ap (λ k. get_or (ls ++ link ∷ right ∷ []) k 0) (omega (arith, long))
+      ∙ get_or-append-add ls (link ∷ right ∷ []) 0 0 in
+      let two : get_or (ls ++ link ∷ right ∷ []) (total + 1) 0 ≡ right =
+      ap (λ k. get_or (ls ++ link ∷ right ∷ []) k 0) (omega (arith, long))
+      ∙ get_or-append-add ls (link ∷ right ∷ []) 1 0 in
+      ap (λ t. node_with chunk (links_with (length (cond t (link ∷ []) (link ∷ right ∷ []))) total
+      (ls ++ cond t (link ∷ []) (link ∷ right ∷ [])) n)) not
+      ∙ ap (λ l. pair_in chunk l (get_or (ls ++ link ∷ right ∷ []) (total + 1) 0)) one
+      ∙ ap (pair_in chunk link) two
+]
+
+-- ---- what is read at a place
+
+pub size_seen : (nodes : List Node) (cs : List Chunk) (ks fs ls : List ℕ)
+    → nodes_in cs ks fs ls ≡ nodes → length nodes ≡ length cs
+size_seen nodes cs ks fs ls is =
+    omega (arith, length-nodes_in cs ks fs ls, ap (λ (ns : List Node). length ns) is)
+
+module _ (nodes : List Node) (cs : List Chunk) (ks fs ls : List ℕ) (i : ℕ)
+    (is : nodes_in cs ks fs ls ≡ nodes) (within : i < length nodes) where
+  pub read_leaf : None ≡ links_at ks fs ls i
+      → slice_get nodes i ≡ Some (Leaf (get_or cs i no_chunk))
+  read_leaf none = found nodes cs ks fs ls i is within
+      ∙ ap (λ l. Some (node_with (get_or cs i no_chunk) l)) (sym none)
+
+  pub read_due : (link right : ℕ) → Some (link, right) ≡ links_at ks fs ls i → 2 ^ 31 ≤ link
+      → slice_get nodes i
+      ≡ Some (Pair (record { 0 = link - 2 ^ 31 }) (record { 0 = right }) None)
+  read_due link right at marked = found nodes cs ks fs ls i is within
+      ∙ ap (λ l. Some (node_with (get_or cs i no_chunk) l)) (sym at)
+      ∙ ap Some (pair_in-due (get_or cs i no_chunk) link right marked)
+
+  pub read_kept : (link right : ℕ) → Some (link, right) ≡ links_at ks fs ls i → link < 2 ^ 31
+      → slice_get nodes i
+      ≡ Some (Pair (record { 0 = link }) (record { 0 = right }) (Some (get_or cs i no_chunk)))
+  read_kept link right at low = found nodes cs ks fs ls i is within
+      ∙ ap (λ l. Some (node_with (get_or cs i no_chunk) l)) (sym at)
+      ∙ ap Some (pair_in-kept (get_or cs i no_chunk) link right low)
+
+  pub read_chunk : (chunk : Chunk) → chunk ≡ get_or cs i chunk → get_or cs i no_chunk ≡ chunk
+  read_chunk chunk read =
+      let inside : i < length cs = omega (arith, within, size_seen nodes cs ks fs ls is) in
+      same_Some _ _ (sym (slice_get-get_or cs i no_chunk inside)
+      ∙ slice_get-get_or cs i chunk inside) ∙ sym read
+
+-- the chunk of a node, whose links are not read
+pub chunk_seen : (chunk known : Chunk) (links : Option (ℕ × ℕ))
+    → chunk_of (node_with chunk links) ≡ Some known → chunk ≡ known
+chunk_seen chunk known None is = same_Some _ _ is
+chunk_seen chunk known (Some links) is = elim (cases_lt links.0 (2 ^ 31)) [
+  | inl low ↦ same_Some _ _ (sym (ap chunk_of (pair_in-kept chunk links.0 links.1 low)) ∙ is)
+  | inr marked ↦
+      let none : None ≡ Some known =
+      sym (ap chunk_of (pair_in-due chunk links.0 links.1 marked)) ∙ is in
+      absurd (cc)
+]
+
+-- ---- the same, of what equals these lists
+
+pub stored-as : (n n' : ℕ) (ks ks' fs fs' : List ℕ) (total total' : ℕ) → IsStored n ks fs total
+    → n' ≡ n → ks' ≡ ks → fs' ≡ fs → total' ≡ total → IsStored n' ks' fs' total'
+stored-as n n' ks ks' fs fs' total total' stored same_n same_ks same_fs same_total =
+    subst (λ m. IsStored m ks' fs' total') (sym same_n)
+    (subst (λ xs. IsStored n xs fs' total') (sym same_ks)
+    (subst (λ xs. IsStored n ks xs total') (sym same_fs)
+    (subst (IsStored n ks fs) (sym same_total) stored)))
+
+module _ (n : ℕ) (ks fs : List ℕ) (total : ℕ) (stored : IsStored n ks fs total) (before : ℕ)
+    (place all : ℕ) (fs' : List ℕ) (place_is : place ≡ n) (all_is : all ≡ total)
+    (begins : fs' ≡ blocks_for fs place all) (sum : get_or fs' (place / 32) 0 + before ≡ all) where
+  blocks_are : fs' ≡ blocks_for fs n total
+  blocks_are = begins ∙ ap (λ m. blocks_for fs m all) place_is ∙ ap (blocks_for fs n) all_is
+
+  sum_is : get_or (blocks_for fs n total) (n / 32) 0 + before ≡ total
+  sum_is = ap (λ xs. get_or xs (n / 32) 0 + before) (sym blocks_are)
+      ∙ ap (λ m. get_or fs' (m / 32) 0 + before) (sym place_is) ∙ sum ∙ all_is
+
+  module _ (count kind : ℕ) (few : count < 3) (first : n ≡ 0 → count ≢ 1)
+      (byte : kind ≡ count + 4 * before) where
+    pub pushed-as : (n' : ℕ) (ks' : List ℕ) (total' : ℕ) → n' ≡ n + 1 → ks' ≡ ks ++ kind ∷ []
+        → total' ≡ total + count → IsStored n' ks' fs' total'
+    pushed-as n' ks' total' same_n same_ks same_total =
+        stored-as (n + 1) n' (ks ++ kind ∷ []) ks' (blocks_for fs n total) fs' (total + count)
+        total' (pushed n ks fs total stored count kind before few first byte sum_is) same_n same_ks
+        blocks_are same_total
+
+    pub nodes-as : (cs : List Chunk) (ls ws : List ℕ) (chunk : Chunk) → length cs ≡ n
+        → length ls ≡ total → (chunks : List Chunk) (kinds links_now : List ℕ) → chunks ≡ cs ++ chunk ∷ []
+        → kinds ≡ ks ++ kind ∷ [] → links_now ≡ ls ++ ws → (node : Node)
+        → node_with chunk (links_with count total (ls ++ ws) n) ≡ node → (nodes : List Node)
+        → nodes_in cs ks fs ls ≡ nodes → nodes_in chunks kinds fs' links_now ≡ nodes ++ node ∷ []
+    nodes-as cs ls ws chunk long links chunks kinds links_now same_cs same_ks same_ls node made nodes seen =
+        ap (λ xs. nodes_in xs kinds fs' links_now) same_cs
+        ∙ ap (λ xs. nodes_in (cs ++ chunk ∷ []) xs fs' links_now) same_ks
+        ∙ ap (λ xs. nodes_in (cs ++ chunk ∷ []) (ks ++ kind ∷ []) xs links_now) blocks_are
+        ∙ ap (nodes_in (cs ++ chunk ∷ []) (ks ++ kind ∷ []) (blocks_for fs n total)) same_ls
+        ∙ pushed_nodes n ks fs total stored count kind before few first byte sum_is cs ls ws chunk
+        long links node made
+        ∙ ap (λ ns. ns ++ node ∷ []) seen
+
+  module _ (link right count kind : ℕ) (count_is : count ≡ length (pair_links link right place))
+      (byte : kind ≡ count + 4 * before) where
+    counted : count ≡ length (pair_links link right n)
+    counted = count_is ∙ ap (λ m. length (pair_links link right m)) place_is
+
+    few_links : count < 3
+    few_links = subst (λ k. k < 3) (sym counted) (pair_few link right n)
+
+    not_first : n ≡ 0 → count ≢ 1
+    not_first none = λ one. pair_first link right n none (sym counted ∙ one)
+
+    pub pair-as : (n' : ℕ) (ks' : List ℕ) (total' : ℕ) → n' ≡ n + 1 → ks' ≡ ks ++ kind ∷ []
+        → total' ≡ total + count → IsStored n' ks' fs' total'
+    pair-as = pushed-as count kind few_links not_first byte
+
+    pub pair_nodes-as : (cs : List Chunk) (ls : List ℕ) (chunk : Chunk) → length cs ≡ n
+        → length ls ≡ total → (cs' : List Chunk) (ks' ls' : List ℕ) → cs' ≡ cs ++ chunk ∷ []
+        → ks' ≡ ks ++ kind ∷ [] → ls' ≡ ls ++ pair_links link right place → (node : Node)
+        → pair_in chunk link right ≡ node → (nodes : List Node)
+        → nodes_in cs ks fs ls ≡ nodes → nodes_in cs' ks' fs' ls' ≡ nodes ++ node ∷ []
+    pair_nodes-as cs ls chunk long links cs' ks' ls' same_cs same_ks same_ls node made =
+        nodes-as count kind few_links not_first byte cs ls (pair_links link right n) chunk long
+        links cs' ks' ls' same_cs same_ks
+        (same_ls ∙ ap (λ m. ls ++ pair_links link right m) place_is) node
+        (ap (λ k. node_with chunk (links_with k total (ls ++ pair_links link right n) n)) counted
+        ∙ pair_made chunk ls link right n total links ∙ made)
+
+-- ---- a root that is kept
+
+abbrev right_at : ℕ → ℕ → List ℕ → ℕ → ℕ
+right_at count first ls i = cond (eqb count 1) (i - 1) (get_or ls (first + 1) 0)
+
+pair_seen : (chunk : Chunk) (count first : ℕ) (ls : List ℕ) (i : ℕ) → 0 < count
+    → node_with chunk (links_with count first ls i)
+    ≡ pair_in chunk (get_or ls first 0) (right_at count first ls i)
+pair_seen chunk count first ls i some =
+    let not : eqb count 0 ≡ false = grind (arith, nat_tests) in
+    ap (λ t. node_with chunk (of_links t (eqb count 1) (get_or ls first 0)
+    (get_or ls (first + 1) 0) (i - 1))) not
+
+pub due_parts : (chunk : Chunk) (count first : ℕ) (ls : List ℕ) (i : ℕ)
+    → is_unhashed (node_with chunk (links_with count first ls i)) ≡ true
+    → (0 < count) × (2 ^ 31 ≤ get_or ls first 0)
+due_parts chunk count first ls i due = elim (cases_eq count 0) [
+  | inl none ↦
+      let leaf : node_with chunk (links_with count first ls i) ≡ Leaf chunk =
+      ap (λ t. node_with chunk (of_links t (eqb count 1) (get_or ls first 0)
+      (get_or ls (first + 1) 0) (i - 1))) (eq-eqb count 0 none) in
+      let bad : false ≡ true = sym (ap is_unhashed leaf) ∙ due in
+      absurd (cc)
+  | inr some ↦
+      let more : 0 < count = omega (arith, some) in
+      elim (cases_lt (get_or ls first 0) (2 ^ 31)) [
+        | inl low ↦
+            let bad : false ≡ true =
+            sym (ap is_unhashed (pair_seen chunk count first ls i more
+            ∙ pair_in-kept chunk (get_or ls first 0) (right_at count first ls i) low)) ∙ due in
+            absurd (cc)
+        | inr marked ↦ (more, marked)
+      ]
+]
+
+module _ (n : ℕ) (ks fs : List ℕ) (total : ℕ) (stored : IsStored n ks fs total) (cs : List Chunk)
+    (ls : List ℕ) (long : length cs ≡ n) (links : length ls ≡ total) (i : ℕ) (within : i < n)
+    (some : 0 < link_count ks i) (marked : 2 ^ 31 ≤ get_or ls (first_link ks fs i) 0)
+    (fits : get_or ls (first_link ks fs i) 0 < 2 ^ 32) (chunk : Chunk) where
+  abbrev first : ℕ
+  first = first_link ks fs i
+
+  abbrev link : ℕ
+  link = get_or ls first 0
+
+  abbrev unmarked : List ℕ
+  unmarked = set ls first (link - 2 ^ 31)
+
+  abbrev right : ℕ
+  right = right_at (link_count ks i) first ls i
+
+  abbrev rooted : Node
+  rooted = Pair (record { 0 = link - 2 ^ 31 }) (record { 0 = right }) (Some chunk)
+
+  inside : first < length ls
+  inside = omega (arith, stored.inside i within, some, links)
+
+  other_links : (j : ℕ) → j < n → j ≢ i → links_at ks fs unmarked j ≡ links_at ks fs ls j
+  other_links j h other =
+      links_with-as (link_count ks j) (first_link ks fs j) ls unmarked j
+      (λ one. let ne : first_link ks fs j ≢ first = elim (cases_lt j i) [
+        | inl less ↦ omega (arith, stored.apart j i less within, one)
+        | inr more ↦
+            let above : i < j = omega (arith, more, other) in
+            omega (arith, stored.apart i j above h, some)
+      ] in
+      get_or-set_other ls first (first_link ks fs j) (link - 2 ^ 31) 0 ne)
+      (λ two. let ne : first_link ks fs j + 1 ≢ first = elim (cases_lt j i) [
+        | inl less ↦ omega (arith, stored.apart j i less within, two)
+        | inr more ↦
+            let above : i < j = omega (arith, more, other) in
+            omega (arith, stored.apart i j above h, some)
+      ] in
+      get_or-set_other ls first (first_link ks fs j + 1) (link - 2 ^ 31) 0 ne)
+
+  other_node : (j : ℕ) → j < n → j ≢ i
+      → node_in (set cs i chunk) ks fs unmarked j ≡ node_in cs ks fs ls j
+  other_node j h other =
+      ap (node_with (get_or (set cs i chunk) j no_chunk)) (other_links j h other)
+      ∙ ap (λ c. node_with c (links_at ks fs ls j))
+      (get_or-set_other cs i j chunk no_chunk other)
+
+  this_node : node_in (set cs i chunk) ks fs unmarked i ≡ rooted
+  this_node =
+      let one : get_or unmarked first 0 ≡ link - 2 ^ 31 =
+      get_or-set_same ls first (link - 2 ^ 31) 0 inside in
+      let ne : first + 1 ≢ first = omega arith in
+      let two : get_or unmarked (first + 1) 0 ≡ get_or ls (first + 1) 0 =
+      get_or-set_other ls first (first + 1) (link - 2 ^ 31) 0 ne in
+      let low : link - 2 ^ 31 < 2 ^ 31 = omega (arith, fits) in
+      ap (λ c. node_with c (links_at ks fs unmarked i))
+      (get_or-set_same cs i chunk no_chunk (omega (arith, within, long)))
+      ∙ pair_seen chunk (link_count ks i) first unmarked i some
+      ∙ ap (λ l. pair_in chunk l (right_at (link_count ks i) first unmarked i)) one
+      ∙ ap (λ r. pair_in chunk (link - 2 ^ 31) (cond (eqb (link_count ks i) 1) (i - 1) r)) two
+      ∙ pair_in-kept chunk (link - 2 ^ 31) right low
+
+  kept_nodes : nodes_in (set cs i chunk) ks fs unmarked ≡ set (nodes_in cs ks fs ls) i rooted
+  kept_nodes =
+      let old : List Node = nodes_in cs ks fs ls in
+      let d : Node = Leaf no_chunk in
+      let size : length old ≡ n = length-nodes_in cs ks fs ls ∙ long in
+      sym (nodes_in-is (set cs i chunk) ks fs unmarked (set old i rooted) d
+      (length-set old i rooted ∙ size ∙ sym long ∙ sym (length-set cs i chunk))
+      (λ j h.
+      let below : j < n = omega (arith, h, length-set cs i chunk, long) in
+      elim (cases_eq j i) [
+        | inl same ↦
+            subst (λ k. get_or (set old i rooted) k d
+            ≡ node_in (set cs i chunk) ks fs unmarked k) (sym same)
+            (get_or-set_same old i rooted d (omega (arith, within, size)) ∙ sym this_node)
+        | inr other ↦
+            get_or-set_other old i j rooted d other
+            ∙ get-nodes_in cs ks fs ls j d (omega (arith, below, long))
+            ∙ sym (other_node j below other)
+      ]))
+
+  pub kept-as : (nodes : List Node) → nodes_in cs ks fs ls ≡ nodes → (left' right' : NodeId)
+      → slice_get nodes i ≡ Some (Pair left' right' None)
+      → nodes_in (set cs i chunk) ks fs unmarked
+      ≡ set nodes i (Pair left' right' (Some chunk))
+  kept-as nodes seen left' right' is =
+      let inside_it : i < length nodes =
+      omega (arith, within, long, size_seen nodes cs ks fs ls seen) in
+      let was : Pair (record { 0 = link - 2 ^ 31 }) (record { 0 = right }) None
+      ≡ Pair left' right' None =
+      sym (pair_in-due (get_or cs i no_chunk) link right marked)
+      ∙ sym (pair_seen (get_or cs i no_chunk) (link_count ks i) first ls i some)
+      ∙ same_Some _ _ (sym (found nodes cs ks fs ls i seen inside_it) ∙ is) in
+      kept_nodes
+      ∙ ap (λ l. set (nodes_in cs ks fs ls) i (Pair l (record { 0 = right }) (Some chunk)))
+      (ap left_child was)
+      ∙ ap (λ r. set (nodes_in cs ks fs ls) i (Pair left' r (Some chunk))) (ap right_child was)
+      ∙ ap (λ ns. set ns i (Pair left' right' (Some chunk))) seen

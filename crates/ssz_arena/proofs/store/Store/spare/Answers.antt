@@ -1,0 +1,22 @@
+use Rattle.std.proofs.Common.{ap, arith}
+use Rattle.ssz_arena.specs.Content.{ArenaContent}
+use Rattle.ssz_arena.proofs.Storing.{size_seen}
+use Rattle.ssz_arena.proofs.store.Store.spare.Goals as goal
+
+pub returns-clause-few : goal.returns-clause-few
+returns-clause-few c = omega (
+  arith,
+  c.len.ensures,
+  c.self.invariant.0.count,
+  c.self.invariant.0.enough,
+  c.self.invariant.0.all,
+  c.self.invariant.1,
+  c.self.invariant.2,
+  c.self.inside.chunks.ok.0,
+  c.self.inside.kinds.ok.0,
+  c.self.inside.firsts.ok.0,
+  c.self.inside.links.ok.0,
+  size_seen c.args.self.now.nodes c.self.inside.chunks.items c.self.inside.kinds.items
+      c.self.inside.firsts.items c.self.inside.links.items
+      (ap (λ (a : ArenaContent). a.nodes) c.self.view_is),
+)

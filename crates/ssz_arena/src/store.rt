@@ -1,0 +1,386 @@
+// Where nodes are kept, in some 35 bytes each.
+ghost use Rattle.std.specs.Prelude.{◌≡◌, ℕ, ◌+◌, ◌-◌, ◌*◌, ◌/◌, ◌<◌, ◌≤◌, ◌^◌, max, List, [], ◌∷◌, ◌++◌, true, false, Some, None, IfNone, IfSome, IfOk, IsOk, OnOk, OnErr, length, vec_len, vec_capacity, slice_get, slice_index, slice_set};
+ghost use Rattle.ssz_chunk.specs.declared.Chunk.{Chunk};
+ghost use Rattle.ssz_arena.specs.declared.node.NodeId.{NodeId};
+ghost use Rattle.ssz_arena.specs.declared.node.Node.TheVariants.{Leaf, Pair};
+ghost use Rattle.ssz_arena.specs.Batches.{is_due, left_child, node_of, right_child};
+ghost use Rattle.ssz_arena.specs.Stored.{IsShort, IsStored, blocks_for, chunk_of, first_link, links_at, pair_links};
+
+use super::node::{MARK, MOST_NODES, Node, NodeId};
+use ssz_chunk::Chunk;
+use std::alloc::{AllocError, Global};
+use std::marker::Model;
+
+// So many nodes have one entry that says where their links begin.
+const BLOCK: usize = 32;
+
+// A chunk for each node: a leaf's own, or the root of a pair that has one. A byte for each: the low
+// two bits say how many links it has, the others how many those before it in its block have. The
+// places of children are the links: of a pair whose right child stands just before it, as of most,
+// the left one alone. MARK is added to the left link of a pair that has no root yet.
+#[derive(Debug, Drop)]
+pub(crate) struct Store {
+    chunks: Vec<Chunk>,
+    kinds: Vec<u8>,
+    firsts: Vec<u32>,
+    links: Vec<u32>,
+    // For so many nodes all of these have room.
+    room: usize,
+}
+
+// The nodes, and for how many more there is room.
+impl Model for Store {
+    ghost use Rattle.ssz_arena.specs.Content.{ArenaContent};
+
+    ghost Value = { ArenaContent };
+
+    ghost use Rattle.std.specs.Prelude.{◌-◌, ◌*◌, ◌≤◌, ◌^◌, vec_len, vec_capacity};
+    ghost use Rattle.ssz_arena.specs.Stored.{nodes_in, IsStored};
+
+    ghost view = { λ s. record {
+      nodes = nodes_in s.chunks.items s.kinds.items s.firsts.items s.links.items;
+      spare = s.room - vec_len s.chunks;
+    } };
+
+    ghost invariant = { λ s.
+        IsStored (vec_len s.chunks) s.kinds.items s.firsts.items (vec_len s.links)
+        × (vec_len s.chunks ≤ s.room) × (s.room ≤ 2 ^ 31) × (s.room ≤ vec_capacity s.chunks)
+        × (s.room ≤ vec_capacity s.kinds) × (s.room ≤ 32 * vec_capacity s.firsts)
+        × (2 * s.room ≤ vec_capacity s.links) };
+}
+
+// Where the links of a node begin.
+#[inline(always)]
+fn first_of(kinds: &Vec<u8>, firsts: &Vec<u32>, i: usize) -> usize
+    requires kind { i < vec_len kinds.now }
+    requires block { i / 32 < vec_len firsts.now }
+    ensures { result ≡ first_link kinds.now.items firsts.now.items i }
+{
+    firsts[i / BLOCK] as usize + (kinds[i] / 4) as usize
+}
+
+// The left link of a node with links, and the place of its right child.
+#[inline(always)]
+fn links_at(kinds: &Vec<u8>, firsts: &Vec<u32>, links: &Vec<u32>, i: usize) -> Option<(u32, u32)>
+    requires stored { IsStored (vec_len kinds.now) kinds.now.items firsts.now.items
+        (vec_len links.now) }
+    requires inside { i < vec_len kinds.now }
+    requires few { i < 2 ^ 31 }
+    ensures { result ≡ links_at kinds.now.items firsts.now.items links.now.items i }
+{
+    let count = kinds[i] % 4;
+    if count == 0 {
+        return None;
+    }
+    let first = first_of(kinds, firsts, i);
+    let link = links[first];
+    if count == 1 {
+        return Some((link, i as u32 - 1));
+    }
+    Some((link, links[first + 1]))
+}
+
+// Begins a block where the next node does, and says how many links those before it in its block
+// have.
+#[inline(always)]
+fn begin(firsts: &mut Vec<u32>, place: usize, total: usize) -> u8
+    requires few { place < 2 ^ 31 }
+    requires ordered { 32 * vec_len firsts.old ≤ place + 31 }
+    requires blocks { place ≤ 32 * vec_len firsts.old }
+    requires room { place < 32 * vec_capacity firsts.old }
+    requires total { total ≤ 2 * place }
+    requires begins { (b : ℕ) → b < vec_len firsts.old
+        → (slice_index firsts.old.items b ≤ total)
+        × (total + 64 * b ≤ slice_index firsts.old.items b + 2 * place) }
+    ensures blocks { firsts.new.items ≡ blocks_for firsts.old.items place total }
+    ensures capacity { vec_capacity firsts.new ≡ vec_capacity firsts.old }
+    ensures before { slice_index firsts.new.items (place / 32) + result ≡ total }
+    ensures few { result ≤ 62 }
+{
+    if firsts.len() * BLOCK == place {
+        firsts.push_reserved(total as u32);
+        return 0;
+    }
+    (total - firsts[place / BLOCK] as usize) as u8
+}
+
+// Adds the links of a pair at a place, and says how many they are.
+#[inline(always)]
+fn link(links: &mut Vec<u32>, left: u32, right: NodeId, place: usize) -> u8
+    requires { vec_len links.old + 2 ≤ vec_capacity links.old }
+    ensures links { links.new.items ≡ links.old.items ++ pair_links left right.0 place }
+    ensures count { result ≡ length (pair_links left right.0 place) }
+    ensures len { vec_len links.new ≡ vec_len links.old + result }
+    ensures capacity { vec_capacity links.new ≡ vec_capacity links.old }
+{
+    links.push_reserved(left);
+    if right.0 as usize + 1 == place {
+        return 1;
+    }
+    links.push_reserved(right.0);
+    2
+}
+
+// Takes the mark off a link.
+#[inline(always)]
+fn unmark(links: &mut Vec<u32>, first: usize)
+    requires inside { first < vec_len links.old }
+    requires marked { 2 ^ 31 ≤ slice_index links.old.items first }
+    ensures links { links.new.items ≡ slice_set links.old.items first
+        (slice_index links.old.items first - 2 ^ 31) }
+    ensures fits { slice_index links.old.items first < 2 ^ 32 }
+    ensures len { vec_len links.new ≡ vec_len links.old }
+    ensures capacity { vec_capacity links.new ≡ vec_capacity links.old }
+{
+    let link = links[first];
+    links[first] = link - MARK;
+}
+
+impl Store {
+    // No nodes, and room for none.
+    pub(crate) fn new(alloc: Global) -> Self
+        ensures nodes { result.nodes ≡ [] }
+        ensures spare { result.spare ≡ 0 }
+    {
+        Store {
+            chunks: Vec::new(alloc),
+            kinds: Vec::new(alloc),
+            firsts: Vec::new(alloc),
+            links: Vec::new(alloc),
+            room: 0,
+        }
+    }
+
+    // How many nodes there are.
+    #[inline(always)]
+    pub(crate) fn len(&self) -> usize
+        ensures count { result ≡ length self.now.nodes }
+        ensures few { result ≤ 2 ^ 31 }
+    {
+        self.chunks.len()
+    }
+
+    // For how many more nodes there is room.
+    #[inline(always)]
+    pub(crate) fn spare(&self) -> usize
+        ensures count { result ≡ self.now.spare }
+        ensures few { length self.now.nodes + result ≤ 2 ^ 31 }
+    {
+        self.room - self.chunks.len()
+    }
+
+    // Where its memory is from.
+    pub(crate) fn allocator(&self) -> Global {
+        *self.chunks.allocator()
+    }
+
+    // Takes memory for so many nodes in all.
+    fn grow(&mut self, room: usize) -> Result<(), AllocError>
+        requires most { room ≤ 2 ^ 31 }
+        requires more { length self.old.nodes + self.old.spare ≤ room }
+        ensures nodes { self.new.nodes ≡ self.old.nodes }
+        ensures ok { OnOk result (length self.old.nodes + self.new.spare ≡ room) }
+        ensures err { OnErr result (self.new ≡ self.old) }
+    {
+        let len = self.chunks.len();
+        let blocks = room / BLOCK + 1 - self.firsts.len();
+        self.chunks.reserve_exact(room - len)?;
+        self.kinds.reserve_exact(room - len)?;
+        self.firsts.reserve_exact(blocks)?;
+        self.links.reserve_exact(2 * room - self.links.len())?;
+        self.room = room;
+        Ok(())
+    }
+
+    // Makes room for n more nodes, and doubles the room for all of them at least. Asks for nothing
+    // where there is room. Fails for want of memory, and where there would be more than 2^31 nodes.
+    pub(crate) fn reserve(&mut self, n: usize) -> Result<(), AllocError>
+        ensures nodes { self.new.nodes ≡ self.old.nodes }
+        ensures ok { OnOk result (n ≤ self.new.spare) }
+        ensures more { self.old.spare ≤ self.new.spare }
+        ensures enough { n ≤ self.old.spare → IsOk result }
+        ensures stays { n ≤ self.old.spare → self.new ≡ self.old }
+        ensures err { OnErr result (self.new ≡ self.old) }
+    {
+        let spare = self.spare();
+        if n <= spare {
+            return Ok(());
+        }
+        let len = self.len();
+        if n > MOST_NODES - len {
+            return Err(AllocError);
+        }
+        let doubled = MOST_NODES.min(2 * (len + spare));
+        self.grow(doubled.max(len + n))
+    }
+
+    // Makes room for n more nodes and for no other. Asks for nothing where there is room. Fails for
+    // want of memory, and where there would be more than 2^31 nodes.
+    pub(crate) fn reserve_exact(&mut self, n: usize) -> Result<(), AllocError>
+        ensures nodes { self.new.nodes ≡ self.old.nodes }
+        ensures ok { OnOk result (self.new.spare ≡ max n self.old.spare) }
+        ensures enough { n ≤ self.old.spare → IsOk result }
+        ensures err { OnErr result (self.new ≡ self.old) }
+    {
+        if n <= self.spare() {
+            return Ok(());
+        }
+        let len = self.len();
+        if n > MOST_NODES - len {
+            return Err(AllocError);
+        }
+        self.grow(len + n)
+    }
+
+    // A new leaf behind the others.
+    #[inline(always)]
+    pub(crate) fn push_leaf(&mut self, chunk: Chunk)
+        requires { 0 < self.old.spare }
+        ensures nodes { self.new.nodes ≡ self.old.nodes ++ Leaf chunk ∷ [] }
+        ensures spare { self.new.spare + 1 ≡ self.old.spare }
+    {
+        let before = begin(&mut self.firsts, self.chunks.len(), self.links.len());
+        self.kinds.push_reserved(4 * before);
+        self.chunks.push_reserved(chunk);
+    }
+
+    // A new pair that has no root yet.
+    #[inline(always)]
+    pub(crate) fn push_pair(&mut self, left: NodeId, right: NodeId)
+        requires room { 0 < self.old.spare }
+        requires short { IsShort (Pair left right None) }
+        ensures nodes { self.new.nodes ≡ self.old.nodes ++ Pair left right None ∷ [] }
+        ensures spare { self.new.spare + 1 ≡ self.old.spare }
+    {
+        let place = self.chunks.len();
+        let before = begin(&mut self.firsts, place, self.links.len());
+        let count = link(&mut self.links, left.0 + MARK, right, place);
+        self.kinds.push_reserved(count + 4 * before);
+        self.chunks.push_reserved(Chunk::ZERO);
+    }
+
+    // A new pair that has its root.
+    #[inline(always)]
+    pub(crate) fn push_root(&mut self, left: NodeId, right: NodeId, chunk: Chunk)
+        requires room { 0 < self.old.spare }
+        requires short { IsShort (Pair left right (Some chunk)) }
+        ensures nodes { self.new.nodes ≡ self.old.nodes ++ Pair left right (Some chunk) ∷ [] }
+        ensures spare { self.new.spare + 1 ≡ self.old.spare }
+    {
+        let place = self.chunks.len();
+        let before = begin(&mut self.firsts, place, self.links.len());
+        let count = link(&mut self.links, left.0, right, place);
+        self.kinds.push_reserved(count + 4 * before);
+        self.chunks.push_reserved(chunk);
+    }
+
+    // A new node behind the others.
+    #[inline(always)]
+    pub(crate) fn push(&mut self, node: Node)
+        requires room { 0 < self.old.spare }
+        requires short { IsShort node }
+        ensures nodes { self.new.nodes ≡ self.old.nodes ++ node ∷ [] }
+        ensures spare { self.new.spare + 1 ≡ self.old.spare }
+    {
+        match node {
+            Node::Leaf(chunk) => self.push_leaf(chunk),
+            Node::Pair(left, right, cached) => match cached {
+                Some(chunk) => self.push_root(left, right, chunk),
+                None => self.push_pair(left, right),
+            },
+        }
+    }
+
+    // The node at a place.
+    #[inline(always)]
+    pub(crate) fn node(&self, i: usize) -> Node
+        requires { i < length self.now.nodes }
+        ensures { slice_get self.now.nodes i ≡ Some result }
+    {
+        match links_at(&self.kinds, &self.firsts, &self.links, i) {
+            None => Node::Leaf(self.chunks[i]),
+            Some((link, right)) => {
+                if link >= MARK {
+                    return Node::Pair(NodeId(link - MARK), NodeId(right), None);
+                }
+                Node::Pair(NodeId(link), NodeId(right), Some(self.chunks[i]))
+            }
+        }
+    }
+
+    // Whether it is a pair that has no root yet. To read the whole node would copy its chunk.
+    #[inline(always)]
+    pub(crate) fn is_due(&self, id: NodeId) -> bool
+        requires { id.0 < length self.now.nodes }
+        ensures { result ≡ is_due self.now.nodes id }
+    {
+        match links_at(&self.kinds, &self.firsts, &self.links, id.0 as usize) {
+            None => false,
+            Some((link, _)) => link >= MARK,
+        }
+    }
+
+    // The children of a pair that has no root yet.
+    #[inline(always)]
+    pub(crate) fn due_children(&self, id: NodeId) -> Option<(NodeId, NodeId)>
+        requires { id.0 < length self.now.nodes }
+        ensures some { IfSome result (λ kids.
+            slice_get self.now.nodes id.0 ≡ Some (Pair kids.0 kids.1 None)) }
+        ensures none { IfNone result (is_due self.now.nodes id ≡ false) }
+    {
+        match links_at(&self.kinds, &self.firsts, &self.links, id.0 as usize) {
+            None => None,
+            Some((link, right)) => {
+                if link >= MARK {
+                    return Some((NodeId(link - MARK), NodeId(right)));
+                }
+                None
+            }
+        }
+    }
+
+    // The children of a pair.
+    #[inline(always)]
+    pub(crate) fn children(&self, id: NodeId) -> (NodeId, NodeId)
+        requires { id.0 < length self.now.nodes }
+        ensures left { result.0 ≡ left_child (node_of self.now.nodes id) }
+        ensures right { result.1 ≡ right_child (node_of self.now.nodes id) }
+    {
+        match links_at(&self.kinds, &self.firsts, &self.links, id.0 as usize) {
+            None => (NodeId(0), NodeId(0)),
+            Some((link, right)) => {
+                if link >= MARK {
+                    return (NodeId(link - MARK), NodeId(right));
+                }
+                (NodeId(link), NodeId(right))
+            }
+        }
+    }
+
+    // The chunk of a leaf, or the root of a pair that has one.
+    #[inline(always)]
+    pub(crate) fn chunk(&self, id: NodeId) -> &Chunk
+        requires { id.0 < length self.now.nodes }
+        ensures { (chunk : Chunk) → chunk_of (node_of self.now.nodes id) ≡ Some chunk
+            → result.now ≡ chunk }
+    {
+        &self.chunks[id.0 as usize]
+    }
+
+    // Keeps the root of a pair that has none yet.
+    #[inline(always)]
+    pub(crate) fn keep_root(&mut self, id: NodeId, chunk: Chunk)
+        requires inside { id.0 < length self.old.nodes }
+        requires due { is_due self.old.nodes id ≡ true }
+        ensures nodes { (left right : NodeId)
+            → slice_get self.old.nodes id.0 ≡ Some (Pair left right None)
+            → self.new.nodes ≡ slice_set self.old.nodes id.0 (Pair left right (Some chunk)) }
+        ensures count { length self.new.nodes ≡ length self.old.nodes }
+        ensures spare { self.new.spare ≡ self.old.spare }
+    {
+        let i = id.0 as usize;
+        let first = first_of(&self.kinds, &self.firsts, i);
+        unmark(&mut self.links, first);
+        self.chunks[i] = chunk;
+    }
+}
