@@ -2,7 +2,7 @@ use Rattle.std.proofs.Common.{◌≡◌, ap, ◌∙◌, arith, length, subst, ta
 use Rattle.std.specs.List.{AllByRecursion}
 use Rattle.std.proofs.Math.Seq.{take-length}
 use Rattle.ssz_prove.specs.Found.{IsIndex}
-use Rattle.ssz_prove.proofs.Walked.{all_next}
+use Rattle.ssz_prove.proofs.Listed.{all_next}
 use Rattle.ssz_prove.proofs.finding.are_indices.Goals as goal
 
 pub loop-index-preserved : goal.loop-index-preserved

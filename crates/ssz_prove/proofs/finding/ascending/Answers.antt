@@ -4,7 +4,7 @@ use Rattle.std.proofs.lemmas.List.Filters.{dedup_is}
 use Rattle.std.proofs.lemmas.Map.Keys.{IsStrictlyIncreasing-dedup}
 use Rattle.ssz_prove.specs.Found.{IsIndex}
 use Rattle.ssz_prove.proofs.Risen.{ascending, same_sorted}
-use Rattle.ssz_prove.proofs.Sweeping.{all_map}
+use Rattle.ssz_prove.proofs.Rising.{all_map}
 use Rattle.ssz_prove.proofs.finding.ascending.Goals as goal
 
 pub returns-clause-rise : goal.returns-clause-rise

@@ -1,7 +1,8 @@
 use Rattle.std.proofs.Common.{◌++◌, ◌∷◌, [], ap, ◌∙◌, length, refl, arith}
 use Rattle.ssz_prove.specs.declared.finding.Spot.{Spot}
-use Rattle.ssz_prove.proofs.Sweeping.{rise_helpers, same_helpers}
-use Rattle.ssz_prove.proofs.Walked.{inner_missing, inner_small, next_from, other_from, walks_end, walks_inner, walks_leaf, walks_node, walks_start}
+use Rattle.ssz_prove.proofs.Listed.{next_from, other_from}
+use Rattle.ssz_prove.proofs.Rising.{rise_helpers, same_helpers}
+use Rattle.ssz_prove.proofs.Walked.{inner_missing, inner_small, walks_end, walks_inner, walks_leaf, walks_node, walks_start}
 use Rattle.ssz_prove.proofs.finding.walk.Goals as goal
 
 pub places-init : goal.places-init

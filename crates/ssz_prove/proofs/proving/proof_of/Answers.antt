@@ -4,7 +4,7 @@ use Rattle.ssz_arena.specs.Content.{tree_of}
 use Rattle.ssz_prove.specs.Found.{IsSpot, places}
 use Rattle.ssz_prove.specs.Proved.{IsProofIn}
 use Rattle.ssz_prove.proofs.Gathered.{gathered, ordered, is_proof}
-use Rattle.ssz_prove.proofs.Walked.{spots_kept}
+use Rattle.ssz_prove.proofs.Spots.{spots_kept}
 use Rattle.ssz_prove.proofs.proving.proof_of.Goals as goal
 
 pub push_entries-requires-2-clause-spots : goal.push_entries-requires-2-clause-spots
