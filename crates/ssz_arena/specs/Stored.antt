@@ -36,6 +36,7 @@ links_with count first links i =
       (if count == 1 then i - 1 else slice_index links (first + 1)),
     )
 
+-- those of the node at a place
 abbrev pub links_at : List ℕ → List ℕ → List ℕ → ℕ → Option (ℕ × ℕ)
 links_at kinds firsts links i =
     links_with (link_count kinds i) (first_link kinds firsts i) links i
@@ -52,6 +53,7 @@ abbrev pub node_with : Chunk → Option (ℕ × ℕ) → Node
 node_with chunk None = Leaf chunk
 node_with chunk (Some links) = pair_in chunk links.0 links.1
 
+-- 32 zero bytes
 abbrev pub no_chunk : Chunk
 no_chunk = record { 0 = zero_chunk }
 
