@@ -140,7 +140,8 @@ begun n ks fs total stored = elim (cases_eq (32 * length fs) n) [
 
 -- ---- one node more, with these links
 
-module _ (n : ℕ) (ks fs : List ℕ) (total : ℕ) (stored : IsStored n ks fs total) (count kind before : ℕ)
+module _ (n : ℕ) (ks fs : List ℕ) (total : ℕ) (stored : IsStored n ks fs total) (count kind before
+    : ℕ)
     (few : count < 3) (first : n ≡ 0 → count ≢ 1) (byte : kind ≡ count + 4 * before)
     (sum : get_or (blocks_for fs n total) (n / 32) 0 + before ≡ total) where
   abbrev fs' : List ℕ
@@ -281,7 +282,11 @@ pair_few link right n = short (eqb (right + 1) n)
 pub pair_first : (link right n : ℕ) → n ≡ 0 → length (pair_links link right n) ≢ 1
 pair_first link right n none =
     let not : eqb (right + 1) n ≡ false = grind (arith, nat_tests) in
-    λ one. absurd (omega (arith, ap (λ t. length (cond t (link ∷ []) (link ∷ right ∷ []))) not, one))
+    λ one. absurd (omega (
+      arith,
+      ap (λ t. length (cond t (link ∷ []) (link ∷ right ∷ []))) not,
+      one,
+    ))
 
 pub pair_made : (chunk : Chunk) (ls : List ℕ) (link right n total : ℕ) → length ls ≡ total
     → node_with chunk (links_with (length (pair_links link right n)) total
@@ -383,11 +388,12 @@ module _ (n : ℕ) (ks fs : List ℕ) (total : ℕ) (stored : IsStored n ks fs t
         blocks_are same_total
 
     pub nodes-as : (cs : List Chunk) (ls ws : List ℕ) (chunk : Chunk) → length cs ≡ n
-        → length ls ≡ total → (chunks : List Chunk) (kinds links_now : List ℕ) → chunks ≡ cs ++ chunk ∷ []
-        → kinds ≡ ks ++ kind ∷ [] → links_now ≡ ls ++ ws → (node : Node)
+        → length ls ≡ total → (chunks : List Chunk) (kinds links_now : List ℕ)
+        → chunks ≡ cs ++ chunk ∷ [] → kinds ≡ ks ++ kind ∷ [] → links_now ≡ ls ++ ws → (node : Node)
         → node_with chunk (links_with count total (ls ++ ws) n) ≡ node → (nodes : List Node)
         → nodes_in cs ks fs ls ≡ nodes → nodes_in chunks kinds fs' links_now ≡ nodes ++ node ∷ []
-    nodes-as cs ls ws chunk long links chunks kinds links_now same_cs same_ks same_ls node made nodes seen =
+    nodes-as cs ls ws chunk long links chunks kinds links_now same_cs same_ks same_ls node made
+        nodes seen =
         ap (λ xs. nodes_in xs kinds fs' links_now) same_cs
         ∙ ap (λ xs. nodes_in (cs ++ chunk ∷ []) xs fs' links_now) same_ks
         ∙ ap (λ xs. nodes_in (cs ++ chunk ∷ []) (ks ++ kind ∷ []) xs links_now) blocks_are

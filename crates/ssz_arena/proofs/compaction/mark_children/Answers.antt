@@ -7,7 +7,8 @@ pub returns-in-Pair : goal.returns-in-Pair
 returns-in-Pair c roots were =
     let marks_in : c.args.i < length c.args.marks.now.items =
     omega (arith, c.requires.inside, c.requires.count) in
-    down_pair c.args.store.now.nodes roots c.args.marks.now.items c.args.i c.in-Pair.left c.in-Pair.right
+    down_pair c.args.store.now.nodes roots c.args.marks.now.items c.args.i c.in-Pair.left
+    c.in-Pair.right
     c.in-Pair.field-2 c.requires.ordered were
     (c.node.ensures ∙ ap Some c.in-Pair.is)
     (slice_get-get_or _ _ _ marks_in ∙ ap Some (sym c.index.ensures ∙ c.if-not-index.false))

@@ -20,9 +20,11 @@ pub fill_one-returns-clause-value : goal.fill_one-returns-clause-value
 fill_one-returns-clause-value g t c =
     let p = g.H.PairHash.pair_of in
     let inside : c.args.id.0 < length c.fill.new.store.nodes =
-    omega (arith, c.requires.inside, c.fill_below.ensures.fills.count, c.fill.ensures.fills.count) in
+    omega (arith, c.requires.inside, c.fill_below.ensures.fills.count, c.fill.ensures.fills.count)
+    in
     value_read p c.fill.new.store.nodes c.args.id.0 _ c.chunk.result.now c.fill.ensures.arena
-    c.fill.ensures.hashed (slice_get-get_or c.fill.new.store.nodes c.args.id.0 (Leaf (record { 0 = [] })) inside)
+    c.fill.ensures.hashed (slice_get-get_or c.fill.new.store.nodes c.args.id.0 (Leaf (record
+    { 0 = [] })) inside)
     c.chunk.ensures
     ∙ ap (λ ts. root p (get_or ts c.args.id.0 (leaf [])))
     (c.fill.ensures.fills.trees ∙ c.fill_below.ensures.fills.trees)
@@ -129,7 +131,8 @@ fill_all-returns-then-count-eq1-clause-todo g t c =
     omega (
       arith,
       c.fill_one.ensures.todo,
-      one_sum c.args.store.now.nodes c.due_of-count.result.0 c.due_of-count.result.1 c.if-count-eq1.true
+      one_sum c.args.store.now.nodes c.due_of-count.result.0 c.due_of-count.result.1
+          c.if-count-eq1.true
           c.due_of-count.ensures.long,
       due_sum c.args.store.now.nodes c.args.ids.now _ c.due_of-count.ensures.due,
     )
@@ -137,7 +140,8 @@ fill_all-returns-then-count-eq1-clause-todo g t c =
 pub fill_all-children-kids-requires-clause-inside :
     goal.fill_all-children-kids-requires-clause-inside
 fill_all-children-kids-requires-clause-inside g t c =
-    due_below c.args.store.now.nodes c.args.ids.now _ (length c.args.store.now.nodes) c.due_of-count.ensures.due
+    due_below c.args.store.now.nodes c.args.ids.now _ (length c.args.store.now.nodes)
+    c.due_of-count.ensures.due
     (λ j inner. omega (arith, c.requires.below j inner, c.requires.inside))
 
 pub fill_all-fill_all-requires : goal.fill_all-fill_all-requires
@@ -240,7 +244,8 @@ fill_all-fill_level-requires-clause-ready g t c =
     c.args.limit c.requires.arena inside below pairs long c.if-count-eq0.false
     (omega (arith, c.due_of-count.ensures.few, c.requires.few)) c.min-first.ensures
     c.children-kids.ensures in
-    let first : AreHashed c.fill_all-2.new.store.nodes (take c.min-first.result (kids nodes found)) =
+    let first : AreHashed c.fill_all-2.new.store.nodes (take c.min-first.result (kids nodes found))
+    =
     subst (AreHashed c.fill_all-2.new.store.nodes) parts.first_is (λ j inner. omega (
       arith,
       c.fill_all.ensures.hashed j inner,
@@ -250,7 +255,8 @@ fill_all-fill_level-requires-clause-ready g t c =
     let rest : AreHashed c.fill_all-2.new.store.nodes (drop c.min-first.result (kids nodes found)) =
     subst (AreHashed c.fill_all-2.new.store.nodes) parts.rest_is c.fill_all-2.ensures.hashed in
     let hashed : AreHashed c.fill_all-2.new.store.nodes (kids nodes found) =
-    hashed_join c.fill_all-2.new.store.nodes (kids nodes found) c.min-first.result parts.cut first rest in
+    hashed_join c.fill_all-2.new.store.nodes (kids nodes found) c.min-first.result parts.cut first
+    rest in
     let fills : FillsUpTo c.args.limit nodes c.fill_all-2.new.store.nodes =
     fills_then (c.args.limit - 1) (c.args.limit - 1) c.args.limit nodes c.fill_all.new.store.nodes
     c.fill_all-2.new.store.nodes (omega arith) (omega arith) c.fill_all.ensures.fills
@@ -260,7 +266,8 @@ fill_all-fill_level-requires-clause-ready g t c =
 
 pub fill_all-returns-clause-fills : goal.fill_all-returns-clause-fills
 fill_all-returns-clause-fills g t c =
-    fills_then (c.args.limit - 1) c.args.limit c.args.limit c.args.store.now.nodes c.fill_all.new.store.nodes _
+    fills_then (c.args.limit - 1) c.args.limit c.args.limit c.args.store.now.nodes
+    c.fill_all.new.store.nodes _
     (omega arith) (omega arith) c.fill_all.ensures.fills
     (fills_then (c.args.limit - 1) c.args.limit c.args.limit c.fill_all.new.store.nodes
     c.fill_all-2.new.store.nodes _ (omega arith) (omega arith) c.fill_all-2.ensures.fills

@@ -46,7 +46,8 @@ returns-then-are_distinct-clause-falls g c = omega (arith, c.fill_batch.ensures.
 pub returns-then-are_distinct-clause-counts : goal.returns-then-are_distinct-clause-counts
 returns-then-are_distinct-clause-counts g c =
     let made : length (take c.due_of-count.result.1 c.due_of-count.result.0)
-    ≡ count_by is_unhashed c.args.store.now.nodes - count_by is_unhashed c.fill_batch.new.store.nodes =
+    ≡ count_by is_unhashed c.args.store.now.nodes - count_by is_unhashed
+    c.fill_batch.new.store.nodes =
     omega (arith, c.fill_batch.ensures.wrote.fewer) in
     subst (λ k. CountsUp k (g.H.PairHash.pairs c.args.hasher.now)
     (g.H.PairHash.pairs c.fill_batch.new.hasher)) made c.fill_batch.ensures.counts
@@ -56,7 +57,8 @@ returns-else-are_distinct-clause-hashed g c =
     due_hashed c.args.store.now.nodes c.fill_each.new.store.nodes c.args.ids.now
     (λ j within. omega (arith, c.requires.below j within, c.requires.inside))
     c.fill_each.ensures.fills.todo
-    (subst (AreHashed c.fill_each.new.store.nodes) c.due_of-count.ensures.due c.fill_each.ensures.hashed)
+    (subst (AreHashed c.fill_each.new.store.nodes) c.due_of-count.ensures.due
+    c.fill_each.ensures.hashed)
 
 pub returns-else-are_distinct-clause-todo : goal.returns-else-are_distinct-clause-todo
 returns-else-are_distinct-clause-todo g c =

@@ -7,7 +7,8 @@ use Rattle.ssz_arena.proofs.store.links_at.Goals as goal
 pub overflow_sub-result : goal.overflow_sub-result
 overflow_sub-result c =
     let kinds = c.args.kinds.now.items in
-    let within : c.args.i < length kinds = omega (arith, c.requires.inside, c.args.kinds.now.ok.0) in
+    let within : c.args.i < length kinds = omega (arith, c.requires.inside, c.args.kinds.now.ok.0)
+    in
     let read : c.index.result.now ≡ get_or kinds c.args.i 0 =
     c.index.ensures ∙ get_or_default_zero kinds c.args.i c.index.result.now within in
     elim (cases_eq c.args.i 0) [

@@ -5,6 +5,7 @@ use Rattle.ssz_arena.proofs.ways.fork_of.Goals as goal
 pub way-preserved : goal.way-preserved
 way-preserved g c = record {
   inside = omega (arith, c.way.invariant.inside, c.in-Some.ensures.lower);
-  leads = LeadsTo-then c.args.store.now.nodes c.args.id c.way.fork c.in-Some.next c.way.invariant.leads
+  leads = LeadsTo-then c.args.store.now.nodes c.args.id c.way.fork c.in-Some.next
+      c.way.invariant.leads
       c.in-Some.ensures.leads;
 }

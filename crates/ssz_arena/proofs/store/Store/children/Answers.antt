@@ -42,25 +42,47 @@ links_at-requires-clause-few c = omega (
 )
 
 pub returns-then-link-ge-MARK-clause-left : goal.returns-then-link-ge-MARK-clause-left
-returns-then-link-ge-MARK-clause-left c = sym (ap left_child (get_or_from_slice_get c.args.self.now.nodes c.args.id.0 _ _ (read_due c.args.self.now.nodes c.self.inside.chunks.items c.self.inside.kinds.items
-    c.self.inside.firsts.items c.self.inside.links.items c.args.id.0 (ap (λ (a : ArenaContent). a.nodes) c.self.view_is) c.requires c.in-Some.link c.in-Some.right c.in-Some.ensures c.if-link-ge-MARK.true)))
+returns-then-link-ge-MARK-clause-left c = sym (ap left_child (get_or_from_slice_get
+    c.args.self.now.nodes c.args.id.0 _ _ (read_due c.args.self.now.nodes
+    c.self.inside.chunks.items c.self.inside.kinds.items
+    c.self.inside.firsts.items c.self.inside.links.items c.args.id.0 (ap (λ (a : ArenaContent).
+    a.nodes) c.self.view_is) c.requires c.in-Some.link c.in-Some.right c.in-Some.ensures
+    c.if-link-ge-MARK.true)))
 
 pub returns-then-link-ge-MARK-clause-right : goal.returns-then-link-ge-MARK-clause-right
-returns-then-link-ge-MARK-clause-right c = sym (ap right_child (get_or_from_slice_get c.args.self.now.nodes c.args.id.0 _ _ (read_due c.args.self.now.nodes c.self.inside.chunks.items c.self.inside.kinds.items
-    c.self.inside.firsts.items c.self.inside.links.items c.args.id.0 (ap (λ (a : ArenaContent). a.nodes) c.self.view_is) c.requires c.in-Some.link c.in-Some.right c.in-Some.ensures c.if-link-ge-MARK.true)))
+returns-then-link-ge-MARK-clause-right c = sym (ap right_child (get_or_from_slice_get
+    c.args.self.now.nodes c.args.id.0 _ _ (read_due c.args.self.now.nodes
+    c.self.inside.chunks.items c.self.inside.kinds.items
+    c.self.inside.firsts.items c.self.inside.links.items c.args.id.0 (ap (λ (a : ArenaContent).
+    a.nodes) c.self.view_is) c.requires c.in-Some.link c.in-Some.right c.in-Some.ensures
+    c.if-link-ge-MARK.true)))
 
 pub returns-in-None-clause-left : goal.returns-in-None-clause-left
-returns-in-None-clause-left c = sym (ap left_child (get_or_from_slice_get c.args.self.now.nodes c.args.id.0 _ _ (read_leaf c.args.self.now.nodes c.self.inside.chunks.items c.self.inside.kinds.items
-    c.self.inside.firsts.items c.self.inside.links.items c.args.id.0 (ap (λ (a : ArenaContent). a.nodes) c.self.view_is) c.requires c.in-None.ensures)))
+returns-in-None-clause-left c = sym (ap left_child (get_or_from_slice_get c.args.self.now.nodes
+    c.args.id.0 _ _ (read_leaf c.args.self.now.nodes c.self.inside.chunks.items
+    c.self.inside.kinds.items
+    c.self.inside.firsts.items c.self.inside.links.items c.args.id.0 (ap (λ (a : ArenaContent).
+    a.nodes) c.self.view_is) c.requires c.in-None.ensures)))
 
 pub returns-in-None-clause-right : goal.returns-in-None-clause-right
-returns-in-None-clause-right c = sym (ap right_child (get_or_from_slice_get c.args.self.now.nodes c.args.id.0 _ _ (read_leaf c.args.self.now.nodes c.self.inside.chunks.items c.self.inside.kinds.items
-    c.self.inside.firsts.items c.self.inside.links.items c.args.id.0 (ap (λ (a : ArenaContent). a.nodes) c.self.view_is) c.requires c.in-None.ensures)))
+returns-in-None-clause-right c = sym (ap right_child (get_or_from_slice_get c.args.self.now.nodes
+    c.args.id.0 _ _ (read_leaf c.args.self.now.nodes c.self.inside.chunks.items
+    c.self.inside.kinds.items
+    c.self.inside.firsts.items c.self.inside.links.items c.args.id.0 (ap (λ (a : ArenaContent).
+    a.nodes) c.self.view_is) c.requires c.in-None.ensures)))
 
 pub returns-else-link-ge-MARK-clause-left : goal.returns-else-link-ge-MARK-clause-left
-returns-else-link-ge-MARK-clause-left c = sym (ap left_child (get_or_from_slice_get c.args.self.now.nodes c.args.id.0 _ _ (read_kept c.args.self.now.nodes c.self.inside.chunks.items c.self.inside.kinds.items
-    c.self.inside.firsts.items c.self.inside.links.items c.args.id.0 (ap (λ (a : ArenaContent). a.nodes) c.self.view_is) c.requires c.in-Some.link c.in-Some.right c.in-Some.ensures c.if-link-ge-MARK.false)))
+returns-else-link-ge-MARK-clause-left c = sym (ap left_child (get_or_from_slice_get
+    c.args.self.now.nodes c.args.id.0 _ _ (read_kept c.args.self.now.nodes
+    c.self.inside.chunks.items c.self.inside.kinds.items
+    c.self.inside.firsts.items c.self.inside.links.items c.args.id.0 (ap (λ (a : ArenaContent).
+    a.nodes) c.self.view_is) c.requires c.in-Some.link c.in-Some.right c.in-Some.ensures
+    c.if-link-ge-MARK.false)))
 
 pub returns-else-link-ge-MARK-clause-right : goal.returns-else-link-ge-MARK-clause-right
-returns-else-link-ge-MARK-clause-right c = sym (ap right_child (get_or_from_slice_get c.args.self.now.nodes c.args.id.0 _ _ (read_kept c.args.self.now.nodes c.self.inside.chunks.items c.self.inside.kinds.items
-    c.self.inside.firsts.items c.self.inside.links.items c.args.id.0 (ap (λ (a : ArenaContent). a.nodes) c.self.view_is) c.requires c.in-Some.link c.in-Some.right c.in-Some.ensures c.if-link-ge-MARK.false)))
+returns-else-link-ge-MARK-clause-right c = sym (ap right_child (get_or_from_slice_get
+    c.args.self.now.nodes c.args.id.0 _ _ (read_kept c.args.self.now.nodes
+    c.self.inside.chunks.items c.self.inside.kinds.items
+    c.self.inside.firsts.items c.self.inside.links.items c.args.id.0 (ap (λ (a : ArenaContent).
+    a.nodes) c.self.view_is) c.requires c.in-Some.link c.in-Some.right c.in-Some.ensures
+    c.if-link-ge-MARK.false)))

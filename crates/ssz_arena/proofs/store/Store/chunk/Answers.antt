@@ -18,9 +18,11 @@ index-requires c = omega (
 pub returns : goal.returns
 returns c = λ chunk is.
     sym (read_chunk c.args.self.now.nodes c.self.inside.chunks.items c.self.inside.kinds.items
-    c.self.inside.firsts.items c.self.inside.links.items c.args.id.0 (ap (λ (a : ArenaContent). a.nodes) c.self.view_is) c.requires c.index.result.now c.index.ensures)
+    c.self.inside.firsts.items c.self.inside.links.items c.args.id.0 (ap (λ (a : ArenaContent).
+    a.nodes) c.self.view_is) c.requires c.index.result.now c.index.ensures)
     ∙ chunk_seen _ chunk (links_at c.self.inside.kinds.items c.self.inside.firsts.items
     c.self.inside.links.items c.args.id.0)
     (ap chunk_of (sym (get_or_from_slice_get c.args.self.now.nodes c.args.id.0 _ _
     (found c.args.self.now.nodes c.self.inside.chunks.items c.self.inside.kinds.items
-    c.self.inside.firsts.items c.self.inside.links.items c.args.id.0 (ap (λ (a : ArenaContent). a.nodes) c.self.view_is) c.requires))) ∙ is)
+    c.self.inside.firsts.items c.self.inside.links.items c.args.id.0 (ap (λ (a : ArenaContent).
+    a.nodes) c.self.view_is) c.requires))) ∙ is)

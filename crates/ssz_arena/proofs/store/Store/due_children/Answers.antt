@@ -41,13 +41,23 @@ links_at-requires-clause-few c = omega (
 )
 
 pub returns-then-link-ge-MARK-clause-some : goal.returns-then-link-ge-MARK-clause-some
-returns-then-link-ge-MARK-clause-some c = (read_due c.args.self.now.nodes c.self.inside.chunks.items c.self.inside.kinds.items
-    c.self.inside.firsts.items c.self.inside.links.items c.args.id.0 (ap (λ (a : ArenaContent). a.nodes) c.self.view_is) c.requires c.in-Some.link c.in-Some.right c.in-Some.ensures c.if-link-ge-MARK.true)
+returns-then-link-ge-MARK-clause-some c = (read_due c.args.self.now.nodes
+    c.self.inside.chunks.items c.self.inside.kinds.items
+    c.self.inside.firsts.items c.self.inside.links.items c.args.id.0 (ap (λ (a : ArenaContent).
+    a.nodes) c.self.view_is) c.requires c.in-Some.link c.in-Some.right c.in-Some.ensures
+    c.if-link-ge-MARK.true)
 
 pub returns-in-None-clause-none : goal.returns-in-None-clause-none
-returns-in-None-clause-none c = ap is_unhashed (get_or_from_slice_get c.args.self.now.nodes c.args.id.0 _ _ (read_leaf c.args.self.now.nodes c.self.inside.chunks.items c.self.inside.kinds.items
-    c.self.inside.firsts.items c.self.inside.links.items c.args.id.0 (ap (λ (a : ArenaContent). a.nodes) c.self.view_is) c.requires c.in-None.ensures))
+returns-in-None-clause-none c = ap is_unhashed (get_or_from_slice_get c.args.self.now.nodes
+    c.args.id.0 _ _ (read_leaf c.args.self.now.nodes c.self.inside.chunks.items
+    c.self.inside.kinds.items
+    c.self.inside.firsts.items c.self.inside.links.items c.args.id.0 (ap (λ (a : ArenaContent).
+    a.nodes) c.self.view_is) c.requires c.in-None.ensures))
 
 pub returns-else-link-ge-MARK-clause-none : goal.returns-else-link-ge-MARK-clause-none
-returns-else-link-ge-MARK-clause-none c = ap is_unhashed (get_or_from_slice_get c.args.self.now.nodes c.args.id.0 _ _ (read_kept c.args.self.now.nodes c.self.inside.chunks.items c.self.inside.kinds.items
-    c.self.inside.firsts.items c.self.inside.links.items c.args.id.0 (ap (λ (a : ArenaContent). a.nodes) c.self.view_is) c.requires c.in-Some.link c.in-Some.right c.in-Some.ensures c.if-link-ge-MARK.false))
+returns-else-link-ge-MARK-clause-none c = ap is_unhashed (get_or_from_slice_get
+    c.args.self.now.nodes c.args.id.0 _ _ (read_kept c.args.self.now.nodes
+    c.self.inside.chunks.items c.self.inside.kinds.items
+    c.self.inside.firsts.items c.self.inside.links.items c.args.id.0 (ap (λ (a : ArenaContent).
+    a.nodes) c.self.view_is) c.requires c.in-Some.link c.in-Some.right c.in-Some.ensures
+    c.if-link-ge-MARK.false))

@@ -90,7 +90,13 @@ invariant_of-self-2 c = (
         (ap (λ (a : ArenaContent). a.nodes) c.self.view_is),
   ),
   c.requires.most,
-  omega (arith, c.requires.more, c.len-len.ensures, c.in_ok-reserve_exact.ensures.ok, c.in_ok-reserve_exact.ensures.len),
+  omega (
+    arith,
+    c.requires.more,
+    c.len-len.ensures,
+    c.in_ok-reserve_exact.ensures.ok,
+    c.in_ok-reserve_exact.ensures.len,
+  ),
   omega (
     arith,
     c.requires.more,

@@ -45,17 +45,25 @@ links_at-requires-clause-few c = omega (
 )
 
 pub returns-in-None : goal.returns-in-None
-returns-in-None c = sym (ap is_unhashed (get_or_from_slice_get c.args.self.now.nodes c.args.id.0 _ _ (read_leaf c.args.self.now.nodes c.self.inside.chunks.items c.self.inside.kinds.items
-    c.self.inside.firsts.items c.self.inside.links.items c.args.id.0 (ap (λ (a : ArenaContent). a.nodes) c.self.view_is) c.requires c.in-None.ensures)))
+returns-in-None c = sym (ap is_unhashed (get_or_from_slice_get c.args.self.now.nodes c.args.id.0 _
+    _ (read_leaf c.args.self.now.nodes c.self.inside.chunks.items c.self.inside.kinds.items
+    c.self.inside.firsts.items c.self.inside.links.items c.args.id.0 (ap (λ (a : ArenaContent).
+    a.nodes) c.self.view_is) c.requires c.in-None.ensures)))
 
 pub returns-in-Some : goal.returns-in-Some
 returns-in-Some c = elim (cases_lt c.in-Some.link (2 ^ 31)) [
   | inl low ↦
       let not : leb (2 ^ 31) c.in-Some.link ≡ false = grind (arith, nat_tests) in
-      not ∙ sym (ap is_unhashed (get_or_from_slice_get c.args.self.now.nodes c.args.id.0 _ _ (read_kept c.args.self.now.nodes c.self.inside.chunks.items c.self.inside.kinds.items
-      c.self.inside.firsts.items c.self.inside.links.items c.args.id.0 (ap (λ (a : ArenaContent). a.nodes) c.self.view_is) c.requires c.in-Some.link c.in-Some.field-0-1 c.in-Some.ensures low)))
+      not ∙ sym (ap is_unhashed (get_or_from_slice_get c.args.self.now.nodes c.args.id.0 _ _
+      (read_kept c.args.self.now.nodes c.self.inside.chunks.items c.self.inside.kinds.items
+      c.self.inside.firsts.items c.self.inside.links.items c.args.id.0 (ap (λ (a : ArenaContent).
+      a.nodes) c.self.view_is) c.requires c.in-Some.link c.in-Some.field-0-1 c.in-Some.ensures
+      low)))
   | inr marked ↦
       le-leb (2 ^ 31) c.in-Some.link marked
-      ∙ sym (ap is_unhashed (get_or_from_slice_get c.args.self.now.nodes c.args.id.0 _ _ (read_due c.args.self.now.nodes c.self.inside.chunks.items c.self.inside.kinds.items
-      c.self.inside.firsts.items c.self.inside.links.items c.args.id.0 (ap (λ (a : ArenaContent). a.nodes) c.self.view_is) c.requires c.in-Some.link c.in-Some.field-0-1 c.in-Some.ensures marked)))
+      ∙ sym (ap is_unhashed (get_or_from_slice_get c.args.self.now.nodes c.args.id.0 _ _ (read_due
+      c.args.self.now.nodes c.self.inside.chunks.items c.self.inside.kinds.items
+      c.self.inside.firsts.items c.self.inside.links.items c.args.id.0 (ap (λ (a : ArenaContent).
+      a.nodes) c.self.view_is) c.requires c.in-Some.link c.in-Some.field-0-1 c.in-Some.ensures
+      marked)))
 ]

@@ -64,8 +64,11 @@ unmark-requires-clause-inside c = let within = c.self.invariant.0.inside c.args.
       within,
       (due_parts _ (link_count c.self.inside.kinds.items c.args.id.0)
           (first_link c.self.inside.kinds.items c.self.inside.firsts.items c.args.id.0)
-          c.self.inside.links.items c.args.id.0 (sym (ap is_unhashed (get_or_from_slice_get c.args.self.now.nodes c.args.id.0 _ _ (found c.args.self.now.nodes c.self.inside.chunks.items c.self.inside.kinds.items
-          c.self.inside.firsts.items c.self.inside.links.items c.args.id.0 (ap (λ (a : ArenaContent). a.nodes) c.self.view_is) c.requires.inside))) ∙ c.requires.due)).0,
+          c.self.inside.links.items c.args.id.0 (sym (ap is_unhashed (get_or_from_slice_get
+          c.args.self.now.nodes c.args.id.0 _ _ (found c.args.self.now.nodes
+          c.self.inside.chunks.items c.self.inside.kinds.items
+          c.self.inside.firsts.items c.self.inside.links.items c.args.id.0 (ap (λ (a :
+          ArenaContent). a.nodes) c.self.view_is) c.requires.inside))) ∙ c.requires.due)).0,
     )
 
 pub unmark-requires-clause-marked : goal.unmark-requires-clause-marked
@@ -74,8 +77,11 @@ unmark-requires-clause-marked c = omega (
   ap (λ k. get_or c.self.inside.links.items k 0) c.first_of-first.ensures,
   (due_parts _ (link_count c.self.inside.kinds.items c.args.id.0)
       (first_link c.self.inside.kinds.items c.self.inside.firsts.items c.args.id.0)
-      c.self.inside.links.items c.args.id.0 (sym (ap is_unhashed (get_or_from_slice_get c.args.self.now.nodes c.args.id.0 _ _ (found c.args.self.now.nodes c.self.inside.chunks.items c.self.inside.kinds.items
-      c.self.inside.firsts.items c.self.inside.links.items c.args.id.0 (ap (λ (a : ArenaContent). a.nodes) c.self.view_is) c.requires.inside))) ∙ c.requires.due)).1,
+      c.self.inside.links.items c.args.id.0 (sym (ap is_unhashed (get_or_from_slice_get
+      c.args.self.now.nodes c.args.id.0 _ _ (found c.args.self.now.nodes c.self.inside.chunks.items
+      c.self.inside.kinds.items
+      c.self.inside.firsts.items c.self.inside.links.items c.args.id.0 (ap (λ (a : ArenaContent).
+      a.nodes) c.self.view_is) c.requires.inside))) ∙ c.requires.due)).1,
 )
 
 pub index_mut-requires : goal.index_mut-requires
@@ -108,10 +114,14 @@ returns-clause-nodes c = λ left right is.
     × (2 ^ 31 ≤ get_or links (first_link kinds firsts c.args.id.0) 0) =
     due_parts _ (link_count c.self.inside.kinds.items c.args.id.0)
     (first_link c.self.inside.kinds.items c.self.inside.firsts.items c.args.id.0)
-    c.self.inside.links.items c.args.id.0 (sym (ap is_unhashed (get_or_from_slice_get c.args.self.now.nodes c.args.id.0 _ _ (found c.args.self.now.nodes c.self.inside.chunks.items c.self.inside.kinds.items
-    c.self.inside.firsts.items c.self.inside.links.items c.args.id.0 (ap (λ (a : ArenaContent). a.nodes) c.self.view_is) c.requires.inside))) ∙ c.requires.due) in
+    c.self.inside.links.items c.args.id.0 (sym (ap is_unhashed (get_or_from_slice_get
+    c.args.self.now.nodes c.args.id.0 _ _ (found c.args.self.now.nodes c.self.inside.chunks.items
+    c.self.inside.kinds.items
+    c.self.inside.firsts.items c.self.inside.links.items c.args.id.0 (ap (λ (a : ArenaContent).
+    a.nodes) c.self.view_is) c.requires.inside))) ∙ c.requires.due) in
     ap (nodes_in (set chunks c.args.id.0 c.args.chunk) kinds firsts)
-    (c.unmark.ensures.links ∙ ap (λ k. set links k (get_or links k 0 - 2 ^ 31)) c.first_of-first.ensures)
+    (c.unmark.ensures.links ∙ ap (λ k. set links k (get_or links k 0 - 2 ^ 31))
+    c.first_of-first.ensures)
     ∙ kept-as (vec_len c.self.inside.chunks) kinds firsts (vec_len c.self.inside.links)
     c.self.invariant.0 chunks links (omega (arith, c.self.inside.chunks.ok.0))
     (omega (arith, c.self.inside.links.ok.0)) c.args.id.0

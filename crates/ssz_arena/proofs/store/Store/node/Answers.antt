@@ -59,18 +59,30 @@ index-requires c = omega (
 )
 
 pub returns-then-link-ge-MARK : goal.returns-then-link-ge-MARK
-returns-then-link-ge-MARK c = (read_due c.args.self.now.nodes c.self.inside.chunks.items c.self.inside.kinds.items
-    c.self.inside.firsts.items c.self.inside.links.items c.args.i (ap (λ (a : ArenaContent). a.nodes) c.self.view_is) c.requires c.in-Some.link c.in-Some.right c.in-Some.ensures c.if-link-ge-MARK.true)
+returns-then-link-ge-MARK c = (read_due c.args.self.now.nodes c.self.inside.chunks.items
+    c.self.inside.kinds.items
+    c.self.inside.firsts.items c.self.inside.links.items c.args.i (ap (λ (a : ArenaContent).
+    a.nodes) c.self.view_is) c.requires c.in-Some.link c.in-Some.right c.in-Some.ensures
+    c.if-link-ge-MARK.true)
 
 pub returns-in-None : goal.returns-in-None
-returns-in-None c = (read_leaf c.args.self.now.nodes c.self.inside.chunks.items c.self.inside.kinds.items
-    c.self.inside.firsts.items c.self.inside.links.items c.args.i (ap (λ (a : ArenaContent). a.nodes) c.self.view_is) c.requires c.in-None.ensures)
-    ∙ ap (λ k. Some (Leaf k)) (read_chunk c.args.self.now.nodes c.self.inside.chunks.items c.self.inside.kinds.items
-    c.self.inside.firsts.items c.self.inside.links.items c.args.i (ap (λ (a : ArenaContent). a.nodes) c.self.view_is) c.requires c.index.result.now c.index.ensures)
+returns-in-None c = (read_leaf c.args.self.now.nodes c.self.inside.chunks.items
+    c.self.inside.kinds.items
+    c.self.inside.firsts.items c.self.inside.links.items c.args.i (ap (λ (a : ArenaContent).
+    a.nodes) c.self.view_is) c.requires c.in-None.ensures)
+    ∙ ap (λ k. Some (Leaf k)) (read_chunk c.args.self.now.nodes c.self.inside.chunks.items
+    c.self.inside.kinds.items
+    c.self.inside.firsts.items c.self.inside.links.items c.args.i (ap (λ (a : ArenaContent).
+    a.nodes) c.self.view_is) c.requires c.index.result.now c.index.ensures)
 
 pub returns-else-link-ge-MARK : goal.returns-else-link-ge-MARK
-returns-else-link-ge-MARK c = (read_kept c.args.self.now.nodes c.self.inside.chunks.items c.self.inside.kinds.items
-    c.self.inside.firsts.items c.self.inside.links.items c.args.i (ap (λ (a : ArenaContent). a.nodes) c.self.view_is) c.requires c.in-Some.link c.in-Some.right c.in-Some.ensures c.if-link-ge-MARK.false)
-    ∙ ap (λ k. Some (Pair (record { 0 = c.in-Some.link }) (record { 0 = c.in-Some.right }) (Some k)))
+returns-else-link-ge-MARK c = (read_kept c.args.self.now.nodes c.self.inside.chunks.items
+    c.self.inside.kinds.items
+    c.self.inside.firsts.items c.self.inside.links.items c.args.i (ap (λ (a : ArenaContent).
+    a.nodes) c.self.view_is) c.requires c.in-Some.link c.in-Some.right c.in-Some.ensures
+    c.if-link-ge-MARK.false)
+    ∙ ap (λ k. Some (Pair (record { 0 = c.in-Some.link }) (record { 0 = c.in-Some.right }) (Some
+    k)))
     (read_chunk c.args.self.now.nodes c.self.inside.chunks.items c.self.inside.kinds.items
-    c.self.inside.firsts.items c.self.inside.links.items c.args.i (ap (λ (a : ArenaContent). a.nodes) c.self.view_is) c.requires c.index-in-Some.result.now c.index-in-Some.ensures)
+    c.self.inside.firsts.items c.self.inside.links.items c.args.i (ap (λ (a : ArenaContent).
+    a.nodes) c.self.view_is) c.requires c.index-in-Some.result.now c.index-in-Some.ensures)

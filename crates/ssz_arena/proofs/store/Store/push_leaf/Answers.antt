@@ -6,16 +6,30 @@ use Rattle.ssz_arena.proofs.Storing.{pushed-as, nodes-as}
 use Rattle.ssz_arena.proofs.store.Store.push_leaf.Goals as goal
 
 pub begin-before-requires-clause-total : goal.begin-before-requires-clause-total
-begin-before-requires-clause-total c = omega (arith, c.len.ensures, c.len-2.ensures, c.self.invariant.0.all)
+begin-before-requires-clause-total c = omega (
+  arith,
+  c.len.ensures,
+  c.len-2.ensures,
+  c.self.invariant.0.all,
+)
 
 pub invariant_of-self : goal.invariant_of-self
 invariant_of-self c = (
   pushed-as (vec_len c.self.inside.chunks) c.self.inside.kinds.items
-      c.self.inside.firsts.items (vec_len c.self.inside.links) c.self.invariant.0 c.begin-before.result
+      c.self.inside.firsts.items (vec_len c.self.inside.links) c.self.invariant.0
+      c.begin-before.result
       c.len.result c.len-2.result c.begin-before.new.firsts.items c.len.ensures c.len-2.ensures
-      c.begin-before.ensures.blocks c.begin-before.ensures.before 0 (4 * c.begin-before.result) (omega arith)
-      (λ none one. absurd (omega (arith, one))) (omega arith) _ _ _ c.push_reserved-2.ensures.len c.push_reserved.ensures.items (omega arith),
-  omega (arith, c.requires, ap (λ (a : ArenaContent). a.spare) c.self.view_is, c.self.invariant.1, c.push_reserved-2.ensures.len),
+      c.begin-before.ensures.blocks c.begin-before.ensures.before 0 (4 * c.begin-before.result)
+      (omega arith)
+      (λ none one. absurd (omega (arith, one))) (omega arith) _ _ _ c.push_reserved-2.ensures.len
+      c.push_reserved.ensures.items (omega arith),
+  omega (
+    arith,
+    c.requires,
+    ap (λ (a : ArenaContent). a.spare) c.self.view_is,
+    c.self.invariant.1,
+    c.push_reserved-2.ensures.len,
+  ),
   c.self.invariant.2,
   omega (arith, c.push_reserved-2.ensures.capacity, c.self.invariant.3),
   omega (arith, c.push_reserved.ensures.capacity, c.self.invariant.4),
@@ -25,10 +39,14 @@ invariant_of-self c = (
 
 pub returns-clause-nodes : goal.returns-clause-nodes
 returns-clause-nodes c = nodes-as (vec_len c.self.inside.chunks) c.self.inside.kinds.items
-    c.self.inside.firsts.items (vec_len c.self.inside.links) c.self.invariant.0 c.begin-before.result
+    c.self.inside.firsts.items (vec_len c.self.inside.links) c.self.invariant.0
+    c.begin-before.result
     c.len.result c.len-2.result c.begin-before.new.firsts.items c.len.ensures c.len-2.ensures
-    c.begin-before.ensures.blocks c.begin-before.ensures.before 0 (4 * c.begin-before.result) (omega arith)
-    (λ none one. absurd (omega (arith, one))) (omega arith) c.self.inside.chunks.items c.self.inside.links.items [] c.args.chunk
+    c.begin-before.ensures.blocks c.begin-before.ensures.before 0 (4 * c.begin-before.result)
+    (omega arith)
+    (λ none one. absurd (omega (arith, one))) (omega arith) c.self.inside.chunks.items
+    c.self.inside.links.items [] c.args.chunk
     (omega (arith, c.self.inside.chunks.ok.0)) (omega (arith, c.self.inside.links.ok.0)) _ _ _
-    c.push_reserved-2.ensures.items c.push_reserved.ensures.items (sym (append-nil _)) (Leaf c.args.chunk) refl _
+    c.push_reserved-2.ensures.items c.push_reserved.ensures.items (sym (append-nil _)) (Leaf
+    c.args.chunk) refl _
     (ap (λ (a : ArenaContent). a.nodes) c.self.view_is)

@@ -6,19 +6,42 @@ use Rattle.ssz_arena.proofs.Storing.{pair-as, pair_nodes-as, due_made}
 use Rattle.ssz_arena.proofs.store.Store.push_pair.Goals as goal
 
 pub begin-before-requires-clause-total : goal.begin-before-requires-clause-total
-begin-before-requires-clause-total c = omega (arith, c.len-place.ensures, c.len.ensures, c.self.invariant.0.all)
+begin-before-requires-clause-total c = omega (
+  arith,
+  c.len-place.ensures,
+  c.len.ensures,
+  c.self.invariant.0.all,
+)
 
 pub link-count-requires : goal.link-count-requires
-link-count-requires c = omega (arith, c.requires.room, ap (λ (a : ArenaContent). a.spare) c.self.view_is, c.self.invariant.0.all, c.self.invariant.1, c.self.invariant.6)
+link-count-requires c = omega (
+  arith,
+  c.requires.room,
+  ap (λ (a : ArenaContent). a.spare)
+      c.self.view_is,
+  c.self.invariant.0.all,
+  c.self.invariant.1,
+  c.self.invariant.6,
+)
 
 pub invariant_of-self : goal.invariant_of-self
 invariant_of-self c = (
   pair-as (vec_len c.self.inside.chunks) c.self.inside.kinds.items
-      c.self.inside.firsts.items (vec_len c.self.inside.links) c.self.invariant.0 c.begin-before.result
-      c.len-place.result c.len.result c.begin-before.new.firsts.items c.len-place.ensures c.len.ensures
-      c.begin-before.ensures.blocks c.begin-before.ensures.before (c.args.left.0 + 2 ^ 31) c.args.right.0 c.link-count.result
-      (c.link-count.result + 4 * c.begin-before.result) c.link-count.ensures.count refl _ _ _ c.push_reserved-2.ensures.len c.push_reserved.ensures.items c.link-count.ensures.len,
-  omega (arith, c.requires.room, ap (λ (a : ArenaContent). a.spare) c.self.view_is, c.self.invariant.1, c.push_reserved-2.ensures.len),
+      c.self.inside.firsts.items (vec_len c.self.inside.links) c.self.invariant.0
+      c.begin-before.result
+      c.len-place.result c.len.result c.begin-before.new.firsts.items c.len-place.ensures
+      c.len.ensures
+      c.begin-before.ensures.blocks c.begin-before.ensures.before (c.args.left.0 + 2 ^ 31)
+      c.args.right.0 c.link-count.result
+      (c.link-count.result + 4 * c.begin-before.result) c.link-count.ensures.count refl _ _ _
+      c.push_reserved-2.ensures.len c.push_reserved.ensures.items c.link-count.ensures.len,
+  omega (
+    arith,
+    c.requires.room,
+    ap (λ (a : ArenaContent). a.spare) c.self.view_is,
+    c.self.invariant.1,
+    c.push_reserved-2.ensures.len,
+  ),
   c.self.invariant.2,
   omega (arith, c.push_reserved-2.ensures.capacity, c.self.invariant.3),
   omega (arith, c.push_reserved.ensures.capacity, c.self.invariant.4),
@@ -28,10 +51,15 @@ invariant_of-self c = (
 
 pub returns-clause-nodes : goal.returns-clause-nodes
 returns-clause-nodes c = pair_nodes-as (vec_len c.self.inside.chunks) c.self.inside.kinds.items
-    c.self.inside.firsts.items (vec_len c.self.inside.links) c.self.invariant.0 c.begin-before.result
-    c.len-place.result c.len.result c.begin-before.new.firsts.items c.len-place.ensures c.len.ensures
-    c.begin-before.ensures.blocks c.begin-before.ensures.before (c.args.left.0 + 2 ^ 31) c.args.right.0 c.link-count.result
-    (c.link-count.result + 4 * c.begin-before.result) c.link-count.ensures.count refl c.self.inside.chunks.items c.self.inside.links.items _
+    c.self.inside.firsts.items (vec_len c.self.inside.links) c.self.invariant.0
+    c.begin-before.result
+    c.len-place.result c.len.result c.begin-before.new.firsts.items c.len-place.ensures
+    c.len.ensures
+    c.begin-before.ensures.blocks c.begin-before.ensures.before (c.args.left.0 + 2 ^ 31)
+    c.args.right.0 c.link-count.result
+    (c.link-count.result + 4 * c.begin-before.result) c.link-count.ensures.count refl
+    c.self.inside.chunks.items c.self.inside.links.items _
     (omega (arith, c.self.inside.chunks.ok.0)) (omega (arith, c.self.inside.links.ok.0)) _ _ _
-    c.push_reserved-2.ensures.items c.push_reserved.ensures.items c.link-count.ensures.links (Pair c.args.left c.args.right None) (due_made _ c.args.left c.args.right) _
+    c.push_reserved-2.ensures.items c.push_reserved.ensures.items c.link-count.ensures.links (Pair
+    c.args.left c.args.right None) (due_made _ c.args.left c.args.right) _
     (ap (λ (a : ArenaContent). a.nodes) c.self.view_is)
