@@ -1,11 +1,11 @@
 // The statements of a work, one after another.
-ghost use Rattle.std.specs.Prelude.{◌≡◌, ◌≤◌, ◌∷◌, [], IfOk, IfSome, OnOk};
+ghost use Rattle.std.specs.Prelude.{◌≡◌, ◌≤◌, [], IfOk, IfSome, OnOk};
 ghost use Rattle.ssz_machine.specs.Drawing.{worked};
 ghost use Rattle.ssz_draws.specs.Walked.{IsEditStatement};
 ghost use Rattle.ssz_machine.specs.Machine.{is_refused};
 ghost use Rattle.ssz_machine.specs.State.{State, Versions, version_of};
 ghost use Rattle.ssz_machine.specs.Work.{turn_done, round, tops_of, walk_from, work_of, worked_on};
-ghost use Rattle.ssz_script.specs.declared.statement.Statement.TheVariants.{New, Root};
+ghost use Rattle.ssz_script.specs.declared.statement.Statement.TheVariants.{Root};
 ghost use Rattle.ssz_decisions.specs.Content.{rules_of};
 ghost use Rattle.ssz_decisions.specs.Standing.{StandsForWriter};
 ghost use Rattle.ssz_engine.specs.Steps.{is_refusal};
@@ -19,28 +19,12 @@ use super::engine::Engine;
 use super::script_line::reply_to;
 use ssz_chunk::PairHash;
 use ssz_decisions::{EngineFault, Outcome, Store};
-use ssz_draws::{Generator, worked};
+use ssz_draws::{Generator, new_w, root_w, worked};
 use ssz_machine::Place;
 use ssz_outside::Files;
-use ssz_schema::Name;
 use ssz_script::{Identifier, ScriptStatement, Statement};
 use ssz_versions::Writer;
-use std::alloc::{AllocError, Global};
-
-// `new w T`
-fn new_w(alloc: Global, type_name: &Identifier) -> Result<Statement, AllocError>
-    ensures { IfOk result (λ made. made ≡ New worked type_name.now) }
-{
-    let t = Name::copy_of(alloc, type_name.as_name().as_bytes())?;
-    Ok(Statement::New(worked(alloc)?, Identifier::new(t)))
-}
-
-// `root w`
-fn root_w(alloc: Global) -> Result<Statement, AllocError>
-    ensures { IfOk result (λ asked. asked ≡ Root worked) }
-{
-    Ok(Statement::Root(worked(alloc)?))
-}
+use std::alloc::AllocError;
 
 // Does a statement as writer 0. The line of its reply takes the place of what `reply` held.
 fn answer<F: Files, H: PairHash>(
