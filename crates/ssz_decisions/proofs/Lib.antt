@@ -14,3 +14,5 @@ pub mod ProofsMade
 pub mod ProofRows
 pub mod Straying
 pub mod Owing
+pub mod Takers
+pub mod Moved

@@ -69,6 +69,13 @@ pub record IsCarriedOut (made : Decision) (writer line : ℕ) (old new : Entries
   pub files : told_new ≡ told_after made told_old
   pub text : out_new ≡ out_old ++ reply_line (reply_to line made)
 
+-- A decision was carried out, and this is the reply.
+pub record IsAnswered (made : Decision) (writer line : ℕ) (old new : Entries)
+    (told_old told_new : Option Files) (reply : Reply) : Type 0 where
+  pub entries : DecisionDoes made writer old new
+  pub files : told_new ≡ told_after made told_old
+  pub says : reply ≡ reply_to line made
+
 -- What is left of the files where a decision was not carried out: only a save can fail in writing.
 abbrev pub Fails : EngineFault → Decision → Option Files → Option Files → Type 0
 Fails Read made old new = ⊥

@@ -45,3 +45,9 @@ pub record SameNodes (old new : EngineContent) : Type 0 where
   pub most : new.most ≡ old.most
   pub base : new.base ≡ old.base
   pub arena : new.arena ≡ old.arena
+
+-- what no statement changes: the types, the limit and the base
+pub record KeepsEngine (old new : EngineContent) : Type 0 where
+  pub types : new.types ≡ old.types
+  pub most : new.most ≡ old.most
+  pub base : new.base ≡ old.base

@@ -9,3 +9,5 @@ pub mod Counted
 pub mod Roots
 pub mod Carried
 pub mod Outside
+pub mod Finished
+pub mod Adopted

@@ -1,12 +1,11 @@
-ghost use Rattle.std.specs.Prelude.{◌≡◌, ◌≢◌, ◌+◌, ◌++◌, ◌≤◌, ℕ, List, None, IsSome, is_some, IfOk, IfErr, OnOk, OnErr, vec_len, vec_capacity};
-ghost use Rattle.ssz_outside.specs.Outcome.{Puts, WritesPart};
+ghost use Rattle.std.specs.Prelude.{◌≡◌, ◌+◌, ◌++◌, ◌≤◌, ℕ, List, None, IsSome, is_some, IfOk, IfErr, OnOk, OnErr, vec_len, vec_capacity};
 ghost use Rattle.ssz_script.specs.Texts.{reply_line};
 ghost use Rattle.ssz_versions.specs.Content.{held_at, with_held, without_held};
 ghost use Rattle.ssz_decisions.specs.Content.{SameNodes};
 ghost use Rattle.ssz_decisions.specs.Standing.{IsSomeVersion};
 ghost use Rattle.ssz_decisions.specs.Decisions.{CanDo, CanEdit};
-ghost use Rattle.ssz_decisions.specs.Carried.{CanLack, Edits, Fails, IsCarriedOut};
-ghost use Rattle.ssz_decisions.specs.Outside.{CountsReads, CountsWrites, PutsFile};
+ghost use Rattle.ssz_decisions.specs.Carried.{CanLack, Edits, Fails, IsAnswered, IsCarriedOut};
+ghost use Rattle.ssz_decisions.specs.Outside.{CountsWrites, PutsFile};
 
 use super::decision::Decision;
 use super::fault::EngineFault;
@@ -21,7 +20,7 @@ use ssz_versions::{Room, Writer};
 use std::alloc::AllocError;
 
 /// Appends `ok`, for which there is room.
-pub fn say_done(out: &mut Vec<u8>)
+pub(crate) fn say_done(out: &mut Vec<u8>)
     requires { vec_len out.old + 3 ≤ vec_capacity out.old }
     ensures { out.new.items ≡ out.old.items ++ reply_line Reply.Done }
 {
@@ -41,8 +40,8 @@ fn done(out: &mut Vec<u8>) -> Outcome
     Outcome::Accepted
 }
 
-// Appends the line of a reply, whose statement comes to this outcome. Fails for want of memory.
-fn say(reply: Reply, outcome: Outcome, out: &mut Vec<u8>) -> Result<Outcome, AllocError>
+/// Appends the line of a reply, whose statement comes to this outcome. Fails for want of memory.
+pub fn say(reply: Reply, outcome: Outcome, out: &mut Vec<u8>) -> Result<Outcome, AllocError>
     ensures ok { IfOk result (λ said. said ≡ outcome) }
     ensures text { OnOk result (out.new.items ≡ out.old.items ++ reply_line reply) }
     ensures err { OnErr result (out.new.items ≡ out.old.items) }
@@ -52,7 +51,7 @@ fn say(reply: Reply, outcome: Outcome, out: &mut Vec<u8>) -> Result<Outcome, All
 }
 
 /// A name that is free gets a version.
-pub fn make<H: PairHash>(
+pub(crate) fn make<H: PairHash>(
     store: &mut Store<H>,
     writer: Writer,
     name: &Identifier,
@@ -69,7 +68,12 @@ pub fn make<H: PairHash>(
 }
 
 /// A version gets another node.
-pub fn edit<H: PairHash>(store: &mut Store<H>, writer: Writer, name: &Identifier, node: NodeId)
+pub(crate) fn edit<H: PairHash>(
+    store: &mut Store<H>,
+    writer: Writer,
+    name: &Identifier,
+    node: NodeId,
+)
     requires { CanEdit store.old writer.0 name.now node }
     ensures nodes { SameNodes store.old store.new }
     ensures entries { Edits store.old.entries store.new.entries writer.0 name.now node }
@@ -81,7 +85,7 @@ pub fn edit<H: PairHash>(store: &mut Store<H>, writer: Writer, name: &Identifier
 }
 
 /// A name is given up.
-pub fn give_up<H: PairHash>(store: &mut Store<H>, writer: Writer, name: &Identifier)
+pub(crate) fn give_up<H: PairHash>(store: &mut Store<H>, writer: Writer, name: &Identifier)
     requires { IsSome (held_at store.old.entries writer.0 name.now) }
     ensures nodes { SameNodes store.old store.new }
     ensures entries { store.new.entries
@@ -94,7 +98,11 @@ pub fn give_up<H: PairHash>(store: &mut Store<H>, writer: Writer, name: &Identif
 }
 
 /// A file gets these bytes.
-pub fn put_file<F: Files>(files: &mut F, name: &FileName, bytes: &[u8]) -> Result<(), EngineFault>
+pub(crate) fn put_file<F: Files>(
+    files: &mut F,
+    name: &FileName,
+    bytes: &[u8],
+) -> Result<(), EngineFault>
     ensures content { PutsFile result name.now bytes.now (F.content files.old)
         (F.content files.new) }
     ensures told { is_some (F.content files.new) ≡ is_some (F.content files.old) }
@@ -106,6 +114,60 @@ pub fn put_file<F: Files>(files: &mut F, name: &FileName, bytes: &[u8]) -> Resul
         Ok(()) => Ok(()),
         Err(PutFault::Failed) => Err(EngineFault::Write),
         Err(PutFault::Memory) => Err(EngineFault::Memory),
+    }
+}
+
+/// Carries out a decision, and answers the reply.
+pub fn carry<F: Files, H: PairHash>(
+    store: &mut Store<H>,
+    writer: Writer,
+    line: u64,
+    decision: Decision<'_>,
+    files: &mut F,
+) -> Result<Reply, EngineFault>
+    requires { CanDo store.old writer.0 decision }
+    ensures nodes { SameNodes store.old store.new }
+    ensures ok { IfOk result (IsAnswered decision.entry writer.0 line store.old.entries
+        store.new.entries (F.content files.old) (F.content files.new)) }
+    ensures err { OnErr result (store.new.entries ≡ store.old.entries) }
+    ensures fails { IfErr result (λ fault. Fails fault decision.entry (F.content files.old)
+        (F.content files.new)) }
+    ensures sure { OnErr result (CanLack decision.entry) }
+    ensures told { is_some (F.content files.new) ≡ is_some (F.content files.old) }
+    ensures readable { (other : List ℕ) → F.readable files.old other → F.readable files.new other }
+    ensures gets { F.get_faults files.new ≡ F.get_faults files.old }
+    ensures puts { CountsWrites result (F.put_faults files.old) (F.put_faults files.new) }
+{
+    match decision {
+        Decision::Refused(code) => {
+            let fault = None;
+            Ok(Reply::Refused { line, code, fault })
+        }
+        Decision::BadBytes(found) => {
+            let (code, fault) = (Reply::BAD_LITERAL, Some(found));
+            Ok(Reply::Refused { line, code, fault })
+        }
+        Decision::BadJson(fault) => {
+            let (code, number) = (fault.code, fault.number);
+            Ok(Reply::BadJson { line, code, number })
+        }
+        Decision::Said(reply) => Ok(reply),
+        Decision::Made(name, id, node, room) => {
+            make(store, writer, name, (id, node), room);
+            Ok(Reply::Done)
+        }
+        Decision::Edited(name, node) => {
+            edit(store, writer, name, node);
+            Ok(Reply::Done)
+        }
+        Decision::Dropped(name) => {
+            give_up(store, writer, name);
+            Ok(Reply::Done)
+        }
+        Decision::Saved(name, bytes) => {
+            put_file(files, name, bytes.as_slice())?;
+            Ok(Reply::Done)
+        }
     }
 }
 

@@ -8,3 +8,4 @@ pub mod ListLanding
 pub mod ChoiceLanding
 pub mod Refusing
 pub mod Calling
+pub mod Optional

@@ -9,8 +9,9 @@
 //! (ssz_walk), and answers the refusal or where the part is and of what type (`open_part`,
 //! `open_end`, `open_choice`). The second puts something there: a value, or the bytes of one, which
 //! become nodes with no value made (`Given`; `put_part`, `put_element`, `put_choice`). So a caller
-//! reads what it is to put by the type, once no test refuses it. `set`, `append` and `choose` are
-//! both at once.
+//! reads what it is to put by the type, once no test refuses it; for the option that a `choose` gives
+//! a union, its literal is tested and its default made here (`option_fault`, `literal_given`,
+//! `option_default`). `set`, `append` and `choose` are both at once.
 #![tactic(auto)]
 
 mod choosing;
@@ -18,6 +19,7 @@ mod given;
 mod leaves;
 mod listing;
 mod lists;
+mod option_given;
 mod parts;
 mod putting;
 mod room;
@@ -27,5 +29,6 @@ pub use choosing::{Choice, choose, open_choice, put_choice};
 pub use given::{Given, given_of};
 pub use listing::{append, open_end, pop};
 pub use lists::{ListEnd, Slot, put_element};
+pub use option_given::{literal_given, option_default, option_fault};
 pub use putting::put_part;
 pub use setting::{open_part, set};

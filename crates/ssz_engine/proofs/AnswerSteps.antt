@@ -15,12 +15,12 @@ use Rattle.ssz_machine.specs.State.{Versions}
 use Rattle.ssz_machine.specs.Rules.{Row}
 use Rattle.ssz_machine.specs.Machine.{reply_in}
 use Rattle.ssz_machine.specs.Changes.{Touch, touch}
-use Rattle.ssz_engine.specs.Answered.{DoesAnswer, Effects, IsAnswered}
-use Rattle.ssz_decisions.specs.Content.{EngineContent, Grows, SameNodes}
+use Rattle.ssz_engine.specs.Answered.{DoesAnswer, Effects}
+use Rattle.ssz_decisions.specs.Content.{EngineContent, Grows, SameNodes, KeepsEngine}
 use Rattle.ssz_decisions.specs.Decisions.{DecidesRow, IsOf, MakesFork}
-use Rattle.ssz_decisions.specs.Carried.{DecisionDoes, IsCarriedOut, outcome_of, reply_to}
+use Rattle.ssz_decisions.specs.Carried.{DecisionDoes, IsCarriedOut, outcome_of, reply_to, IsAnswered}
 use Rattle.ssz_decisions.specs.Roots.{LeavesHashed}
-use Rattle.ssz_engine.specs.Steps.{Decides, KeepsEngine, MakesUpgrade, Touches, TouchesWhere}
+use Rattle.ssz_engine.specs.Steps.{Decides, MakesUpgrade, Touches, TouchesWhere}
 use Rattle.ssz_engine.specs.Tops.{MakesTop}
 use Rattle.ssz_decisions.specs.declared.decision.Decision.{Decision}
 use Rattle.ssz_decisions.specs.declared.decision.Decision.TheVariants as decision

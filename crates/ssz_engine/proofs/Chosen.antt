@@ -1,10 +1,9 @@
 -- What is given for an option is what its literal, or its default, comes to.
-use Rattle.std.proofs.Common.{Bor, ◌≡◌, ◌<◌, ◌^◌, ℕ, zero, suc, cond, ltb, List, [], ◌∷◌, length, slice_get, Option, Some, None, option_map, Ok, Err, refl, sym, ap, ap₂, subst, ◌∙◌}
+use Rattle.std.proofs.Common.{Bor, ◌≡◌, ◌<◌, ◌^◌, ℕ, List, length, slice_get, Option, Some, None, option_map, Ok, Err, refl, sym, ap, ap₂, subst, ◌∙◌}
 use Rattle.ssz_bytes.specs.declared.fault.Fault.{Fault}
-use Rattle.ssz_bytes.specs.Faults.{extra}
 use Rattle.ssz_schema.specs.Types.{SszType, Options}
 use Rattle.ssz_schema.specs.Paths.{option_type}
-use Rattle.ssz_schema.specs.Unfolding.{Types, type_of, type_tree_at, options_over}
+use Rattle.ssz_schema.specs.Unfolding.{Types, type_of, options_over}
 use Rattle.ssz_value.specs.declared.value.Value.{Value}
 use Rattle.ssz_value.specs.Defaults.{default_of}
 use Rattle.ssz_value.specs.Faults.{first_fault, option_fault}
@@ -15,40 +14,8 @@ use Rattle.ssz_edit.specs.declared.given.Given.TheVariants.{Bytes}
 use Rattle.ssz_edit.specs.Given.{option_value, values_given, IsOfOption}
 use Rattle.ssz_machine.specs.Rules.{◌>>◌, bad_bytes, faultless}
 use Rattle.ssz_machine.specs.Editing.{inner_value}
-use Rattle.ssz_engine.specs.Inner.{IsDefault, IsLiteral}
-
--- the option at a number has this type
-pub record IsTyped (os : Options) (k : ℕ) (t : SszType) : Type 0 where
-  pub type : option_type os k ≡ Some t
-  pub fault : (b : List ℕ) → option_fault os k 0 b ≡ first_fault t 0 b
-
-pub typed : (trees : List SszType) (ids : List (Option ℕ)) (k id : ℕ)
-    → slice_get ids k ≡ Some (Some id) → IsTyped (options_over trees ids) k (type_tree_at trees id)
-typed trees [] k id there = cc
-typed trees (None ∷ ids) zero id there = cc
-typed trees (Some other ∷ ids) zero id there =
-    let same : other ≡ id = cc in
-    subst (λ n. IsTyped (options_over trees (Some other ∷ ids)) 0 (type_tree_at trees n)) same
-    (record { type = refl; fault = λ b. refl })
-typed trees (None ∷ ids) (suc k) id there =
-    let rest = typed trees ids k id there in record { type = rest.type; fault = rest.fault }
-typed trees (Some other ∷ ids) (suc k) id there =
-    let rest = typed trees ids k id there in record { type = rest.type; fault = rest.fault }
-
--- or it is None
-pub record IsUntyped (os : Options) (k : ℕ) : Type 0 where
-  pub type : option_type os k ≡ None
-  pub fault : (b : List ℕ) → option_fault os k 0 b ≡ cond (ltb 0 (length b)) (extra 0) None
-
-pub untyped : (trees : List SszType) (ids : List (Option ℕ)) (k : ℕ)
-    → slice_get ids k ≡ Some None → IsUntyped (options_over trees ids) k
-untyped trees [] k there = cc
-untyped trees (None ∷ ids) zero there = record { type = refl; fault = λ b. refl }
-untyped trees (Some other ∷ ids) zero there = cc
-untyped trees (None ∷ ids) (suc k) there =
-    let rest = untyped trees ids k there in record { type = rest.type; fault = rest.fault }
-untyped trees (Some other ∷ ids) (suc k) there =
-    let rest = untyped trees ids k there in record { type = rest.type; fault = rest.fault }
+use Rattle.ssz_edit.specs.Inner.{IsDefault, IsLiteral}
+use Rattle.ssz_edit.proofs.Optional.{typed, untyped}
 
 module _ (types : Types) (ids : List (Option ℕ)) (k : ℕ) where
   abbrev os : Options

@@ -19,8 +19,8 @@ use Rattle.ssz_machine.specs.Plays.{Event, says, line_prefix, play, shown, shown
 use Rattle.ssz_machine.specs.Runs.{IsUnderWay}
 use Rattle.ssz_machine.proofs.UnderWay.{line_follows, under_way_line}
 use Rattle.ssz_machine.proofs.Endings.{ends_without_memory, ends_unread, ends_torn_file, ends_torn_line, ends_ahead, steps_without_memory, steps_unread, steps_torn_file, steps_torn_line, steps_ahead}
-use Rattle.ssz_decisions.specs.Content.{EngineContent, rules_of}
-use Rattle.ssz_engine.specs.Steps.{KeepsEngine, SavesPart, is_refusal}
+use Rattle.ssz_decisions.specs.Content.{EngineContent, rules_of, KeepsEngine}
+use Rattle.ssz_engine.specs.Steps.{SavesPart, is_refusal}
 use Rattle.ssz_decisions.specs.Standing.{StaysFor}
 use Rattle.ssz_engine.specs.Scripts.{IsStopped, Scene, files_reached, point_of}
 use Rattle.ssz_engine.specs.Points.{Course, RunReaches, IsCutShort, PaysSteps, turns_of}

@@ -22,7 +22,7 @@ use Rattle.ssz_machine.specs.Machine.{charge_in}
 use Rattle.ssz_machine.specs.Changes.{puts}
 use Rattle.ssz_decisions.specs.Content.{EngineContent, rules_of}
 use Rattle.ssz_decisions.specs.Decisions.{AnswersWith}
-use Rattle.ssz_engine.specs.Finished.{finished_edit, FinishesEdit}
+use Rattle.ssz_decisions.specs.Finished.{finished_edit, FinishesEdit}
 use Rattle.ssz_decisions.specs.Standing.{AreVersions, Match}
 use Rattle.ssz_decisions.specs.declared.decision.Decision.{Decision}
 use Rattle.ssz_decisions.specs.declared.decision.Decision.TheVariants.{BadBytes, Edited, Refused}

@@ -3,8 +3,7 @@ use Rattle.std.proofs.Common.{◌∙◌}
 use Rattle.ssz_outside.specs.declared.status.Status.{Status}
 use Rattle.ssz_machine.specs.declared.place.Place.{Place}
 use Rattle.ssz_machine.specs.State.{Name}
-use Rattle.ssz_decisions.specs.Content.{EngineContent}
-use Rattle.ssz_engine.specs.Steps.{KeepsEngine}
+use Rattle.ssz_decisions.specs.Content.{EngineContent, KeepsEngine}
 use Rattle.ssz_engine.specs.Scripts.{Scene, files_reached}
 use Rattle.ssz_engine.specs.Points.{Course, IsCutShort, turns_of}
 use Rattle.ssz_engine.proofs.Reaching.{all_names}

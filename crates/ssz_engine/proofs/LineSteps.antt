@@ -8,7 +8,8 @@ use Rattle.ssz_machine.specs.declared.place.Place.{Place}
 use Rattle.ssz_machine.specs.Rules.{Rules}
 use Rattle.ssz_machine.specs.Machine.{Line, step}
 use Rattle.ssz_machine.specs.Plays.{Event, says, line_prefix}
-use Rattle.ssz_engine.specs.Steps.{KeepsEngine, is_refusal}
+use Rattle.ssz_engine.specs.Steps.{is_refusal}
+use Rattle.ssz_decisions.specs.Content.{KeepsEngine}
 use Rattle.ssz_engine.specs.Scripts.{Scene, point_of}
 use Rattle.ssz_engine.specs.Points.{Course, RunReaches, AnyRunContinues, CountsFaults, Runs}
 use Rattle.ssz_engine.specs.Lines.{TurnDoes, DoesLine, PrintsLine, ended_by, CountsPrint, Tries}

@@ -1,42 +1,30 @@
 -- What a compaction leaves: all stand for what they stood for.
 use Rattle.std.proofs.lemmas.Bool.{false≢true}
-use Rattle.std.proofs.Common.{◌≡◌, ◌++◌, ℕ, List, Option, Some, None, refl, sym, ap, subst, ◌∙◌, arith}
+use Rattle.std.proofs.Common.{◌≡◌, ◌++◌, ℕ, List, Option, Some, None, refl, sym, ap, subst, arith}
 use Rattle.ssz_outside.specs.Content.{Content as Files}
-use Rattle.ssz_schema.specs.Unfolding.{Types, type_of}
+use Rattle.ssz_schema.specs.Unfolding.{Types}
 use Rattle.ssz_arena.specs.Content.{ArenaContent as Nodes, KeepsNodes}
-use Rattle.ssz_arena.specs.Compacted.{IsSameNode}
 use Rattle.ssz_arena.proofs.Keeping.{keeps_same}
 use Rattle.ssz_proof.specs.Calculation.{PairOf}
 use Rattle.ssz_script.specs.Texts.{reply_line}
 use Rattle.ssz_script.specs.declared.reply.Reply.TheVariants.{Done}
 use Rattle.ssz_script.specs.declared.statement.Statement.TheVariants.{Compact}
-use Rattle.ssz_versions.specs.Content.{Entries, Held, held_at}
-use Rattle.ssz_versions.specs.Compacted.{HasNodes, IsCompacted, IsMoved}
+use Rattle.ssz_versions.specs.Content.{Held, held_at}
+use Rattle.ssz_versions.specs.Compacted.{IsCompacted, IsMoved}
 use Rattle.ssz_machine.specs.declared.place.Place.{Place}
 use Rattle.ssz_machine.specs.State.{Name, Version, Versions, version_of}
 use Rattle.ssz_machine.specs.Changes.{nothing, puts}
-use Rattle.ssz_decisions.specs.Content.{EngineContent}
+use Rattle.ssz_decisions.specs.Content.{EngineContent, KeepsEngine}
 use Rattle.ssz_engine.specs.Lines.{type_held}
 use Rattle.ssz_decisions.specs.Outside.{FilesHold}
-use Rattle.ssz_decisions.specs.Standing.{AreVersions, IsSomeVersion, IsVersion, Match, StandsForVersions, StandsForWriter}
-use Rattle.ssz_engine.specs.Steps.{DoesStep, KeepsEngine}
+use Rattle.ssz_decisions.specs.Standing.{Match, StandsForVersions, StandsForWriter}
+use Rattle.ssz_engine.specs.Steps.{DoesStep}
 use Rattle.ssz_decisions.specs.declared.outcome.Outcome.TheVariants.{Accepted}
-use Rattle.ssz_decisions.proofs.Entries.{some_held}
+use Rattle.ssz_decisions.proofs.Moved.{version-moved}
 use Rattle.ssz_engine.proofs.Found.{no-files}
 use Rattle.ssz_engine.proofs.Leaving.{stands-with}
 
--- a moved node stands for the version for which the old one stood
-version-moved : (types : Types) (before after : Nodes) (old new : Held) (version : Version)
-    → new.0 ≡ old.0 → IsSameNode before after old.1 new.1 → IsVersion types before old version
-    → IsVersion types after new version
-version-moved types before after old new version same moved is = record {
-  known = let known = is.known in omega arith;
-  node = moved.node;
-  type = ap (type_of types) same ∙ is.type;
-  fits = is.fits;
-  tree = moved.tree ∙ is.tree;
-}
-
+-- what matched a version matches it where it was moved to
 match-moved : (types : Types) (before after : Nodes) (old new : Option Held)
     (version : Option Version) → IsMoved before after old new → Match types before old version
     → Match types after new version
@@ -48,24 +36,6 @@ match-moved types before after (Some old) (Some new) None moved is = absurd is
 match-moved types before after (Some old) (Some new) (Some version) moved is =
     version-moved types before after old new version moved.0 moved.1 is
 
--- an entry that is there was there, and stood for some version
-some-moved : (types : Types) (before after : Nodes) (old new : Option Held) (held : Held)
-    → IsMoved before after old new
-    → ((was : Held) → old ≡ Some was → IsSomeVersion types before was) → new ≡ Some held
-    → IsSomeVersion types after held
-some-moved types before after None None held moved stood there = absurd (no-held held there)
-  where
-    no-held : (held : Held) → None ≡ Some held → ⊥
-    no-held held e = cc
-some-moved types before after None (Some new) held moved stood there = absurd moved
-some-moved types before after (Some old) None held moved stood there = absurd moved
-some-moved types before after (Some old) (Some new) held moved stood there =
-    let was = stood old refl in
-    subst (IsSomeVersion types after) (some_held new held there) (
-      was.0,
-      version-moved types before after old new was.0 moved.0 moved.1 was.1,
-    )
-
 -- a moved entry has its type
 pub type-moved : (before after : Nodes) (old new : Option Held) → IsMoved before after old new
     → type_held new ≡ type_held old
@@ -73,21 +43,6 @@ type-moved before after None None moved = refl
 type-moved before after None (Some new) moved = absurd moved
 type-moved before after (Some old) None moved = absurd moved
 type-moved before after (Some old) (Some new) moved = ap (λ (id : ℕ). Some id) moved.0
-
--- the nodes of all entries are nodes
-pub have-nodes : (types : Types) (arena : Nodes) (entries : Entries)
-    → AreVersions types arena entries → HasNodes entries arena
-have-nodes types arena entries all writer name held there =
-    (all.each writer name held there).1.node
-
--- each entry stands for some version afterwards
-pub are-moved : (types : Types) (before after : Nodes) (old new : Entries)
-    → AreVersions types before old → IsCompacted old new before after
-    → AreVersions types after new
-are-moved types before after old new all is = record {
-  each = λ writer name held. some-moved types before after (held_at old writer name)
-      (held_at new writer name) held (is.entries writer name) (all.each writer name);
-}
 
 -- what is there where nothing was changed
 pub kept-whole : (old new : EngineContent) → new ≡ old → KeepsNodes old.arena new.arena

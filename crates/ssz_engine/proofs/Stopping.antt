@@ -9,10 +9,9 @@ use Rattle.ssz_machine.specs.Machine.{Turn}
 use Rattle.ssz_machine.specs.Plays.{Event, charges}
 use Rattle.ssz_machine.specs.Runs.{IsUnderWay}
 use Rattle.ssz_machine.proofs.UnderWay.{Follow, under_way_all, under_way_last}
-use Rattle.ssz_decisions.specs.Content.{EngineContent}
+use Rattle.ssz_decisions.specs.Content.{EngineContent, KeepsEngine}
 use Rattle.ssz_engine.specs.Scripts.{IsStopped, Scene}
 use Rattle.ssz_decisions.specs.Standing.{StandsFor, StandsForVersions, StaysFor}
-use Rattle.ssz_engine.specs.Steps.{KeepsEngine}
 use Rattle.ssz_decisions.proofs.Standing.{stand-kept}
 
 -- entries that stay stand for the same over an arena that keeps its nodes

@@ -16,7 +16,7 @@ use Rattle.ssz_machine.specs.State.{Name}
 use Rattle.ssz_machine.specs.Changes.{puts, touch}
 use Rattle.ssz_decisions.specs.Content.{EngineContent, SameNodes}
 use Rattle.ssz_decisions.specs.Decisions.{IsOf}
-use Rattle.ssz_engine.specs.Finished.{FinishesEdit, finished_edit}
+use Rattle.ssz_decisions.specs.Finished.{FinishesEdit, finished_edit}
 use Rattle.ssz_decisions.specs.Carried.{IsCarriedOut}
 use Rattle.ssz_engine.specs.Tops.{HasDue, IsDue, MakesTop, Tops, TopsWhere}
 use Rattle.ssz_decisions.specs.declared.decision.Decision.{Decision}

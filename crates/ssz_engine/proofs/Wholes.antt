@@ -12,7 +12,7 @@ use Rattle.ssz_script.specs.declared.statement.Statement.{Statement}
 use Rattle.ssz_machine.specs.declared.place.Place.{Place}
 use Rattle.ssz_decisions.specs.Content.{EngineContent, SameNodes}
 use Rattle.ssz_decisions.specs.Decisions.{MakesFew}
-use Rattle.ssz_engine.specs.Finished.{FinishesEdit, finished_edit}
+use Rattle.ssz_decisions.specs.Finished.{FinishesEdit, finished_edit}
 use Rattle.ssz_decisions.specs.Standing.{StandsForSome}
 use Rattle.ssz_decisions.specs.Carried.{CanLack}
 use Rattle.ssz_engine.specs.Steps.{Decides}

@@ -8,10 +8,9 @@ use Rattle.ssz_machine.specs.Machine.{Turn, state_of}
 use Rattle.ssz_machine.specs.Drawing.{Walk, worked}
 use Rattle.ssz_proof.specs.Calculation.{PairOf}
 use Rattle.ssz_machine.specs.Rules.{Rules}
-use Rattle.ssz_decisions.specs.Content.{EngineContent, rules_of}
+use Rattle.ssz_decisions.specs.Content.{EngineContent, rules_of, KeepsEngine}
 use Rattle.ssz_machine.specs.Work.{Worked, turn_done, round}
 use Rattle.ssz_decisions.specs.Standing.{StandsFor}
-use Rattle.ssz_engine.specs.Steps.{KeepsEngine}
 use Rattle.ssz_engine.specs.Scripts.{Point}
 use Rattle.ssz_engine.specs.Works.{AreBroken, AreDone, Works}
 use Rattle.ssz_decisions.specs.declared.fault.EngineFault.{EngineFault}

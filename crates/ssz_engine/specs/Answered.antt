@@ -5,7 +5,6 @@ use Rattle.ssz_proof.specs.Calculation.{PairOf}
 use Rattle.ssz_script.specs.declared.statement.Statement.{Statement}
 use Rattle.ssz_script.specs.declared.reply.Reply.{Reply}
 use Rattle.ssz_script.specs.Texts.{reply_line}
-use Rattle.ssz_versions.specs.Content.{Entries}
 use Rattle.ssz_machine.specs.declared.place.Place.{Place}
 use Rattle.ssz_machine.specs.State.{Versions}
 use Rattle.ssz_machine.specs.Machine.{Turn, reply_of, state_of}
@@ -13,21 +12,12 @@ use Rattle.ssz_machine.specs.Changes.{touch}
 use Rattle.ssz_engine.specs.Compacting.{is_compact}
 use Rattle.ssz_decisions.specs.Content.{EngineContent}
 use Rattle.ssz_decisions.specs.Standing.{StandsFor}
-use Rattle.ssz_decisions.specs.Carried.{DecisionDoes, reply_to, told_after}
 use Rattle.ssz_decisions.specs.Roots.{LeavesHashed}
 use Rattle.ssz_engine.specs.Steps.{DoesStep, ForksWhere, TouchesWhere, UpgradesWhere, turn_at}
 use Rattle.ssz_engine.specs.Tops.{TopsWhere}
 use Rattle.ssz_decisions.specs.Outside.{FilesHold}
-use Rattle.ssz_decisions.specs.declared.decision.Decision.{Decision}
 use Rattle.ssz_decisions.specs.declared.outcome.Outcome.{Outcome}
 use Rattle.ssz_decisions.specs.declared.outcome.Outcome.TheVariants.{Refused}
-
--- A decision was carried out, and this is the reply.
-pub record IsAnswered (made : Decision) (writer line : ℕ) (old new : Entries)
-    (told_old told_new : Option Files) (reply : Reply) : Type 0 where
-  pub entries : DecisionDoes made writer old new
-  pub files : told_new ≡ told_after made told_old
-  pub says : reply ≡ reply_to line made
 
 -- A statement was answered as the turn says: with its reply, and the engine and the files stand
 -- for the state after it.

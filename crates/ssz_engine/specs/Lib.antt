@@ -1,5 +1,3 @@
-pub mod Inner
-pub mod Finished
 pub mod Steps
 pub mod Tops
 pub mod Answered

@@ -12,9 +12,9 @@ use Rattle.ssz_machine.specs.declared.place.Place.{Place}
 use Rattle.ssz_machine.specs.State.{Name, State}
 use Rattle.ssz_machine.specs.Rules.{Rules}
 use Rattle.ssz_machine.specs.Machine.{Line, Turn, step, reply_of, state_of, is_refused, may_stop, misses, reads_file}
-use Rattle.ssz_decisions.specs.Content.{rules_of}
+use Rattle.ssz_decisions.specs.Content.{rules_of, KeepsEngine}
 use Rattle.ssz_decisions.specs.Standing.{StandsFor}
-use Rattle.ssz_engine.specs.Steps.{SavesPart, is_refusal, KeepsEngine}
+use Rattle.ssz_engine.specs.Steps.{SavesPart, is_refusal}
 use Rattle.ssz_engine.specs.Scripts.{AreNamedReadable, Point, file_named}
 use Rattle.ssz_engine.specs.Points.{PaysStep}
 use Rattle.ssz_decisions.specs.declared.outcome.Outcome.{Outcome}

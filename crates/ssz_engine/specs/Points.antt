@@ -14,11 +14,10 @@ use Rattle.ssz_machine.specs.Machine.{Turn, reply_of, charge_of, is_refused, mis
 use Rattle.ssz_machine.specs.Plays.{Event, play, shown_all, says, adopts}
 use Rattle.ssz_machine.specs.Counts.{may_hash, number_said}
 use Rattle.ssz_machine.specs.Runs.{IsUnderWay, job_from, steps_done}
-use Rattle.ssz_decisions.specs.Content.{rules_of}
+use Rattle.ssz_decisions.specs.Content.{rules_of, KeepsEngine}
 use Rattle.ssz_decisions.specs.Standing.{StandsFor}
 use Rattle.ssz_engine.specs.Scripts.{IsStopped, Scene, files_reached, AreNamedReadable}
 use Rattle.ssz_engine.specs.Compacting.{NoneCompacts}
-use Rattle.ssz_engine.specs.Steps.{KeepsEngine}
 
 -- A step was paid for. Before it `was` pairs were hashed and `left` were to be hashed, behind it
 -- `now` and `rest`; where it prints a number, that is what was hashed since the count was `base`.

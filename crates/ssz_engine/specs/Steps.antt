@@ -231,9 +231,3 @@ abbrev pub file_read : Statement → Option Name
 file_read (Load v t file) = Some file
 file_read (LoadJson v t file) = Some file
 file_read _ = None
-
--- what no statement changes: the types, the limit and the base
-pub record KeepsEngine (old new : EngineContent) : Type 0 where
-  pub types : new.types ≡ old.types
-  pub most : new.most ≡ old.most
-  pub base : new.base ≡ old.base

@@ -1,5 +1,5 @@
 -- How a weave ends, and what its writers are told in it.
-use Rattle.std.specs.Prelude.{◌≡◌, ◌≢◌, ◌≤◌, ◌<◌, ℕ, ◌+◌, nat_lt, if◌then◌else◌, List, [], ◌∷◌, length, map, take, Some}
+use Rattle.std.specs.Prelude.{◌≡◌, ◌≢◌, ◌≤◌, ◌<◌, ℕ, ◌+◌, List, [], ◌∷◌, length, map, take, Some}
 use Rattle.std.specs.List.{AllByRecursion}
 use Rattle.ssz_arena.specs.Content.{unhashed}
 use Rattle.ssz_outside.specs.Job.{Ends, IsFinished}
@@ -8,27 +8,16 @@ use Rattle.ssz_outside.specs.declared.status.Status.{Status}
 use Rattle.ssz_outside.specs.declared.status.Status.TheVariants as status
 use Rattle.ssz_proof.specs.Calculation.{PairOf}
 use Rattle.ssz_script.specs.Lines.{statements_in}
-use Rattle.ssz_versions.specs.Content.{Entries, held_at}
 use Rattle.ssz_machine.specs.declared.place.Place.TheVariants.{Weave}
-use Rattle.ssz_machine.specs.State.{Name, State}
+use Rattle.ssz_machine.specs.State.{State}
 use Rattle.ssz_machine.specs.Rules.{Rules}
-use Rattle.ssz_machine.specs.Plays.{base_writer, charges, state_after, weaving}
+use Rattle.ssz_machine.specs.Plays.{charges, state_after, weaving}
 use Rattle.ssz_machine.specs.Jobs.{turns_of_weave, weave_job}
 use Rattle.ssz_machine.specs.Runs.{steps_done}
 use Rattle.ssz_machine.specs.Isolation.{lines_alone, marked}
 use Rattle.ssz_decisions.specs.Content.{rules_of}
 use Rattle.ssz_decisions.specs.Standing.{StandsFor}
 use Rattle.ssz_engine.specs.Scripts.{IsStopped, IsThrough, Scene, files_reached}
-
--- each writer of so many scripts holds what the base's holds, and all else is as before
-abbrev pub AdoptsAll : ℕ → Entries → Entries → Type 0
-AdoptsAll count old new = (writer : ℕ) (name : Name)
-    → held_at new writer name
-    ≡ (if nat_lt writer count then held_at old base_writer name else held_at old writer name)
-
--- so have those of at most so many
-abbrev pub AdoptsSome : ℕ → Entries → Entries → Type 0
-AdoptsSome most old new = (count : ℕ) × (count ≤ most) × AdoptsAll count old new
 
 -- A weave from a first state ended, as its job does. No line of it prints a number.
 pub record EndsWeaveFrom (rules : Rules) (base order : List ℕ) (scripts : List (List ℕ))

@@ -5,78 +5,21 @@ ghost use Rattle.ssz_outside.specs.Content.{CanRead};
 ghost use Rattle.ssz_script.specs.Literals.{HasShortLiteral};
 ghost use Rattle.ssz_machine.specs.Counts.{asks_root};
 ghost use Rattle.ssz_versions.specs.Compacted.{IsCompacted};
-ghost use Rattle.ssz_engine.specs.Answered.{DoesAnswer, IsAnswered};
+ghost use Rattle.ssz_engine.specs.Answered.{DoesAnswer};
 ghost use Rattle.ssz_engine.specs.Compacting.{is_compact};
-ghost use Rattle.ssz_decisions.specs.Content.{SameNodes};
-ghost use Rattle.ssz_decisions.specs.Decisions.{CanDo};
+ghost use Rattle.ssz_decisions.specs.Content.{KeepsEngine};
 ghost use Rattle.ssz_decisions.specs.Roots.{HashesDue, HashesSome};
 ghost use Rattle.ssz_decisions.specs.Outside.{CountsReads, CountsWrites};
-ghost use Rattle.ssz_decisions.specs.Carried.{CanLack, Fails};
-ghost use Rattle.ssz_engine.specs.Steps.{StatementFindsFile, KeepsEngine, Stops, file_read};
+ghost use Rattle.ssz_engine.specs.Steps.{StatementFindsFile, Stops, file_read};
 
-use super::compaction::compact;
 use super::deciding::decide;
 use super::engine::Engine;
 use ssz_chunk::PairHash;
-use ssz_decisions::{Decision, EngineFault, Store, edit, give_up, make, put_file};
+use ssz_decisions::{EngineFault, carry, compact};
 use ssz_machine::Place;
 use ssz_outside::Files;
 use ssz_script::{Reply, Statement};
 use ssz_versions::Writer;
-
-// Carries out a decision, and answers the reply.
-fn carry<F: Files, H: PairHash>(
-    store: &mut Store<H>,
-    writer: Writer,
-    line: u64,
-    decision: Decision<'_>,
-    files: &mut F,
-) -> Result<Reply, EngineFault>
-    requires { CanDo store.old writer.0 decision }
-    ensures nodes { SameNodes store.old store.new }
-    ensures ok { IfOk result (IsAnswered decision.entry writer.0 line store.old.entries
-        store.new.entries (F.content files.old) (F.content files.new)) }
-    ensures err { OnErr result (store.new.entries ≡ store.old.entries) }
-    ensures fails { IfErr result (λ fault. Fails fault decision.entry (F.content files.old)
-        (F.content files.new)) }
-    ensures sure { OnErr result (CanLack decision.entry) }
-    ensures told { is_some (F.content files.new) ≡ is_some (F.content files.old) }
-    ensures readable { (other : List ℕ) → F.readable files.old other → F.readable files.new other }
-    ensures gets { F.get_faults files.new ≡ F.get_faults files.old }
-    ensures puts { CountsWrites result (F.put_faults files.old) (F.put_faults files.new) }
-{
-    match decision {
-        Decision::Refused(code) => {
-            let fault = None;
-            Ok(Reply::Refused { line, code, fault })
-        }
-        Decision::BadBytes(fault) => {
-            let (code, fault) = (Reply::BAD_LITERAL, Some(fault));
-            Ok(Reply::Refused { line, code, fault })
-        }
-        Decision::BadJson(fault) => {
-            let (code, number) = (fault.code, fault.number);
-            Ok(Reply::BadJson { line, code, number })
-        }
-        Decision::Said(reply) => Ok(reply),
-        Decision::Made(name, id, node, room) => {
-            make(store, writer, name, (id, node), room);
-            Ok(Reply::Done)
-        }
-        Decision::Edited(name, node) => {
-            edit(store, writer, name, node);
-            Ok(Reply::Done)
-        }
-        Decision::Dropped(name) => {
-            give_up(store, writer, name);
-            Ok(Reply::Done)
-        }
-        Decision::Saved(name, bytes) => {
-            put_file(files, name, bytes.as_slice())?;
-            Ok(Reply::Done)
-        }
-    }
-}
 
 impl<H: PairHash> Engine<H> {
     /// How many nodes there are, the zero trees among them.

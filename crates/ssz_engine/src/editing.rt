@@ -11,37 +11,21 @@ ghost use Rattle.ssz_machine.specs.Editing.{append, choose, pop, set};
 ghost use Rattle.ssz_machine.specs.Changes.{puts};
 ghost use Rattle.ssz_decisions.specs.Content.{Grows};
 ghost use Rattle.ssz_decisions.specs.Decisions.{AnswersWith};
-ghost use Rattle.ssz_engine.specs.Finished.{FinishesEdit};
 ghost use Rattle.ssz_engine.specs.Tops.{IsDue, SetsTop};
 
-use super::option_given::{literal_given, option_default, option_fault};
 use ssz_arena::NodeId;
 use ssz_bytes::ByteRun;
 use ssz_checking::check;
 use ssz_chunk::PairHash;
-use ssz_decisions::{Decision, Store, code_of_edit, way_from};
+use ssz_decisions::{Decision, Store, code_of_edit, finish, way_from};
 use ssz_edit::{
-    Choice, Given, given_of, open_choice, open_end, open_part, put_choice, put_element, put_part,
+    Choice, Given, given_of, literal_given, open_choice, open_end, open_part, option_default,
+    option_fault, put_choice, put_element, put_part,
 };
 use ssz_line::Steps;
 use ssz_script::Identifier;
-use ssz_value::EditFault;
 use ssz_versions::Writer;
 use std::alloc::AllocError;
-
-// What an edit of a version's node comes to. Fails for want of memory.
-fn finish<'a>(
-    v: &'a Identifier,
-    edited: Result<NodeId, EditFault>,
-) -> Result<Decision<'a>, AllocError>
-    ensures { FinishesEdit v.now edited result }
-{
-    match edited {
-        Ok(node) => Ok(Decision::Edited(v, node)),
-        Err(EditFault::Memory) => Err(AllocError),
-        Err(fault) => Ok(Decision::Refused(code_of_edit(fault))),
-    }
-}
 
 /// `set V P LIT`. Fails for want of memory.
 pub(crate) fn set<'a, H: PairHash>(
@@ -157,20 +141,14 @@ pub(crate) fn choose<'a, H: PairHash>(
         Err(code) => return Ok(Decision::Refused(code)),
     };
     let steps = way.steps.as_slice();
-    let choice = match open_choice(
-        &store.arena,
-        &store.schema,
-        way.id,
-        way.node,
-        steps,
-        selector,
-    ) {
+    let (id, node) = (way.id, way.node);
+    let choice = match open_choice(&store.arena, &store.schema, id, node, steps, selector) {
         Ok(choice) => choice,
         Err(fault) => return Ok(Decision::Refused(code_of_edit(fault))),
     };
     match literal {
-        Some(bytes) => choose_literal(store, v, way.node, &choice, bytes.as_slice()),
-        None => choose_default(store, v, way.node, &choice),
+        Some(bytes) => choose_literal(store, v, node, &choice, bytes.as_slice()),
+        None => choose_default(store, v, node, &choice),
     }
 }
 

@@ -12,13 +12,13 @@ ghost use Rattle.ssz_engine.specs.Compacting.{compacted, is_compact};
 ghost use Rattle.ssz_decisions.specs.Standing.{StandsForSome, StandsFor, HoldsNone};
 ghost use Rattle.ssz_decisions.specs.Outside.{CountsReads, CountsWrites};
 ghost use Rattle.ssz_decisions.specs.Roots.{HashesDue, LeavesHashed, HashesSome};
-ghost use Rattle.ssz_engine.specs.Steps.{DoesStep, StatementFindsFile, ForksWhere, KeepsEngine, Stops, TouchesWhere, UpgradesWhere, file_read};
+ghost use Rattle.ssz_engine.specs.Steps.{DoesStep, StatementFindsFile, ForksWhere, Stops, TouchesWhere, UpgradesWhere, file_read};
+ghost use Rattle.ssz_decisions.specs.Content.{KeepsEngine};
 ghost use Rattle.ssz_engine.specs.Tops.{TopsWhere};
 
-use super::compaction::compact;
 use super::deciding::decide;
 use ssz_chunk::PairHash;
-use ssz_decisions::{EngineFault, Outcome, Store, carry_out};
+use ssz_decisions::{EngineFault, Outcome, Store, carry_out, compact};
 use ssz_machine::Place;
 use ssz_outside::Files;
 use ssz_schema::Schema;

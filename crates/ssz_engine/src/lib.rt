@@ -1,24 +1,19 @@
 //! Statements of scripts over shared cached trees.
 //!
 //! An `Engine` keeps a store: a schema, an arena of nodes, and what each writer holds under each
-//! name. A statement is done in two steps, over the store. First it is decided (`decide`): what it
-//! comes to, which `ssz_decisions` has but for edits and upgrades of versions, which are here. Then
-//! the decision is carried out. `compact` alone goes another way (`compaction`), since it gives up
-//! nodes.
+//! name. A statement is decided (`decide`), and then the decision is carried out. `ssz_decisions`
+//! has both, but for edits and upgrades of versions, which are here.
 //!
 //! A script is done line by line (`run_script`): each line's reply is made in memory and printed in
 //! one piece. Scripts of several writers take turns over the same arena (`weave`). The statements
 //! of a `work` are drawn from a number.
 #![tactic(auto)]
 
-mod adopting;
 mod answering;
-mod compaction;
 mod deciding;
 mod editing;
 mod engine;
 mod laws;
-mod option_given;
 mod run;
 mod script_line;
 mod turns;

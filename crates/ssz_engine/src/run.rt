@@ -9,7 +9,7 @@ ghost use Rattle.ssz_engine.specs.Compacting.{NoneCompacts};
 ghost use Rattle.ssz_engine.specs.Lines.{LeavesOthers};
 ghost use Rattle.ssz_engine.specs.Points.{Runs, finished_status};
 ghost use Rattle.ssz_engine.specs.Scripts.{EndsScript, files_named, scene};
-ghost use Rattle.ssz_engine.specs.Steps.{KeepsEngine};
+ghost use Rattle.ssz_decisions.specs.Content.{KeepsEngine};
 
 use super::engine::Engine;
 use super::script_line::run_line;

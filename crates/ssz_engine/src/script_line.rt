@@ -1,10 +1,8 @@
 // One line of a script.
-ghost use Rattle.std.specs.Prelude.{◌≡◌, ◌≤◌, ◌+◌, ◌∷◌, ◌++◌, [], false, Some, None, Err, IfOk, IfErr, IfSome, OnOk, OnErr};
+ghost use Rattle.std.specs.Prelude.{◌≡◌, ◌≤◌, ◌+◌, ◌∷◌, [], false, Err, IfOk, IfErr, IfSome, OnOk, OnErr};
 ghost use Rattle.ssz_arena.specs.Content.{unhashed};
 ghost use Rattle.ssz_outside.specs.Job.{IsFinished};
-ghost use Rattle.ssz_script.specs.Texts.{reply_line};
-ghost use Rattle.ssz_script.specs.declared.reply.TheConstants.Reply.{SYNTAX};
-ghost use Rattle.ssz_machine.specs.Plays.{line_prefix, mark, says};
+ghost use Rattle.ssz_machine.specs.Plays.{says};
 ghost use Rattle.ssz_engine.specs.Lines.{CountsPrint, DoesLine, LeavesOthers, PrintsLine, ended_by, Tries};
 ghost use Rattle.ssz_decisions.specs.Standing.{StaysFor};
 ghost use Rattle.ssz_engine.specs.Steps.{is_refusal};
@@ -15,52 +13,11 @@ ghost use Rattle.ssz_engine.specs.Scripts.{point, scene};
 
 use super::engine::Engine;
 use ssz_chunk::PairHash;
-use ssz_decisions::{EngineFault, Outcome};
+use ssz_decisions::{EngineFault, Outcome, push_front, say};
 use ssz_machine::Place;
 use ssz_outside::{Files, PutFault, Sink, Status};
-use ssz_script::{Reply, ScriptStatement, reply_text};
+use ssz_script::{Reply, ScriptStatement};
 use ssz_versions::Writer;
-use std::alloc::AllocError;
-
-/// The writer of the script that a weave begins with.
-pub(crate) const BASE: Writer = Writer(255);
-
-// Appends the mark of a writer's lines in a weave.
-fn push_mark(writer: Writer, out: &mut Vec<u8>) -> Result<(), AllocError>
-    ensures { OnOk result (out.new.items ≡ out.old.items ++ mark writer.0) }
-{
-    if writer == BASE {
-        return out.extend_from_slice(b"base: ");
-    }
-    let number = writer.0.to_string(*out.allocator())?;
-    out.extend_from_slice(number.as_bytes())?;
-    out.extend_from_slice(b": ")
-}
-
-// Appends what stands before a reply to a writer.
-fn push_front(place: Place, writer: Writer, out: &mut Vec<u8>) -> Result<(), AllocError>
-    ensures { OnOk result (out.new.items ≡ out.old.items ++ line_prefix place writer.0) }
-{
-    match place {
-        Place::Run => Ok(()),
-        Place::Weave => push_mark(writer, out),
-    }
-}
-
-// Appends the line that refuses what is no statement. Fails for want of memory.
-fn refuse(line: u64, out: &mut Vec<u8>) -> Result<Outcome, AllocError>
-    ensures refused { IfOk result (λ made. made ≡ Outcome.Refused) }
-    ensures text { OnOk result
-        (out.new.items ≡ out.old.items ++ reply_line (Reply.Refused line SYNTAX None)) }
-{
-    let refused = Reply::Refused {
-        line,
-        code: Reply::SYNTAX,
-        fault: None,
-    };
-    reply_text(&refused, out)?;
-    Ok(Outcome::Refused)
-}
 
 /// Does what a line of a writer says, and appends the line of the reply. A literal of 2^32 bytes or
 /// more is want of memory.
@@ -90,7 +47,9 @@ pub(crate) fn reply_to<F: Files, H: PairHash>(
         HashesSome statement writer.0 engine.old (H.pairs hasher.old) (H.pairs hasher.new))) }
 {
     let Some(statement) = &line.statement else {
-        return Ok(refuse(line.line, out)?);
+        let (line, code, fault) = (line.line, Reply::SYNTAX, None);
+        let refused = Reply::Refused { line, code, fault };
+        return Ok(say(refused, Outcome::Refused, out)?);
     };
     if !statement.has_short_literal() {
         return Err(EngineFault::Memory);

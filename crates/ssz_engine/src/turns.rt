@@ -33,24 +33,16 @@ fn run_next<F: Files, S: Sink, H: PairHash>(
         Err(_) => Err(Status::Memory),
         Ok(None) => Ok(()),
         Ok(Some(line)) => {
-            let ran = run_line(
-                engine,
-                Place::Weave,
-                writer,
-                &line,
-                files,
-                out,
-                hasher,
-                refused,
-            );
+            let weave = Place::Weave;
+            let ran = run_line(engine, weave, writer, &line, files, out, hasher, refused);
             drop(line);
             ran
         }
     }
 }
 
-// Does a line of each writer in this order; a writer that has none left is passed over.
-fn run_turns<F: Files, S: Sink, H: PairHash>(
+/// Does a line of each writer in this order; a writer that has none left is passed over.
+pub(crate) fn run_turns<F: Files, S: Sink, H: PairHash>(
     engine: &mut Engine<H>,
     order: &[u8],
     scripts: &mut Vec<Statements<'_>>,
@@ -74,8 +66,8 @@ fn run_turns<F: Files, S: Sink, H: PairHash>(
     Ok(())
 }
 
-// Does what is left of each script, one writer after another.
-fn run_rest<F: Files, S: Sink, H: PairHash>(
+/// Does what is left of each script, one writer after another.
+pub(crate) fn run_rest<F: Files, S: Sink, H: PairHash>(
     engine: &mut Engine<H>,
     scripts: &mut Vec<Statements<'_>>,
     files: &mut F,
@@ -92,38 +84,9 @@ fn run_rest<F: Files, S: Sink, H: PairHash>(
     while usize::from(number) < scripts.len() {
         let writer = Writer(number);
         let lines = &mut scripts[usize::from(number)];
-        run_lines(
-            engine,
-            Place::Weave,
-            writer,
-            lines,
-            files,
-            out,
-            hasher,
-            refused,
-        )?;
+        let weave = Place::Weave;
+        run_lines(engine, weave, writer, lines, files, out, hasher, refused)?;
         number += 1;
     }
     Ok(())
-}
-
-/// Does a line of each writer in this order, and then what is left of each script.
-pub(crate) fn run_woven<F: Files, S: Sink, H: PairHash>(
-    engine: &mut Engine<H>,
-    order: &[u8],
-    scripts: &mut Vec<Statements<'_>>,
-    files: &mut F,
-    out: &mut S,
-    hasher: &mut H,
-    refused: &mut bool,
-) -> Result<(), Status>
-    requires few { vec_len scripts.old ≤ base_writer }
-    requires known { All (λ writer. writer < vec_len scripts.old) order.now }
-    ensures { Runs H.pair_of Weave (woven order.now scripts.old.items) result refused.old
-        refused.new
-        (scene F.Files S.Sink H.PairHash engine.old files.old out.old hasher.old)
-        (scene F.Files S.Sink H.PairHash engine.new files.new out.new hasher.new) }
-{
-    run_turns(engine, order, scripts, files, out, hasher, refused)?;
-    run_rest(engine, scripts, files, out, hasher, refused)
 }

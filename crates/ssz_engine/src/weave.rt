@@ -10,17 +10,16 @@ ghost use Rattle.ssz_machine.specs.declared.place.Place.TheVariants.{Weave};
 ghost use Rattle.ssz_engine.specs.Compacting.{NoneCompacts};
 ghost use Rattle.ssz_engine.specs.Points.{Runs};
 ghost use Rattle.ssz_engine.specs.Scripts.{AreNamedReadable, scene};
-ghost use Rattle.ssz_engine.specs.Steps.{KeepsEngine};
+ghost use Rattle.ssz_decisions.specs.Content.{KeepsEngine};
 ghost use Rattle.ssz_engine.specs.Weaves.{EndsWeave, IsolatesWriters};
 ghost use Rattle.ssz_decisions.specs.Standing.{HoldsNone};
 
-use super::adopting::adopt_all;
 use super::engine::Engine;
 use super::run::{run_lines, status_after};
-use super::script_line::BASE;
-use super::turns::run_woven;
+use super::turns::{run_rest, run_turns};
 use ssz_bytes::ByteRun;
 use ssz_chunk::PairHash;
+use ssz_decisions::{BASE, adopt_all};
 use ssz_machine::Place;
 use ssz_outside::{Files, Sink, Status};
 use ssz_script::Statements;
@@ -93,7 +92,8 @@ fn run_weave<F: Files, S: Sink, H: PairHash>(
         return Err(Status::Memory);
     };
     run_base(engine, base, lines.len(), files, out, hasher, refused)?;
-    run_woven(engine, order, &mut lines, files, out, hasher, refused)
+    run_turns(engine, order, &mut lines, files, out, hasher, refused)?;
+    run_rest(engine, &mut lines, files, out, hasher, refused)
 }
 
 impl<H: PairHash> Engine<H> {

@@ -5,7 +5,7 @@ ghost use Rattle.ssz_outside.specs.Content.{Content as Held};
 ghost use Rattle.ssz_outside.specs.Job.{CountsRun, Ends, IsThatOrStopped};
 ghost use Rattle.ssz_script.specs.Texts.{line};
 ghost use Rattle.ssz_engine.specs.Scripts.{scene};
-ghost use Rattle.ssz_engine.specs.Steps.{KeepsEngine};
+ghost use Rattle.ssz_decisions.specs.Content.{KeepsEngine};
 ghost use Rattle.ssz_engine.specs.Works.{EndsWork, two_lines_job};
 
 use super::engine::Engine;

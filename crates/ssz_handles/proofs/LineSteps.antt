@@ -11,9 +11,9 @@ use Rattle.ssz_machine.specs.declared.place.Place.TheVariants as place
 use Rattle.ssz_machine.specs.State.{Versions}
 use Rattle.ssz_machine.specs.Machine.{Turn, reply_of}
 use Rattle.ssz_engine.specs.Compacting.{compacted}
-use Rattle.ssz_decisions.specs.Content.{EngineContent as Engine}
+use Rattle.ssz_decisions.specs.Content.{EngineContent as Engine, KeepsEngine}
 use Rattle.ssz_decisions.specs.Standing.{StandsFor, StandsForVersions}
-use Rattle.ssz_engine.specs.Steps.{DoesStep, KeepsEngine, StepLeaves, SavesPart, Stops, is_refusal, turn_at}
+use Rattle.ssz_engine.specs.Steps.{DoesStep, StepLeaves, SavesPart, Stops, is_refusal, turn_at}
 use Rattle.ssz_decisions.specs.declared.outcome.Outcome.{Outcome}
 use Rattle.ssz_decisions.specs.declared.outcome.Outcome.TheVariants.{Accepted, Refused}
 use Rattle.ssz_decisions.specs.declared.fault.EngineFault.{EngineFault}

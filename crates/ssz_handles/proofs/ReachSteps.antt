@@ -8,8 +8,8 @@ use Rattle.ssz_script.specs.declared.statement.Statement.{Statement}
 use Rattle.ssz_machine.specs.declared.place.Place.TheVariants as place
 use Rattle.ssz_engine.specs.Answered.{DoesAnswer, IsTurn}
 use Rattle.ssz_engine.specs.Compacting.{is_compact}
-use Rattle.ssz_decisions.specs.Content.{EngineContent as Engine}
-use Rattle.ssz_engine.specs.Steps.{KeepsEngine, SavesPart, Stops, turn_at}
+use Rattle.ssz_decisions.specs.Content.{EngineContent as Engine, KeepsEngine}
+use Rattle.ssz_engine.specs.Steps.{SavesPart, Stops, turn_at}
 use Rattle.ssz_decisions.specs.declared.fault.EngineFault.{EngineFault}
 use Rattle.ssz_decisions.specs.declared.fault.EngineFault.TheVariants.{Read, Write, Memory}
 use Rattle.ssz_engine.proofs.Moving.{kept-whole}

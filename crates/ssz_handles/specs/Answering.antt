@@ -6,9 +6,9 @@ use Rattle.ssz_script.specs.declared.statement.Statement.{Statement}
 use Rattle.ssz_script.specs.declared.reply.Reply.{Reply}
 use Rattle.ssz_machine.specs.State.{Versions}
 use Rattle.ssz_engine.specs.Answered.{IsTurn}
-use Rattle.ssz_decisions.specs.Content.{EngineContent as Engine}
+use Rattle.ssz_decisions.specs.Content.{EngineContent as Engine, KeepsEngine}
 use Rattle.ssz_decisions.specs.Standing.{StandsFor}
-use Rattle.ssz_engine.specs.Steps.{CanAsk, KeepsEngine}
+use Rattle.ssz_engine.specs.Steps.{CanAsk}
 use Rattle.ssz_decisions.specs.declared.fault.EngineFault.{EngineFault}
 use Rattle.ssz_decisions.specs.declared.fault.EngineFault.TheVariants as stop
 use Rattle.ssz_said.specs.declared.status.TheConstants.{NO_HANDLE, NO_READ, NO_WRITE, NO_MEMORY}

@@ -14,9 +14,9 @@ use Rattle.ssz_script.specs.Texts.{reply_line}
 use Rattle.ssz_machine.specs.declared.place.Place.TheVariants as place
 use Rattle.ssz_machine.specs.State.{Versions}
 use Rattle.ssz_machine.specs.Machine.{Turn, step, reply_of, state_of, is_refused, save_of}
-use Rattle.ssz_decisions.specs.Content.{EngineContent as Engine, rules_of}
+use Rattle.ssz_decisions.specs.Content.{EngineContent as Engine, rules_of, KeepsEngine}
 use Rattle.ssz_decisions.specs.Standing.{StandsFor}
-use Rattle.ssz_engine.specs.Steps.{CanAsk, KeepsEngine}
+use Rattle.ssz_engine.specs.Steps.{CanAsk}
 use Rattle.ssz_decisions.specs.declared.outcome.Outcome.{Outcome as Ended}
 use Rattle.ssz_decisions.specs.declared.outcome.Outcome.TheVariants as outcome
 use Rattle.ssz_decisions.specs.declared.fault.EngineFault.{EngineFault}

@@ -1,6 +1,6 @@
 // What a session answers to a statement that is no line.
 ghost use Rattle.std.specs.Prelude.{◌≡◌, IfOk};
-ghost use Rattle.ssz_engine.specs.Steps.{KeepsEngine};
+ghost use Rattle.ssz_decisions.specs.Content.{KeepsEngine};
 ghost use Rattle.ssz_said.specs.Statements.{HasShortLiteral};
 ghost use Rattle.ssz_handles.specs.Answering.{ArgumentsDo, StatementReaches, answer_of, scene_at};
 

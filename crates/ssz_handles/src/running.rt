@@ -1,7 +1,7 @@
 // The lines of a session.
 ghost use Rattle.std.specs.Prelude.{◌≡◌, [], IfOk, IfErr, None};
 ghost use Rattle.std.specs.Result.{result_map_both};
-ghost use Rattle.ssz_engine.specs.Steps.{KeepsEngine};
+ghost use Rattle.ssz_decisions.specs.Content.{KeepsEngine};
 ghost use Rattle.ssz_said.specs.declared.status.TheConstants.{NO_MEMORY};
 ghost use Rattle.ssz_said.specs.Outcome.{refused};
 ghost use Rattle.ssz_handles.specs.Session.{Begins, StatementDoes, SessionDoesLine, Refuses, SessionRuns, Starts, StartsOn, ran_of};

@@ -5,7 +5,7 @@ use Rattle.ssz_places.specs.Charges.{choose_charge}
 use Rattle.ssz_versions.specs.Content.{Held, held_at}
 use Rattle.ssz_value.specs.declared.value.Value.{Value}
 use Rattle.ssz_edit.specs.declared.given.Given.{Given}
-use Rattle.ssz_engine.specs.Inner.{IsDefault}
+use Rattle.ssz_edit.specs.Inner.{IsDefault}
 use Rattle.ssz_edit.specs.Given.{option_value, IsOfOption}
 use Rattle.ssz_edit.specs.Targets.{ChoosesAt, HasUnion}
 use Rattle.ssz_machine.specs.Editing.{choose}

@@ -8,7 +8,7 @@ use Rattle.ssz_machine.specs.declared.place.Place.TheVariants.{Weave}
 use Rattle.ssz_decisions.specs.Content.{EngineContent}
 use Rattle.ssz_engine.specs.Points.{Runs}
 use Rattle.ssz_engine.specs.Scripts.{Scene, scene}
-use Rattle.ssz_engine.specs.Weaves.{AdoptsAll, AdoptsSome}
+use Rattle.ssz_decisions.specs.Adopted.{AdoptsAll, AdoptsSome}
 use Rattle.ssz_engine.proofs.Going.{runs_exit, runs_of, runs_stops, runs_then}
 use Rattle.ssz_engine.proofs.TakenOver.{runs_adopted, runs_unadopted}
 use Rattle.ssz_engine.proofs.weave.run_base.Goals as goal

@@ -1,6 +1,6 @@
 use Rattle.std.proofs.Common.{◌∙◌, refl, arith}
-use Rattle.ssz_engine.proofs.TakenOver.{adopts_more, adopts_none, next_holds_none}
-use Rattle.ssz_engine.proofs.adopting.adopt_all.Goals as goal
+use Rattle.ssz_decisions.proofs.Takers.{adopts_more, adopts_none, next_holds_none}
+use Rattle.ssz_decisions.proofs.adopting.adopt_all.Goals as goal
 
 pub adopt-requires : goal.adopt-requires
 adopt-requires g c =

@@ -1,7 +1,7 @@
 use Rattle.std.proofs.Common.{refl}
 use Rattle.ssz_machine.specs.Plays.{base_writer}
 use Rattle.ssz_decisions.proofs.Entries.{are-adopted-or-same}
-use Rattle.ssz_engine.proofs.adopting.adopt.Goals as goal
+use Rattle.ssz_decisions.proofs.adopting.adopt.Goals as goal
 
 pub invariant_of-store : goal.invariant_of-store
 invariant_of-store g c =

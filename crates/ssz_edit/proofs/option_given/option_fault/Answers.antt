@@ -1,6 +1,6 @@
 use Rattle.std.proofs.Common.{◌∙◌, Some, sym, ap}
-use Rattle.ssz_engine.proofs.Chosen.{typed, untyped}
-use Rattle.ssz_engine.proofs.option_given.option_fault.Goals as goal
+use Rattle.ssz_edit.proofs.Optional.{typed, untyped}
+use Rattle.ssz_edit.proofs.option_given.option_fault.Goals as goal
 
 pub returns-in-Some : goal.returns-in-Some
 returns-in-Some c options k there =

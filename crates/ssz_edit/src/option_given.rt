@@ -2,18 +2,18 @@
 ghost use Rattle.std.specs.Prelude.{ℕ, ◌≡◌, ◌<◌, ◌^◌, List, Option, Some, length, slice_get, IfOk};
 ghost use Rattle.ssz_schema.specs.Unfolding.{options_over, IsBelow};
 ghost use Rattle.ssz_value.specs.Faults.{option_fault};
-ghost use Rattle.ssz_engine.specs.Inner.{IsDefault, IsLiteral};
+ghost use Rattle.ssz_edit.specs.Inner.{IsDefault, IsLiteral};
 
+use super::given::Given;
 use ssz_bytes::Fault;
 use ssz_checking::check;
-use ssz_edit::Given;
 use ssz_parts::none_fault;
 use ssz_schema::{Schema, TypeId};
 use ssz_value::{Value, default_of};
 use std::alloc::{AllocError, Global};
 
 /// The first fault of an option's literal; the option None wants no bytes.
-pub(crate) fn option_fault(schema: &Schema, option: Option<TypeId>, literal: &[u8]) -> Option<Fault>
+pub fn option_fault(schema: &Schema, option: Option<TypeId>, literal: &[u8]) -> Option<Fault>
     requires known { IsBelow (length schema.now.trees) option }
     requires short { length literal.now < 2 ^ 32 }
     ensures { (options : List (Option ℕ)) (k : ℕ) → slice_get options k ≡ Some option
@@ -26,7 +26,7 @@ pub(crate) fn option_fault(schema: &Schema, option: Option<TypeId>, literal: &[u
 }
 
 /// A literal without a fault, as what is given for the option.
-pub(crate) fn literal_given<'a>(option: Option<TypeId>, literal: &'a [u8]) -> Option<Given<'a>>
+pub fn literal_given<'a>(option: Option<TypeId>, literal: &'a [u8]) -> Option<Given<'a>>
     ensures { IsLiteral option literal.now result }
 {
     match option {
@@ -36,7 +36,7 @@ pub(crate) fn literal_given<'a>(option: Option<TypeId>, literal: &'a [u8]) -> Op
 }
 
 /// The default of an option.
-pub(crate) fn option_default(
+pub fn option_default(
     alloc: Global,
     schema: &Schema,
     option: Option<TypeId>,

@@ -1,6 +1,6 @@
 use Rattle.ssz_decisions.specs.Content.{SameNodes}
-use Rattle.ssz_engine.specs.Weaves.{AdoptsAll}
-use Rattle.ssz_engine.proofs.adopting.adopt_all.Given as goal
+use Rattle.ssz_decisions.specs.Adopted.{AdoptsAll}
+use Rattle.ssz_decisions.proofs.adopting.adopt_all.Given as goal
 
 -- the writers so far have taken over what the base's holds
 abbrev pub invariant-loop-number : goal.invariant-loop-number

@@ -3,7 +3,7 @@ use Rattle.ssz_schema.specs.Unfolding.{type_of}
 use Rattle.ssz_value.specs.Values.{Fits}
 use Rattle.ssz_value.specs.Standing.{IsValue}
 use Rattle.ssz_value.proofs.SizeLaw.{default_fits}
-use Rattle.ssz_engine.proofs.option_given.option_default.Goals as goal
+use Rattle.ssz_edit.proofs.option_given.option_default.Goals as goal
 
 pub returns : goal.returns
 returns c =

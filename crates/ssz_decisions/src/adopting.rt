@@ -3,12 +3,12 @@ ghost use Rattle.std.specs.Prelude.{◌≡◌, ◌≤◌, ◌<◌, ℕ, OnOk, On
 ghost use Rattle.ssz_versions.specs.Outcomes.{Adopts};
 ghost use Rattle.ssz_machine.specs.Plays.{base_writer};
 ghost use Rattle.ssz_decisions.specs.Content.{SameNodes};
-ghost use Rattle.ssz_engine.specs.Weaves.{AdoptsAll, AdoptsSome};
+ghost use Rattle.ssz_decisions.specs.Adopted.{AdoptsAll, AdoptsSome};
 ghost use Rattle.ssz_decisions.specs.Standing.{HoldsNone};
 
-use super::script_line::BASE;
+use super::fronts::BASE;
+use super::store::Store;
 use ssz_chunk::PairHash;
-use ssz_decisions::Store;
 use ssz_versions::Writer;
 use std::alloc::AllocError;
 
@@ -23,7 +23,7 @@ fn adopt<H: PairHash>(store: &mut Store<H>, writer: Writer) -> Result<(), AllocE
 }
 
 /// Gives the writers of so many scripts what the base's writer holds.
-pub(crate) fn adopt_all<H: PairHash>(store: &mut Store<H>, count: usize) -> Result<(), AllocError>
+pub fn adopt_all<H: PairHash>(store: &mut Store<H>, count: usize) -> Result<(), AllocError>
     requires few { count ≤ base_writer }
     requires none { (writer : ℕ) → writer < count → HoldsNone store.old.entries writer }
     ensures nodes { SameNodes store.old store.new }
