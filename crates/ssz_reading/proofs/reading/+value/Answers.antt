@@ -79,8 +79,8 @@ read_fields-loop-i-preserved g t c = record {
       (λ v h. c.in_ok-put.ensures.put v
       (at_place (type_of c.args.schema.now c.index-fields-i.result.1) c.args.top.depth c.loop-i.i v
       (tree_of c.args.arena.now c.args.top.node) (tree_of c.args.arena.now
-      c.node_of_place-part.result)
-      h c.node_of_place-part.ensures.tree));
+      c.place-part.result)
+      h c.place-part.ensures.tree));
   count = omega (arith, c.in_ok-put.ensures.len, c.loop-i.invariant.count);
   room = omega (arith, c.in_ok-put.ensures.capacity, c.loop-i.invariant.room);
 }
