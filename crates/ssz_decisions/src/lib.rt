@@ -11,8 +11,8 @@
 //! `compact` alone is done at once, since it gives up nodes. What a weave puts before its lines and
 //! gives its writers to begin with is here, too (`push_front`, `adopt_all`).
 //!
-//! Edits and upgrades of versions, and runs, are in `ssz_engine`: they stand on the crates that edit
-//! nodes, and this one beside those.
+//! Edits and upgrades of versions, and runs, are in `ssz_engine`: they stand on the crates that
+//! edit nodes, and this one beside those.
 #![tactic(auto)]
 
 mod adopting;

@@ -9,8 +9,8 @@
 //! (ssz_walk), and answers the refusal or where the part is and of what type (`open_part`,
 //! `open_end`, `open_choice`). The second puts something there: a value, or the bytes of one, which
 //! become nodes with no value made (`Given`; `put_part`, `put_element`, `put_choice`). So a caller
-//! reads what it is to put by the type, once no test refuses it; for the option that a `choose` gives
-//! a union, its literal is tested and its default made here (`option_fault`, `literal_given`,
+//! reads what it is to put by the type, once no test refuses it; for the option that a `choose`
+//! gives a union, its literal is tested and its default made here (`option_fault`, `literal_given`,
 //! `option_default`). `set`, `append` and `choose` are both at once.
 #![tactic(auto)]
 
