@@ -20,7 +20,24 @@ pub fn field_at(fields: &[(Name, TypeId)], name: &Name) -> Option<usize>
 pub fn field_number(fields: &[(Name, TypeId)], name: &[u8]) -> Option<usize>
     ensures { result ≡ position_from (λ field. bytes_eq field.0 name.now) 0 fields.now }
 {
-    fields.iter().position(|field| field.0.as_bytes() == name)
+    fields
+        .iter()
+        .position(|field| is_same(field.0.as_bytes(), name))
+}
+
+// Whether two names are the same. Those of a container often begin alike, and `==` would then call
+// a function that compares them whole: most differ in their length or their last byte.
+fn is_same(a: &[u8], b: &[u8]) -> bool
+    ensures { result ≡ bytes_eq a.now b.now }
+{
+    let count = a.len();
+    if count != b.len() {
+        return false;
+    }
+    if count > 0 && a[count - 1] != b[count - 1] {
+        return false;
+    }
+    a == b
 }
 
 /// The type, where the number is below the length or limit.
