@@ -126,4 +126,5 @@ named-copied IsCopy same (e ∷ es) [] copies = absurd copies
 named-copied IsCopy same (e ∷ es) (f ∷ fs) copies =
     let first = same e f copies.0 in
     ap₂ (λ (n : List ℕ × ℕ) ns. n ∷ ns)
-    (ap₂ (λ (name : List ℕ) (id : ℕ). (name, id)) first.0 first.1) (named-copied IsCopy same es fs copies.1)
+    (ap₂ (λ (name : List ℕ) (id : ℕ). (name, id)) first.0 first.1)
+    (named-copied IsCopy same es fs copies.1)

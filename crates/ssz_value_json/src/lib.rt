@@ -3,8 +3,8 @@
 //! `write_json` appends the text of a value (`ssz_json_text`), `read_json` gives the value whose
 //! text some bytes are, or their first fault. A draft of the value is made first
 //! (`ssz_json_draft`), and its text compared with the bytes: where white space alone stands behind
-//! it, that is the fault. Else the bytes are read anew by `serde_json` and walked by the type to the
-//! first fault or a value. A value is answered only where the bytes are its one text.
+//! it, that is the fault. Else the bytes are read anew by `serde_json` and walked by the type to
+//! the first fault or a value. A value is answered only where the bytes are its one text.
 #![tactic(auto)]
 
 mod count;
