@@ -1,8 +1,10 @@
 -- A single step has room: the indices below it fit.
-use Rattle.std.proofs.Common.{◌≡◌, ℕ, ◌+◌, ◌*◌, ◌^◌, ◌<◌, ◌≤◌, Option, Some, None, refl, ap, arith, pow-add}
+use Rattle.std.proofs.Common.{◌≡◌, ℕ, ◌+◌, ◌*◌, ◌%◌, ◌^◌, ◌<◌, ◌≤◌, Option, Some, None, inl, inr, refl, ap, ◌∙◌, arith, pow-add}
 use Rattle.std.specs.Prelude.{IsSome}
+use Rattle.std.proofs.Common.{mod-eq_of_lt}
 use Rattle.std.proofs.Math.Nat.{mul-le-mul_left, mul-le-mul_right, pow-le-pow_right}
-use Rattle.std.proofs.lemmas.Bool.{false≢true}
+use Rattle.std.proofs.lemmas.Bool.{cases_lt, false≢true}
+use Rattle.std.proofs.lemmas.Nat.{pow_pos}
 use Rattle.ssz_schema.specs.declared.path.PathStep.{PathStep}
 use Rattle.ssz_schema.specs.Types.{SszType}
 use Rattle.ssz_schema.specs.Sizes.{type_levels}
@@ -10,8 +12,16 @@ use Rattle.ssz_schema.specs.Paths.{step_type}
 use Rattle.ssz_schema.specs.Indices.{step_levels, step_position, step_index}
 use Rattle.ssz_schema.proofs.PathLemmas.{step-levels, step-below}
 
+-- a power that is not large has an exponent that is not
+few_levels : (d : ℕ) → 2 ^ d ≤ 2 ^ 127 → d < 128
+few_levels d small = elim (cases_lt d 128) [
+  | inl lt ↦ lt
+  | inr ge ↦
+      (let high : 2 ^ 128 ≤ 2 ^ d = pow-le-pow_right (omega arith) ge in absurd (omega arith))
+]
+
 pub record HasStepRoom (k : ℕ) (t u : SszType) (step : PathStep) : Type 0 where
-  pub power : 2 ^ step_levels t step ≤ 2 ^ 127
+  pub few : step_levels t step < 128
   pub room : (k + 1) * 2 ^ step_levels t step ≤ 2 ^ 127
   pub place : step_position t step < 2 ^ step_levels t step
   pub next : (step_index k t step + 1) * 2 ^ type_levels u ≤ 2 ^ 127
@@ -37,11 +47,24 @@ step_room k t u step whole fits =
     ≡ (k + 1) * (2 ^ step_levels t step * 2 ^ type_levels u) =
     ap (λ n. (k + 1) * n) (pow-add 2 (step_levels t step) (type_levels u)) in
     record {
-      power = omega (arith, single, room, whole);
+      few = few_levels (step_levels t step) (omega (arith, single, room, whole));
       room = omega (arith, room, whole);
       place = below;
       next = omega (arith, mul-le-mul_right (2 ^ type_levels u) index, all, joined, whole);
     }
+
+-- the number shifted by the levels of a step, of which no bit is lost
+pub shifted : (k number d levels : ℕ) → number ≡ k → levels ≡ d → (k + 1) * 2 ^ d ≤ 2 ^ 127
+    → number * 2 ^ levels % 2 ^ 128 ≡ k * 2 ^ d
+shifted k number d levels same deep room =
+    ap (λ n. n * 2 ^ levels % 2 ^ 128) same ∙ ap (λ n. k * 2 ^ n % 2 ^ 128) deep
+    ∙ (let below : k * 2 ^ d ≤ (k + 1) * 2 ^ d = mul-le-mul_right (2 ^ d) (omega arith) in
+    mod-eq_of_lt (omega (arith, below, room)))
+
+-- an index is not 0 further down, either
+pub some_below : (k d : ℕ) → 0 < k → 0 < k * 2 ^ d
+some_below k d some =
+    let unit : 1 ≤ 2 ^ d = pow_pos d in omega (arith, some, mul-le-mul_left k unit)
 
 -- a type that is there
 pub some_type : (o : Option SszType) → IsSome o → (u : SszType) × (o ≡ Some u)

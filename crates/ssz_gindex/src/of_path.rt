@@ -60,7 +60,7 @@ impl Gindex {
         ensures { result ≡ step_index self (type_of schema.now id) step.now }
     {
         let levels = step_levels(schema, id, step);
-        let upper = self.get() * 2u128.pow(levels);
+        let upper = self.get() << levels;
         Gindex::behind(upper, step_position(schema, id, step, number))
     }
 }
