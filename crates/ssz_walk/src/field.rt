@@ -1,5 +1,4 @@
-ghost use Rattle.std.specs.Prelude.{◌≡◌, ◌<◌, ◌∷◌, [], length, bytes_eq, IfOk, IfErr};
-ghost use Rattle.std.specs.List.{position_from};
+ghost use Rattle.std.specs.Prelude.{◌<◌, ◌∷◌, [], length, IfOk, IfErr};
 ghost use Rattle.ssz_schema.specs.declared.path.PathStep.TheVariants.{Field};
 ghost use Rattle.ssz_arena.specs.Content.{IsNodeOf};
 ghost use Rattle.ssz_walk.specs.Found.{IsFound, IsLost};
@@ -8,7 +7,7 @@ use super::place::{Place, Spot};
 use ssz_arena::{Arena, NodeId};
 use ssz_chunk::PairHash;
 use ssz_gindex::Gindex;
-use ssz_schema::{Name, Schema, Ty, TypeId};
+use ssz_schema::{Schema, TypeId};
 use ssz_value::PathFault;
 
 /// The place of the field of this name, from the node of a value of the type: what `find` answers
@@ -26,30 +25,21 @@ pub fn find_field<H: PairHash>(
     ensures found { IfOk result (IsFound schema.now arena.now id node (Field name.now ∷ [])) }
     ensures lost { IfErr result (IsLost schema.now arena.now id node (Field name.now ∷ [])) }
 {
-    let Ty::Container(fields) = schema.ty(id) else {
+    // By the type it is known that the tree of a value has its parts.
+    let _legal = schema.ty(id);
+    let Some(lead) = schema.field_lead(id, name) else {
         return Err(PathFault::BadPath);
     };
-    let Some(number) = field_number(fields.as_slice(), name) else {
-        return Err(PathFault::BadPath);
-    };
-    let Some(index) = Gindex::new((1 << schema.depth(id)) + number as u128) else {
+    let Some(index) = Gindex::new((1 << schema.depth(id)) + u128::from(lead.number)) else {
         return Err(PathFault::Absent);
     };
-    let field = &fields[number];
     match arena.down(node, index) {
         Some(found) => Ok(Place {
-            id: field.1,
+            id: lead.part,
             node: found,
             index,
             spot: Spot::Whole,
         }),
         None => Err(PathFault::Absent),
     }
-}
-
-// The number of the field of this name.
-fn field_number(fields: &[(Name, TypeId)], name: &[u8]) -> Option<usize>
-    ensures { result ≡ position_from (λ field. bytes_eq field.0 name.now) 0 fields.now }
-{
-    fields.iter().position(|field| field.0.as_bytes() == name)
 }
