@@ -4,7 +4,7 @@ use Rattle.std.proofs.lemmas.Bool.{cases_eq, cases_lt, eq-eqb, le-leb}
 use Rattle.std.proofs.lemmas.Bool.Decides.{nat_tests}
 use Rattle.std.proofs.lemmas.List.{get_or_append_left, get_or_push, get_or-append-add, get_or-set_same, get_or-set_other}
 use Rattle.std.proofs.lemmas.List.FromFn.{length-map-range_with_len, get_or-map-range_with_len, fill_by_all}
-use Rattle.std.proofs.lemmas.Option.{same_Some, slice_get-get_or}
+use Rattle.std.proofs.lemmas.Option.{get_or_from_slice_get, same_Some, slice_get-get_or}
 use Rattle.ssz_chunk.specs.declared.Chunk.{Chunk}
 use Rattle.ssz_arena.specs.declared.node.NodeId.{NodeId}
 use Rattle.ssz_arena.specs.declared.node.Node.{Node}
@@ -339,6 +339,26 @@ module _ (nodes : List Node) (cs : List Chunk) (ks fs ls : List ℕ) (i : ℕ)
   read_kept link right at low = found nodes cs ks fs ls i is within
       ∙ ap (λ l. Some (node_with (get_or cs i no_chunk) l)) (sym at)
       ∙ ap Some (pair_in-kept (get_or cs i no_chunk) link right low)
+
+  -- the children, marked or not
+  pub read_left : (link right : ℕ) → Some (link, right) ≡ links_at ks fs ls i → link < 2 ^ 32
+      → left_child (get_or nodes i (Leaf (record { 0 = [] }))) ≡ record { 0 = link % 2 ^ 31 }
+  read_left link right at small = elim (cases_lt link (2 ^ 31)) [
+    | inl low ↦
+        ap left_child (get_or_from_slice_get nodes i _ _ (read_kept link right at low))
+        ∙ ap (λ n. record { 0 = n }) (omega (arith, low))
+    | inr marked ↦
+        ap left_child (get_or_from_slice_get nodes i _ _ (read_due link right at marked))
+        ∙ ap (λ n. record { 0 = n }) (omega (arith, marked, small))
+  ]
+
+  pub read_right : (link right : ℕ) → Some (link, right) ≡ links_at ks fs ls i
+      → right_child (get_or nodes i (Leaf (record { 0 = [] }))) ≡ record { 0 = right }
+  read_right link right at = elim (cases_lt link (2 ^ 31)) [
+    | inl low ↦ ap right_child (get_or_from_slice_get nodes i _ _ (read_kept link right at low))
+    | inr marked ↦
+        ap right_child (get_or_from_slice_get nodes i _ _ (read_due link right at marked))
+  ]
 
   pub read_chunk : (chunk : Chunk) → chunk ≡ get_or cs i chunk → get_or cs i no_chunk ≡ chunk
   read_chunk chunk read =

@@ -1,5 +1,5 @@
 // Where nodes are kept, in some 35 bytes each.
-ghost use Rattle.std.specs.Prelude.{◌≡◌, ℕ, ◌+◌, ◌-◌, ◌*◌, ◌/◌, ◌<◌, ◌≤◌, ◌^◌, max, List, [], ◌∷◌, ◌++◌, true, false, Some, None, IfNone, IfSome, IfOk, IsOk, OnOk, OnErr, length, vec_len, vec_capacity, slice_get, slice_index, slice_set};
+ghost use Rattle.std.specs.Prelude.{◌≡◌, ℕ, ◌+◌, ◌-◌, ◌*◌, ◌/◌, ◌%◌, ◌<◌, ◌≤◌, ◌^◌, max, List, [], ◌∷◌, ◌++◌, true, false, Some, None, IfNone, IfSome, IfOk, IsOk, OnOk, OnErr, length, vec_len, vec_capacity, slice_get, slice_index, slice_set};
 ghost use Rattle.ssz_chunk.specs.declared.Chunk.{Chunk};
 ghost use Rattle.ssz_arena.specs.declared.node.NodeId.{NodeId};
 ghost use Rattle.ssz_arena.specs.declared.node.Node.TheVariants.{Leaf, Pair};
@@ -78,6 +78,15 @@ fn links_at(kinds: &Vec<u8>, firsts: &Vec<u32>, links: &Vec<u32>, i: usize) -> O
         return Some((link, i as u32 - 1));
     }
     Some((link, links[first + 1]))
+}
+
+// The place that a left link names, marked or not. No branch is taken for the mark.
+#[inline(always)]
+fn left_of(link: u32) -> NodeId
+    ensures place { result.0 ≡ link % 2 ^ 31 }
+    ensures fits { link < 2 ^ 32 }
+{
+    NodeId(link % MARK)
 }
 
 // Begins a block where the next node does, and says how many links those before it in its block
@@ -348,12 +357,7 @@ impl Store {
     {
         match links_at(&self.kinds, &self.firsts, &self.links, id.0 as usize) {
             None => (NodeId(0), NodeId(0)),
-            Some((link, right)) => {
-                if link >= MARK {
-                    return (NodeId(link - MARK), NodeId(right));
-                }
-                (NodeId(link), NodeId(right))
-            }
+            Some((link, right)) => (left_of(link), NodeId(right)),
         }
     }
 

@@ -1,8 +1,8 @@
-use Rattle.std.proofs.Common.{ap, sym, arith}
+use Rattle.std.proofs.Common.{ap, sym, ◌∙◌, arith}
 use Rattle.std.proofs.lemmas.Option.{get_or_from_slice_get}
 use Rattle.ssz_arena.specs.Batches.{left_child, right_child}
 use Rattle.ssz_arena.specs.Content.{ArenaContent}
-use Rattle.ssz_arena.proofs.Storing.{size_seen, read_leaf, read_due, read_kept}
+use Rattle.ssz_arena.proofs.Storing.{size_seen, read_leaf, read_left, read_right}
 use Rattle.ssz_arena.proofs.store.Store.children.Goals as goal
 
 pub links_at-requires-clause-inside : goal.links_at-requires-clause-inside
@@ -41,22 +41,6 @@ links_at-requires-clause-few c = omega (
       (ap (λ (a : ArenaContent). a.nodes) c.self.view_is),
 )
 
-pub returns-then-link-ge-MARK-clause-left : goal.returns-then-link-ge-MARK-clause-left
-returns-then-link-ge-MARK-clause-left c = sym (ap left_child (get_or_from_slice_get
-    c.args.self.now.nodes c.args.id.0 _ _ (read_due c.args.self.now.nodes
-    c.self.inside.chunks.items c.self.inside.kinds.items
-    c.self.inside.firsts.items c.self.inside.links.items c.args.id.0 (ap (λ (a : ArenaContent).
-    a.nodes) c.self.view_is) c.requires c.in-Some.link c.in-Some.right c.in-Some.ensures
-    c.if-link-ge-MARK.true)))
-
-pub returns-then-link-ge-MARK-clause-right : goal.returns-then-link-ge-MARK-clause-right
-returns-then-link-ge-MARK-clause-right c = sym (ap right_child (get_or_from_slice_get
-    c.args.self.now.nodes c.args.id.0 _ _ (read_due c.args.self.now.nodes
-    c.self.inside.chunks.items c.self.inside.kinds.items
-    c.self.inside.firsts.items c.self.inside.links.items c.args.id.0 (ap (λ (a : ArenaContent).
-    a.nodes) c.self.view_is) c.requires c.in-Some.link c.in-Some.right c.in-Some.ensures
-    c.if-link-ge-MARK.true)))
-
 pub returns-in-None-clause-left : goal.returns-in-None-clause-left
 returns-in-None-clause-left c = sym (ap left_child (get_or_from_slice_get c.args.self.now.nodes
     c.args.id.0 _ _ (read_leaf c.args.self.now.nodes c.self.inside.chunks.items
@@ -71,18 +55,16 @@ returns-in-None-clause-right c = sym (ap right_child (get_or_from_slice_get c.ar
     c.self.inside.firsts.items c.self.inside.links.items c.args.id.0 (ap (λ (a : ArenaContent).
     a.nodes) c.self.view_is) c.requires c.in-None.ensures)))
 
-pub returns-else-link-ge-MARK-clause-left : goal.returns-else-link-ge-MARK-clause-left
-returns-else-link-ge-MARK-clause-left c = sym (ap left_child (get_or_from_slice_get
-    c.args.self.now.nodes c.args.id.0 _ _ (read_kept c.args.self.now.nodes
-    c.self.inside.chunks.items c.self.inside.kinds.items
-    c.self.inside.firsts.items c.self.inside.links.items c.args.id.0 (ap (λ (a : ArenaContent).
-    a.nodes) c.self.view_is) c.requires c.in-Some.link c.in-Some.right c.in-Some.ensures
-    c.if-link-ge-MARK.false)))
+pub returns-in-Some-clause-left : goal.returns-in-Some-clause-left
+returns-in-Some-clause-left c =
+    ap (λ n. record { 0 = n }) c.left_of.ensures.place
+    ∙ sym (read_left c.args.self.now.nodes c.self.inside.chunks.items c.self.inside.kinds.items
+    c.self.inside.firsts.items c.self.inside.links.items c.args.id.0
+    (ap (λ (a : ArenaContent). a.nodes) c.self.view_is) c.requires c.in-Some.link c.in-Some.right
+    c.in-Some.ensures c.left_of.ensures.fits)
 
-pub returns-else-link-ge-MARK-clause-right : goal.returns-else-link-ge-MARK-clause-right
-returns-else-link-ge-MARK-clause-right c = sym (ap right_child (get_or_from_slice_get
-    c.args.self.now.nodes c.args.id.0 _ _ (read_kept c.args.self.now.nodes
-    c.self.inside.chunks.items c.self.inside.kinds.items
-    c.self.inside.firsts.items c.self.inside.links.items c.args.id.0 (ap (λ (a : ArenaContent).
-    a.nodes) c.self.view_is) c.requires c.in-Some.link c.in-Some.right c.in-Some.ensures
-    c.if-link-ge-MARK.false)))
+pub returns-in-Some-clause-right : goal.returns-in-Some-clause-right
+returns-in-Some-clause-right c = sym (read_right c.args.self.now.nodes c.self.inside.chunks.items
+    c.self.inside.kinds.items c.self.inside.firsts.items c.self.inside.links.items c.args.id.0
+    (ap (λ (a : ArenaContent). a.nodes) c.self.view_is) c.requires c.in-Some.link c.in-Some.right
+    c.in-Some.ensures)
