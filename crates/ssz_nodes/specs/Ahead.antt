@@ -19,6 +19,11 @@ pub record Ahead : Type 0 where
 abbrev pub ahead_node : List NodeId → ℕ → NodeId
 ahead_node nodes k = slice_index_or nodes k (record { 0 = 0 })
 
+-- the places of a full tree of this depth stand at the front of a row
+abbrev pub IsRowOf : ArenaContent → ℕ → Tree → List NodeId → Type 0
+IsRowOf arena depth node row = (trees : List Tree) → node ≡ merkle_tree depth trees
+    → (i : ℕ) → i < 2 ^ depth → tree_of arena (ahead_node row i) ≡ place trees i
+
 -- they are nodes of the arena
 abbrev pub AheadAreNodes : ArenaContent → Ahead → Type 0
 AheadAreNodes arena places = All (IsNodeOf arena) places.row × All (IsNodeOf arena) places.nodes

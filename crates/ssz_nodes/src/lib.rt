@@ -2,8 +2,8 @@
 //! from left to right, and the numbers that are mixed in.
 //!
 //! A `Places` goes over the places of a full tree: it comes down to up to 128 of them together, and
-//! keeps the subtrees behind these, one for each level at most. `node_of_place` comes down to one
-//! place from the top.
+//! keeps the subtrees behind these, one for each level at most. A `Row` has all places where they
+//! are at most eight, and `node_of_place` comes down to one place from the top.
 //!
 //! No call asks anything of the tree of the node that it is handed: what it answers is said of a
 //! node that has the tree of a value.
@@ -19,4 +19,4 @@ pub use basics::{Basic, bit_of, number_of};
 pub use chunks::{append_chunks, append_leaf, few_bytes};
 pub use nodes::{chunk_of, mixed_in};
 pub use places::{Places, Top, node_of_place};
-pub use rows::spread;
+pub use rows::{NEAR, NEAR_DEPTH, Row, spread};

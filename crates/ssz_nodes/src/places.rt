@@ -3,7 +3,6 @@ ghost use Rattle.ssz_chunk.specs.Tree.{Tree, pair, merkle_tree, place};
 ghost use Rattle.ssz_arena.specs.Content.{ArenaContent, IsNodeOf, tree_of};
 ghost use Rattle.ssz_nodes.specs.Ahead.{AheadAreNodes, AheadHolds};
 
-use super::nodes::halves;
 use super::rows::spread;
 use ssz_arena::{Arena, NodeId};
 use ssz_chunk::PairHash;
@@ -132,7 +131,7 @@ impl Places {
         let low = level.min(self.reach);
         let mut node = self.nodes[level as usize];
         for below in (low..level).rev() {
-            let (first, second) = halves(arena, node);
+            let (first, second) = arena.halves(node);
             self.nodes[below as usize] = second;
             node = first;
         }
@@ -155,7 +154,7 @@ fn half_of<H: PairHash>(arena: &Arena<H>, node: NodeId, i: usize, level: u32) ->
     ensures right { (left right : Tree) → tree_of arena.now node ≡ pair left right
         → i / 2 ^ level % 2 ≡ 1 → tree_of arena.now result ≡ right }
 {
-    let (left, right) = halves(arena, node);
+    let (left, right) = arena.halves(node);
     if (i >> level) % 2 == 1 {
         return right;
     }

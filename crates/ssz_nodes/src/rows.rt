@@ -2,11 +2,62 @@
 ghost use Rattle.std.specs.Prelude.{ℕ, ◌≡◌, ◌+◌, ◌*◌, ◌<◌, ◌≤◌, ◌^◌, List, length, All};
 ghost use Rattle.ssz_chunk.specs.Tree.{Tree, pair, merkle_tree, place};
 ghost use Rattle.ssz_arena.specs.Content.{IsNodeOf, tree_of};
-ghost use Rattle.ssz_nodes.specs.Ahead.{ahead_node};
+ghost use Rattle.ssz_nodes.specs.Ahead.{IsRowOf, ahead_node};
 
-use super::nodes::halves;
+use super::places::{Top, node_of_place};
 use ssz_arena::{Arena, NodeId};
 use ssz_chunk::PairHash;
+
+/// The places of a full tree of at most this depth are come down to together.
+pub const NEAR_DEPTH: u32 = 3;
+
+/// So many are they at most.
+pub const NEAR: usize = 1 << NEAR_DEPTH;
+
+/// The nodes of the places of a full tree, at the front, where they are at most NEAR.
+#[derive(Clone, Copy)]
+pub struct Row {
+    pub nodes: [NodeId; NEAR],
+}
+
+impl Row {
+    /// Comes down to the places, where they are so few.
+    #[inline(always)]
+    pub fn of<H: PairHash>(arena: &Arena<H>, top: Top) -> Self
+        requires { IsNodeOf arena.now top.node }
+        ensures nodes { All (IsNodeOf arena.now) result.nodes }
+        ensures places { top.depth ≤ 3
+            → IsRowOf arena.now top.depth (tree_of arena.now top.node) result.nodes }
+    {
+        let mut nodes = [top.node; NEAR];
+        if top.depth <= NEAR_DEPTH {
+            spread(arena, top.depth, &mut nodes);
+        }
+        Row { nodes }
+    }
+
+    /// The node of place i of the tree that it is of, or that is come down to alone.
+    #[inline(always)]
+    pub fn place<H: PairHash>(&self, arena: &Arena<H>, top: Top, i: usize) -> NodeId
+        requires depth { top.depth < 64 }
+        requires node { IsNodeOf arena.now top.node }
+        requires nodes { All (IsNodeOf arena.now) self.now.nodes }
+        requires places { top.depth ≤ 3
+            → IsRowOf arena.now top.depth (tree_of arena.now top.node) self.now.nodes }
+        ensures node { IsNodeOf arena.now result }
+        ensures tree { (trees : List Tree) → i < 2 ^ top.depth
+            → tree_of arena.now top.node ≡ merkle_tree top.depth trees
+            → tree_of arena.now result ≡ place trees i }
+    {
+        if top.depth > NEAR_DEPTH {
+            return node_of_place(arena, top, i);
+        }
+        if i < NEAR {
+            return self.nodes[i];
+        }
+        top.node
+    }
+}
 
 /// Comes down from the first node of the row to all places of its full tree of this depth, which
 /// stand at the front of the row then. It goes level by level, since no node of a level waits for
@@ -41,7 +92,7 @@ fn widen<H: PairHash>(arena: &Arena<H>, len: usize, row: &mut [NodeId])
         → tree_of arena.now (ahead_node row.new (2 * i + 1)) ≡ right }
 {
     for i in (0..len).rev() {
-        let (first, second) = halves(arena, row[i]);
+        let (first, second) = arena.halves(row[i]);
         row[2 * i] = first;
         row[2 * i + 1] = second;
     }
