@@ -59,10 +59,10 @@ impl Row {
     }
 }
 
-/// Comes down from the first node of the row to all places of its full tree of this depth, which
-/// stand at the front of the row then. It goes level by level, since no node of a level waits for
-/// another: the memory of all of them is asked for at once.
-pub fn spread<H: PairHash>(arena: &Arena<H>, depth: u32, row: &mut [NodeId])
+// Comes down from the first node of the row to all places of its full tree of this depth, which
+// stand at the front of the row then. It goes level by level, since no node of a level waits for
+// another: the memory of all of them is asked for at once.
+pub(crate) fn spread<H: PairHash>(arena: &Arena<H>, depth: u32, row: &mut [NodeId])
     requires depth { depth < 64 }
     requires room { 2 ^ depth ≤ length row.old }
     requires nodes { All (IsNodeOf arena.now) row.old }

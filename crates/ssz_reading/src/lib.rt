@@ -9,7 +9,6 @@
 //! node that has the tree of a value.
 #![tactic(auto)]
 
-mod near;
 mod packed;
 mod reading;
 

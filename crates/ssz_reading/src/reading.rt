@@ -10,11 +10,10 @@ ghost use Rattle.ssz_value.specs.Standing.{Stands};
 ghost use Rattle.ssz_arena.specs.Content.{IsNodeOf, tree_of};
 ghost use Rattle.ssz_nodes.specs.Shown.{ForValue, ForElements, ForFields};
 
-use super::near::Near;
 use super::packed::{read_bits, read_bytes, read_packed};
 use ssz_arena::{Arena, NodeId};
 use ssz_chunk::PairHash;
-use ssz_nodes::{Basic, Places, Top, chunk_of, mixed_in};
+use ssz_nodes::{Basic, Places, Row, Top, chunk_of, mixed_in};
 use ssz_schema::{Name, Schema, Ty, TypeId};
 use ssz_value::{Value, is_byte, option_at};
 use std::alloc::{AllocError, Global};
@@ -217,9 +216,9 @@ fn read_fields<H: PairHash>(
         (λ vs. IfOk result (Stands (container fs) (sequence (values vs)))) }
 {
     let mut parts = Vec::with_capacity(alloc, fields.len())?;
-    let near = Near::new(arena, top);
+    let row = Row::of(arena, top);
     for (i, field) in fields.iter().enumerate() {
-        let part = near.place(arena, top, i);
+        let part = row.place(arena, top, i);
         put(alloc, arena, schema, field.1, part, &mut parts)?;
     }
     Ok(Value::Seq(parts))

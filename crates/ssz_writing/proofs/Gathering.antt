@@ -7,9 +7,9 @@ use Rattle.ssz_chunk.specs.Chunk.{zero_chunk}
 use Rattle.ssz_chunk.specs.Tree.{Tree, leaf, place}
 use Rattle.ssz_arena.specs.declared.node.NodeId.{NodeId}
 use Rattle.ssz_arena.specs.Content.{ArenaContent, IsNodeOf, tree_of}
-use Rattle.ssz_writing.specs.declared.fields.Row.{Row}
-use Rattle.ssz_nodes.specs.Ahead.{Ahead, AheadHolds}
-use Rattle.ssz_writing.specs.Rows.{IsRowOf, RowsAhead, HoldsRows, row_at}
+use Rattle.ssz_nodes.specs.declared.rows.Row.{Row}
+use Rattle.ssz_nodes.specs.Ahead.{Ahead, AheadHolds, IsRowOf}
+use Rattle.ssz_writing.specs.Rows.{RowsAhead, HoldsRows, row_at}
 
 -- the rows of the first k of some containers were come down to
 pub record Gathered (arena : ArenaContent) (depth : ℕ) (trees : List Tree) (k : ℕ)

@@ -15,7 +15,8 @@ use Rattle.ssz_arena.specs.declared.node.NodeId.{NodeId}
 use Rattle.ssz_arena.specs.Content.{ArenaContent, tree_of}
 use Rattle.ssz_parts.specs.Encoded.{head_of, body_of}
 use Rattle.ssz_value.specs.Written.{capped}
-use Rattle.ssz_writing.specs.Rows.{RowsAhead, HoldsRows, IsRowOf}
+use Rattle.ssz_writing.specs.Rows.{RowsAhead, HoldsRows}
+use Rattle.ssz_nodes.specs.Ahead.{IsRowOf}
 use Rattle.ssz_writing.specs.Leaves.{IsLeafLen, LeafOf}
 use Rattle.ssz_nodes.specs.Shown.{ForValue, AreElements, AreFieldsIn}
 use Rattle.ssz_writing.specs.Offsets.{room_of, rooms}

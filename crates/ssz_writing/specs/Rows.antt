@@ -1,16 +1,11 @@
 -- Rows of the fields of containers that are still to come.
 use Rattle.std.specs.Prelude.{◌≡◌, ℕ, ◌+◌, ◌-◌, ◌^◌, ◌<◌, ◌≤◌, List, [], length, drop, slice_index_or}
 use Rattle.std.specs.List.{All}
-use Rattle.ssz_chunk.specs.Tree.{Tree, merkle_tree, place}
+use Rattle.ssz_chunk.specs.Tree.{Tree, place}
 use Rattle.ssz_arena.specs.declared.node.NodeId.{NodeId}
 use Rattle.ssz_arena.specs.Content.{ArenaContent, IsNodeOf, tree_of}
-use Rattle.ssz_nodes.specs.Ahead.{Ahead, AheadAreNodes, AheadHolds, ahead_node}
-use Rattle.ssz_writing.specs.declared.fields.Row.{Row}
-
--- the places of a full tree of this depth stand at the front of a row
-abbrev pub IsRowOf : ArenaContent → ℕ → Tree → List NodeId → Type 0
-IsRowOf arena depth node row = (trees : List Tree) → node ≡ merkle_tree depth trees
-    → (i : ℕ) → i < 2 ^ depth → tree_of arena (ahead_node row i) ≡ place trees i
+use Rattle.ssz_nodes.specs.Ahead.{Ahead, AheadAreNodes, AheadHolds, IsRowOf}
+use Rattle.ssz_nodes.specs.declared.rows.Row.{Row}
 
 -- rows of containers' fields, of which those from one place up to another are next, and what is
 -- left behind these

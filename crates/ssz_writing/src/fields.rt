@@ -2,38 +2,16 @@
 ghost use Rattle.std.specs.Prelude.{ℕ, ◌≡◌, ◌<◌, ◌≤◌, ◌^◌, List, ◌∷◌, length, All};
 ghost use Rattle.ssz_chunk.specs.Tree.{Tree, merkle_tree};
 ghost use Rattle.ssz_arena.specs.Content.{ArenaContent, IsNodeOf, tree_of};
-ghost use Rattle.ssz_writing.specs.Rows.{AreRows, HoldsRows, IsRowOf};
+ghost use Rattle.ssz_nodes.specs.Ahead.{IsRowOf};
+ghost use Rattle.ssz_writing.specs.Rows.{AreRows, HoldsRows};
 
-use ssz_arena::{Arena, NodeId};
+use ssz_arena::Arena;
 use ssz_chunk::PairHash;
-use ssz_nodes::{Places, Top, spread};
+use ssz_nodes::{NEAR, Places, Row, Top};
 use std::marker::Model;
-
-/// The fields of containers of at most this depth are come down to together.
-pub const FIELDS_DEPTH: u32 = 3;
-/// So many fields have they at most.
-pub const FIELDS: usize = 1 << FIELDS_DEPTH;
 
 // Of so many containers at once.
 const ROWS: usize = 32;
-
-/// The nodes of the fields of a container, at the front.
-#[derive(Clone, Copy)]
-pub struct Row {
-    pub nodes: [NodeId; FIELDS],
-}
-
-// Of a container of this depth.
-fn fields_of<H: PairHash>(arena: &Arena<H>, depth: u32, node: NodeId) -> Row
-    requires depth { depth ≤ 3 }
-    requires node { IsNodeOf arena.now node }
-    ensures nodes { All (IsNodeOf arena.now) result.nodes }
-    ensures fields { IsRowOf arena.now depth (tree_of arena.now node) result.nodes }
-{
-    let mut nodes = [node; FIELDS];
-    spread(arena, depth, &mut nodes);
-    Row { nodes }
-}
 
 /// The rows of the fields of containers that are still to come, from left to right: some that were
 /// come down to, and behind them the places of the others.
@@ -77,7 +55,7 @@ impl Rows {
         Rows {
             depth: fields_depth,
             rows: [Row {
-                nodes: [top.node; FIELDS],
+                nodes: [top.node; NEAR],
             }; ROWS],
             from: 0,
             to: 0,
@@ -135,7 +113,8 @@ impl Rows {
         let count = (2 * self.to + 1).min(ROWS);
         for k in 0..count {
             let node = self.places.next(arena);
-            self.rows[k] = fields_of(arena, self.depth, node);
+            let depth = self.depth;
+            self.rows[k] = Row::of(arena, Top { node, depth });
         }
         self.from = 0;
         self.to = count;

@@ -8,17 +8,16 @@ ghost use Rattle.ssz_schema.specs.Sizes.{depth as depth_of_type};
 ghost use Rattle.ssz_schema.specs.Unfolding.{type_of};
 ghost use Rattle.ssz_writing.specs.Leaves.{AreFewFields, AreLeafLens, IsLeafLen};
 
-use super::fields::{FIELDS, FIELDS_DEPTH};
-use ssz_nodes::Basic;
+use ssz_nodes::{Basic, NEAR, NEAR_DEPTH};
 use ssz_schema::{Name, Schema, Ty, TypeId};
 
-/// A container of at most FIELDS fields.
+/// A container of at most NEAR fields.
 #[derive(Drop)]
 pub(crate) struct Few<'a> {
     pub id: TypeId,
     pub fields: &'a [(Name, TypeId)],
     // How many bytes of its leaf each field takes, or 0 where it may be no leaf.
-    pub lens: [usize; FIELDS],
+    pub lens: [usize; NEAR],
 }
 
 impl<'a> Few<'a> {
@@ -40,7 +39,7 @@ fn few_fields(schema: &Schema, id: TypeId) -> Option<&[(Name, TypeId)]>
     requires { id < length schema.now.trees }
     ensures { ForSome result (λ fields. AreFewFields schema.now id fields.now) }
 {
-    if schema.depth(id) > FIELDS_DEPTH {
+    if schema.depth(id) > NEAR_DEPTH {
         return None;
     }
     match schema.ty(id) {
@@ -49,23 +48,23 @@ fn few_fields(schema: &Schema, id: TypeId) -> Option<&[(Name, TypeId)]>
     }
 }
 
-// The fields, if they are at most FIELDS.
+// The fields, if they are at most NEAR.
 fn at_most_few(fields: &[(Name, TypeId)]) -> Option<&[(Name, TypeId)]>
     ensures { ForSome result (λ some. (some.now ≡ fields.now) × (length fields.now ≤ 8)) }
 {
-    if fields.len() > FIELDS {
+    if fields.len() > NEAR {
         return None;
     }
     Some(fields)
 }
 
 // How many bytes of its leaf each field takes, or 0 where it may be no leaf.
-fn leaf_lens(schema: &Schema, fields: &[(Name, TypeId)]) -> [usize; FIELDS]
+fn leaf_lens(schema: &Schema, fields: &[(Name, TypeId)]) -> [usize; NEAR]
     requires known { AllByRecursion (λ part. part.1 < length schema.now.trees) fields.now }
     requires few { length fields.now ≤ 8 }
     ensures { AreLeafLens schema.now fields.now result }
 {
-    let mut lens = [0usize; FIELDS];
+    let mut lens = [0usize; NEAR];
     for (i, field) in fields.iter().enumerate() {
         lens[i] = leaf_len(schema, field.1);
     }

@@ -2,7 +2,7 @@ use Rattle.std.proofs.Common.{[], replicate, sym, ap, subst}
 use Rattle.std.specs.List.{All}
 use Rattle.std.proofs.lemmas.List.{get_or-replicate}
 use Rattle.ssz_arena.specs.Content.{IsNodeOf}
-use Rattle.ssz_writing.specs.declared.fields.Row.{Row}
+use Rattle.ssz_nodes.specs.declared.rows.Row.{Row}
 use Rattle.ssz_writing.proofs.fields.Rows.new.Goals as goal
 
 pub returns-clause-nodes : goal.returns-clause-nodes

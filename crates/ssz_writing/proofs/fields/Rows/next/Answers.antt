@@ -1,5 +1,6 @@
 use Rattle.std.proofs.Common.{◌<◌, ◌∷◌, sym, ap, ◌∙◌, subst}
-use Rattle.ssz_writing.specs.Rows.{RowsAhead, HoldsRows, IsRowOf, row_at}
+use Rattle.ssz_nodes.specs.Ahead.{IsRowOf}
+use Rattle.ssz_writing.specs.Rows.{RowsAhead, HoldsRows, row_at}
 use Rattle.ssz_writing.proofs.Gathering.{HoldsRows-next, HoldsRows-rest}
 use Rattle.ssz_writing.proofs.fields.Rows.next.Goals as goal
 

@@ -14,7 +14,7 @@ use Rattle.ssz_nodes.proofs.Formed.{union_few}
 use Rattle.ssz_nodes.proofs.Chunked.{Extends-same, Extends-trans, on_ok}
 use Rattle.ssz_nodes.proofs.Walked.{at_place}
 use Rattle.ssz_writing.proofs.Written.{alike, element_rooms, HeadsSoFar-start, HeadsSoFar-more, BodiesSoFar-start, BodiesSoFar-more, elements_adds, packed_adds}
-use Rattle.ssz_writing.specs.Rows.{IsRowOf}
+use Rattle.ssz_nodes.specs.Ahead.{IsRowOf}
 use Rattle.ssz_writing.proofs.RowsWritten.{RowsSoFar-start, leaf_adds, row_value, field_before, FieldHeads-end, RowsSoFar-more, RowBodiesSoFar-start, RowBodiesSoFar-more}
 use Rattle.ssz_writing.proofs.Rooms.{fixed_filled, fixed_room, no_size}
 use Rattle.ssz_writing.proofs.FieldsWritten.{FieldHeads-start, FieldHeads-more, FieldBodies-start, FieldBodies-more, FieldBodies-end, fixed_fields_add, fields_adds, vector_adds, list_adds, container_adds, bitvector_adds, bitlist_adds, option_adds, none_adds}
@@ -909,7 +909,8 @@ append_bodies-append_rows-requires g t c =
     ∙ c.in_default.is in
     search rules
 
-pub append_bodies-returns-in-Some-of-clause-value : goal.append_bodies-returns-in-Some-of-clause-value
+pub append_bodies-returns-in-Some-of-clause-value
+    : goal.append_bodies-returns-in-Some-of-clause-value
 append_bodies-returns-in-Some-of-clause-value g t c =
     let types = c.args.self.now.schema.now in
     subst (λ id. ForElements (type_of types id) c.args.top.depth c.args.count

@@ -8,7 +8,8 @@ use Rattle.ssz_value.specs.Values.{SszValue}
 use Rattle.ssz_value.specs.Encoding.{serialize, heads, bodies, field_encodings}
 use Rattle.ssz_arena.specs.Content.{tree_of}
 use Rattle.ssz_nodes.specs.Ahead.{AheadAreNodes}
-use Rattle.ssz_writing.specs.Rows.{AreRows, IsRowOf}
+use Rattle.ssz_nodes.specs.Ahead.{IsRowOf}
+use Rattle.ssz_writing.specs.Rows.{AreRows}
 use Rattle.ssz_nodes.specs.Shown.{AreElements, AreFieldsIn, ExtendsBytes}
 use Rattle.ssz_writing.specs.Offsets.{KeepsUpTo, rooms}
 use Rattle.ssz_writing.proofs.Written.{alike, HeadsSoFar, BodiesSoFar}

@@ -1,7 +1,0 @@
-use Rattle.std.proofs.Common.{◌≤◌, ◌^◌, arith}
-use Rattle.std.proofs.Math.Nat.{pow-le-pow_right}
-use Rattle.ssz_writing.proofs.fields.fields_of.Goals as goal
-
-pub spread-requires-clause-room : goal.spread-requires-clause-room
-spread-requires-clause-room g c =
-    let few : 2 ^ c.args.depth ≤ 2 ^ 3 = pow-le-pow_right (omega arith) c.requires.depth in few
