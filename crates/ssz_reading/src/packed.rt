@@ -77,12 +77,17 @@ fn read_each<H: PairHash>(
     let mut parts = Vec::with_capacity(alloc, count as usize)?;
     let mut places = Places::new(top);
     let mut left = count as usize;
-    while left > 0 {
+    // Whole chunks come first, so that it is known how many values each of them has.
+    while left >= per_chunk {
         let chunk = chunk_of(arena, places.next(arena));
-        let here = left.min(per_chunk);
-        append_values(basic, chunk, here, &mut parts);
-        left -= here;
+        append_values(basic, chunk, per_chunk, &mut parts);
+        left -= per_chunk;
     }
+    if left == 0 {
+        return Ok(parts);
+    }
+    let last = chunk_of(arena, places.next(arena));
+    append_values(basic, last, left, &mut parts);
     Ok(parts)
 }
 
