@@ -25,8 +25,8 @@ pub fn bytes_part<M: Maker>(maker: &mut M, schema: &Schema, id: TypeId, bytes: &
     requires faultless { first_fault (type_of schema.now id) 0 bytes.now ≡ None }
     requires room { let t = type_of schema.now id in
         M.room maker.old (new_nodes t (value_in t bytes.now)) }
-    ensures { M.made maker.old maker.new
-        (part_of_value (type_of schema.now id) (value_in (type_of schema.now id) bytes.now)) result }
+    ensures { let t = type_of schema.now id in
+        M.made maker.old maker.new (part_of_value t (value_in t bytes.now)) result }
 {
     match schema.ty(id) {
         Ty::Uint(_) => maker.leaf(&chunk_at(bytes, 0)),

@@ -54,8 +54,8 @@ pub fn bytes_node<H: PairHash>(
     requires faultless { first_fault (type_of schema.now id) 0 bytes.now ≡ None }
     requires room { let t = type_of schema.now id in
         new_nodes t (value_in t bytes.now) ≤ arena.old.spare }
-    ensures { MakesNode arena.old arena.new
-        (part_of_value (type_of schema.now id) (value_in (type_of schema.now id) bytes.now)) result }
+    ensures { let t = type_of schema.now id in
+        MakesNode arena.old arena.new (part_of_value t (value_in t bytes.now)) result }
 {
     let mut maker = Growing { arena };
     bytes_part(&mut maker, schema, id, bytes)
