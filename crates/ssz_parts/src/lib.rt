@@ -6,10 +6,10 @@
 //! others. `count_of` answers how many elements a list has, or what is wrong with their number;
 //! `length_fault`, `offsets_fault`, `fields_head_fault`, `union_head` and `none_fault` answer the
 //! first fault of a head; `variable_head_fault` is told how long the fixed parts are, by
-//! `heads_len`, which many elements ask once. Behind a head without a fault, `element_at`, `end_of_part` and
-//! `part_range` find the parts. That elements, and what a union holds, have no fault where the
-//! whole has none is no clause of these calls: it is what the lemmas `element_faultless` and
-//! `union_rest` of proofs/ say. No call takes memory.
+//! `heads_len`, which many elements ask once. Behind a head without a fault, `element_at`,
+//! `end_of_part` and `part_range` find the parts. That elements, and what a union holds, have no
+//! fault where the whole has none is no clause of these calls: it is what the lemmas
+//! `element_faultless` and `union_rest` of proofs/ say. No call takes memory.
 #![tactic(auto)]
 
 mod elements;

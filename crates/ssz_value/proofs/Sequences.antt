@@ -3,6 +3,7 @@ use Rattle.std.proofs.Common.{ℕ, zero, suc, ◌+◌, ◌*◌, ◌/◌, ◌%◌
 use Rattle.std.proofs.Math.Nat.{mul-mod_left}
 use Rattle.std.proofs.lemmas.List.{length-map, length-replicate}
 use Rattle.std.proofs.lemmas.Bool.{cond-false, ne_eqb, eq-eqb, or_from, not_from_true}
+use Rattle.std.proofs.lemmas.Grind.{common_steps}
 use Rattle.std.specs.List.{AllByRecursion}
 use Rattle.ssz_schema.specs.Types.{SszType, vector, list}
 use Rattle.ssz_schema.specs.Sizes.{fixed_size, total_size}
@@ -332,4 +333,4 @@ Agrees-list t limit law = record {
 }
 
 -- what a sequence's parts are read by
-pub ruleset sequence_items = (items-values, values-items)
+pub ruleset sequence_items = (items-values, values-items, common_steps)

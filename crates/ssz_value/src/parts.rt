@@ -40,7 +40,7 @@ pub fn wide_bytes(chunk: &Chunk) -> &[u8]
 }
 
 /// How many parts a sequence has, and 0 for any other value.
-#[tactic(auto, using(crate::proofs::Sequences::sequence_items, std::proofs::lemmas::Grind::common_steps))]
+#[tactic(auto, using(crate::proofs::Sequences::sequence_items))]
 pub fn part_count(value: &Value) -> usize
     ensures { result ≡ part_count_of (value_of value.now) }
 {

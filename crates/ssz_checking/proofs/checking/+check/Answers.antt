@@ -234,7 +234,8 @@ pub fields_behind-loop-i-preserved : goal.fields_behind-loop-i-preserved
 fields_behind-loop-i-preserved t c =
     let size : head_size (fixed_size
     (type_tree_at c.args.schema.now.trees c.index-fields-i.result.1))
-    ≡ c.head_len-in-loop-i.result = sym (c.head_len-in-loop-i.ensures ∙ ap head_size c.fixed_size-in-loop-i.ensures.exact) in
+    ≡ c.head_len-in-loop-i.result = sym (c.head_len-in-loop-i.ensures
+    ∙ ap head_size c.fixed_size-in-loop-i.ensures.exact) in
     subst (FieldsFrom c.args.schema.now.trees c.args.fields.now c.args.start c.args.bytes.now
     (c.loop-i.i + 1)) (ap (λ n. c.loop-i.place + n) size)
     (FieldsFrom-more c.args.schema.now.trees c.args.fields.now c.args.start c.args.bytes.now
