@@ -1,4 +1,4 @@
-ghost use Rattle.std.specs.Prelude.{◌≡◌, ◌-◌, ◌<◌, ◌≤◌, [], ◌∷◌, ◌++◌, length, take, set, IfOk, IsOk, OnOk, OnErr};
+ghost use Rattle.std.specs.Prelude.{◌≡◌, ◌-◌, ◌<◌, ◌≤◌, [], ◌∷◌, ◌++◌, length, take, set, IfOk, IsOk, IsTrue, OnOk, OnErr};
 ghost use Rattle.ssz_bytes.specs.Bytes.{IsBytes};
 
 use super::short::Short;
@@ -81,6 +81,21 @@ impl ByteRun {
         ensures { result ≡ length self.now }
     {
         self.as_slice().len()
+    }
+
+    /// Whether the bytes stand in the run itself, which then owns no memory.
+    #[inline(always)]
+    pub fn is_inside(&self) -> bool
+        ensures { IsTrue result → length self.now ≤ 32 }
+    {
+        match &self.form {
+            Form::Inside(short) => {
+                // A run in itself is short.
+                let _few = short.as_slice();
+                true
+            }
+            Form::Outside(_) => false,
+        }
     }
 
     /// Puts a byte in the place of number i.
