@@ -76,6 +76,17 @@ impl ByteRun {
         }
     }
 
+    /// The bytes in a vector: their own memory, where they have some, and else a copy. It fails for
+    /// want of memory.
+    pub fn into_bytes(self) -> Result<Vec<u8>, AllocError>
+        ensures { IfOk result (λ bytes. bytes.items ≡ self) }
+    {
+        match self.form {
+            Form::Inside(short) => short.as_slice().to_vec(short.alloc),
+            Form::Outside(bytes) => Ok(bytes),
+        }
+    }
+
     /// How many bytes there are.
     pub fn len(&self) -> usize
         ensures { result ≡ length self.now }
