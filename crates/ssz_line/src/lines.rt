@@ -70,7 +70,7 @@ impl<'a> Model for Lines<'a> {
 }
 
 impl<'a> Lines<'a> {
-    ghost use Rattle.ssz_line.specs.Lines.{numbered_lines};
+    ghost use Rattle.ssz_line.specs.Lines.{numbered_lines, past_comments};
 
     /// The lines of this script.
     pub fn new(script: &'a [u8]) -> Self
@@ -104,5 +104,24 @@ impl<'a> Lines<'a> {
             number: self.passed,
             text,
         })
+    }
+    /// Passes over lines in front that begin with `#`: only their ends are looked for.
+    pub fn skip_comments(&mut self)
+        ensures same { past_comments self.new ≡ past_comments self.old }
+        ensures fewer { length self.new ≤ length self.old }
+    {
+        let mut left = self.rest;
+        let mut passed = self.passed;
+        'comments: while left.starts_with(b"#") {
+            match split_line(left) {
+                Some((line, rest)) if line.starts_with(b"#") => {
+                    left = rest;
+                    passed += 1;
+                }
+                _ => break,
+            }
+        }
+        self.rest = left;
+        self.passed = passed;
     }
 }
