@@ -1,3 +1,4 @@
+pub mod Comments
 pub mod OneLineLemmas
 pub mod Shapes
 pub mod TextsLemmas

@@ -19,6 +19,7 @@ pub struct ScriptStatement {
 }
 
 // What the next line that says something says.
+#[tactic(auto, using(crate::proofs::Comments::comments_passed))]
 fn next_statement(
     alloc: Global,
     lines: &mut Lines<'_>,
@@ -28,7 +29,8 @@ fn next_statement(
 {
     while let Some(line) = lines.next() {
         match read_line(alloc, line.text) {
-            Ok(None) => {}
+            // Comments come in runs.
+            Ok(None) => lines.skip_comments(),
             Ok(Some(statement)) => {
                 return Ok(Some(ScriptStatement {
                     line: line.number,
