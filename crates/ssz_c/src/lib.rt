@@ -1,11 +1,11 @@
 //! The calls of C (`include/ssz.h`): schemas and what their types are, first faults, roots,
-//! generalized indices, proofs and parts of encoded bytes; slices, which are bytes that were checked
-//! once; and sessions, which do the statements of scripts, said as a line or by the arguments of a
-//! call.
+//! generalized indices, proofs and parts of encoded bytes; slices, which are bytes that were
+//! checked once; and sessions, which do the statements of scripts, said as a line or by the
+//! arguments of a call.
 //!
 //! Each export takes what its handle holds (`ssz_handles`), calls a library of this repository, and
-//! puts it back. Every call says how it ended by a number (`status`), and writes what it found behind
-//! the pointers that it was given.
+//! puts it back. Every call says how it ended by a number (`status`), and writes what it found
+//! behind the pointers that it was given.
 #![tactic(auto)]
 
 ghost use Rattle.std.specs.Prelude.{◌≡◌};

@@ -35,8 +35,8 @@ pub extern "C" fn ssz_session_start(
     }
 }
 
-/// Begins a session over the schema that another handle holds, which is copied. What the handle held
-/// before is freed.
+/// Begins a session over the schema that another handle holds, which is copied. What the handle
+/// held before is freed.
 #[unsafe(no_mangle)]
 pub extern "C" fn ssz_session_start_on(
     alloc: Global,

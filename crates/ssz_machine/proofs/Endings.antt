@@ -241,7 +241,8 @@ module _ (rules : Rules) (place : Place) (events : List Event) (first : State)
     ),
   )
 
-  pub steps_ahead : (ample : Bool) (old new : Told) (held : Option Content) (wanting : ample ≡ false)
+  pub steps_ahead : (ample : Bool) (old new : Told) (held : Option Content)
+      (wanting : ample ≡ false)
       (printed : new ≡ told_append old (shown_all place done))
       (are : held ≡ Some (state_of turn).files)
       → steps_done ample status.Memory whole old new held

@@ -132,7 +132,8 @@ module _ (rules : Rules) (format : Format) (legal : HasLegalTypes rules format) 
 
     -- the value of an edit of the part at a path
     whole : (v : Name) (version : Version)
-        (is : need NO_VERSION (version_of v versions) ≡ Ok version) (path : Path) (edit : SszType → SszValue → Edited) (charge : ℕ)
+        (is : need NO_VERSION (version_of v versions) ≡ Ok version) (path : Path)
+        (edit : SszType → SszValue → Edited) (charge : ℕ)
         → ((u : SszType) (w x : SszValue) → IsLegalValue format u w
         → path_type version.type path ≡ Some u → edit u w ≡ Ok x → Fits u x)
         → Keeps (edits versions v version.type (edited edit version.type version.value path) charge)

@@ -15,8 +15,8 @@ use Rattle.ssz_machine.specs.Plays.{Event, play, state_after}
 use Rattle.ssz_machine.specs.Jobs.{job_of, files_after}
 use Rattle.ssz_machine.specs.Work.{Worked, joined_work, worked_on}
 
--- These events make these steps from a first state, and come to this state: with the numbers so far,
--- whatever numbers and events are still to come.
+-- These events make these steps from a first state, and come to this state: with the numbers so
+-- far, whatever numbers and events are still to come.
 pub record IsUnderWay (rules : Rules) (place : Place) (front : List Event) (first : State)
     (done : List Turn) (state : State) : Type 0 where
   pub numbers : List ℕ

@@ -15,8 +15,8 @@ pub data Missing : Type 0 where
   absent : Missing
   no_bytes : Missing
 
--- the names with their bytes, what any other name reads as, and whether it is told that a read fails
--- of an absent name alone, now and later
+-- the names with their bytes, what any other name reads as, and whether it is told that a read
+-- fails of an absent name alone, now and later
 pub record Content : Type 0 where
   pub named : NamedBytes
   pub missing : Missing

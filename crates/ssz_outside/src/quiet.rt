@@ -72,7 +72,8 @@ impl Files for QuietFiles {
     fn get(&mut self, name: &str, into: &mut Vec<u8>, max: u64) -> Result<Got, GetFault>
         requires { into.old.items ≡ [] }
         ensures never { result ≢ Err GetFault.Failed }
-        ensures read { Gets (file_bytes (quiet_content self.old) name.now) max result into.new.items }
+        ensures read { Gets (file_bytes (quiet_content self.old) name.now) max result
+            into.new.items }
         ensures bound { result ≡ Ok Got.Whole → vec_len into.new ≤ max }
         ensures stays { self.new ≡ self.old }
     {

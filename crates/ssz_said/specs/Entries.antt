@@ -99,8 +99,9 @@ IsProofReply (Ok other) proof = proof ≡ Err (refused REFUSED)
 abbrev pub all_shown : Multiproof → List SszEntry
 all_shown proof = map entry_shown proof.leaves ++ map entry_shown proof.nodes
 
--- what stands behind the pointers after a call, and the fault: the leaves and nodes in front of what
--- stood there, where there is room for them, and in any case how many they are; memory may run out
+-- what stands behind the pointers after a call, and the fault: the leaves and nodes in front of
+-- what stood there, where there is room for them, and in any case how many they are; memory may run
+-- out
 abbrev pub AreEntriesShown : List SszEntry → List SszEntry → ℕ → ℕ → ℕ → ℕ → SszFault
     → CallOutcome Multiproof → Type 0
 AreEntriesShown old new leaves_before leaves before len fault (Err why) =

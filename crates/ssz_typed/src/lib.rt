@@ -4,8 +4,8 @@
 //! parts found and shown where they stand (`calls`), their JSON text is made, and bytes of a text
 //! (`texts`). Bytes from which many parts are asked are checked once (`slices`). A type tells its
 //! size, its form and its limit (`calls`, `forms`), its name (`names`), the names of its fields
-//! (`naming_fields`), and the types that it is made of (`naming_parts`). Each call answers what there
-//! is, or a fault as C reads it.
+//! (`naming_fields`), and the types that it is made of (`naming_parts`). Each call answers what
+//! there is, or a fault as C reads it.
 #![tactic(auto)]
 
 pub mod calls;

@@ -2,8 +2,8 @@
 //!
 //! The entries are a finite map, and each call says which map it leaves. They stand in a balanced
 //! tree in the order of writers and names, so a call passes a few entries whatever the names are. A
-//! name is kept in its entry, so that after `Versions::reserve` so many more take no memory, nor does
-//! one for which a caller has a `Room`.
+//! name is kept in its entry, so that after `Versions::reserve` so many more take no memory, nor
+//! does one for which a caller has a `Room`.
 #![tactic(auto)]
 
 mod adding;

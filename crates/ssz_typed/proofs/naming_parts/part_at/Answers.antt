@@ -23,8 +23,8 @@ returns-in-Vector c =
 pub returns-in-List : goal.returns-in-List
 returns-in-List c =
     let tree = sym (ap (tree_over c.args.schema.now.trees) c.in-List.is) ∙ c.ty.ensures.form in
-    element-part c.args.schema.now c.args.id c.args.place c.ty.result.now c.element_at-in-List.result
-    c.requires c.ty.ensures.form c.ty.ensures.before c.in-List.element
+    element-part c.args.schema.now c.args.id c.args.place c.ty.result.now
+    c.element_at-in-List.result c.requires c.ty.ensures.form c.ty.ensures.before c.in-List.element
     (subst (AreBelow c.args.id) c.in-List.is c.ty.ensures.before)
     (λ n. ap (λ t. part_type t n) tree) c.element_at-in-List.ensures
 
@@ -33,4 +33,5 @@ returns-in-Union c =
     option-part c.args.schema.now c.args.id c.args.place c.ty.result.now c.option_at.result
     c.requires c.ty.ensures.form c.ty.ensures.before c.in-Union.options c.in-Union.is
     (c.option_at.ensures
-    ∙ ap (λ (ids : List (Option ℕ)). get_or ids c.args.place None) c.as_slice-in-Union.ensures.value)
+    ∙ ap (λ (ids : List (Option ℕ)). get_or ids c.args.place None)
+    c.as_slice-in-Union.ensures.value)
