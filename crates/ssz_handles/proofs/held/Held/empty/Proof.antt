@@ -1,10 +1,9 @@
 -- `empty` holds nothing: a null pointer, and the allocator.
 use mathlib.Core.Path.{refl, sym, subst}
 use mathlib.Core.List.{List, [], ◌∷◌, ◌++◌}
-use lib.Dec.{T, lit<}
 use seplogic.Ra.Ura.{Ura}
 use mir.Syntax.{w64}
-use mir.Val.{Val, vint, vstruct, vcons, vnil, has_ty, WT}
+use mir.Val.{Val, vint}
 use base.Logic.{SProp, ent, emp}
 use base.Fml.{ftrue, fsep}
 use prog.Memory.{Memory}
@@ -28,11 +27,10 @@ use denote.Struct.Struct.{within}
 use denote.Triple.Spec.{triple_of}
 use denote.Triple.Table.{entered}
 use denote.Triple.Walked.{says, Stays, stay_dropped, walk_of, ends_at, Goes-dropped, walk_Meets}
-use Rattle.std.proofs.alloc.Calls.{handle_tells, Fits, α}
-use Rattle.std_alloc.proofs.BoxSteps.Form.{box_ty}
-use Rattle.std_alloc.proofs.ResultValues.{and_tt}
+use Rattle.std.proofs.alloc.Calls.{handle_tells}
 use Rattle.std.specs.Prelude.{None}
 use Rattle.std_heap.specs.contracts.Global as Heap
+use Rattle.ssz_handles.proofs.Holding.{word, typed}
 use Rattle.ssz_handles.proofs.AsBox.{E}
 use Rattle.ssz_handles.specs.contracts.held.Held as Held
 use Rattle.ssz_handles.specs.contracts.held.Held.empty as F
@@ -45,12 +43,6 @@ From = plain (λ _. Heap.the_row)
 
 abbrev stayed : Stays (F.ended).signature.params (F.ended).kept
 stayed = (stay_dropped From yes, tt)
-
-abbrev word : Val → Val
-word hv = vstruct (vcons (vint w64 0) (vcons hv vnil))
-
-typed : (hv : Val) → Fits E.al hv → T (has_ty (box_ty E) (word hv)) × WT (word hv)
-typed hv fa = (and_tt (has_ty (α E.al) hv) fa.0, (record { fits = lit< tt }, (fa.1, tt)))
 
 module _ {M : Type 1} {𝓤 : Ura M} (𝓛 : Logic 𝓤) (at_mem : Memory → SProp 𝓤) (run : Routine
     → Fun 𝓤) (𝓣 : Tables 𝓤 𝓛.H) where
@@ -80,7 +72,7 @@ module _ {M : Type 1} {𝓤 : Ura M} (𝓛 : Logic 𝓤) (at_mem : Memory → SP
       (qed 𝓛 Γ ∵ enter ! 𝓣.C 𝓣.Λ code.function (hv ∷ []) _ $
       alloc_all ! (λ ls. pass_all ! refl (fa, tt) $
       sets ! (agg ! (and_then ! (lit ! tt) (and_then ! (get ! refl) (no_more !)))) refl
-      (typed hv fa) $ returns ! (look_at ! 0 refl) $ free_all ! refl $
+      (typed E hv fa) $ returns ! (look_at ! 0 refl) $ free_all ! refl $
       suffices ! _ (ends_at 𝓛 F.ended stayed (F.clauses 𝓛 at_mem run) z w made (tt, tt) (tt, tt)) $
       says ! refl $
       nothing ! $ nothing ! $ fjoin ! $ join ! $ nothing ! $ join ! $ done !))))

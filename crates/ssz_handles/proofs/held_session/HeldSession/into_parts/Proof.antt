@@ -1,7 +1,6 @@
 -- `into_parts` moves two fields, and what they own goes with them.
-use mathlib.Core.Path.{◌≡◌, refl, sym, subst}
+use mathlib.Core.Path.{refl, sym, subst}
 use mathlib.Core.List.{List, [], ◌∷◌, ◌++◌}
-use mathlib.Core.Bool.{true≢false}
 use seplogic.Ra.Ura.{Ura}
 use mir.Val.{Val}
 use base.Logic.{SProp, ent, id⊢}
@@ -23,20 +22,17 @@ use denote.Triple.Spec.{triple_of}
 use denote.Triple.Table.{entered}
 use denote.Triple.Walked.{says, Stays, stay_dropped, walk_of, ends_at, Goes-dropped, walk_Meets}
 use Rattle.std_alloc.proofs.BoxSteps.Form.{D, B, word, box_typed}
-use Rattle.std.specs.Prelude.{Option, Some, None, IsSome}
+use Rattle.std.specs.Prelude.{Option, IsSome}
 use contract.Monad.{Fun, fact}
 use Rattle.ssz_handles.specs.contracts.held_session.HeldSession as Held
 use Rattle.ssz_handles.specs.contracts.session.Session as Kept
 use Rattle.std_alloc.proofs.BoxSteps.Steps.{box_out, box_in}
+use Rattle.ssz_handles.proofs.Holding.{what}
 use Rattle.ssz_handles.proofs.AsBox.{SessionBox as E, FromHeldSession as From}
 use Rattle.ssz_handles.specs.contracts.held_session.HeldSession.into_parts as F
 use Rattle.ssz_handles.specs.contracts.held_session.HeldSession.into_parts.Key.{name as #self}
 use Rattle.ssz_handles.proofs.held_session.HeldSession.into_parts.Statement as stated
 use Rattle.ssz_handles.proofs.held_session.HeldSession.into_parts.Code as code
-
-what : (o : Option Kept.the_row.Denot) → IsSome o → (x : Kept.the_row.Denot) × (o ≡ Some x)
-what None some = absurd (true≢false (sym some))
-what (Some x) some = (x, refl)
 
 abbrev stayed : Stays (F.ended).signature.params (F.ended).kept
 stayed = (stay_dropped From yes, tt)
