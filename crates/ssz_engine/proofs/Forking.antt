@@ -5,7 +5,7 @@ use Rattle.ssz_script.specs.declared.statement.Statement.{Statement}
 use Rattle.ssz_script.specs.declared.statement.Statement.TheVariants as statement
 use Rattle.ssz_versions.specs.Content.{Entries, held_at}
 use Rattle.ssz_machine.specs.State.{Name}
-use Rattle.ssz_engine.specs.Steps.{ForksWhere}
+use Rattle.ssz_engine.specs.Steps.{StatementForks, WhereAccepted}
 use Rattle.ssz_decisions.specs.Carried.{IsCarriedOut}
 use Rattle.ssz_decisions.specs.Decisions.{MakesFork}
 use Rattle.ssz_decisions.specs.declared.decision.Decision.{Decision}
@@ -19,7 +19,7 @@ forked : (made : Decision) (v w : Name) (writer line : ℕ) (first mid new : Ent
     (done : Outcome) (told_old told_new : Option Files) (out_old out_new : List ℕ) → mid ≡ first
     → MakesFork (statement.Fork v w) writer first made
     → IsCarriedOut made writer line mid new done told_old told_new out_old out_new
-    → ForksWhere done (statement.Fork v w) writer first new
+    → WhereAccepted done (StatementForks (statement.Fork v w) writer first new)
 forked (decision.Refused code) v w writer line first mid new Refused told_old told_new out_old
     out_new same makes out = tt
 forked (decision.Refused code) v w writer line first mid new Accepted told_old told_new out_old
@@ -54,12 +54,12 @@ module _ (made : Decision) (writer line : ℕ) (first mid new : Entries) (done :
     (told_old told_new : Option Files) (out_old out_new : List ℕ) (same : mid ≡ first)
     (out : IsCarriedOut made writer line mid new done told_old told_new out_old out_new) where
   -- a refused statement says nothing of it
-  other : (outcome : Outcome) (s : Statement) → ForksWhere Accepted s writer first new
-      → ForksWhere outcome s writer first new
-  other Accepted s h = h
-  other Refused s h = tt
+  other : (outcome : Outcome) (Fact : Type 0) → Fact → WhereAccepted outcome Fact
+  other Accepted Fact h = h
+  other Refused Fact h = tt
 
-  pub forks : (s : Statement) → MakesFork s writer first made → ForksWhere done s writer first new
+  pub forks : (s : Statement) → MakesFork s writer first made
+      → WhereAccepted done (StatementForks s writer first new)
   forks (statement.Fork v w) makes =
       forked made v w writer line first mid new done told_old told_new out_old out_new same makes
       out

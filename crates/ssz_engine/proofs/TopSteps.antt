@@ -18,7 +18,8 @@ use Rattle.ssz_decisions.specs.Content.{EngineContent, SameNodes}
 use Rattle.ssz_decisions.specs.Decisions.{IsOf}
 use Rattle.ssz_decisions.specs.Finished.{FinishesEdit, finished_edit}
 use Rattle.ssz_decisions.specs.Carried.{IsCarriedOut}
-use Rattle.ssz_engine.specs.Tops.{HasDue, IsDue, MakesTop, Tops, TopsWhere}
+use Rattle.ssz_engine.specs.Steps.{WhereAccepted}
+use Rattle.ssz_engine.specs.Tops.{HasDue, IsDue, MakesTop, Tops}
 use Rattle.ssz_decisions.specs.declared.decision.Decision.{Decision}
 use Rattle.ssz_decisions.specs.declared.decision.Decision.TheVariants as decision
 use Rattle.ssz_decisions.specs.declared.outcome.Outcome.{Outcome}
@@ -58,17 +59,18 @@ module _ (writer line : ℕ) (first mid new : EngineContent) (same : SameNodes m
   has-due (decision.Saved n bytes) v of due out = absurd due
 
   -- a refused statement says nothing of it
-  only : (outcome : Outcome) (s : Statement)
-      → (outcome ≡ Accepted → Tops s writer first new) → TopsWhere outcome s writer first new
-  only Accepted s h = h refl
-  only Refused s h = tt
+  only : (outcome : Outcome) (Fact : Type 0) → (outcome ≡ Accepted → Fact)
+      → WhereAccepted outcome Fact
+  only Accepted Fact h = h refl
+  only Refused Fact h = tt
 
   done-as : (made : Decision) (done : Outcome) → done ≡ Accepted → IsDone made done
       → IsDone made Accepted
   done-as made done is out = subst (λ (o : Outcome). IsDone made o) is out
 
   pub tops : (made : Decision) (done : Outcome) (s : Statement) → IsOf (touch s) made
-      → MakesTop s writer first mid made → IsDone made done → TopsWhere done s writer first new
+      → MakesTop s writer first mid made → IsDone made done
+      → WhereAccepted done (Tops s writer first new)
   tops made done (statement.Set v p l) of makes out = only done _ (λ is was there below.
       has-due made v of (makes was there below) (done-as made done is out))
   tops made done (statement.Append v p l) of makes out =

@@ -11,7 +11,7 @@ use Rattle.ssz_versions.specs.Content.{Entries, Held, held_at}
 use Rattle.ssz_machine.specs.State.{Name}
 use Rattle.ssz_decisions.specs.Content.{EngineContent, SameNodes}
 use Rattle.ssz_decisions.specs.Carried.{IsCarriedOut}
-use Rattle.ssz_engine.specs.Steps.{MakesUpgrade, UpgradesWhere}
+use Rattle.ssz_engine.specs.Steps.{MakesUpgrade, StatementUpgrades, WhereAccepted}
 use Rattle.ssz_decisions.specs.declared.decision.Decision.{Decision}
 use Rattle.ssz_decisions.specs.declared.decision.Decision.TheVariants as decision
 use Rattle.ssz_decisions.specs.declared.outcome.Outcome.{Outcome}
@@ -28,7 +28,7 @@ module _ (writer line : ℕ) (first mid new : EngineContent) (same : SameNodes m
   made_of : (name : Bor (List ℕ)) (id : ℕ) (node : NodeId) (room : Unit {0}) (v w t : Name)
       → MakesUpgrade (statement.Upgrade v w t) writer first mid (decision.Made name id node room)
       → IsDone (decision.Made name id node room) Accepted
-      → UpgradesWhere Accepted (statement.Upgrade v w t) writer first new
+      → StatementUpgrades (statement.Upgrade v w t) writer first new
   made_of name id node room v w t makes out = λ was is there here.
       let found : Some (id, node) ≡ Some is =
       sym (ap (λ (n : Name). held_at new.entries writer n) (sym makes.named)
@@ -43,7 +43,7 @@ module _ (writer line : ℕ) (first mid new : EngineContent) (same : SameNodes m
 
   upgraded : (made : Decision) (v w t : Name) (done : Outcome)
       → MakesUpgrade (statement.Upgrade v w t) writer first mid made → IsDone made done
-      → UpgradesWhere done (statement.Upgrade v w t) writer first new
+      → WhereAccepted done (StatementUpgrades (statement.Upgrade v w t) writer first new)
   upgraded made v w t Refused makes out = tt
   upgraded (decision.Made name id node room) v w t Accepted makes out =
       made_of name id node room v w t makes out
@@ -59,14 +59,13 @@ module _ (writer line : ℕ) (first mid new : EngineContent) (same : SameNodes m
   upgraded (decision.Saved n bytes) v w t Accepted makes out = absurd makes
 
   -- a refused statement says nothing of it
-  other : (outcome : Outcome) (s : Statement) → UpgradesWhere Accepted s writer first new
-      → UpgradesWhere outcome s writer first new
-  other Accepted s h = h
-  other Refused s h = tt
+  other : (outcome : Outcome) (Fact : Type 0) → Fact → WhereAccepted outcome Fact
+  other Accepted Fact h = h
+  other Refused Fact h = tt
 
   pub upgrades : (made : Decision) (done : Outcome) (s : Statement)
       → MakesUpgrade s writer first mid made → IsDone made done
-      → UpgradesWhere done s writer first new
+      → WhereAccepted done (StatementUpgrades s writer first new)
   upgrades made done (statement.Upgrade v w t) makes out = upgraded made v w t done makes out
   upgrades made done (statement.New v t) makes out = other done _ tt
   upgrades made done (statement.Lit v t l) makes out = other done _ tt

@@ -15,8 +15,8 @@ use Rattle.ssz_machine.specs.Drawing.{Walk, worked}
 use Rattle.ssz_machine.specs.Work.{alters, changes_below, turn_done, tops_of}
 use Rattle.ssz_decisions.specs.Content.{EngineContent}
 use Rattle.ssz_decisions.specs.Standing.{Match}
-use Rattle.ssz_engine.specs.Steps.{is_refusal}
-use Rattle.ssz_engine.specs.Tops.{HasDue, Tops, TopsWhere}
+use Rattle.ssz_engine.specs.Steps.{WhereAccepted, is_refusal}
+use Rattle.ssz_engine.specs.Tops.{HasDue, Tops}
 use Rattle.ssz_decisions.specs.Roots.{HashesSome, RisesBy}
 use Rattle.ssz_decisions.specs.declared.outcome.Outcome.{Outcome}
 use Rattle.ssz_decisions.specs.declared.outcome.Outcome.TheVariants.{Accepted, Refused}
@@ -69,7 +69,8 @@ both-true false b is = (refl, is)
 
 -- an accepted edit leaves what it says of the top
 accepted-tops : (made : Outcome) (edit : Statement) (old new : EngineContent)
-    → is_refusal made ≡ false → TopsWhere made edit 0 old new → Tops edit 0 old new
+    → is_refusal made ≡ false → WhereAccepted made (Tops edit 0 old new)
+    → Tops edit 0 old new
 accepted-tops Accepted edit old new is tops = tops
 accepted-tops Refused edit old new is tops = absurd (false≢true (sym is))
 
@@ -79,7 +80,8 @@ pub round-least : (rules : Rules) (state : State) (way : Walk) (edit : Statement
     → way ≡ record { edit = Some edit; seed = seed } → IsEditStatement edit
     → Match old.types old.arena (held_at old.entries 0 worked)
     (version_of worked (state.versions 0))
-    → is_refusal made ≡ is_refused (turn_done rules state edit) → TopsWhere made edit 0 old mid
+    → is_refusal made ≡ is_refused (turn_done rules state edit)
+    → WhereAccepted made (Tops edit 0 old mid)
     → before ≤ between → between ≤ after → HashesSome (Root worked) 0 mid between after
     → RisesBy (tops_of rules state way.edit) before after
 round-least rules state way edit seed old mid before between after made is named matches outcome

@@ -13,8 +13,8 @@ use Rattle.ssz_engine.specs.Compacting.{is_compact}
 use Rattle.ssz_decisions.specs.Content.{EngineContent}
 use Rattle.ssz_decisions.specs.Standing.{StandsFor}
 use Rattle.ssz_decisions.specs.Roots.{LeavesHashed}
-use Rattle.ssz_engine.specs.Steps.{DoesStep, ForksWhere, TouchesWhere, UpgradesWhere, turn_at}
-use Rattle.ssz_engine.specs.Tops.{TopsWhere}
+use Rattle.ssz_engine.specs.Steps.{DoesStep, StatementForks, StatementUpgrades, TouchesWhere, WhereAccepted, turn_at}
+use Rattle.ssz_engine.specs.Tops.{Tops}
 use Rattle.ssz_decisions.specs.Outside.{FilesHold}
 use Rattle.ssz_decisions.specs.declared.outcome.Outcome.{Outcome}
 use Rattle.ssz_decisions.specs.declared.outcome.Outcome.TheVariants.{Refused}
@@ -34,13 +34,13 @@ pub record Effects (statement : Statement) (writer : ℕ) (old new : EngineConte
   pub entries : is_compact statement ≡ false
       → TouchesWhere made (touch statement) writer old.entries new.entries
   -- a fork holds what its source holds, the same node
-  pub forks : ForksWhere made statement writer old.entries new.entries
+  pub forks : WhereAccepted made (StatementForks statement writer old.entries new.entries)
   -- what an upgrade makes has no more to be hashed than what it was made of, and the charge
-  pub upgrades : UpgradesWhere made statement writer old new
+  pub upgrades : WhereAccepted made (StatementUpgrades statement writer old new)
   -- a root leaves nothing to be hashed of what it was asked of
   pub roots : LeavesHashed statement writer new
   -- what is edited below its top has a new pair there
-  pub tops : TopsWhere made statement writer old new
+  pub tops : WhereAccepted made (Tops statement writer old new)
 
 -- A statement was answered: it was done as by a step that says the reply's line alone, and the
 -- reply is that of the machine's turn, whatever versions the engine stood for.

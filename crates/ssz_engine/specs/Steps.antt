@@ -33,6 +33,11 @@ abbrev pub is_refusal : Outcome → Bool
 is_refusal Accepted = false
 is_refusal Refused = true
 
+-- of a statement that is accepted this is so
+abbrev pub WhereAccepted : Outcome → Type 0 → Type 0
+WhereAccepted Accepted Fact = Fact
+WhereAccepted Refused Fact = Unit {0}
+
 -- What a step leaves that was done as the turn says: the line of its reply is appended, and the
 -- engine and the files stand for the state after it.
 pub record StepLeaves (turn : Turn) (made : Outcome) (engine : EngineContent) (told : Option Files)
@@ -57,10 +62,6 @@ abbrev pub StatementForks : Statement → ℕ → Entries → Entries → Type 0
 StatementForks (Fork v w) writer old new = held_at new writer w ≡ held_at old writer v
 StatementForks _ writer old new = Unit {0}
 
-abbrev pub ForksWhere : Outcome → Statement → ℕ → Entries → Entries → Type 0
-ForksWhere Accepted statement writer old new = StatementForks statement writer old new
-ForksWhere Refused statement writer old new = Unit {0}
-
 -- For what an upgrade makes no more is to be hashed than for what it takes the fields of, and the
 -- charge.
 abbrev pub StatementUpgrades : Statement → ℕ → EngineContent → EngineContent → Type 0
@@ -70,10 +71,6 @@ StatementUpgrades (Upgrade v w t) writer old new =
     → todo new.arena is.1 ≤ todo old.arena was.1
     + upgrade_charge (type_of old.types was.0) (type_of old.types is.0)
 StatementUpgrades _ writer old new = Unit {0}
-
-abbrev pub UpgradesWhere : Outcome → Statement → ℕ → EngineContent → EngineContent → Type 0
-UpgradesWhere Accepted statement writer old new = StatementUpgrades statement writer old new
-UpgradesWhere Refused statement writer old new = Unit {0}
 
 -- a node that an upgrade makes, under its name
 pub record IsUpgradeOf (v w : Name) (writer : ℕ) (old new : EngineContent) (name : Name) (id : ℕ)

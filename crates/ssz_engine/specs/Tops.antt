@@ -11,8 +11,6 @@ use Rattle.ssz_machine.specs.State.{Name}
 use Rattle.ssz_decisions.specs.Content.{EngineContent}
 use Rattle.ssz_decisions.specs.declared.decision.Decision.{Decision}
 use Rattle.ssz_decisions.specs.declared.decision.Decision.TheVariants as decision
-use Rattle.ssz_decisions.specs.declared.outcome.Outcome.{Outcome}
-use Rattle.ssz_decisions.specs.declared.outcome.Outcome.TheVariants.{Accepted, Refused}
 
 -- the node of an edit is to be hashed
 abbrev pub IsDue : Nodes → Decision → Type 0
@@ -54,7 +52,3 @@ Tops (Append v path literal) writer old new = HasDue v writer new
 Tops (Pop v path) writer old new = HasDue v writer new
 Tops (Choose v path k literal) writer old new = HasDue v writer new
 Tops _ writer old new = Unit {0}
-
-abbrev pub TopsWhere : Outcome → Statement → ℕ → EngineContent → EngineContent → Type 0
-TopsWhere Accepted statement writer old new = Tops statement writer old new
-TopsWhere Refused statement writer old new = Unit {0}

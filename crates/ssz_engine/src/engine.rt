@@ -12,9 +12,9 @@ ghost use Rattle.ssz_engine.specs.Compacting.{compacted, is_compact};
 ghost use Rattle.ssz_decisions.specs.Standing.{StandsForSome, StandsFor, HoldsNone};
 ghost use Rattle.ssz_decisions.specs.Outside.{CountsReads, CountsWrites};
 ghost use Rattle.ssz_decisions.specs.Roots.{HashesDue, LeavesHashed, HashesSome};
-ghost use Rattle.ssz_engine.specs.Steps.{DoesStep, StatementFindsFile, ForksWhere, Stops, TouchesWhere, UpgradesWhere, file_read};
+ghost use Rattle.ssz_engine.specs.Steps.{DoesStep, StatementFindsFile, StatementForks, StatementUpgrades, Stops, TouchesWhere, WhereAccepted, file_read};
 ghost use Rattle.ssz_decisions.specs.Content.{KeepsEngine};
-ghost use Rattle.ssz_engine.specs.Tops.{TopsWhere};
+ghost use Rattle.ssz_engine.specs.Tops.{Tops};
 
 use super::deciding::decide;
 use ssz_chunk::PairHash;
@@ -113,11 +113,11 @@ impl<H: PairHash> Engine<H> {
             → IfOk result (λ outcome. TouchesWhere outcome (touch statement.now) writer.0
             self.old.entries self.new.entries) }
         // A fork holds what its source holds, the same node.
-        ensures forks { IfOk result (λ outcome. ForksWhere outcome statement.now writer.0
-            self.old.entries self.new.entries) }
+        ensures forks { IfOk result (λ outcome. WhereAccepted outcome
+            (StatementForks statement.now writer.0 self.old.entries self.new.entries)) }
         // What an upgrade makes has no more to be hashed than what it was made of, and the charge.
-        ensures upgrades { IfOk result (λ outcome. UpgradesWhere outcome statement.now writer.0
-            self.old self.new) }
+        ensures upgrades { IfOk result (λ outcome. WhereAccepted outcome
+            (StatementUpgrades statement.now writer.0 self.old self.new)) }
         // A root leaves nothing to be hashed of what it was asked of.
         ensures roots { IfOk result (λ outcome. LeavesHashed statement.now writer.0 self.new) }
         ensures err { OnErr result ((self.new.entries ≡ self.old.entries)
@@ -133,8 +133,8 @@ impl<H: PairHash> Engine<H> {
         ensures due { HashesDue statement.now writer.0 self.old (H.pairs hasher.old)
             (H.pairs hasher.new) }
         // What is edited below its top has a new pair there, and a root then hashes that at least.
-        ensures tops { IfOk result (λ outcome. TopsWhere outcome statement.now writer.0 self.old
-            self.new) }
+        ensures tops { IfOk result (λ outcome. WhereAccepted outcome
+            (Tops statement.now writer.0 self.old self.new)) }
         ensures some { OnOk result (HashesSome statement.now writer.0 self.old
             (H.pairs hasher.old) (H.pairs hasher.new)) }
         ensures refused { IfOk result (λ outcome. outcome ≡ Outcome.Refused

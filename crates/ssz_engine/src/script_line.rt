@@ -5,9 +5,9 @@ ghost use Rattle.ssz_outside.specs.Job.{IsFinished};
 ghost use Rattle.ssz_machine.specs.Plays.{says};
 ghost use Rattle.ssz_engine.specs.Lines.{CountsPrint, DoesLine, LeavesOthers, PrintsLine, ended_by, Tries};
 ghost use Rattle.ssz_decisions.specs.Standing.{StaysFor};
-ghost use Rattle.ssz_engine.specs.Steps.{is_refusal};
+ghost use Rattle.ssz_engine.specs.Steps.{WhereAccepted, is_refusal};
 ghost use Rattle.ssz_decisions.specs.Roots.{LeavesHashed, HashesSome};
-ghost use Rattle.ssz_engine.specs.Tops.{TopsWhere};
+ghost use Rattle.ssz_engine.specs.Tops.{Tops};
 ghost use Rattle.ssz_engine.specs.Points.{Runs};
 ghost use Rattle.ssz_engine.specs.Scripts.{point, scene};
 
@@ -42,7 +42,7 @@ pub(crate) fn reply_to<F: Files, H: PairHash>(
     ensures roots { IfOk result (λ made. IfSome line.now.statement (λ statement.
         LeavesHashed statement writer.0 engine.new)) }
     ensures tops { IfOk result (λ made. IfSome line.now.statement (λ statement.
-        TopsWhere made statement writer.0 engine.old engine.new)) }
+        WhereAccepted made (Tops statement writer.0 engine.old engine.new))) }
     ensures some { OnOk result (IfSome line.now.statement (λ statement.
         HashesSome statement writer.0 engine.old (H.pairs hasher.old) (H.pairs hasher.new))) }
 {

@@ -8,9 +8,9 @@ ghost use Rattle.ssz_machine.specs.Work.{turn_done, round, tops_of, walk_from, w
 ghost use Rattle.ssz_script.specs.declared.statement.Statement.TheVariants.{Root};
 ghost use Rattle.ssz_decisions.specs.Content.{rules_of};
 ghost use Rattle.ssz_decisions.specs.Standing.{StandsForWriter};
-ghost use Rattle.ssz_engine.specs.Steps.{is_refusal};
+ghost use Rattle.ssz_engine.specs.Steps.{WhereAccepted, is_refusal};
 ghost use Rattle.ssz_decisions.specs.Roots.{HashesSome, RisesBy};
-ghost use Rattle.ssz_engine.specs.Tops.{TopsWhere};
+ghost use Rattle.ssz_engine.specs.Tops.{Tops};
 ghost use Rattle.ssz_engine.specs.Scripts.{point};
 ghost use Rattle.ssz_engine.specs.Works.{Draws, IsAtState, IsOfWork, Replies, Works, one_step, whole_work};
 ghost use Rattle.ssz_engine.specs.Lines.{Tries};
@@ -47,7 +47,8 @@ fn answer<F: Files, H: PairHash>(
         → IsAtState state (point F.Files H.PairHash engine.old files.old hasher.old)
         → IfOk result (λ made. is_refusal made
         ≡ is_refused (turn_done (rules_of H.pair_of engine.old) state statement)) }
-    ensures tops { IfOk result (λ made. TopsWhere made statement 0 engine.old engine.new) }
+    ensures tops { IfOk result (λ made. WhereAccepted made
+        (Tops statement 0 engine.old engine.new)) }
     ensures some { OnOk result (HashesSome statement 0 engine.old (H.pairs hasher.old)
         (H.pairs hasher.new)) }
 {

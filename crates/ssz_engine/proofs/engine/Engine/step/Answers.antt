@@ -3,12 +3,12 @@ use Rattle.std.specs.Prelude.{OnErr}
 use Rattle.ssz_arena.specs.Content.{node_count}
 use Rattle.ssz_outside.specs.Content.{Content as Files}
 use Rattle.ssz_script.specs.declared.statement.Statement.{Statement}
-use Rattle.ssz_engine.specs.Steps.{Decides, DoesStep, StatementFindsFile, ForksWhere, Stops, UpgradesWhere}
+use Rattle.ssz_engine.specs.Steps.{Decides, DoesStep, StatementFindsFile, StatementForks, StatementUpgrades, Stops, WhereAccepted}
 use Rattle.ssz_decisions.specs.Carried.{Fails, IsCarriedOut}
 use Rattle.ssz_decisions.specs.Content.{EngineContent}
 use Rattle.ssz_decisions.specs.Roots.{HashesSome, LeavesHashed}
 use Rattle.ssz_decisions.specs.Standing.{StandsForSome}
-use Rattle.ssz_engine.specs.Tops.{TopsWhere}
+use Rattle.ssz_engine.specs.Tops.{Tops}
 use Rattle.ssz_decisions.specs.declared.outcome.Outcome.TheVariants.{Accepted}
 use Rattle.ssz_decisions.proofs.Results.{on_ok, err-of, ok-of}
 use Rattle.ssz_engine.proofs.Forking.{forks}
@@ -137,10 +137,10 @@ returns-clause-forks g c =
     let out_old = c.reserve.new.self.items in
     let out_new = c.carry_out.new.out.items in
     subst (λ (s : EngineContent).
-    IfOk c.carry_out.result (λ done. ForksWhere done statement w s.entries
-    new)) c.self.view_is
+    IfOk c.carry_out.result (λ done. WhereAccepted done
+    (StatementForks statement w s.entries new))) c.self.view_is
     (ok-of (λ done. IsCarriedOut made w c.args.line mid new done told_mid told_new out_old out_new)
-    (λ done. ForksWhere done statement w first new) c.carry_out.result
+    (λ done. WhereAccepted done (StatementForks statement w first new)) c.carry_out.result
     (λ done out. forks made w c.args.line first mid new done told_mid told_new out_old out_new
     c.in_ok-decision.ensures.grows.entries out statement c.in_ok-decision.ensures.forks)
     c.carry_out.ensures.ok)
@@ -158,10 +158,11 @@ returns-clause-upgrades g c =
     let out_old = c.reserve.new.self.items in
     let out_new = c.carry_out.new.out.items in
     subst (λ (s : EngineContent).
-    IfOk c.carry_out.result (λ done. UpgradesWhere done statement w s new)) c.self.view_is
+    IfOk c.carry_out.result (λ done. WhereAccepted done
+    (StatementUpgrades statement w s new))) c.self.view_is
     (ok-of (λ done. IsCarriedOut made w c.args.line mid.entries new.entries done told_mid told_new
     out_old out_new)
-    (λ done. UpgradesWhere done statement w first new) c.carry_out.result
+    (λ done. WhereAccepted done (StatementUpgrades statement w first new)) c.carry_out.result
     (λ done out. upgrades w c.args.line first mid new c.carry_out.ensures.nodes told_mid told_new
     out_old out_new made done statement c.in_ok-decision.ensures.upgrades out)
     c.carry_out.ensures.ok)
@@ -179,10 +180,11 @@ returns-clause-tops g c =
     let out_old = c.reserve.new.self.items in
     let out_new = c.carry_out.new.out.items in
     subst (λ (s : EngineContent).
-    IfOk c.carry_out.result (λ done. TopsWhere done statement w s new)) c.self.view_is
+    IfOk c.carry_out.result (λ done. WhereAccepted done
+    (Tops statement w s new))) c.self.view_is
     (ok-of (λ done. IsCarriedOut made w c.args.line mid.entries new.entries done told_mid told_new
     out_old out_new)
-    (λ done. TopsWhere done statement w first new) c.carry_out.result
+    (λ done. WhereAccepted done (Tops statement w first new)) c.carry_out.result
     (λ done out. tops w c.args.line first mid new c.carry_out.ensures.nodes told_mid told_new
     out_old out_new made done statement c.in_ok-decision.ensures.decides.answers.of
     c.in_ok-decision.ensures.tops out)
