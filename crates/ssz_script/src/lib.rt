@@ -6,6 +6,7 @@
 //! is one in specs/Texts. A script is read in one pass, and only what a statement keeps is copied.
 #![tactic(auto)]
 
+mod digits;
 mod forms;
 mod indices;
 mod laws;
@@ -26,4 +27,4 @@ pub use reply::Reply;
 pub use ssz_line::{FileName, Identifier, Index, Line, LineFault, Lines, Steps, read_path};
 pub use statement::Statement;
 pub use statements::{ScriptStatement, Statements};
-pub use texts::reply_text;
+pub use texts::{put_reply, reply_text};

@@ -1,10 +1,12 @@
 ghost use Rattle.std.specs.Prelude.{◌≡◌, ◌∷◌, ◌++◌, [], ℕ, IfOk, OnOk, OnErr, decimal, codes, string_bytes, IsOk};
 ghost use Rattle.std.specs.List.{flat_map};
 ghost use Rattle.hex.specs.Hex.{encode_lower};
+ghost use Rattle.ssz_script.specs.declared.reply.Reply.TheVariants.{Bytes};
 ghost use Rattle.ssz_script.specs.Texts.{line, hexadecimal, refusal_name, refused_line, lettered, fault_words, reply_line};
 
+use super::digits::{line_of_digits, put_digits};
 use super::reply::Reply;
-use ssz_bytes::Fault;
+use ssz_bytes::{ByteRun, Fault};
 use ssz_schema::Name;
 use std::alloc::{AllocError, Global};
 
@@ -34,8 +36,21 @@ fn push_hexadecimal(out: &mut Vec<u8>, front: &[u8], bytes: &[u8]) -> Result<(),
     out.extend_from_slice(front)?;
     let begin = out.len();
     out.resize(begin + digits, 0)?;
-    let _ = hex::encode_to_slice(bytes, &mut out.as_mut_slice()[begin..]);
+    put_digits(bytes, &mut out.as_mut_slice()[begin..]);
     out.push(b'\n')?;
+    Ok(())
+}
+
+// Appends the line of an encoding, or nothing. One that is longer than out is wide gives out its
+// memory, so that its digits take none beside it.
+fn push_encoding(out: &mut Vec<u8>, bytes: ByteRun) -> Result<(), AllocError>
+    ensures ok { OnOk result (out.new.items ≡ out.old.items ++ reply_line (Bytes bytes)) }
+    ensures err { OnErr result (out.new.items ≡ out.old.items) }
+{
+    if bytes.len() <= out.capacity() {
+        return push_hexadecimal(out, b"bytes 0x", bytes.as_slice());
+    }
+    *out = line_of_digits(out.as_slice(), b"bytes 0x", bytes.into_bytes()?)?;
     Ok(())
 }
 
@@ -180,5 +195,16 @@ pub fn reply_text(reply: &Reply, out: &mut Vec<u8>) -> Result<(), AllocError>
         Reply::BadJson { line, code, number } => {
             push_text(out, bad_json_text(alloc, *line, *code, *number))
         }
+    }
+}
+
+/// Appends the line of a reply that is given up, or nothing where memory runs out.
+pub fn put_reply(reply: Reply, out: &mut Vec<u8>) -> Result<(), AllocError>
+    ensures ok { OnOk result (out.new.items ≡ out.old.items ++ reply_line reply) }
+    ensures err { OnErr result (out.new.items ≡ out.old.items) }
+{
+    match reply {
+        Reply::Bytes(bytes) => push_encoding(out, bytes),
+        other => reply_text(&other, out),
     }
 }
