@@ -15,7 +15,7 @@ use ssz_arena::NodeId;
 use ssz_chunk::PairHash;
 use ssz_outside::{Files, PutFault};
 use ssz_schema::TypeId;
-use ssz_script::{FileName, Identifier, Reply, reply_text};
+use ssz_script::{FileName, Identifier, Reply, put_reply};
 use ssz_versions::{Room, Writer};
 use std::alloc::AllocError;
 
@@ -46,7 +46,7 @@ pub fn say(reply: Reply, outcome: Outcome, out: &mut Vec<u8>) -> Result<Outcome,
     ensures text { OnOk result (out.new.items ≡ out.old.items ++ reply_line reply) }
     ensures err { OnErr result (out.new.items ≡ out.old.items) }
 {
-    reply_text(&reply, out)?;
+    put_reply(reply, out)?;
     Ok(outcome)
 }
 
