@@ -5,27 +5,12 @@
 //! counts.
 #![tactic(auto)]
 
-mod arena;
-mod codec;
-mod edit;
-mod inputs;
-mod json;
-mod nodes;
-mod numbers;
-mod pairs;
-mod partial;
-mod paths;
-mod prove;
-mod reading;
 mod repeats;
-mod root;
-mod schema;
-mod script;
-mod slices;
-mod tree;
-mod versions;
 
-use anyhow::{Context, Result, bail};
+use anyhow::{Result, bail};
+use bench_nodes::{arena, edit, tree, versions};
+use bench_proofs::{partial, prove};
+use bench_values::{pairs, root, schema, script, slices};
 use std::alloc::{AllocError, Global};
 use std::{env, fs};
 

@@ -1,8 +1,9 @@
 // Works that are done so many times with the value of a file: codec, json or reading, and
 // WHAT SCHEMA TYPE FILE TIMES.
-use super::inputs::{Sample, number, read_sample};
-use super::{codec, json, reading};
 use anyhow::{Result, bail};
+use bench_nodes::reading;
+use bench_values::inputs::{Sample, number, read_sample};
+use bench_values::{codec, json};
 use std::alloc::Global;
 
 const USAGE: &str = "usage: bench codec|json|reading WHAT SCHEMA TYPE FILE TIMES";

@@ -1,0 +1,5 @@
+//! Works that `bench` times with proofs: proofs made of nodes, and trees of which a proof is known.
+#![tactic(auto)]
+
+pub mod partial;
+pub mod prove;
