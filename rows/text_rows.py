@@ -5,7 +5,7 @@
 
 The rows of json, plain and slices, and what must be printed for them, are made in rows/text/. The
 other rows are data of the crate, and the lines that are wanted for them stand in rows/text/ too;
-the module of each subject in crates/text_rows/src says where they come from.
+the module of each subject, in crates/type_rows, script_rows or value_rows, says where they come from.
 """
 import os
 

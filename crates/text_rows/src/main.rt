@@ -1,22 +1,14 @@
 //! What the calls on types, words, scripts, bytes, JSON texts and values answer, by the rows of
-//! data/: a file and a module a subject.
+//! data/: a file a subject, and a module of `type_rows`, `script_rows` or `value_rows`.
 //!
 //! Behind a line with the name of each subject stand the lines of its rows, in their order. What
 //! must be printed is stored; the rows themselves need no proof.
 #![tactic(auto)]
 
-mod codec;
-mod json_texts;
-mod plain;
-mod roots;
-mod rows;
-mod schema;
-mod script;
-mod slices;
-mod values;
-mod words;
-
 use anyhow::Result;
+use script_rows::script;
+use type_rows::{schema, words};
+use value_rows::{codec, json_texts, plain, roots, slices};
 
 // The subjects of files with types or words.
 fn print_forms(rt: &HostRuntime) -> Result<()> {

@@ -1,9 +1,0 @@
-use Rattle.std.specs.Prelude.{IfSome}
-use Rattle.node_rows.specs.Versions.{AreRowVersions}
-use Rattle.node_rows.proofs.edit.print_rows.Given as goal
-
-abbrev pub invariant-loop-row : goal.invariant-loop-row
-invariant-loop-row l =
-    (goal.iterator-loop-row).can_next l.row-iterator
-    × (goal.iterator-loop-row).is_finite l.row-iterator
-    × IfSome l.versions (AreRowVersions l.schema l.arena)
