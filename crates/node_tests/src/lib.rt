@@ -1,23 +1,13 @@
-//! Tests of chunks, roots, nodes, versions and multiproofs, in a crate of their own: a check of tests
-//! proves again the crate that they stand in.
+//! Tests of nodes, versions and upgrades, in a crate of their own: a check of tests proves again the
+//! crate that they stand in.
 #![tactic(auto)]
 
 #[cfg(test)]
 mod arena;
 #[cfg(test)]
-mod chunk;
-#[cfg(test)]
 mod chunks;
 #[cfg(test)]
-mod clash;
-#[cfg(test)]
 mod compacting;
-#[cfg(test)]
-mod merkle;
-#[cfg(test)]
-mod proof;
-#[cfg(test)]
-mod prove;
 #[cfg(test)]
 mod upgrading;
 #[cfg(test)]

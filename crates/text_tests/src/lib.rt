@@ -1,19 +1,11 @@
-//! Tests of types, bytes, values, schema files, paths and scripts, in a crate of their own: a check
-//! of tests proves again the crate that they stand in.
+//! Tests of bytes, numbers, types, schema files and scripts, in a crate of their own: a check of
+//! tests proves again the crate that they stand in.
 #![tactic(auto)]
 
 #[cfg(test)]
 mod basic;
 #[cfg(test)]
-mod codec;
-#[cfg(test)]
 mod decimal;
-#[cfg(test)]
-mod forms;
-#[cfg(test)]
-mod gindex;
-#[cfg(test)]
-mod line;
 #[cfg(test)]
 mod offsets;
 #[cfg(test)]
@@ -24,7 +16,3 @@ mod schema;
 mod schema_json;
 #[cfg(test)]
 mod script;
-#[cfg(test)]
-mod types;
-#[cfg(test)]
-mod value;
