@@ -21,6 +21,10 @@ static const uint8_t value[33] = {5, 0, 0, 0, 0, 0, 0, 0, 16, 0, 0, 0, 32, 0, 0,
                                   1, 0, 0, 0, 0, 0, 0, 0, 2,  0, 0, 0, 0,  0, 0, 0, 0};
 static const char JSON[] = "{\"a\":\"5\",\"b\":[\"1\",\"2\"],\"u\":[0,null]}";
 static const uint8_t eight[8] = {7};
+/* the root of two zero chunks, which stands in the deposit contract: that of a union of None, too */
+static const uint8_t zeros[32] = {0xf5, 0xa5, 0xfd, 0x42, 0xd1, 0x6a, 0x20, 0x30, 0x27, 0x98, 0xef,
+                                  0x6e, 0xd3, 0x09, 0x97, 0x9b, 0x43, 0x00, 0x3d, 0x23, 0x20, 0xd9,
+                                  0xf0, 0xe8, 0xea, 0x98, 0x31, 0xa9, 0x27, 0x59, 0xfb, 0x4b};
 
 static ssz_session s, none = SSZ_SESSION_NONE;
 static ssz_schema schema, no_schema = SSZ_SCHEMA_NONE;
@@ -210,6 +214,16 @@ static void nodes(void) {
     ENDS(ssz_session_run(&s, TEXT("root V"), &len, &fault), SSZ_REFUSED, 0, 1);
 }
 
+/* A root that is known, of bytes and of a version. */
+static void roots(void) {
+    ENDS(ssz_type(&schema, TEXT("U"), &type, &fault), SSZ_OK, 0, 0);
+    ENDS(ssz_root(&schema, type, (const uint8_t *)"", 1, root, &fault), SSZ_OK, 0, 0);
+    SO(!memcmp(root, zeros, 32));
+    ENDS(ssz_session_new(&s, TEXT("U"), TEXT("U"), &fault), SSZ_OK, 0, 0);
+    ENDS(ssz_session_root(&s, TEXT("U"), other, &fault), SSZ_OK, 0, 0);
+    SO(!memcmp(other, zeros, 32));
+}
+
 /* Types: their sizes and fields. */
 static void types(void) {
     ENDS(ssz_type(&schema, TEXT("B"), &bits, &fault), SSZ_OK, 0, 0);
@@ -347,6 +361,7 @@ int main(void) {
     branches();
     proofs();
     nodes();
+    roots();
     types();
     texts();
     places();

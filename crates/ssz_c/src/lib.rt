@@ -16,8 +16,6 @@ mod schemas;
 mod sessions;
 mod showing;
 mod slices;
-#[cfg(test)]
-mod tests;
 mod types;
 mod verifying;
 
