@@ -183,8 +183,6 @@ def calls(crate):
     names = exported(without_comments(read(f"crates/{crate}/src/lib.rt")))
     for path in files(f"crates/{crate}/src", ".rt"):
         text = read(path)
-        if os.path.basename(path) == "tests.rt":
-            continue
         origin = {}
         for low, module, many, single in IMPORT.findall(text):
             low, module = home(low, module)
@@ -270,10 +268,10 @@ def floors():
 
 
 def libraries():
-    """The crates with a contract to show, floor by floor: the name of the floor and its crates."""
-    for floor, crates in floors():
-        shown = [crate for crate in crates if os.path.exists(f"{TOP}/crates/{crate}/src/lib.rt")
-                 and not crate.endswith("_tests")]
+    """The crates with a contract to show, floor by floor: the name of the floor and its crates. The last floor, of rows
+    and tests, has none."""
+    for floor, crates in floors()[:-1]:
+        shown = [crate for crate in crates if os.path.exists(f"{TOP}/crates/{crate}/src/lib.rt")]
         if shown:
             yield floor, shown
 
