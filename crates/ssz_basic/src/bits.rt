@@ -60,7 +60,7 @@ pub fn read_bitlist(bytes: &[u8], limit: u64, position: u64) -> Result<u64, Faul
             position: position + len - 1,
         });
     }
-    let bits = 8 * (len - 1) + u64::from(highest_bit(last));
+    let bits = bitlist_len(bytes);
     if limit < bits {
         return Err(Fault {
             code: Fault::TOO_MANY,
@@ -68,6 +68,18 @@ pub fn read_bitlist(bytes: &[u8], limit: u64, position: u64) -> Result<u64, Faul
         });
     }
     Ok(bits)
+}
+
+/// How many bits stand below the delimiter, the highest 1 bit of the last byte.
+#[tactic(auto, using(crate::proofs::LastByte::last_byte_is))]
+pub fn bitlist_len(bytes: &[u8]) -> u64
+    requires some { 0 < length bytes.now }
+    requires short { length bytes.now < 2 ^ 32 }
+    ensures exact { result ≡ bitlist_length bytes.now }
+    ensures room { result < 8 * length bytes.now }
+{
+    let last = bytes[bytes.len() - 1];
+    8 * (bytes.len() as u64 - 1) + u64::from(highest_bit(last))
 }
 
 /// The place of the highest 1 bit of a byte; 0 where it has none.

@@ -7,5 +7,5 @@
 mod bits;
 mod numbers;
 
-pub use bits::{bit, byte_from, highest_bit, put_bits, read_bitlist, read_bitvector};
+pub use bits::{bit, bitlist_len, byte_from, highest_bit, put_bits, read_bitlist, read_bitvector};
 pub use numbers::{put_uint, read_bool, read_uint};

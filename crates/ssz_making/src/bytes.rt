@@ -12,8 +12,9 @@ ghost use Rattle.ssz_making.specs.Nodes.{new_nodes};
 
 use super::maker::Maker;
 use super::repeats::repeats;
+use ssz_basic::bitlist_len;
 use ssz_merkle::chunk_at;
-use ssz_packing::{bitlist_len, number_chunk};
+use ssz_packing::number_chunk;
 use ssz_parts::{element_at, element_count, head_len, part_range};
 use ssz_schema::{Name, Schema, Ty, TypeId};
 

@@ -1,21 +1,11 @@
 ghost use Rattle.std.specs.Prelude.{◌≡◌, ◌<◌, ◌^◌, length};
 ghost use Rattle.ssz_merkle.specs.Packing.{packed_chunk};
 ghost use Rattle.ssz_packing.specs.Bits.{undelimited};
-ghost use Rattle.ssz_bytes.specs.Faults.{bitlist_length, last_byte};
+ghost use Rattle.ssz_bytes.specs.Faults.{last_byte};
 
 use ssz_basic::highest_bit;
 use ssz_chunk::Chunk;
 use ssz_merkle::chunk_at;
-
-/// How many bits stand below the delimiter, the highest 1 bit.
-pub fn bitlist_len(bytes: &[u8]) -> u64
-    requires some { 0 < length bytes.now }
-    requires short { length bytes.now < 2 ^ 32 }
-    ensures { result ≡ bitlist_length bytes.now }
-{
-    let last = bytes[bytes.len() - 1];
-    8 * (bytes.len() as u64 - 1) + u64::from(highest_bit(last))
-}
 
 /// Chunk i of the bits of a bitlist, without the delimiter, with zeros behind the last one.
 pub fn bit_chunk_at(bytes: &[u8], i: usize) -> Chunk

@@ -12,5 +12,5 @@ mod mixing;
 
 pub use basic::{basic_chunk, chunk_count, values_chunk};
 pub use bit_values::bits_chunk;
-pub use bits::{bit_chunk_at, bitlist_len};
+pub use bits::bit_chunk_at;
 pub use mixing::number_chunk;

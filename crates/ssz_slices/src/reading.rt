@@ -12,7 +12,7 @@ use ssz_parts::element_count;
 use ssz_schema::{Schema, Ty, TypeId, Width};
 
 /// How many bits a bitlist has.
-pub fn bitlist_len(limit: u64, bytes: &[u8]) -> u64
+pub fn bits_in_list(limit: u64, bytes: &[u8]) -> u64
     requires short { length bytes.now < 2 ^ 32 }
     requires faultless { first_fault (bitlist limit) 0 bytes.now ≡ None }
     ensures exact { result ≡ bitlist_length bytes.now }
@@ -36,7 +36,7 @@ pub fn len_in(schema: &Schema, id: TypeId, bytes: &[u8]) -> Option<u64>
         Ty::Vector(_, n) => Some(*n),
         Ty::List(elem, limit) => Some(element_count(schema.fixed_size(*elem), *limit, bytes)),
         Ty::Bitvector(n) => Some(*n),
-        Ty::Bitlist(limit) => Some(bitlist_len(*limit, bytes)),
+        Ty::Bitlist(limit) => Some(bits_in_list(*limit, bytes)),
         Ty::Uint(_) | Ty::Boolean | Ty::Container(_) | Ty::Union(_) => None,
     }
 }

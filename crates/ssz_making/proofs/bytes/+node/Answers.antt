@@ -746,7 +746,7 @@ bytes_part-bits-bits-requires-clause-len g t c =
     let h = HasBits-bitlist (λ l r. l) c.args.schema.now.format
     (type_of c.args.schema.now c.args.id) c.in-Bitlist.field-0 (depth (type_of c.args.schema.now
     c.args.id)) c.args.bytes.now form c.ty.ensures.legal input c.requires.faultless refl in
-    subst (λ n. n < 2 ^ 63) (sym c.bitlist_len-count.ensures) h.below
+    subst (λ n. n < 2 ^ 63) (sym c.bitlist_len-count.ensures.exact) h.below
 
 pub bytes_part-bits-bits-requires-clause-few :
     goal.bytes_part-bits-bits-requires-clause-few
@@ -757,7 +757,8 @@ bytes_part-bits-bits-requires-clause-few g t c =
     (type_of c.args.schema.now c.args.id) c.in-Bitlist.field-0 c.depth-in-Bitlist.result
     c.args.bytes.now form c.ty.ensures.legal input c.requires.faultless
     c.depth-in-Bitlist.ensures.exact in
-    subst (λ n. (n + 255) / 256 ≤ 2 ^ c.depth-in-Bitlist.result) (sym c.bitlist_len-count.ensures)
+    subst (λ n. (n + 255) / 256 ≤ 2 ^ c.depth-in-Bitlist.result)
+    (sym c.bitlist_len-count.ensures.exact)
     h.few
 
 pub bytes_part-bits-bits-requires-clause-room : goal.bytes_part-bits-bits-requires-clause-room
@@ -770,7 +771,7 @@ bytes_part-bits-bits-requires-clause-room g t c =
     c.depth-in-Bitlist.ensures.exact in
     let made = bitlist_made (type_of c.args.schema.now c.args.id) c.in-Bitlist.field-0
     c.depth-in-Bitlist.result c.bitlist_len-count.result c.args.bytes.now _ form input h.some
-    h.delimited c.depth-in-Bitlist.ensures.exact c.bitlist_len-count.ensures refl in
+    h.delimited c.depth-in-Bitlist.ensures.exact c.bitlist_len-count.ensures.exact refl in
     g.met.M.Maker.room_less c.args.maker.now _ _ (omega (arith, same_nodes _ _ made))
     c.requires.room
 
@@ -788,7 +789,7 @@ bytes_part-join-requires-in-Bitlist g t c =
     c.depth-in-Bitlist.result c.bitlist_len-count.result c.args.bytes.now
     c.number_chunk-len-in-Bitlist.result.0 form input h.some h.delimited
     c.depth-in-Bitlist.ensures.exact
-    c.bitlist_len-count.ensures number in
+    c.bitlist_len-count.ensures.exact number in
     record {
       start = c.args.maker.now;
       one = _;
@@ -811,6 +812,6 @@ bytes_part-returns-in-Bitlist g t c =
     c.depth-in-Bitlist.result c.bitlist_len-count.result c.args.bytes.now
     c.number_chunk-len-in-Bitlist.result.0 form input h.some h.delimited
     c.depth-in-Bitlist.ensures.exact
-    c.bitlist_len-count.ensures number in
+    c.bitlist_len-count.ensures.exact number in
     subst (λ part. g.M.Maker.made c.args.maker.now c.join-in-Bitlist.new.self part
     c.join-in-Bitlist.result) made (c.join-in-Bitlist.ensures _ _ c.bits-bits.ensures)
