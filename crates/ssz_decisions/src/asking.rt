@@ -10,7 +10,6 @@ ghost use Rattle.ssz_decisions.specs.Carried.{outcome_of};
 ghost use Rattle.ssz_decisions.specs.declared.outcome.Outcome.TheVariants.{Refused};
 
 use super::decision::Decision;
-use super::proving::index_of;
 use super::store::Store;
 use ssz_chunk::PairHash;
 use ssz_line::Steps;
@@ -56,7 +55,7 @@ pub fn gindex<'a, H: PairHash>(
     let Some(id) = store.schema.find_name(t.as_name()) else {
         return Ok(Decision::Refused(Reply::NO_TYPE));
     };
-    match index_of(store.alloc, &store.schema, id, path)? {
+    match path.gindex(store.alloc, &store.schema, id)? {
         None => Ok(Decision::Refused(Reply::BAD_PATH)),
         Some(index) => Ok(Decision::Said(Reply::Gindex(index.get()))),
     }

@@ -78,6 +78,7 @@ fn bring_as<'a, H: PairHash>(
 }
 
 /// `load V T FILE`, or `loadjson V T FILE`.
+/// Seven parameters: the words of the statement, and what is lent to it.
 pub fn load<'a, F: Files, H: PairHash>(
     store: &mut Store<H>,
     writer: Writer,

@@ -1,7 +1,6 @@
 //! `prove`.
 ghost use Rattle.std.specs.Prelude.{◌≡◌, ◌≢◌, ◌+◌, ◌<◌, ◌≤◌, [], Ok, Contains, IfOk, IfErr, IfSome, OnErr, MatchOption, length, option_map};
 ghost use Rattle.ssz_schema.specs.Unfolding.{type_of};
-ghost use Rattle.ssz_schema.specs.Indices.{generalized_index};
 ghost use Rattle.ssz_arena.specs.Content.{IsNodeOf, node_count, todo, tree_of, unhashed};
 ghost use Rattle.ssz_prove.specs.Taken.{TakesRoots};
 ghost use Rattle.ssz_machine.specs.Rules.{need};
@@ -20,29 +19,13 @@ use ssz_arena::{Arena, NodeId};
 use ssz_bytes::ByteRun;
 use ssz_chunk::PairHash;
 use ssz_gindex::Gindex;
-use ssz_line::{Index, Steps};
+use ssz_line::Index;
 use ssz_proof::proof_text;
 use ssz_prove::ProveFault;
 use ssz_schema::{Schema, TypeId};
 use ssz_script::{Identifier, Indices, Reply};
 use ssz_versions::Writer;
 use std::alloc::{AllocError, Global};
-
-/// The generalized index of a path by a type; None where the path does not fit it.
-pub(crate) fn index_of(
-    alloc: Global,
-    schema: &Schema,
-    id: TypeId,
-    path: &Steps,
-) -> Result<Option<Gindex>, AllocError>
-    requires { id < length schema.now.trees }
-    ensures { IfOk result (λ found. found ≡ generalized_index (type_of schema.now id) path.now) }
-{
-    match path.fitting(alloc, schema, id)? {
-        Some(steps) => Ok(Gindex::of_path(schema, id, steps.as_slice())),
-        None => Ok(None),
-    }
-}
 
 // The number of an index that is asked; None where its path does not fit the type.
 fn number_asked(
@@ -57,7 +40,7 @@ fn number_asked(
 {
     match index {
         Index::Number(number) => Ok(Some(*number)),
-        Index::Path(path) => match index_of(alloc, schema, id, path)? {
+        Index::Path(path) => match path.gindex(alloc, schema, id)? {
             Some(found) => Ok(Some(found.get())),
             None => Ok(None),
         },

@@ -3,11 +3,13 @@
 ghost use Rattle.std.specs.Prelude.{◌≡◌, ◌<◌, List, length, Some, None, IfOk, IsSome, MatchOption};
 ghost use Rattle.ssz_schema.specs.declared.path.PathStep.{PathStep};
 ghost use Rattle.ssz_schema.specs.Paths.{path_type};
+ghost use Rattle.ssz_schema.specs.Indices.{generalized_index};
 ghost use Rattle.ssz_schema.specs.Unfolding.{type_of};
 ghost use Rattle.ssz_line.specs.Paths.{path_step, path_parts, read_all};
 
 use super::collecting::{all_of, copies_of, fitting_of};
 use super::steps_left::StepsLeft;
+use ssz_gindex::Gindex;
 use ssz_schema::{PathStep, Schema, TypeId};
 use std::alloc::{AllocError, Global};
 use std::marker::Model;
@@ -81,6 +83,24 @@ impl Steps {
                 Some(_) => Ok(Some(copies_of(alloc, steps.as_slice())?)),
                 None => Ok(None),
             },
+        }
+    }
+
+    /// The generalized index of the part at the path, by the type; None exactly where the path does
+    /// not fit it (merkle-proofs.md, SSZ object to index).
+    pub fn gindex(
+        &self,
+        alloc: Global,
+        schema: &Schema,
+        id: TypeId,
+    ) -> Result<Option<Gindex>, AllocError>
+        requires { id < length schema.now.trees }
+        ensures { IfOk result (λ found.
+            found ≡ generalized_index (type_of schema.now id) self.now) }
+    {
+        match self.fitting(alloc, schema, id)? {
+            Some(steps) => Ok(Gindex::of_path(schema, id, steps.as_slice())),
+            None => Ok(None),
         }
     }
 

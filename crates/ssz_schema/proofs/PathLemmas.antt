@@ -1,5 +1,5 @@
 -- No path leads deeper than its type.
-use Rattle.std.proofs.Common.{ltb, ◌≡◌, ℕ, zero, suc, ◌+◌, ◌*◌, ◌/◌, ◌^◌, ◌<◌, ◌≤◌, max, Bool, true, false, cond, List, [], ◌∷◌, refl, ap, Option, Some, None, arith, pow-add}
+use Rattle.std.proofs.Common.{ltb, ◌≡◌, ℕ, zero, suc, ◌+◌, ◌*◌, ◌/◌, ◌^◌, ◌<◌, ◌≤◌, max, Bool, true, false, cond, List, [], ◌∷◌, refl, ap, Option, Some, None, is_some, arith, pow-add}
 use Rattle.std.specs.Prelude.{option_and_then, bytes_eq}
 use Rattle.std.proofs.Math.Nat.{mul-le-mul_left, mul-le-mul_right, pow-le-pow_right}
 use Rattle.std.proofs.lemmas.Nat.{pow_pos}
@@ -10,7 +10,7 @@ use Rattle.ssz_schema.specs.declared.path.PathStep.{PathStep}
 use Rattle.ssz_schema.specs.declared.path.PathStep.TheVariants.{Field, Index, Len, Selector, Option as Chosen}
 use Rattle.ssz_types.specs.Types.{SszType, Fields, Options, uint, boolean, container, vector, list, bitvector, bitlist, union, no_fields, field, no_options, none_option, option}
 use Rattle.ssz_types.specs.Sizes.{basic_size, element_chunks, depth_of, field_count, type_levels, field_levels, option_levels}
-use Rattle.ssz_schema.specs.Paths.{Path, step_type, field_type, field_number, option_type}
+use Rattle.ssz_schema.specs.Paths.{Path, path_type, step_type, field_type, field_number, option_type}
 use Rattle.ssz_schema.specs.Indices.{element_position, step_levels, step_position, step_index, generalized_index_from}
 use Rattle.ssz_schema.specs.IndexLaws.{IndicesAreWithinLevels}
 use Rattle.ssz_types.proofs.DepthLemmas.{depth_of-holds}
@@ -24,6 +24,26 @@ and_then_parts f (Some x) y e = (x, refl, e)
 pub if_within : {X : Type 0} (i n : ℕ) (x y : X) → cond (ltb i n) (Some x) None ≡ Some y
     → (i < n) × (x ≡ y)
 if_within i n x y e = let both = cond_some (ltb i n) x y e in (ltb-true i n both.0, both.1)
+
+-- there is none where there is no value
+pub none_where : {A : Type 0} (o : Option A) → is_some o ≡ false → None ≡ o
+none_where None h = refl
+none_where (Some x) h = cc
+
+-- what is made along the same options is there at once
+pub alike : {A B C : Type 0} (o : Option A) (f : A → Option B) (g : A → Option C)
+    → ((x : A) → is_some (f x) ≡ is_some (g x))
+    → is_some (option_and_then f o) ≡ is_some (option_and_then g o)
+alike None f g h = refl
+alike (Some x) f g h = h x
+
+-- a path has an index exactly where it fits the type
+pub index_where_fits : (k : ℕ) (t : SszType) (path : Path)
+    → is_some (generalized_index_from k t path) ≡ is_some (path_type t path)
+index_where_fits k t [] = refl
+index_where_fits k t (step ∷ path) =
+    alike (step_type t step) (λ u. generalized_index_from (step_index k t step) u path)
+    (λ u. path_type u path) (λ u. index_where_fits (step_index k t step) u path)
 
 -- Levels: a part has fewer than the whole.
 
