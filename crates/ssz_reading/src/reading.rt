@@ -13,9 +13,10 @@ ghost use Rattle.ssz_nodes.specs.Shown.{ForValue, ForElements, ForFields};
 use super::packed::{read_bits, read_bytes, read_packed};
 use ssz_arena::{Arena, NodeId};
 use ssz_chunk::PairHash;
-use ssz_nodes::{Basic, Places, Row, Top, chunk_of, mixed_in};
+use ssz_nodes::{Basic, Places, Row, Top, chunk_of};
 use ssz_schema::{Name, Schema, Ty, TypeId};
 use ssz_value::{Value, is_byte, option_at};
+use ssz_walk::mixed_parts;
 use std::alloc::{AllocError, Global};
 
 /// The value whose tree the node has. Fails for want of memory.
@@ -39,7 +40,7 @@ pub fn read_value<H: PairHash>(
         Ty::Boolean => Ok(Basic::Flag.value_at(chunk_of(arena, node), 0)),
         Ty::Bitvector(n) => Ok(Value::Bits(read_bits(alloc, arena, top, *n)?)),
         Ty::Bitlist(_) => {
-            let (content, count) = mixed_in(arena, node);
+            let (content, count) = mixed_parts(arena, node);
             let inner = Top {
                 node: content,
                 depth,
@@ -128,7 +129,7 @@ fn read_list<H: PairHash>(
         (limit : ℕ) → t ≡ list (type_of schema.now elem) limit
         → ForValue t (tree_of arena.now node) (λ v. IfOk result (Stands t v)) }
 {
-    let (content, count) = mixed_in(arena, node);
+    let (content, count) = mixed_parts(arena, node);
     let inner = Top {
         node: content,
         depth: schema.depth(id),
@@ -241,7 +242,7 @@ fn read_chosen<H: PairHash>(
     ensures { let t = union (options_over schema.now.trees options.now) in
         ForValue t (tree_of arena.now node) (λ v. IfOk result (Stands t v)) }
 {
-    let (content, number) = mixed_in(arena, node);
+    let (content, number) = mixed_parts(arena, node);
     let selector = (number % 256) as u8;
     match option_at(options, selector) {
         Some(Some(option)) => {

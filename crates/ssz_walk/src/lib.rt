@@ -15,5 +15,5 @@ mod present;
 
 pub use field::find_field;
 pub use finding::{find, step_place};
-pub use mixed::mixed_in;
+pub use mixed::{mixed_in, mixed_parts};
 pub use place::{Place, Spot};

@@ -8,8 +8,9 @@ ghost use Rattle.ssz_writing.specs.Offsets.{AreCountedBits, delimited_bytes};
 use super::writer::Writer;
 use ssz_arena::NodeId;
 use ssz_chunk::PairHash;
-use ssz_nodes::{Basic, Top, append_chunks, chunk_of, mixed_in};
+use ssz_nodes::{Basic, Top, append_chunks, chunk_of};
 use ssz_value::EncodeFault;
+use ssz_walk::mixed_parts;
 use std::alloc::AllocError;
 
 impl<'a, H: PairHash> Writer<'a, H> {
@@ -73,7 +74,7 @@ impl<'a, H: PairHash> Writer<'a, H> {
             → AreCountedBits top.depth bs (tree_of self.now.arena.now top.node)
             → OnOk result (out.new.items ≡ out.old.items ++ delimited_bytes bs) }
     {
-        let (content, count) = mixed_in(self.arena, top.node);
+        let (content, count) = mixed_parts(self.arena, top.node);
         let bits = Top {
             node: content,
             depth: top.depth,

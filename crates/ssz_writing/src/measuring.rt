@@ -12,9 +12,10 @@ ghost use Rattle.ssz_nodes.specs.Shown.{ForValue, ForPlace, ForElements, ForFiel
 
 use ssz_arena::{Arena, NodeId};
 use ssz_chunk::PairHash;
-use ssz_nodes::{Places, Top, mixed_in, node_of_place};
+use ssz_nodes::{Places, Top, node_of_place};
 use ssz_schema::{Name, Schema, Ty, TypeId};
 use ssz_value::option_at;
+use ssz_walk::mixed_parts;
 
 /// The length in bytes of the encoding of the value whose tree the node has, or the greatest u64
 /// where that is greater.
@@ -55,10 +56,10 @@ fn variable_len<H: PairHash>(arena: &Arena<H>, schema: &Schema, id: TypeId, node
     let depth = schema.depth(id);
     let top = Top { node, depth };
     match schema.ty(id) {
-        Ty::Bitlist(_) => mixed_in(arena, node).1 / 8 + 1,
+        Ty::Bitlist(_) => mixed_parts(arena, node).1 / 8 + 1,
         Ty::Vector(elem, n) => elements_len(arena, schema, *elem, top, *n),
         Ty::List(elem, _) => {
-            let (content, count) = mixed_in(arena, node);
+            let (content, count) = mixed_parts(arena, node);
             let inner = Top {
                 node: content,
                 depth,
@@ -163,7 +164,7 @@ fn chosen_len<H: PairHash>(
     ensures { let t = union (options_over schema.now.trees options.now) in
         ForValue t (tree_of arena.now node) (λ v. result ≡ capped (size t v)) }
 {
-    let (inner, selector) = mixed_in(arena, node);
+    let (inner, selector) = mixed_parts(arena, node);
     match option_at(options, (selector % 256) as u8) {
         Some(Some(option)) => node_len(arena, schema, option, inner).saturating_add(1),
         Some(None) => 1,

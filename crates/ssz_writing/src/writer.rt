@@ -13,9 +13,10 @@ use super::bytes::append_byte;
 use super::measuring::part_len;
 use ssz_arena::{Arena, NodeId};
 use ssz_chunk::PairHash;
-use ssz_nodes::{Basic, Top, mixed_in};
+use ssz_nodes::{Basic, Top};
 use ssz_schema::{Schema, Ty, TypeId};
 use ssz_value::{EncodeFault, option_at};
+use ssz_walk::mixed_parts;
 
 /// Where the parts of a value are found, and where its encoding is to end at the latest: where it
 /// is seen to end behind it, nothing more is written.
@@ -83,7 +84,7 @@ impl<'a, H: PairHash> Writer<'a, H> {
             Ty::Bitlist(_) => self.append_bitlist(top, out),
             Ty::Vector(elem, n) => self.append_sequence(*elem, top, *n, out),
             Ty::List(elem, _) => {
-                let (content, count) = mixed_in(self.arena, node);
+                let (content, count) = mixed_parts(self.arena, node);
                 let inner = Top {
                     node: content,
                     depth,
@@ -113,7 +114,7 @@ impl<'a, H: PairHash> Writer<'a, H> {
             ForValue t (tree_of self.now.arena.now node)
             (λ v. AddsBytes (serialize t v) out.old.items out.new.items result) }
     {
-        let (content, number) = mixed_in(self.arena, node);
+        let (content, number) = mixed_parts(self.arena, node);
         let selector = (number % 256) as u8;
         append_byte(selector, out)?;
         match option_at(options, selector) {

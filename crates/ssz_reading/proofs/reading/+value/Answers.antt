@@ -101,39 +101,39 @@ read_sequence-returns-in_ok-parts-in-Some g t c =
 
 pub read_chosen-returns-in_ok-new-in-Some-Some : goal.read_chosen-returns-in_ok-new-in-Some-Some
 read_chosen-returns-in_ok-new-in-Some-Some g t c =
-    let here : slice_get c.args.options.now (c.mixed_in-number.result.1 % 256)
+    let here : slice_get c.args.options.now (c.mixed_parts-number.result.1 % 256)
     ≡ Some (Some c.in-Some-Some.option) =
     sym c.option_at.ensures ∙ c.in-Some-Some.is ∙ ap Some c.in-Some-Some.field-0-is in
-    option_read c.args.schema.now.trees c.args.options.now c.mixed_in-number.result.1
+    option_read c.args.schema.now.trees c.args.options.now c.mixed_parts-number.result.1
     c.in-Some-Some.option (tree_of c.args.arena.now c.args.node)
-    (tree_of c.args.arena.now c.mixed_in-number.result.0) c.in_ok-inner-in-Some-Some.inner
+    (tree_of c.args.arena.now c.mixed_parts-number.result.0) c.in_ok-inner-in-Some-Some.inner
     c.in_ok-new-in-Some-Some.field-0 c.requires.few
     (record {
-      tree = c.mixed_in-number.ensures.tree;
-      number = c.mixed_in-number.ensures.number;
+      tree = c.mixed_parts-number.ensures.tree;
+      number = c.mixed_parts-number.ensures.number;
     })
     here c.in_ok-inner-in-Some-Some.ensures c.in_ok-new-in-Some-Some.ensures.ok
 
 pub read_chosen-returns-in-Some-None : goal.read_chosen-returns-in-Some-None
 read_chosen-returns-in-Some-None g t c =
-    none_read c.args.schema.now.trees c.args.options.now c.mixed_in-number.result.1
+    none_read c.args.schema.now.trees c.args.options.now c.mixed_parts-number.result.1
     (tree_of c.args.arena.now c.args.node)
-    (tree_of c.args.arena.now c.mixed_in-number.result.0) c.requires.few
+    (tree_of c.args.arena.now c.mixed_parts-number.result.0) c.requires.few
     (record {
-      tree = c.mixed_in-number.ensures.tree;
-      number = c.mixed_in-number.ensures.number;
+      tree = c.mixed_parts-number.ensures.tree;
+      number = c.mixed_parts-number.ensures.number;
     })
     (λ id e. let differ : Some None ≡ Some (Some id) =
     sym (c.in-Some-None.is ∙ ap Some c.in-Some-None.field-0-is) ∙ c.option_at.ensures ∙ e in cc)
 
 pub read_chosen-returns-in-None : goal.read_chosen-returns-in-None
 read_chosen-returns-in-None g t c =
-    none_read c.args.schema.now.trees c.args.options.now c.mixed_in-number.result.1
+    none_read c.args.schema.now.trees c.args.options.now c.mixed_parts-number.result.1
     (tree_of c.args.arena.now c.args.node)
-    (tree_of c.args.arena.now c.mixed_in-number.result.0) c.requires.few
+    (tree_of c.args.arena.now c.mixed_parts-number.result.0) c.requires.few
     (record {
-      tree = c.mixed_in-number.ensures.tree;
-      number = c.mixed_in-number.ensures.number;
+      tree = c.mixed_parts-number.ensures.tree;
+      number = c.mixed_parts-number.ensures.number;
     })
     (λ id e. let differ : None ≡ Some (Some id) =
     sym c.in-None.is ∙ c.option_at.ensures ∙ e in cc)
@@ -188,11 +188,14 @@ read_value-returns-in_ok-read_bits-in-Bitlist g t c =
     subst (λ ty. ForValue ty (tree_of c.args.arena.now c.args.node)
     (λ v. Stands ty v (Bits c.in_ok-read_bits-in-Bitlist.field-0))) form
     (bitlist_read c.args.schema.now.format c.in-Bitlist.field-0 c.depth-depth.result
-    c.mixed_in-count.result.1 (tree_of c.args.arena.now c.args.node)
-    (tree_of c.args.arena.now c.mixed_in-count.result.0) c.in_ok-read_bits-in-Bitlist.field-0
+    c.mixed_parts-count.result.1 (tree_of c.args.arena.now c.args.node)
+    (tree_of c.args.arena.now c.mixed_parts-count.result.0) c.in_ok-read_bits-in-Bitlist.field-0
     (subst (IsLegal c.args.schema.now.format) (sym form) c.ty.ensures.legal)
     (c.depth-depth.ensures.exact ∙ ap depth (sym form))
-    (record { tree = c.mixed_in-count.ensures.tree; number = c.mixed_in-count.ensures.number })
+    (record {
+      tree = c.mixed_parts-count.ensures.tree;
+      number = c.mixed_parts-count.ensures.number;
+    })
     c.in_ok-read_bits-in-Bitlist.ensures)
 
 pub read_value-returns-in-Vector : goal.read_value-returns-in-Vector
@@ -211,14 +214,14 @@ read_list-returns g t c = λ limit same.
     let elem : SszType = type_of c.args.schema.now c.args.elem in
     subst (λ ty. ForValue ty (tree_of c.args.arena.now c.args.node)
     (λ v. Reads ty v c.read_sequence.result)) (sym same)
-    (list_read c.args.schema.now.format elem limit c.depth.result c.mixed_in-count.result.1
+    (list_read c.args.schema.now.format elem limit c.depth.result c.mixed_parts-count.result.1
     (tree_of c.args.arena.now c.args.node)
-    (tree_of c.args.arena.now c.mixed_in-count.result.0) c.read_sequence.result
+    (tree_of c.args.arena.now c.mixed_parts-count.result.0) c.read_sequence.result
     (subst (IsLegal c.args.schema.now.format) same c.requires.legal)
     (c.depth.ensures.exact ∙ ap depth same)
     (record {
-      tree = c.mixed_in-count.ensures.tree;
-      number = c.mixed_in-count.ensures.number;
+      tree = c.mixed_parts-count.ensures.tree;
+      number = c.mixed_parts-count.ensures.number;
     })
     c.read_sequence.ensures)
 
@@ -244,11 +247,11 @@ read_value-returns-in-Container g t c =
 
 pub read_chosen-read_value-requires : goal.read_chosen-read_value-requires
 read_chosen-read_value-requires g t c =
-    let here : slice_get c.args.options.now (c.mixed_in-number.result.1 % 256)
+    let here : slice_get c.args.options.now (c.mixed_parts-number.result.1 % 256)
     ≡ Some (Some c.in-Some-Some.option) =
     sym c.option_at.ensures ∙ c.in-Some-Some.is ∙ ap Some c.in-Some-Some.field-0-is in
     let below : c.in-Some-Some.option < c.args.id =
-    below_at c.args.id c.args.options.now (c.mixed_in-number.result.1 % 256)
+    below_at c.args.id c.args.options.now (c.mixed_parts-number.result.1 % 256)
     (Some c.in-Some-Some.option) here c.requires.before in
     search rules
 

@@ -36,39 +36,39 @@ node_len-returns-in-Some g t c = λ v h.
 
 pub chosen_len-returns-in-Some-Some : goal.chosen_len-returns-in-Some-Some
 chosen_len-returns-in-Some-Some g t c =
-    let here : slice_get c.args.options.now (c.mixed_in-selector.result.1 % 256)
+    let here : slice_get c.args.options.now (c.mixed_parts-selector.result.1 % 256)
     ≡ Some (Some c.in-Some-Some.option) =
     sym c.option_at.ensures ∙ c.in-Some-Some.is ∙ ap Some c.in-Some-Some.field-0-is in
-    option_len c.args.schema.now.trees c.args.options.now c.mixed_in-selector.result.1
+    option_len c.args.schema.now.trees c.args.options.now c.mixed_parts-selector.result.1
     c.in-Some-Some.option c.node_len.result c.saturating_add.result
     (tree_of c.args.arena.now c.args.node)
-    (tree_of c.args.arena.now c.mixed_in-selector.result.0) c.requires.few
+    (tree_of c.args.arena.now c.mixed_parts-selector.result.0) c.requires.few
     (record {
-      tree = c.mixed_in-selector.ensures.tree;
-      number = c.mixed_in-selector.ensures.number;
+      tree = c.mixed_parts-selector.ensures.tree;
+      number = c.mixed_parts-selector.ensures.number;
     })
     here c.node_len.ensures c.saturating_add.ensures
 
 pub chosen_len-returns-in-Some-None : goal.chosen_len-returns-in-Some-None
 chosen_len-returns-in-Some-None g t c =
-    none_len c.args.schema.now.trees c.args.options.now c.mixed_in-selector.result.1
+    none_len c.args.schema.now.trees c.args.options.now c.mixed_parts-selector.result.1
     (tree_of c.args.arena.now c.args.node)
-    (tree_of c.args.arena.now c.mixed_in-selector.result.0) c.requires.few
+    (tree_of c.args.arena.now c.mixed_parts-selector.result.0) c.requires.few
     (record {
-      tree = c.mixed_in-selector.ensures.tree;
-      number = c.mixed_in-selector.ensures.number;
+      tree = c.mixed_parts-selector.ensures.tree;
+      number = c.mixed_parts-selector.ensures.number;
     })
     (λ id e. let differ : Some None ≡ Some (Some id) =
     sym (c.in-Some-None.is ∙ ap Some c.in-Some-None.field-0-is) ∙ c.option_at.ensures ∙ e in cc)
 
 pub chosen_len-returns-in-None : goal.chosen_len-returns-in-None
 chosen_len-returns-in-None g t c =
-    none_len c.args.schema.now.trees c.args.options.now c.mixed_in-selector.result.1
+    none_len c.args.schema.now.trees c.args.options.now c.mixed_parts-selector.result.1
     (tree_of c.args.arena.now c.args.node)
-    (tree_of c.args.arena.now c.mixed_in-selector.result.0) c.requires.few
+    (tree_of c.args.arena.now c.mixed_parts-selector.result.0) c.requires.few
     (record {
-      tree = c.mixed_in-selector.ensures.tree;
-      number = c.mixed_in-selector.ensures.number;
+      tree = c.mixed_parts-selector.ensures.tree;
+      number = c.mixed_parts-selector.ensures.number;
     })
     (λ id e. let differ : None ≡ Some (Some id) =
     sym c.in-None.is ∙ c.option_at.ensures ∙ e in cc)
@@ -169,12 +169,12 @@ variable_len-returns-in-Bitlist g t c =
     let form : bitlist c.in-Bitlist.field-0 ≡ type_of c.args.schema.now c.args.id =
     ap (tree_over c.args.schema.now.trees) (sym c.in-Bitlist.is) ∙ c.ty.ensures.form in
     subst (λ ty. ForValue ty (tree_of c.args.arena.now c.args.node)
-    (λ v. c.mixed_in.result.1 / 8 + 1 ≡ capped (size ty v))) form
-    (bitlist_len c.args.schema.now.format c.in-Bitlist.field-0 c.mixed_in.result.1
-    (c.mixed_in.result.1 / 8 + 1) (tree_of c.args.arena.now c.args.node)
-    (tree_of c.args.arena.now c.mixed_in.result.0)
+    (λ v. c.mixed_parts.result.1 / 8 + 1 ≡ capped (size ty v))) form
+    (bitlist_len c.args.schema.now.format c.in-Bitlist.field-0 c.mixed_parts.result.1
+    (c.mixed_parts.result.1 / 8 + 1) (tree_of c.args.arena.now c.args.node)
+    (tree_of c.args.arena.now c.mixed_parts.result.0)
     (subst (IsLegal c.args.schema.now.format) (sym form) c.ty.ensures.legal)
-    (record { tree = c.mixed_in.ensures.tree; number = c.mixed_in.ensures.number }) refl)
+    (record { tree = c.mixed_parts.ensures.tree; number = c.mixed_parts.ensures.number }) refl)
 
 pub variable_len-returns-in-Vector : goal.variable_len-returns-in-Vector
 variable_len-returns-in-Vector g t c =
@@ -195,12 +195,16 @@ variable_len-returns-in-List g t c =
     subst (λ ty. ForValue ty (tree_of c.args.arena.now c.args.node)
     (λ v. c.elements_len-in-List.result ≡ capped (size ty v))) form
     (list_len c.args.schema.now.format (type_of c.args.schema.now c.in-List.elem)
-    c.in-List.field-1 c.depth-depth.result c.mixed_in-count.result.1 c.elements_len-in-List.result
+    c.in-List.field-1 c.depth-depth.result c.mixed_parts-count.result.1
+    c.elements_len-in-List.result
     (tree_of c.args.arena.now c.args.node)
-    (tree_of c.args.arena.now c.mixed_in-count.result.0)
+    (tree_of c.args.arena.now c.mixed_parts-count.result.0)
     (subst (IsLegal c.args.schema.now.format) (sym form) c.ty.ensures.legal)
     (c.depth-depth.ensures.exact ∙ ap depth (sym form))
-    (record { tree = c.mixed_in-count.ensures.tree; number = c.mixed_in-count.ensures.number })
+    (record {
+      tree = c.mixed_parts-count.ensures.tree;
+      number = c.mixed_parts-count.ensures.number;
+    })
     c.elements_len-in-List.ensures)
 
 pub variable_len-returns-in-Container : goal.variable_len-returns-in-Container
@@ -218,10 +222,10 @@ variable_len-returns-in-Container g t c =
 
 pub chosen_len-node_len-requires : goal.chosen_len-node_len-requires
 chosen_len-node_len-requires g t c =
-    let here : slice_get c.args.options.now (c.mixed_in-selector.result.1 % 256)
+    let here : slice_get c.args.options.now (c.mixed_parts-selector.result.1 % 256)
     ≡ Some (Some c.in-Some-Some.option) =
     sym c.option_at.ensures ∙ c.in-Some-Some.is ∙ ap Some c.in-Some-Some.field-0-is in
     let below : c.in-Some-Some.option < c.args.id =
-    below_at c.args.id c.args.options.now (c.mixed_in-selector.result.1 % 256)
+    below_at c.args.id c.args.options.now (c.mixed_parts-selector.result.1 % 256)
     (Some c.in-Some-Some.option) here c.requires.before in
     search rules

@@ -1,4 +1,4 @@
-use Rattle.std.proofs.Common.{◌<◌, length, ◌∙◌, subst, arith, length-set}
+use Rattle.std.proofs.Common.{◌<◌, ◌≤◌, length, ◌∙◌, subst, arith, length-set}
 use Rattle.ssz_nodes.specs.Ahead.{IsRowOf}
 use Rattle.ssz_arena.specs.Content.{tree_of}
 use Rattle.ssz_writing.proofs.Gathering.{Gathered-more, all_rows}

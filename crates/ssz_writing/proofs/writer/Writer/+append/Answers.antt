@@ -193,29 +193,29 @@ append_bodies-returns-in-Some-clause-value g t c = λ vs are front at is.
 pub append_chosen-returns-in-Some-Some-clause-value :
     goal.append_chosen-returns-in-Some-Some-clause-value
 append_chosen-returns-in-Some-Some-clause-value g t c =
-    let here : slice_get c.args.options.now (c.mixed_in-number.result.1 % 256)
+    let here : slice_get c.args.options.now (c.mixed_parts-number.result.1 % 256)
     ≡ Some (Some c.in-Some-Some.option) =
     sym c.option_at.ensures ∙ c.in-Some-Some.is ∙ ap Some c.in-Some-Some.field-0-is in
-    option_adds c.args.self.now.schema.now.trees c.args.options.now c.mixed_in-number.result.1
+    option_adds c.args.self.now.schema.now.trees c.args.options.now c.mixed_parts-number.result.1
     c.in-Some-Some.option (tree_of c.args.self.now.arena.now c.args.node)
-    (tree_of c.args.self.now.arena.now c.mixed_in-number.result.0) c.args.out.now.items
+    (tree_of c.args.self.now.arena.now c.mixed_parts-number.result.0) c.args.out.now.items
     c.append_byte.new.out.items c.append_value.new.out.items c.append_value.result c.requires.few
     (record {
-      tree = c.mixed_in-number.ensures.tree;
-      number = c.mixed_in-number.ensures.number;
+      tree = c.mixed_parts-number.ensures.tree;
+      number = c.mixed_parts-number.ensures.number;
     })
     here c.in_ok-append_byte.ensures.items c.append_value.ensures.value
 
 pub append_chosen-returns-in-Some-None-clause-value :
     goal.append_chosen-returns-in-Some-None-clause-value
 append_chosen-returns-in-Some-None-clause-value g t c =
-    none_adds c.args.self.now.schema.now.trees c.args.options.now c.mixed_in-number.result.1
+    none_adds c.args.self.now.schema.now.trees c.args.options.now c.mixed_parts-number.result.1
     (tree_of c.args.self.now.arena.now c.args.node)
-    (tree_of c.args.self.now.arena.now c.mixed_in-number.result.0) c.args.out.now.items
+    (tree_of c.args.self.now.arena.now c.mixed_parts-number.result.0) c.args.out.now.items
     c.append_byte.new.out.items c.requires.few
     (record {
-      tree = c.mixed_in-number.ensures.tree;
-      number = c.mixed_in-number.ensures.number;
+      tree = c.mixed_parts-number.ensures.tree;
+      number = c.mixed_parts-number.ensures.number;
     })
     (λ id e. let differ : Some None ≡ Some (Some id) =
     sym (c.in-Some-None.is ∙ ap Some c.in-Some-None.field-0-is) ∙ c.option_at.ensures ∙ e in cc)
@@ -223,13 +223,13 @@ append_chosen-returns-in-Some-None-clause-value g t c =
 
 pub append_chosen-returns-in-None-clause-value : goal.append_chosen-returns-in-None-clause-value
 append_chosen-returns-in-None-clause-value g t c =
-    none_adds c.args.self.now.schema.now.trees c.args.options.now c.mixed_in-number.result.1
+    none_adds c.args.self.now.schema.now.trees c.args.options.now c.mixed_parts-number.result.1
     (tree_of c.args.self.now.arena.now c.args.node)
-    (tree_of c.args.self.now.arena.now c.mixed_in-number.result.0) c.args.out.now.items
+    (tree_of c.args.self.now.arena.now c.mixed_parts-number.result.0) c.args.out.now.items
     c.append_byte.new.out.items c.requires.few
     (record {
-      tree = c.mixed_in-number.ensures.tree;
-      number = c.mixed_in-number.ensures.number;
+      tree = c.mixed_parts-number.ensures.tree;
+      number = c.mixed_parts-number.ensures.number;
     })
     (λ id e. let differ : None ≡ Some (Some id) =
     sym c.in-None.is ∙ c.option_at.ensures ∙ e in cc)
@@ -363,13 +363,16 @@ append_value-returns-in-List-clause-value g t c =
     (λ v. AddsBytes (serialize ty v) c.args.out.now.items c.append_sequence-in-List.new.out.items
     c.append_sequence-in-List.result)) form
     (list_adds c.args.self.now.schema.now.format (type_of c.args.self.now.schema.now c.in-List.elem)
-    c.in-List.field-1 c.depth-depth.result c.mixed_in-count.result.1
+    c.in-List.field-1 c.depth-depth.result c.mixed_parts-count.result.1
     (tree_of c.args.self.now.arena.now c.args.node)
-    (tree_of c.args.self.now.arena.now c.mixed_in-count.result.0) c.args.out.now.items
+    (tree_of c.args.self.now.arena.now c.mixed_parts-count.result.0) c.args.out.now.items
     c.append_sequence-in-List.new.out.items c.append_sequence-in-List.result
     (subst (IsLegal c.args.self.now.schema.now.format) (sym form) c.ty.ensures.legal)
     (c.depth-depth.ensures.exact ∙ ap depth (sym form))
-    (record { tree = c.mixed_in-count.ensures.tree; number = c.mixed_in-count.ensures.number })
+    (record {
+      tree = c.mixed_parts-count.ensures.tree;
+      number = c.mixed_parts-count.ensures.number;
+    })
     c.append_sequence-in-List.ensures.value)
 
 pub append_value-returns-in-Container-clause-value :
@@ -815,11 +818,11 @@ append_value-returns-in-Vector-clause-kept g t c = c.append_sequence.ensures.kep
 
 pub append_chosen-append_value-requires : goal.append_chosen-append_value-requires
 append_chosen-append_value-requires g t c =
-    let here : slice_get c.args.options.now (c.mixed_in-number.result.1 % 256)
+    let here : slice_get c.args.options.now (c.mixed_parts-number.result.1 % 256)
     ≡ Some (Some c.in-Some-Some.option) =
     sym c.option_at.ensures ∙ c.in-Some-Some.is ∙ ap Some c.in-Some-Some.field-0-is in
     let below : c.in-Some-Some.option < c.args.id =
-    below_at c.args.id c.args.options.now (c.mixed_in-number.result.1 % 256)
+    below_at c.args.id c.args.options.now (c.mixed_parts-number.result.1 % 256)
     (Some c.in-Some-Some.option) here c.requires.before in
     search rules
 

@@ -8,10 +8,14 @@ use Rattle.ssz_writing.proofs.writer.Writer.append_bitlist.Goals as goal
 
 pub returns-then-above-eq0-clause-value : goal.returns-then-above-eq0-clause-value
 returns-then-above-eq0-clause-value g c = λ bs are.
-    let of = counted_packed c.args.top.depth c.mixed_in-count.result.1 ((c.from.result + 7) / 8) bs
+    let of = counted_packed c.args.top.depth c.mixed_parts-count.result.1
+    ((c.from.result + 7) / 8) bs
     (tree_of c.args.self.now.arena.now c.args.top.node)
-    (tree_of c.args.self.now.arena.now c.mixed_in-count.result.0)
-    (record { tree = c.mixed_in-count.ensures.tree; number = c.mixed_in-count.ensures.number })
+    (tree_of c.args.self.now.arena.now c.mixed_parts-count.result.0)
+    (record {
+      tree = c.mixed_parts-count.ensures.tree;
+      number = c.mixed_parts-count.ensures.number;
+    })
     (ap (λ n. (n + 7) / 8) c.from.ensures) are in
     let whole : length bs % 8 ≡ 0 = omega (arith, of.0, c.if-above-eq0.true) in
     c.in_ok-append_byte.ensures.items
@@ -30,12 +34,16 @@ returns-in_ok-append_byte-2-clause-kept g c =
 
 pub returns-in_ok-append_byte-2-clause-value : goal.returns-in_ok-append_byte-2-clause-value
 returns-in_ok-append_byte-2-clause-value g c = λ bs are.
-    let of = counted_packed c.args.top.depth c.mixed_in-count.result.1 ((c.from.result + 7) / 8) bs
+    let of = counted_packed c.args.top.depth c.mixed_parts-count.result.1
+    ((c.from.result + 7) / 8) bs
     (tree_of c.args.self.now.arena.now c.args.top.node)
-    (tree_of c.args.self.now.arena.now c.mixed_in-count.result.0)
-    (record { tree = c.mixed_in-count.ensures.tree; number = c.mixed_in-count.ensures.number })
+    (tree_of c.args.self.now.arena.now c.mixed_parts-count.result.0)
+    (record {
+      tree = c.mixed_parts-count.ensures.tree;
+      number = c.mixed_parts-count.ensures.number;
+    })
     (ap (λ n. (n + 7) / 8) c.from.ensures) are in
-    marked_bytes bs (c.mixed_in-count.result.1 % 8) c.in-Some.last _ c.args.out.now.items
+    marked_bytes bs (c.mixed_parts-count.result.1 % 8) c.in-Some.last _ c.args.out.now.items
     c.append_packed.new.out.items c.pop.new.self.items c.append_byte-in-Some.new.out.items
     (ap (λ n. n % 8) of.0) (omega (arith, c.if-above-eq0.false))
     (c.in_ok-append_packed.ensures.bytes (bit_bytes bs) of.1) c.in-Some.ensures.items
