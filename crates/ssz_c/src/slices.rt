@@ -22,13 +22,8 @@ fn boxed(
     ensures { Opens library.now number bytes.now
         (result_map_both (λ slice. slice.value) (λ fault. fault) result) }
 {
-    match CheckedBytes::open(alloc, library, number, bytes) {
-        Ok(slice) => match Box::new(alloc, slice) {
-            Ok(slice) => Ok(slice),
-            Err(_) => Err(SszFault::of(status::NO_MEMORY)),
-        },
-        Err(fault) => Err(fault),
-    }
+    let slice = CheckedBytes::open(alloc, library, number, bytes)?;
+    Ok(Box::new(alloc, slice)?)
 }
 
 /// Checks bytes as a value of a type, keeps a copy of them and shares the schema. What the handle

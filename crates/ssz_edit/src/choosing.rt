@@ -76,6 +76,8 @@ pub fn open_choice<H: PairHash>(
 /// `choose_at`). `BadPath` where the path does not fit the type, `Absent` where the value has no
 /// such part, `NotThat` where the part is no union, `BadSelector` where it has no option of this
 /// number, and `Memory`; each comes only where none before it does.
+///
+/// Seven parameters: those of each edit, and which option with which value.
 pub fn choose<H: PairHash>(
     arena: &mut Arena<H>,
     schema: &Schema,
@@ -102,10 +104,7 @@ pub fn choose<H: PairHash>(
 {
     // By the type it is known where the tree of a value has its parts.
     let _legal = schema.ty(id);
-    let choice = match open_choice(arena, schema, id, node, path, selector) {
-        Ok(choice) => choice,
-        Err(fault) => return Err(fault),
-    };
+    let choice = open_choice(arena, schema, id, node, path, selector)?;
     let made = put_choice(arena, schema, node, &choice, &given_of(inner))?;
     Ok(made)
 }

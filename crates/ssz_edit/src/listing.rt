@@ -84,10 +84,7 @@ pub fn append<H: PairHash>(
 {
     // By the type it is known where the tree of a value has its parts.
     let _legal = schema.ty(id);
-    let end = match open_end(arena, schema, id, node, path) {
-        Ok(end) => end,
-        Err(fault) => return Err(fault),
-    };
+    let end = open_end(arena, schema, id, node, path)?;
     let made = put_element(arena, schema, node, &end, &Given::Value(value))?;
     Ok(made)
 }

@@ -91,10 +91,7 @@ pub fn set<H: PairHash>(
 {
     // By the type it is known where the tree of a value has its parts.
     let _legal = schema.ty(id);
-    let place = match open_part(arena, schema, id, node, path) {
-        Ok(place) => place,
-        Err(fault) => return Err(fault),
-    };
+    let place = open_part(arena, schema, id, node, path)?;
     let made = put_part(arena, schema, node, &place, &Given::Value(value))?;
     Ok(made)
 }

@@ -47,13 +47,9 @@ impl Session {
         requires { IfOk said HasShortLiteral }
         ensures { ArgumentsDo said self.old self.new result }
     {
-        match said {
-            Ok(statement) => {
-                let reached = self.reach(&statement);
-                drop(statement);
-                answer_of(reached)
-            }
-            Err(why) => Err(why),
-        }
+        let statement = said?;
+        let reached = self.reach(&statement);
+        drop(statement);
+        answer_of(reached)
     }
 }

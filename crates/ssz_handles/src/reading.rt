@@ -4,7 +4,7 @@ ghost use Rattle.std.specs.Result.{result_map_both};
 ghost use Rattle.ssz_typed.specs.Library.{ReadsLibrary};
 ghost use Rattle.ssz_typed.specs.Sharing.{IsShared};
 
-use ssz_said::{SszFault, status};
+use ssz_said::SszFault;
 use ssz_typed::Library;
 use std::alloc::{AllocError, Global};
 
@@ -13,13 +13,8 @@ pub fn boxed(alloc: Global, bytes: &[u8]) -> Result<Box<Library, Global>, SszFau
     ensures { ReadsLibrary (result_map_both (λ library. library.value) (λ fault. fault) result)
         bytes.now }
 {
-    match Library::read(alloc, bytes) {
-        Ok(library) => match Box::new(alloc, library) {
-            Ok(library) => Ok(library),
-            Err(_) => Err(SszFault::of(status::NO_MEMORY)),
-        },
-        Err(fault) => Err(fault),
-    }
+    let library = Library::read(alloc, bytes)?;
+    Ok(Box::new(alloc, library)?)
 }
 
 /// Another one on the same schema.

@@ -71,6 +71,7 @@ fn refuse(line: u64, reply: &mut Vec<u8>) -> Ran
 }
 
 // Does what a line says, and writes the reply.
+// Seven parameters: the fields of a session are lent one by one, as its reply is one of them.
 fn run_text(
     alloc: Global,
     engine: &mut Engine<ShaPair>,
@@ -120,10 +121,7 @@ impl Session {
     pub fn start(alloc: Global, schema: &[u8]) -> Result<Session, SszFault>
         ensures { Starts result schema.now }
     {
-        match read_types(alloc, schema) {
-            Ok(schema) => Session::of_types(alloc, schema),
-            Err(fault) => Err(fault),
-        }
+        Session::of_types(alloc, read_types(alloc, schema)?)
     }
 
     /// The same in a box.
@@ -131,23 +129,15 @@ impl Session {
         ensures { Starts (result_map_both (λ session. session.value) (λ fault. fault) result)
             schema.now }
     {
-        match Session::start(alloc, schema) {
-            Ok(session) => match Box::new(alloc, session) {
-                Ok(session) => Ok(session),
-                Err(_) => Err(SszFault::of(status::NO_MEMORY)),
-            },
-            Err(fault) => Err(fault),
-        }
+        let session = Session::start(alloc, schema)?;
+        Ok(Box::new(alloc, session)?)
     }
 
     /// A session over a copy of a schema.
     fn start_on(alloc: Global, schema: &Schema) -> Result<Session, SszFault>
         ensures { StartsOn schema.now result }
     {
-        match schema.copied(alloc) {
-            Ok(schema) => Session::of_types(alloc, schema),
-            Err(_) => Err(SszFault::of(status::NO_MEMORY)),
-        }
+        Session::of_types(alloc, schema.copied(alloc)?)
     }
 
     /// The same in a box.
@@ -155,13 +145,8 @@ impl Session {
         ensures { StartsOn schema.now
             (result_map_both (λ session. session.value) (λ fault. fault) result) }
     {
-        match Session::start_on(alloc, schema) {
-            Ok(session) => match Box::new(alloc, session) {
-                Ok(session) => Ok(session),
-                Err(_) => Err(SszFault::of(status::NO_MEMORY)),
-            },
-            Err(fault) => Err(fault),
-        }
+        let session = Session::start_on(alloc, schema)?;
+        Ok(Box::new(alloc, session)?)
     }
 
     /// Does the statement that a line says, and keeps the reply.

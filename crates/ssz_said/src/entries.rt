@@ -137,8 +137,5 @@ pub fn prove_all(alloc: Global, v: &[u8], indices: &[SszIndex]) -> Result<Statem
         return Err(SszFault::of(status::SYNTAX));
     }
     let v = name_of(alloc, v)?;
-    match numbers(alloc, indices) {
-        Ok(numbers) => Ok(Statement::Prove(v, Indices::new(numbers))),
-        Err(_) => Err(SszFault::of(status::NO_MEMORY)),
-    }
+    Ok(Statement::Prove(v, Indices::new(numbers(alloc, indices)?)))
 }

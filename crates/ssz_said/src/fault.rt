@@ -4,6 +4,7 @@ ghost use Rattle.ssz_said.specs.Outcome.{done, refused, invalid};
 
 use super::status;
 use ssz_bytes::Fault;
+use std::alloc::{AllocError, AllocFailed};
 
 /// A status, and of a fault of bytes or of a schema its code and where it lies; else two zeros.
 #[repr(C)]
@@ -45,5 +46,29 @@ impl SszFault {
             code: u32::from(fault.code),
             position: fault.position,
         }
+    }
+}
+
+impl From<AllocError> for SszFault {
+    ghost use Rattle.std.specs.Prelude.{◌≡◌};
+    ghost use Rattle.ssz_said.specs.declared.status.TheConstants.{NO_MEMORY};
+    ghost use Rattle.ssz_said.specs.Outcome.{refused};
+
+    ghost from_gives = { λ _ e. e ≡ refused NO_MEMORY };
+
+    fn from(_error: AllocError) -> Self {
+        SszFault::of(status::NO_MEMORY)
+    }
+}
+
+impl<T: Drop> From<AllocFailed<T>> for SszFault {
+    ghost use Rattle.std.specs.Prelude.{◌≡◌};
+    ghost use Rattle.ssz_said.specs.declared.status.TheConstants.{NO_MEMORY};
+    ghost use Rattle.ssz_said.specs.Outcome.{refused};
+
+    ghost from_gives = { λ _ e. e ≡ refused NO_MEMORY };
+
+    fn from(_error: AllocFailed<T>) -> Self {
+        SszFault::of(status::NO_MEMORY)
     }
 }

@@ -97,10 +97,7 @@ pub fn default_bytes(alloc: Global, schema: &Schema, id: TypeId) -> Result<Vec<u
         (default_said (type_of schema.now id)) }
 {
     let _legal = schema.ty(id);
-    let value = match default_of(alloc, schema, id) {
-        Ok(value) => value,
-        Err(_) => return Err(SszFault::of(status::NO_MEMORY)),
-    };
+    let value = default_of(alloc, schema, id)?;
     let mut bytes = Vec::new(alloc);
     match encode(schema, id, &value, status::MOST_SHOWN, &mut bytes) {
         Ok(()) => Ok(bytes),

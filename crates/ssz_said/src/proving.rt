@@ -31,10 +31,7 @@ pub fn prove(alloc: Global, v: &[u8], asked: &[u8]) -> Result<Statement, SszFaul
 {
     let index = index_of(alloc, asked)?;
     let v = name_of(alloc, v)?;
-    match alone(alloc, index) {
-        Ok(indices) => Ok(Statement::Prove(v, indices)),
-        Err(_) => Err(SszFault::of(status::NO_MEMORY)),
-    }
+    Ok(Statement::Prove(v, alone(alloc, index)?))
 }
 
 // The chunks of entries.
@@ -69,20 +66,16 @@ fn read_chunks(alloc: Global, text: &[u8]) -> Result<Vec<u8>, SszFault>
         Err(ProofFault::BadProof) => return Err(SszFault::of(status::BAD_PROOF)),
         Err(ProofFault::Memory) => return Err(SszFault::of(status::NO_MEMORY)),
     };
-    match all_chunks(alloc, &proof) {
-        Ok(bytes) => Ok(bytes),
-        Err(_) => Err(SszFault::of(status::NO_MEMORY)),
-    }
+    Ok(all_chunks(alloc, &proof)?)
 }
 
 /// The chunks of the proof that is answered.
 pub fn branch_of(alloc: Global, answer: Result<Reply, SszFault>) -> Result<Vec<u8>, SszFault>
     ensures { IsBranchIn answer (result_map_both (λ bytes. bytes.items) (λ fault. fault) result) }
 {
-    match answer {
-        Err(why) => Err(why),
-        Ok(Reply::Proof(text)) => read_chunks(alloc, text.as_slice()),
-        Ok(_) => Err(SszFault::of(status::REFUSED)),
+    match answer? {
+        Reply::Proof(text) => read_chunks(alloc, text.as_slice()),
+        _ => Err(SszFault::of(status::REFUSED)),
     }
 }
 
@@ -101,10 +94,9 @@ fn read_text(alloc: Global, text: &[u8]) -> Result<Proof, SszFault>
 pub fn proof_of(alloc: Global, answer: Result<Reply, SszFault>) -> Result<Proof, SszFault>
     ensures { IsProofReply answer result }
 {
-    match answer {
-        Err(why) => Err(why),
-        Ok(Reply::Proof(text)) => read_text(alloc, text.as_slice()),
-        Ok(_) => Err(SszFault::of(status::REFUSED)),
+    match answer? {
+        Reply::Proof(text) => read_text(alloc, text.as_slice()),
+        _ => Err(SszFault::of(status::REFUSED)),
     }
 }
 

@@ -54,10 +54,9 @@ pub fn taken(reply: Reply) -> Result<Reply, SszFault>
 pub fn root_of(answer: Result<Reply, SszFault>) -> Result<[u8; 32], SszFault>
     ensures { result ≡ reply_root answer }
 {
-    match answer {
-        Err(why) => Err(why),
-        Ok(Reply::Root(chunk)) => Ok(chunk.0),
-        Ok(_) => Err(SszFault::of(status::REFUSED)),
+    match answer? {
+        Reply::Root(chunk) => Ok(chunk.0),
+        _ => Err(SszFault::of(status::REFUSED)),
     }
 }
 
@@ -65,10 +64,9 @@ pub fn root_of(answer: Result<Reply, SszFault>) -> Result<[u8; 32], SszFault>
 pub fn encoding_of(answer: Result<Reply, SszFault>) -> Result<ByteRun, SszFault>
     ensures { result ≡ encoding_of answer }
 {
-    match answer {
-        Err(why) => Err(why),
-        Ok(Reply::Bytes(bytes)) => Ok(bytes),
-        Ok(_) => Err(SszFault::of(status::REFUSED)),
+    match answer? {
+        Reply::Bytes(bytes) => Ok(bytes),
+        _ => Err(SszFault::of(status::REFUSED)),
     }
 }
 
@@ -76,10 +74,9 @@ pub fn encoding_of(answer: Result<Reply, SszFault>) -> Result<ByteRun, SszFault>
 pub fn len_of(answer: Result<Reply, SszFault>) -> Result<u64, SszFault>
     ensures { result ≡ reply_len answer }
 {
-    match answer {
-        Err(why) => Err(why),
-        Ok(Reply::Len(count)) => Ok(count),
-        Ok(_) => Err(SszFault::of(status::REFUSED)),
+    match answer? {
+        Reply::Len(count) => Ok(count),
+        _ => Err(SszFault::of(status::REFUSED)),
     }
 }
 
@@ -87,10 +84,9 @@ pub fn len_of(answer: Result<Reply, SszFault>) -> Result<u64, SszFault>
 pub fn gindex_of(answer: Result<Reply, SszFault>) -> Result<SszIndex, SszFault>
     ensures { result ≡ gindex_of answer }
 {
-    match answer {
-        Err(why) => Err(why),
-        Ok(Reply::Gindex(index)) => Ok(halves(index)),
-        Ok(_) => Err(SszFault::of(status::REFUSED)),
+    match answer? {
+        Reply::Gindex(index) => Ok(halves(index)),
+        _ => Err(SszFault::of(status::REFUSED)),
     }
 }
 
@@ -98,9 +94,8 @@ pub fn gindex_of(answer: Result<Reply, SszFault>) -> Result<SszIndex, SszFault>
 pub fn text_of(answer: Result<Reply, SszFault>) -> Result<ByteRun, SszFault>
     ensures { result ≡ reply_text answer }
 {
-    match answer {
-        Err(why) => Err(why),
-        Ok(Reply::Json(text)) => Ok(text),
-        Ok(_) => Err(SszFault::of(status::REFUSED)),
+    match answer? {
+        Reply::Json(text) => Ok(text),
+        _ => Err(SszFault::of(status::REFUSED)),
     }
 }

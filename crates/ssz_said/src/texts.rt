@@ -57,8 +57,5 @@ pub fn copy_of(alloc: Global, bytes: &[u8]) -> Result<ByteRun, SszFault>
     if bytes.len() > status::MOST_BYTES {
         return Err(SszFault::of(status::TOO_LONG));
     }
-    match ByteRun::copy_of(alloc, bytes) {
-        Ok(copy) => Ok(copy),
-        Err(_) => Err(SszFault::of(status::NO_MEMORY)),
-    }
+    Ok(ByteRun::copy_of(alloc, bytes)?)
 }

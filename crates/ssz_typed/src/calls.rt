@@ -3,7 +3,6 @@ ghost use Rattle.std.specs.Prelude.{◌≡◌, ◌<◌, ◌^◌, length, None, I
 ghost use Rattle.std.specs.Result.{result_map_both};
 ghost use Rattle.ssz_slices.specs.Written.{encoding_written};
 ghost use Rattle.ssz_schema.specs.Unfolding.{type_of};
-ghost use Rattle.ssz_schema.specs.Indices.{generalized_index};
 ghost use Rattle.ssz_value.specs.Faults.{first_fault};
 ghost use Rattle.ssz_typed.specs.Calls.{checked_in, encoding_at, gindex_in, part_in, root_in, size_in, status_of_path, steps_in};
 ghost use Rattle.ssz_typed.specs.Places.{place_in, stretch_at, stretch_of};
@@ -13,14 +12,12 @@ ghost use Rattle.ssz_typed.specs.Sharing.{schema_in};
 use super::library::Library;
 use ssz_checking::check;
 use ssz_chunk::ShaPair;
-use ssz_gindex::Gindex;
-use ssz_line::Steps;
 use ssz_roots::root_of_bytes;
 use ssz_said::{SszFault, SszIndex, halves, path_of, status};
 use ssz_schema::{PathStep, Schema, TypeId};
 use ssz_slices::{Encoding, Slice};
 use ssz_value::PathFault;
-use std::alloc::{AllocError, Global};
+use std::alloc::Global;
 
 /// The type of the number, where the bytes encode a value of it.
 pub fn checked(library: &Library, number: u64, bytes: &[u8]) -> Result<TypeId, SszFault>
@@ -30,10 +27,7 @@ pub fn checked(library: &Library, number: u64, bytes: &[u8]) -> Result<TypeId, S
     ensures faultless { IfOk result (λ id.
         first_fault (type_of (schema_in library.now) id) 0 bytes.now ≡ None) }
 {
-    let id = match library.type_at(number) {
-        Ok(id) => id,
-        Err(fault) => return Err(fault),
-    };
+    let id = library.type_at(number)?;
     if bytes.len() > status::MOST_BYTES {
         return Err(SszFault::of(status::TOO_LONG));
     }
@@ -47,48 +41,24 @@ pub fn checked(library: &Library, number: u64, bytes: &[u8]) -> Result<TypeId, S
 pub fn root(library: &Library, number: u64, bytes: &[u8]) -> Result<[u8; 32], SszFault>
     ensures { result ≡ root_in library.now number bytes.now }
 {
-    match checked(library, number, bytes) {
-        Ok(id) => {
-            let mut hasher = ShaPair::new();
-            Ok(
-                root_of_bytes(
-                    library.schema(),
-                    id,
-                    bytes,
-                    &library.shared.zeros,
-                    &mut hasher,
-                )
-                .0,
-            )
-        }
-        Err(fault) => Err(fault),
-    }
+    let id = checked(library, number, bytes)?;
+    let mut hasher = ShaPair::new();
+    let root = root_of_bytes(
+        library.schema(),
+        id,
+        bytes,
+        &library.shared.zeros,
+        &mut hasher,
+    );
+    Ok(root.0)
 }
 
 /// How many bytes each value of the type has; 0 where they differ.
 pub fn size(library: &Library, number: u64) -> Result<u64, SszFault>
     ensures { result ≡ size_in library.now number }
 {
-    match library.type_at(number) {
-        Ok(id) => Ok(library.schema().fixed_size(id).unwrap_or(0)),
-        Err(fault) => Err(fault),
-    }
-}
-
-// The generalized index of a path by a type; None where the path does not fit it.
-fn index_of(
-    alloc: Global,
-    schema: &Schema,
-    id: TypeId,
-    path: &Steps,
-) -> Result<Option<Gindex>, AllocError>
-    requires { id < length schema.now.trees }
-    ensures { IfOk result (λ found. found ≡ generalized_index (type_of schema.now id) path.now) }
-{
-    match path.fitting(alloc, schema, id)? {
-        Some(steps) => Ok(Gindex::of_path(schema, id, steps.as_slice())),
-        None => Ok(None),
-    }
+    let id = library.type_at(number)?;
+    Ok(library.schema().fixed_size(id).unwrap_or(0))
 }
 
 /// The generalized index of the path that a text spells.
@@ -100,18 +70,11 @@ pub fn gindex(
 ) -> Result<SszIndex, SszFault>
     ensures { IsUnlessMemory result (gindex_in library.now number text.now) }
 {
-    let id = match library.type_at(number) {
-        Ok(id) => id,
-        Err(fault) => return Err(fault),
-    };
-    let steps = match path_of(alloc, text) {
-        Ok(steps) => steps,
-        Err(fault) => return Err(fault),
-    };
-    match index_of(alloc, library.schema(), id, &steps) {
-        Ok(Some(index)) => Ok(halves(index.get())),
-        Ok(None) => Err(SszFault::of(status::BAD_PATH)),
-        Err(_) => Err(SszFault::of(status::NO_MEMORY)),
+    let id = library.type_at(number)?;
+    let steps = path_of(alloc, text)?;
+    match steps.gindex(alloc, library.schema(), id)? {
+        Some(index) => Ok(halves(index.get())),
+        None => Err(SszFault::of(status::BAD_PATH)),
     }
 }
 
@@ -126,14 +89,10 @@ pub(crate) fn steps_of(
     ensures { IsUnlessMemory (result_map_both (λ steps. steps.items) (λ fault. fault) result)
         (steps_in (type_of schema.now id) text.now) }
 {
-    let path = match path_of(alloc, text) {
-        Ok(path) => path,
-        Err(fault) => return Err(fault),
-    };
-    match path.fitting(alloc, schema, id) {
-        Ok(Some(steps)) => Ok(steps),
-        Ok(None) => Err(SszFault::of(status::BAD_PATH)),
-        Err(_) => Err(SszFault::of(status::NO_MEMORY)),
+    let path = path_of(alloc, text)?;
+    match path.fitting(alloc, schema, id)? {
+        Some(steps) => Ok(steps),
+        None => Err(SszFault::of(status::BAD_PATH)),
     }
 }
 
@@ -172,17 +131,11 @@ pub fn part<'b>(
     ensures { IsUnlessMemory (result_map_both encoding_written (λ fault. fault) result)
         (part_in library.now number bytes.now text.now) }
 {
-    let id = match library.type_at(number) {
-        Ok(id) => id,
-        Err(fault) => return Err(fault),
-    };
+    let id = library.type_at(number)?;
     if bytes.len() > status::MOST_BYTES {
         return Err(SszFault::of(status::TOO_LONG));
     }
-    let steps = match steps_of(alloc, library.schema(), id, text) {
-        Ok(steps) => steps,
-        Err(fault) => return Err(fault),
-    };
+    let steps = steps_of(alloc, library.schema(), id, text)?;
     match Slice::new(library.schema(), id, bytes) {
         Ok(whole) => part_at(&whole, steps.as_slice()),
         Err(fault) => Err(SszFault::invalid(fault)),
@@ -237,17 +190,11 @@ pub fn place(
 ) -> Result<SszStretch, SszFault>
     ensures { IsUnlessMemory result (place_in library.now number bytes.now text.now) }
 {
-    let id = match library.type_at(number) {
-        Ok(id) => id,
-        Err(fault) => return Err(fault),
-    };
+    let id = library.type_at(number)?;
     if bytes.len() > status::MOST_BYTES {
         return Err(SszFault::of(status::TOO_LONG));
     }
-    let steps = match steps_of(alloc, library.schema(), id, text) {
-        Ok(steps) => steps,
-        Err(fault) => return Err(fault),
-    };
+    let steps = steps_of(alloc, library.schema(), id, text)?;
     match Slice::new(library.schema(), id, bytes) {
         Ok(whole) => stretch_at(&whole, steps.as_slice()),
         Err(fault) => Err(SszFault::invalid(fault)),

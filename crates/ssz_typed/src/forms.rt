@@ -35,10 +35,8 @@ pub const UNION: u32 = 8;
 pub fn form(library: &Library, number: u64) -> Result<u32, SszFault>
     ensures { result ≡ form_in library.now number }
 {
-    match library.type_at(number) {
-        Ok(id) => Ok(form_of(library.schema(), id)),
-        Err(fault) => Err(fault),
-    }
+    let id = library.type_at(number)?;
+    Ok(form_of(library.schema(), id))
 }
 
 fn form_of(schema: &Schema, id: TypeId) -> u32
@@ -61,12 +59,10 @@ fn form_of(schema: &Schema, id: TypeId) -> u32
 pub fn limit(library: &Library, number: u64) -> Result<u64, SszFault>
     ensures { result ≡ limit_in library.now number }
 {
-    match library.type_at(number) {
-        Ok(id) => match limit_at(library.schema(), id) {
-            Some(limit) => Ok(limit),
-            None => Err(SszFault::of(status::ABSENT)),
-        },
-        Err(fault) => Err(fault),
+    let id = library.type_at(number)?;
+    match limit_at(library.schema(), id) {
+        Some(limit) => Ok(limit),
+        None => Err(SszFault::of(status::ABSENT)),
     }
 }
 
@@ -87,10 +83,8 @@ fn limit_at(schema: &Schema, id: TypeId) -> Option<u64>
 pub fn parts(library: &Library, number: u64) -> Result<u64, SszFault>
     ensures { result ≡ parts_in library.now number }
 {
-    match library.type_at(number) {
-        Ok(id) => Ok(parts_at(library.schema(), id)),
-        Err(fault) => Err(fault),
-    }
+    let id = library.type_at(number)?;
+    Ok(parts_at(library.schema(), id))
 }
 
 fn parts_at(schema: &Schema, id: TypeId) -> u64

@@ -46,10 +46,7 @@ pub fn names(alloc: Global, library: &Library) -> Result<Vec<u8>, SszFault>
         (names_in library.now) }
     ensures order { IfOk result (λ text. IsInOrder (schema_in library.now).names) }
 {
-    match lines_in(alloc, library.schema()) {
-        Ok(text) => Ok(text),
-        Err(_) => Err(SszFault::of(status::NO_MEMORY)),
-    }
+    Ok(lines_in(alloc, library.schema())?)
 }
 
 /// The first name of the type in byte order.
@@ -57,11 +54,9 @@ pub fn type_name<'a>(library: &'a Library, number: u64) -> Result<&'a [u8], SszF
     ensures { result_map_both (λ name. name.now) (λ fault. fault) result
         ≡ type_name_in library.now number }
 {
-    match library.type_at(number) {
-        Ok(id) => match library.schema().name_of(id) {
-            Some(name) => Ok(name),
-            None => Err(SszFault::of(status::ABSENT)),
-        },
-        Err(fault) => Err(fault),
+    let id = library.type_at(number)?;
+    match library.schema().name_of(id) {
+        Some(name) => Ok(name),
+        None => Err(SszFault::of(status::ABSENT)),
     }
 }

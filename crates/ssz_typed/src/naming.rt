@@ -54,13 +54,8 @@ impl Library {
     pub fn read(alloc: Global, bytes: &[u8]) -> Result<Library, SszFault>
         ensures { ReadsLibrary result bytes.now }
     {
-        match read_types(alloc, bytes) {
-            Ok(schema) => match Library::of_schema(alloc, schema) {
-                Ok(library) => Ok(library),
-                Err(_) => Err(SszFault::of(status::NO_MEMORY)),
-            },
-            Err(fault) => Err(fault),
-        }
+        let schema = read_types(alloc, bytes)?;
+        Ok(Library::of_schema(alloc, schema)?)
     }
 
     /// Another one on the same schema, whose types have the same numbers.
@@ -107,10 +102,7 @@ impl Library {
         if let Some(number) = place_of(self.found.as_slice(), id) {
             return Ok(number);
         }
-        match self.add(id) {
-            Ok(number) => Ok(number),
-            Err(_) => Err(SszFault::of(status::NO_MEMORY)),
-        }
+        Ok(self.add(id)?)
     }
 
     // Gives a type the next number.

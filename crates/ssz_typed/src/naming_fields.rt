@@ -28,12 +28,10 @@ fn name_at<'a>(schema: &'a Schema, id: TypeId, place: u64) -> Option<&'a [u8]>
 pub fn fields(library: &Library, number: u64) -> Result<u64, SszFault>
     ensures { result ≡ fields_of_type library.now number }
 {
-    match library.type_at(number) {
-        Ok(id) => match library.schema().ty(id) {
-            Ty::Container(_) => Ok(library.schema().chunk_count(id)),
-            _ => Ok(0),
-        },
-        Err(fault) => Err(fault),
+    let id = library.type_at(number)?;
+    match library.schema().ty(id) {
+        Ty::Container(_) => Ok(library.schema().chunk_count(id)),
+        _ => Ok(0),
     }
 }
 
@@ -42,11 +40,9 @@ pub fn field<'a>(library: &'a Library, number: u64, place: u64) -> Result<&'a [u
     ensures { result_map_both (λ name. name.now) (λ fault. fault) result
         ≡ field_in library.now number place }
 {
-    match library.type_at(number) {
-        Ok(id) => match name_at(library.schema(), id, place) {
-            Some(name) => Ok(name),
-            None => Err(SszFault::of(status::ABSENT)),
-        },
-        Err(fault) => Err(fault),
+    let id = library.type_at(number)?;
+    match name_at(library.schema(), id, place) {
+        Some(name) => Ok(name),
+        None => Err(SszFault::of(status::ABSENT)),
     }
 }

@@ -56,10 +56,7 @@ impl Library {
             result }
         ensures schema { schema_in self.new ≡ schema_in self.old }
     {
-        let id = match self.type_at(number) {
-            Ok(id) => id,
-            Err(fault) => return Err(fault),
-        };
+        let id = self.type_at(number)?;
         match part_at(self.schema(), id, place) {
             Some(part) => self.numbered(part),
             None => Err(SszFault::of(status::ABSENT)),

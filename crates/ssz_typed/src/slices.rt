@@ -12,7 +12,7 @@ use super::calls::{SszStretch, checked, part_at, steps_of, stretch_at};
 use super::checked_bytes::CheckedBytes;
 use super::library::Library;
 use ssz_bytes::ByteRun;
-use ssz_said::{SszFault, status};
+use ssz_said::SszFault;
 use ssz_schema::TypeId;
 use ssz_slices::{Encoding, Slice};
 use std::alloc::{AllocError, Global};
@@ -47,14 +47,8 @@ impl CheckedBytes {
     ) -> Result<CheckedBytes, SszFault>
         ensures { Opens library.now number bytes.now result }
     {
-        let id = match checked(library, number, bytes) {
-            Ok(id) => id,
-            Err(fault) => return Err(fault),
-        };
-        match CheckedBytes::copy_of(alloc, library, id, bytes) {
-            Ok(slice) => Ok(slice),
-            Err(_) => Err(SszFault::of(status::NO_MEMORY)),
-        }
+        let id = checked(library, number, bytes)?;
+        Ok(CheckedBytes::copy_of(alloc, library, id, bytes)?)
     }
 
     /// The encoding of the part that a path leads to.
@@ -62,10 +56,7 @@ impl CheckedBytes {
         ensures { IsUnlessMemory (result_map_both encoding_written (λ fault. fault) result)
             (slice_part self.now text.now) }
     {
-        let steps = match steps_of(alloc, &self.shared.schema, self.id, text) {
-            Ok(steps) => steps,
-            Err(fault) => return Err(fault),
-        };
+        let steps = steps_of(alloc, &self.shared.schema, self.id, text)?;
         let whole = Slice::whole(&self.shared.schema, self.id, self.bytes.as_slice());
         part_at(&whole, steps.as_slice())
     }
@@ -74,10 +65,7 @@ impl CheckedBytes {
     pub fn place(&self, alloc: Global, text: &[u8]) -> Result<SszStretch, SszFault>
         ensures { IsUnlessMemory result (slice_place self.now text.now) }
     {
-        let steps = match steps_of(alloc, &self.shared.schema, self.id, text) {
-            Ok(steps) => steps,
-            Err(fault) => return Err(fault),
-        };
+        let steps = steps_of(alloc, &self.shared.schema, self.id, text)?;
         let whole = Slice::whole(&self.shared.schema, self.id, self.bytes.as_slice());
         stretch_at(&whole, steps.as_slice())
     }

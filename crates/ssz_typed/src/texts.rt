@@ -18,10 +18,7 @@ pub fn text(
     ensures { IsUnlessMemory (result_map_both (λ text. text.items) (λ fault. fault) result)
         (text_in library.now number bytes.now) }
 {
-    let id = match library.type_at(number) {
-        Ok(id) => id,
-        Err(fault) => return Err(fault),
-    };
+    let id = library.type_at(number)?;
     if bytes.len() > status::MOST_BYTES {
         return Err(SszFault::of(status::TOO_LONG));
     }
@@ -33,10 +30,8 @@ pub fn default(alloc: Global, library: &Library, number: u64) -> Result<Vec<u8>,
     ensures { IsUnlessMemory (result_map_both (λ bytes. bytes.items) (λ fault. fault) result)
         (default_in library.now number) }
 {
-    match library.type_at(number) {
-        Ok(id) => default_bytes(alloc, library.schema(), id),
-        Err(fault) => Err(fault),
-    }
+    let id = library.type_at(number)?;
+    default_bytes(alloc, library.schema(), id)
 }
 
 /// The encoding of the value of the type of a number whose text some bytes are.
@@ -49,10 +44,7 @@ pub fn encoding(
     ensures { MakesIn library.now number text.now
         (result_map_both (λ bytes. bytes.items) (λ fault. fault) result) }
 {
-    let id = match library.type_at(number) {
-        Ok(id) => id,
-        Err(fault) => return Err(fault),
-    };
+    let id = library.type_at(number)?;
     if text.len() > status::MOST_BYTES {
         return Err(SszFault::of(status::TOO_LONG));
     }

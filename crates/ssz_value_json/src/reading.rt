@@ -43,10 +43,9 @@ pub fn read_json(
     ensures answer { ReadsTo (type_of schema.now id) bytes.now result }
     ensures fits { IfOk result (IsValue (type_of schema.now id)) }
 {
-    match read_draft(alloc, schema, id, bytes) {
-        Ok(Some(value)) => Ok(value),
-        Ok(None) => read_whole(alloc, schema, id, bytes),
-        Err(fault) => Err(fault),
+    match read_draft(alloc, schema, id, bytes)? {
+        Some(value) => Ok(value),
+        None => read_whole(alloc, schema, id, bytes),
     }
 }
 

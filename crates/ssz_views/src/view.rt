@@ -122,10 +122,8 @@ impl<'a, H: PairHash> View<'a, H> {
         }
         // Every type of a schema is legal.
         let _legal = self.schema.ty(self.id);
-        match find(self.arena, self.schema, self.id, self.node, path) {
-            Ok(place) => Ok(self.to(place)),
-            Err(fault) => Err(fault),
-        }
+        let place = find(self.arena, self.schema, self.id, self.node, path)?;
+        Ok(self.to(place))
     }
 
     /// The field of this name of a container.
@@ -135,10 +133,8 @@ impl<'a, H: PairHash> View<'a, H> {
     {
         // Every type of a schema is legal.
         let _legal = self.schema.ty(self.id);
-        match find_field(self.arena, self.schema, self.id, self.node, name.as_bytes()) {
-            Ok(field) => Ok(self.to(field)),
-            Err(fault) => Err(fault),
-        }
+        let field = find_field(self.arena, self.schema, self.id, self.node, name.as_bytes())?;
+        Ok(self.to(field))
     }
 
     /// The element or bit of this number of a sequence or of bits.

@@ -1,4 +1,5 @@
 use Rattle.std.proofs.Common.{sym, subst}
+use Rattle.std.proofs.lemmas.Result.{err_from_is_err_and}
 use Rattle.ssz_schema.specs.Unfolding.{type_of}
 use Rattle.ssz_value.specs.Standing.{value_of, IsValue}
 use Rattle.ssz_value.specs.Suiting.{IsElement}
@@ -9,19 +10,20 @@ use Rattle.ssz_edit.proofs.ListLanding.{element_type_is}
 use Rattle.ssz_edit.proofs.Refusing.{append_refused}
 use Rattle.ssz_edit.proofs.listing.append.Goals as goal
 
-pub returns-in-Err-clause-answers : goal.returns-in-Err-clause-answers
-returns-in-Err-clause-answers g c v of =
-    append_refused c.args.schema.now c.args.arena.now c.args.arena.now c.args.id c.args.node
-    c.args.path.now c.ty-legal.ensures.legal
+pub returns-in_err-end-clause-answers : goal.returns-in_err-end-clause-answers
+returns-in_err-end-clause-answers g c v of =
+    let p = err_from_is_err_and c.from_residual.result c.from_residual.ensures.1 in
+    rw (p.1, p.2) (append_refused c.args.schema.now c.args.arena.now c.args.arena.now c.args.id
+    c.args.node c.args.path.now c.ty-legal.ensures.legal
     (append_charge (type_of c.args.schema.now c.args.id) v c.args.path.now
-    (value_of c.args.value.now)) v of c.args.value.now c.requires.value c.in-Err.fault
-    c.in-Err.ensures.err
+    (value_of c.args.value.now)) v of c.args.value.now c.requires.value c.in_err-end.field-0.0
+    c.in_err-end.ensures.err)
 
 pub put_element-requires-clause-given : goal.put_element-requires-clause-given
 put_element-requires-clause-given g c =
     let types = c.args.schema.now in
-    let at = c.in-Ok.ensures.at in
-    let end = c.in-Ok.end in
+    let at = c.in_ok-end.ensures.at in
+    let end = c.in_ok-end.end in
     let u = type_of types end.list.id in
     subst (λ s. IsValue s c.args.value.now)
     (sym (element_type_is types.format types c.args.arena.now c.args.id c.args.node
@@ -33,4 +35,4 @@ put_element-requires-clause-given g c =
 
 pub returns-clause-answers : goal.returns-clause-answers
 returns-clause-answers g c v of =
-    c.in_ok-made.ensures.edits c.args.id c.args.path.now v c.in-Ok.ensures.at of
+    c.in_ok-made.ensures.edits c.args.id c.args.path.now v c.in_ok-end.ensures.at of

@@ -9,7 +9,7 @@ pub encode-requires-clause-value : goal.encode-requires-clause-value
 encode-requires-clause-value c =
     let t : SszType = type_of c.args.schema.now c.args.id in
     record {
-      fits = subst (λ (v : SszValue). Fits t v) (sym c.in-Ok.ensures.value)
+      fits = subst (λ (v : SszValue). Fits t v) (sym c.in_ok-value.ensures.value)
           (default_fits c.args.schema.now.format t c.ty-legal.ensures.legal);
-      formed = c.in-Ok.ensures.formed;
+      formed = c.in_ok-value.ensures.formed;
     }

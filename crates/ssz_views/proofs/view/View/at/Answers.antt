@@ -1,4 +1,5 @@
 use Rattle.std.proofs.Common.{◌≡◌, ◌<◌, Bool, false, eqb, List, [], ◌∷◌, length, sym, subst, arith}
+use Rattle.std.proofs.lemmas.Result.{err_from_is_err_and}
 use Rattle.ssz_schema.specs.Unfolding.{type_of}
 use Rattle.ssz_walk.specs.Found.{spot_of}
 use Rattle.ssz_views.specs.Looking.{Looking, CanLie, Misses, ViewReaches}
@@ -26,13 +27,13 @@ to-requires-clause-lies g c =
     } in
     let some : 0 < length c.args.path.now = some_path c.args.path.now
     (c.is_empty.ensures) c.if-is_empty.false in
-    subst (λ (view : Looking). CanLie (type_of view.types c.in-Ok.place.id)
-    (spot_of c.in-Ok.place.spot)) c.self.view_is
-    (CanLie-found inside c.args.path.now c.self.invariant some c.in-Ok.place
-    c.in-Ok.ensures.found)
+    subst (λ (view : Looking). CanLie (type_of view.types c.in_ok-place.place.id)
+    (spot_of c.in_ok-place.place.spot)) c.self.view_is
+    (CanLie-found inside c.args.path.now c.self.invariant some c.in_ok-place.place
+    c.in_ok-place.ensures.found)
 
-pub returns-in-Ok-clause-reached : goal.returns-in-Ok-clause-reached
-returns-in-Ok-clause-reached g c =
+pub returns-clause-reached : goal.returns-clause-reached
+returns-clause-reached g c =
     let inside : Looking = record {
       arena = c.self.inside.arena.now;
       types = c.self.inside.schema.now;
@@ -43,13 +44,15 @@ returns-in-Ok-clause-reached g c =
     let some : 0 < length c.args.path.now = some_path c.args.path.now
     (c.is_empty.ensures) c.if-is_empty.false in
     subst (ViewReaches c.args.self.now c.args.path.now) (sym c.to.ensures)
-    (subst (λ (view : Looking). ViewReaches view c.args.path.now (view_of view c.in-Ok.place))
+    (subst (λ (view : Looking). ViewReaches view c.args.path.now
+    (view_of view c.in_ok-place.place))
     c.self.view_is
-    (Reaches-found inside c.args.path.now c.self.invariant some c.in-Ok.place
-    c.self.inside.schema.now.format c.ty-legal.ensures.legal c.in-Ok.ensures.found))
+    (Reaches-found inside c.args.path.now c.self.invariant some c.in_ok-place.place
+    c.self.inside.schema.now.format c.ty-legal.ensures.legal c.in_ok-place.ensures.found))
 
-pub returns-in-Err-clause-missed : goal.returns-in-Err-clause-missed
-returns-in-Err-clause-missed g c =
+pub returns-in_err-place-clause-missed : goal.returns-in_err-place-clause-missed
+returns-in_err-place-clause-missed g c =
+    let p = err_from_is_err_and c.from_residual.result c.from_residual.ensures.1 in
     let inside : Looking = record {
       arena = c.self.inside.arena.now;
       types = c.self.inside.schema.now;
@@ -59,6 +62,7 @@ returns-in-Err-clause-missed g c =
     } in
     let some : 0 < length c.args.path.now = some_path c.args.path.now
     (c.is_empty.ensures) c.if-is_empty.false in
-    subst (λ (view : Looking). Misses view c.args.path.now c.in-Err.fault) c.self.view_is
-    (Misses-lost inside c.args.path.now c.self.invariant some c.in-Err.fault
-    c.in-Err.ensures.lost)
+    rw (p.1, p.2) (subst (λ (view : Looking). Misses view c.args.path.now c.in_err-place.field-0.0)
+    c.self.view_is
+    (Misses-lost inside c.args.path.now c.self.invariant some c.in_err-place.field-0.0
+    c.in_err-place.ensures.lost))
