@@ -162,6 +162,8 @@ pub extern "C" fn ssz_session_pop(
 }
 
 /// Gives the union at a path an option, with the value that the bytes encode.
+///
+/// As many parameters as the call of C has arguments.
 #[unsafe(no_mangle)]
 pub extern "C" fn ssz_session_choose(
     alloc: Global,

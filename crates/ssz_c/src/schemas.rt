@@ -146,6 +146,8 @@ pub extern "C" fn ssz_fields(
 }
 
 /// The name of the field at a place of the type.
+///
+/// As many parameters as the call of C has arguments.
 #[unsafe(no_mangle)]
 pub extern "C" fn ssz_field(
     alloc: Global,
@@ -273,6 +275,8 @@ pub extern "C" fn ssz_gindex(
 }
 
 /// The encoding of the part at a path of the value that the bytes encode.
+///
+/// As many parameters as the call of C has arguments.
 #[unsafe(no_mangle)]
 pub extern "C" fn ssz_part(
     alloc: Global,
@@ -304,6 +308,8 @@ pub extern "C" fn ssz_part(
 }
 
 /// Where the part at a path stands in the bytes that encode the value.
+///
+/// As many parameters as the call of C has arguments.
 #[unsafe(no_mangle)]
 pub extern "C" fn ssz_place(
     alloc: Global,
@@ -328,6 +334,8 @@ pub extern "C" fn ssz_place(
 }
 
 /// The encoding of the value of the type whose JSON text some bytes are.
+///
+/// As many parameters as the call of C has arguments.
 #[unsafe(no_mangle)]
 pub extern "C" fn ssz_of_json(
     alloc: Global,
@@ -359,6 +367,8 @@ pub extern "C" fn ssz_of_json(
 }
 
 /// The JSON text of the value of the type that the bytes encode.
+///
+/// As many parameters as the call of C has arguments.
 #[unsafe(no_mangle)]
 pub extern "C" fn ssz_to_json(
     alloc: Global,

@@ -33,6 +33,8 @@ pub extern "C" fn ssz_session_root(
 }
 
 /// The encoding of the part at a path of a version.
+///
+/// As many parameters as the call of C has arguments.
 #[unsafe(no_mangle)]
 pub extern "C" fn ssz_session_bytes(
     alloc: Global,
@@ -53,6 +55,8 @@ pub extern "C" fn ssz_session_bytes(
 }
 
 /// The JSON text of the part at a path of a version.
+///
+/// As many parameters as the call of C has arguments.
 #[unsafe(no_mangle)]
 pub extern "C" fn ssz_session_json(
     alloc: Global,
@@ -112,6 +116,8 @@ pub extern "C" fn ssz_session_gindex(
 
 /// What proves the part at an index of a version, a number or a path: its chunk, and those beside
 /// its way to the root, from below.
+///
+/// As many parameters as the call of C has arguments.
 #[unsafe(no_mangle)]
 pub extern "C" fn ssz_session_prove(
     alloc: Global,
@@ -133,6 +139,8 @@ pub extern "C" fn ssz_session_prove(
 
 /// What proves the parts at these indices of a version: the leaves, and how many they are, and then
 /// the nodes.
+///
+/// As many parameters as the call of C has arguments.
 #[unsafe(no_mangle)]
 pub extern "C" fn ssz_session_prove_all(
     alloc: Global,

@@ -245,6 +245,7 @@ fn elements(
 }
 
 // Of count elements of this size.
+// Seven parameters, since whoever calls has asked for the size.
 #[cycle(scope)]
 #[inline(never)]
 fn fixed_elements(

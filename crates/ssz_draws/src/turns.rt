@@ -77,6 +77,7 @@ impl Generator {
     }
 
     // At a list of n elements of this type, which stands before id.
+    // Seven parameters: three say the type, whose number the measure is.
     fn turn_of_list(
         &mut self,
         alloc: Global,

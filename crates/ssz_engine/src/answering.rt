@@ -32,6 +32,8 @@ impl<H: PairHash> Engine<H> {
     /// Does a statement as `step` does, and answers the reply itself: a root, an encoding or a
     /// refusal's code is had without a text. All memory is taken before a version or a file
     /// changes.
+    ///
+    /// Seven parameters, as of `step`.
     pub fn answer<F: Files>(
         &mut self,
         writer: Writer,

@@ -82,6 +82,9 @@ impl<H: PairHash> Engine<H> {
     /// `Read` the versions, the files and `out` are as before, and after `Write` all but the file,
     /// which has what it had or a part of the new bytes. The nodes are then the same ones, too:
     /// `root` and `prove` may have hashed some.
+    ///
+    /// Eight parameters: who says which statement where, and files, hasher and reply, each lent by
+    /// its owner.
     pub fn step<F: Files>(
         &mut self,
         writer: Writer,

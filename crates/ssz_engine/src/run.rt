@@ -20,6 +20,7 @@ use ssz_script::Statements;
 use ssz_versions::Writer;
 
 /// Does all lines that are left of a writer's script.
+/// Eight parameters: whose lines, and what is lent, each by its owner.
 pub(crate) fn run_lines<F: Files, S: Sink, H: PairHash>(
     engine: &mut Engine<H>,
     place: Place,

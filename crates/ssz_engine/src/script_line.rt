@@ -21,6 +21,8 @@ use ssz_versions::Writer;
 
 /// Does what a line of a writer says, and appends the line of the reply. A literal of 2^32 bytes or
 /// more is want of memory.
+///
+/// Seven parameters, as of `Engine::step`.
 pub(crate) fn reply_to<F: Files, H: PairHash>(
     engine: &mut Engine<H>,
     place: Place,
@@ -95,6 +97,8 @@ fn is_refusal(made: Outcome) -> bool
 }
 
 /// Does a line of a writer and prints its reply. `refused` becomes true where the line is refused.
+///
+/// Eight parameters: who says which line where, and what is lent, each by its owner.
 pub(crate) fn run_line<F: Files, S: Sink, H: PairHash>(
     engine: &mut Engine<H>,
     place: Place,

@@ -15,6 +15,7 @@ use ssz_script::Statements;
 use ssz_versions::Writer;
 
 // Does the next line of a writer, if there is one.
+// Seven parameters: whose line, and what is lent, each by its owner.
 fn run_next<F: Files, S: Sink, H: PairHash>(
     engine: &mut Engine<H>,
     writer: Writer,
@@ -42,6 +43,8 @@ fn run_next<F: Files, S: Sink, H: PairHash>(
 }
 
 /// Does a line of each writer in this order; a writer that has none left is passed over.
+///
+/// Seven parameters: whose lines in which order, and what is lent, each by its owner.
 pub(crate) fn run_turns<F: Files, S: Sink, H: PairHash>(
     engine: &mut Engine<H>,
     order: &[u8],

@@ -40,6 +40,7 @@ fn statements_of<'a>(
 }
 
 // Runs the base, and gives the writers of so many scripts its versions.
+// Seven parameters: the base, and what is lent, each by its owner.
 fn run_base<F: Files, S: Sink, H: PairHash>(
     engine: &mut Engine<H>,
     base: &[u8],
@@ -68,6 +69,7 @@ fn run_base<F: Files, S: Sink, H: PairHash>(
 }
 
 // Runs the base, and then the scripts in turns.
+// Eight parameters: the scripts with their order, and what is lent, each by its owner.
 fn run_weave<F: Files, S: Sink, H: PairHash>(
     engine: &mut Engine<H>,
     base: &[u8],
@@ -109,6 +111,8 @@ impl<H: PairHash> Engine<H> {
     /// Answers Accepted or Refused, the latter where a line was refused; ReadFault, WriteFault and
     /// Memory where a fault or want of memory ended the run, with no line done behind it. A literal
     /// of 2^32 bytes or more is want of memory.
+    ///
+    /// Seven parameters: the scripts with their order, and what is lent, each by its owner.
     pub fn weave<F: Files, S: Sink>(
         &mut self,
         base: &[u8],

@@ -53,6 +53,8 @@ impl<H: PairHash> Engine<H> {
     /// to one, and the root of `w`.
     ///
     /// Answers Accepted; WriteFault and Memory where a fault or want of memory ended it.
+    ///
+    /// Seven parameters: what the words say, and what is lent, each by its owner.
     pub fn work<F: Files, S: Sink>(
         &mut self,
         type_name: &Identifier,

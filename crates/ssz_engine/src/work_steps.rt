@@ -172,6 +172,8 @@ fn work_rounds<F: Files, H: PairHash>(
 
 /// Makes `w` of the type, edits it so many times with its root after each edit, and answers how
 /// many edits there were. `reply` then holds the line of the root.
+///
+/// Seven parameters: what the words say, and what is lent, each by its owner.
 pub(crate) fn work_through<F: Files, H: PairHash>(
     engine: &mut Engine<H>,
     type_name: &Identifier,

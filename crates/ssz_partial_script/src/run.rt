@@ -56,6 +56,7 @@ fn is_refusal(reply: &Reply) -> bool
 }
 
 // Does a line and prints its reply. `refused` becomes true where the line is refused.
+// Seven parameters: the line, and what is lent, each by its owner.
 fn run_line<S: Sink, H: PairHash>(
     alloc: Global,
     schema: &Schema,
@@ -98,6 +99,7 @@ fn run_line<S: Sink, H: PairHash>(
 }
 
 // Does all lines that are left.
+// Seven parameters: the lines, and what is lent, each by its owner.
 fn run_lines<S: Sink, H: PairHash>(
     alloc: Global,
     schema: &Schema,

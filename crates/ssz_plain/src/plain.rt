@@ -79,6 +79,8 @@ pub fn plain_pop(
 /// the option None has none. `BadPath` and `Absent` as in `plain_set`, then `NotThat` exactly where
 /// the part is no union, then `BadSelector` exactly where no option has the number. A refusal and
 /// want of memory leave the value as it was.
+///
+/// Seven parameters: those of each edit, and which option with which value.
 pub fn plain_choose(
     alloc: Global,
     schema: &Schema,

@@ -30,6 +30,8 @@ pub fn task_of_run<F: Files>(alloc: Global, files: &mut F, args: &RunArgs) -> Re
 }
 
 /// Runs a script over an engine of its own, as writer 0.
+///
+/// Seven parameters: what the files gave, and what is lent, each by its owner.
 pub fn run_script<F: Files, S: Sink, H: PairHash>(
     alloc: Global,
     schema: Schema,
