@@ -9,6 +9,7 @@ use Rattle.std.proofs.lemmas.List.Sums.{AllPass-from_list_all}
 use Rattle.std.proofs.lemmas.Str.Parse.{IsNumeralModel, numerals_by_fold}
 use Rattle.hex.specs.Hex.{encode_lower, encode_with, lower_digits}
 use Rattle.ssz_decimal.specs.Decimal.{is_digit, number_after}
+use Rattle.ssz_digits.proofs.Spreading.{encode_append}
 use Rattle.ssz_bytes.specs.Bytes.{IsBytes}
 
 -- what each byte that passes a test is, all are
@@ -71,24 +72,6 @@ hex_pass P all (b ∷ bytes) small =
       hex_digit P all (b / 16) (omega arith),
       (hex_digit P all (b % 16) (omega arith), hex_pass P all bytes (λ i. small (suc i))),
     )
-
--- the digits of the first byte, then those of the rest
-pub encode_more : (b : ℕ) (bytes : List ℕ)
-    → encode_lower (b ∷ []) ++ encode_lower bytes ≡ encode_lower (b ∷ bytes)
-unfolding encode_with
-encode_more b bytes = refl
-
-pub encode_none : encode_lower [] ≡ []
-unfolding encode_with
-encode_none = refl
-
--- the digits of some bytes, then those of others
-pub encode_append : (xs ys : List ℕ) → encode_lower xs ++ encode_lower ys ≡ encode_lower (xs ++ ys)
-encode_append [] ys = ap (λ s. s ++ encode_lower ys) encode_none
-encode_append (x ∷ xs) ys =
-    ap (λ s. s ++ encode_lower ys) (sym (encode_more x xs))
-    ∙ append_assoc (encode_lower (x ∷ [])) (encode_lower xs) (encode_lower ys)
-    ∙ ap (λ s. encode_lower (x ∷ []) ++ s) (encode_append xs ys) ∙ encode_more x (xs ++ ys)
 
 -- the digits of the first bytes are moved from what is left to what is there
 pub digits_moved : (out new digits block behind rest whole : List ℕ)

@@ -6,7 +6,6 @@
 //! is one in specs/Texts. A script is read in one pass, and only what a statement keeps is copied.
 #![tactic(auto)]
 
-mod digits;
 mod forms;
 mod indices;
 mod laws;

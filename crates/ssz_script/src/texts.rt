@@ -4,9 +4,9 @@ ghost use Rattle.hex.specs.Hex.{encode_lower};
 ghost use Rattle.ssz_script.specs.declared.reply.Reply.TheVariants.{Bytes};
 ghost use Rattle.ssz_script.specs.Texts.{line, hexadecimal, refusal_name, refused_line, lettered, fault_words, reply_line};
 
-use super::digits::{line_of_digits, put_digits};
 use super::reply::Reply;
 use ssz_bytes::{ByteRun, Fault};
+use ssz_digits::{line_of_digits, put_digits};
 use ssz_schema::Name;
 use std::alloc::{AllocError, Global};
 

@@ -1,4 +1,4 @@
-//! Bytes as digits, written in the room that the bytes stand in.
+// Bytes as digits, written in the room that the bytes stand in.
 ghost use Rattle.std.specs.Prelude.{◌≡◌, ◌<◌, ◌≤◌, ◌+◌, ◌*◌, ◌∷◌, ◌++◌, [], length, take, drop, slice_index, IfOk, OnOk, OnErr};
 ghost use Rattle.hex.specs.Hex.{encode_lower, lower_digits};
 
@@ -69,7 +69,7 @@ fn spread(room: &mut [u8], from: usize, count: usize)
 }
 
 /// Writes the bytes as digits, for which there is just the room.
-pub(crate) fn put_digits(bytes: &[u8], room: &mut [u8])
+pub fn put_digits(bytes: &[u8], room: &mut [u8])
     requires { length room.old ≡ 2 * length bytes.now }
     ensures { room.new ≡ encode_lower bytes.now }
 {
@@ -99,11 +99,7 @@ fn write_line(room: &mut [u8], front: &[u8], word: &[u8], count: usize)
 /// Two texts, the bytes as digits and a line feed, in the memory of the bytes: so that these and
 /// their digits never stand beside each other.
 #[tactic(auto, using(crate::proofs::Spreading::resized_front, crate::proofs::Spreading::line_joined))]
-pub(crate) fn line_of_digits(
-    front: &[u8],
-    word: &[u8],
-    bytes: Vec<u8>,
-) -> Result<Vec<u8>, AllocError>
+pub fn line_of_digits(front: &[u8], word: &[u8], bytes: Vec<u8>) -> Result<Vec<u8>, AllocError>
     ensures { IfOk result (λ line. line.items
         ≡ front.now ++ (word.now ++ (encode_lower bytes.items ++ 10 ∷ []))) }
 {

@@ -1,6 +1,6 @@
 use Rattle.std.proofs.Common.{◌≡◌, ◌+◌, ◌*◌, ◌≤◌, length, take, drop}
 use Rattle.hex.specs.Hex.{encode_lower}
-use Rattle.ssz_script.proofs.digits.spread.Given as goal
+use Rattle.ssz_digits.proofs.digits.spread.Given as goal
 
 abbrev pub invariant-spreading : goal.invariant-spreading
 invariant-spreading l = record {

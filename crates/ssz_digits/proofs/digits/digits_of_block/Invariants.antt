@@ -1,6 +1,6 @@
 use Rattle.std.proofs.Common.{◌≡◌, ◌*◌, ◌++◌, length, take, drop}
 use Rattle.hex.specs.Hex.{encode_lower}
-use Rattle.ssz_script.proofs.digits.digits_of_block.Given as goal
+use Rattle.ssz_digits.proofs.digits.digits_of_block.Given as goal
 
 -- what is written, and what is to come, are all
 abbrev pub invariant-loop-i : goal.invariant-loop-i

@@ -1,5 +1,5 @@
-use Rattle.ssz_script.proofs.Spreading.{fronts_put}
-use Rattle.ssz_script.proofs.digits.put_front.Goals as goal
+use Rattle.ssz_digits.proofs.Spreading.{fronts_put}
+use Rattle.ssz_digits.proofs.digits.put_front.Goals as goal
 
 pub returns : goal.returns
 returns c =

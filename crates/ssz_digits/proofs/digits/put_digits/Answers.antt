@@ -1,7 +1,7 @@
 use Rattle.std.proofs.Common.{List, ℕ, length, drop, ap, ◌∙◌}
 use Rattle.std.proofs.lemmas.List.{take_at}
 use Rattle.hex.specs.Hex.{encode_lower}
-use Rattle.ssz_script.proofs.digits.put_digits.Goals as goal
+use Rattle.ssz_digits.proofs.digits.put_digits.Goals as goal
 
 pub returns : goal.returns
 returns c =

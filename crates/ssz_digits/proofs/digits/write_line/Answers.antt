@@ -1,5 +1,5 @@
-use Rattle.ssz_script.proofs.Spreading.{fronts_written}
-use Rattle.ssz_script.proofs.digits.write_line.Goals as goal
+use Rattle.ssz_digits.proofs.Spreading.{fronts_written}
+use Rattle.ssz_digits.proofs.digits.write_line.Goals as goal
 
 pub returns : goal.returns
 returns c =

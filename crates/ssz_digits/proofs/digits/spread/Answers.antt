@@ -1,8 +1,8 @@
 use Rattle.std.proofs.Common.{◌≡◌, ℕ, ◌+◌, ◌-◌, ◌*◌, length, take, drop, refl, ap, ◌∙◌, arith}
 use borrow.Rule.Slice.PartMut.{same_len_mid}
-use Rattle.ssz_script.proofs.Spreading.{block_written, first_written, front_unread, none_written}
+use Rattle.ssz_digits.proofs.Spreading.{block_written, first_written, front_unread, none_written}
 use Rattle.hex.specs.Hex.{encode_lower}
-use Rattle.ssz_script.proofs.digits.spread.Goals as goal
+use Rattle.ssz_digits.proofs.digits.spread.Goals as goal
 
 pub spreading-init : goal.spreading-init
 spreading-init c = record {
