@@ -46,8 +46,8 @@ fn pair<H: PairHash>(arena: &mut Arena<H>, left: NodeId, right: NodeId) -> Resul
     Ok(arena.pair(left, right))
 }
 
-// A full tree of this depth, with a node of its own for each leaf and each pair.
-fn full<H: PairHash>(arena: &mut Arena<H>, depth: u32) -> Result<NodeId>
+/// A full tree of this depth, with a node of its own for each leaf and each pair.
+pub fn full<H: PairHash>(arena: &mut Arena<H>, depth: u32) -> Result<NodeId>
     ensures node { IfOk result (IsNodeOf arena.new) }
     ensures more { node_count arena.old ≤ node_count arena.new }
 {
@@ -59,8 +59,8 @@ fn full<H: PairHash>(arena: &mut Arena<H>, depth: u32) -> Result<NodeId>
     pair(arena, left, right)
 }
 
-// So many places of a tree of this depth, all over it.
-fn places(alloc: Global, depth: u32, count: u64, from: u64) -> Result<Vec<Gindex>>
+/// So many places of a tree of this depth, all over it.
+pub fn places(alloc: Global, depth: u32, count: u64, from: u64) -> Result<Vec<Gindex>>
     requires { depth ≤ 24 }
 {
     let leaves = 1u64 << depth;
