@@ -77,7 +77,7 @@ fn is_branch(chunks: &[u8], root: &[u8; 32]) -> bool {
     if chunks.len() != 64 {
         return false;
     }
-    &chunks[..32] == SEVENS.as_slice()
+    chunks.starts_with(SEVENS.as_slice())
         && judge_branch(root, &SEVENS, 3, &chunks[32..]).status() == status::OK
         && judge_branch(root, &SEVENS, 2, &chunks[32..]).status() == status::UNLIKE
 }

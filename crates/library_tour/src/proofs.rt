@@ -38,8 +38,8 @@ pub fn proof_in(rt: &HostRuntime, path: &str) -> Result<Proof> {
     told(read_proof(rt.alloc(), text.as_slice()))
 }
 
-// Whether two proofs of the same places lead to one root from different leaves: then the first place
-// where two unlike pairs of chunks have one hash.
+// Whether two proofs of the same places lead to one root from different leaves: then the first
+// place where two unlike pairs of chunks have one hash.
 fn show_clash(rt: &HostRuntime, first: &Proof, second: &Proof) -> Result<()> {
     match told(clash(first, second, &mut ShaPair::new()))? {
         Clash::Same => println!(rt; "the leaves are the same")?,

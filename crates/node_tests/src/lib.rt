@@ -1,5 +1,5 @@
-//! Tests of nodes, versions and upgrades, in a crate of their own: a check of tests proves again the
-//! crate that they stand in.
+//! Tests of nodes, versions and upgrades, in a crate of their own: a check of tests proves again
+//! the crate that they stand in.
 #![tactic(auto)]
 
 #[cfg(test)]

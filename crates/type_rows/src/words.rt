@@ -3,8 +3,8 @@
 //! A row is a command line, each word parted from the next by one space; an empty row has no words
 //! at all, not even the program's name. Its line is the command with its words in their order,
 //! `--max-bytes` last and as a number, or `not taken`. The wanted lines were read off `clap` 4.0.32
-//! of crates.io, with this command set; those of `part`, `partial` and `clash` were written by hand,
-//! each by a line of another command with words of the same kind.
+//! of crates.io, with this command set; those of `part`, `partial` and `clash` were written by
+//! hand, each by a line of another command with words of the same kind.
 use anyhow::{Result, bail};
 use ssz_words::{
     ClashArgs, Command, PartArgs, PartialArgs, RootArgs, RunArgs, VerifyArgs, WeaveArgs,
