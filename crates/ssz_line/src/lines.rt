@@ -105,23 +105,14 @@ impl<'a> Lines<'a> {
             text,
         })
     }
-    /// Passes over lines in front that begin with `#`: only their ends are looked for.
+
+    /// Passes over the lines in front that begin with `#`: only their ends are looked for.
     pub fn skip_comments(&mut self)
-        ensures same { past_comments self.new ≡ past_comments self.old }
+        ensures passed { self.new ≡ past_comments self.old }
         ensures fewer { length self.new ≤ length self.old }
     {
-        let mut left = self.rest;
-        let mut passed = self.passed;
-        'comments: while left.starts_with(b"#") {
-            match split_line(left) {
-                Some((line, rest)) if line.starts_with(b"#") => {
-                    left = rest;
-                    passed += 1;
-                }
-                _ => break,
-            }
+        'comments: while self.rest.starts_with(b"#") {
+            self.next();
         }
-        self.rest = left;
-        self.passed = passed;
     }
 }

@@ -45,6 +45,5 @@ said_past rows (line ∷ more) =
 
 -- lines say the same where comments in front of them are passed over
 pub comments_passed : {S : Type 0} (rows : List (Word × Form S)) (old new : List (ℕ × List ℕ))
-    → past_comments new ≡ past_comments old → lines_said rows new ≡ lines_said rows old
-comments_passed rows old new same =
-    sym (said_past rows new) ∙ ap (lines_said rows) same ∙ said_past rows old
+    → new ≡ past_comments old → lines_said rows new ≡ lines_said rows old
+comments_passed rows old new passed = ap (lines_said rows) passed ∙ said_past rows old

@@ -1,14 +1,12 @@
-use Rattle.std.proofs.Common.{◌≡◌, suc, ◌+◌, ◌^◌, ◌<◌, ◌≤◌, length}
-use Rattle.std.specs.Str.Lines.{lines}
-use Rattle.ssz_line.specs.Lines.{numbered_from, past_comments}
+use Rattle.std.proofs.Common.{◌≡◌, ◌≤◌, length}
+use Rattle.ssz_line.specs.Lines.{past_comments}
 use Rattle.ssz_line.proofs.lines.Lines.skip_comments.Given as goal
 
 abbrev pub invariant-comments : goal.invariant-comments
 invariant-comments l = record {
-  same : past_comments (numbered_from (suc l.passed) (lines l.left)) ≡ past_comments l.fn.self;
-  fewer : length (lines l.left) ≤ length l.fn.self;
-  counted : l.passed + length (lines l.left) < 2 ^ 64;
+  same : past_comments l.self ≡ past_comments l.fn.self;
+  fewer : length l.self ≤ length l.fn.self;
 }
 
 abbrev pub decreases-comments : goal.decreases-comments
-decreases-comments l = length (lines l.left)
+decreases-comments l = length l.self
