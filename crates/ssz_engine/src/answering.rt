@@ -45,8 +45,7 @@ impl<H: PairHash> Engine<H> {
     ) -> Result<Reply, EngineFault>
         requires { HasShortLiteral statement.now }
         ensures keeps { KeepsEngine self.old self.new }
-        // Each node is there, with the same tree and no more to be hashed; but `compact` gives up
-        // what no version reaches.
+        // The clauses that `step` has, too, are told of there.
         ensures nodes { is_compact statement.now ≡ false
             → KeepsNodes self.old.arena self.new.arena }
         ensures compacted { is_compact statement.now ≡ true → OnOk result
@@ -71,8 +70,6 @@ impl<H: PairHash> Engine<H> {
         ensures still { asks_root (Some statement.now) ≡ false → hasher.new ≡ hasher.old }
         ensures fails { (name : List ℕ) → file_read statement.now ≡ Some name
             → F.readable files.old name → result ≢ Err EngineFault.Read }
-        // Where reads fail of absent names alone, it is of one that is absent in the files; and of
-        // such a one it does.
         ensures present { (name : List ℕ) → file_read statement.now ≡ Some name
             → CanRead (F.content files.old) name → result ≢ Err EngineFault.Read }
         ensures found { OnOk result (StatementFindsFile H.pair_of self.old writer.0 statement.now
