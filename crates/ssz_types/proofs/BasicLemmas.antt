@@ -1,5 +1,5 @@
 -- Entries of the basic types.
-use Rattle.std.proofs.Common.{ℕ, ◌≡◌, Some, refl, sym, ap, ◌∙◌, subst, arith}
+use Rattle.std.proofs.Common.{ℕ, ◌≡◌, [], Some, Vec, Global, refl, sym, ap, ◌∙◌, subst, arith}
 use Rattle.ssz_types.specs.declared.facts.Facts.{Facts}
 use Rattle.ssz_types.specs.declared.width.Width.{Width}
 use Rattle.ssz_types.specs.declared.ty.Ty.TheVariants.{Uint, Boolean}
@@ -19,9 +19,10 @@ facts_of_size size = record {
   nesting = 1;
 }
 
-pub IsBasicEntry-boolean : (facts : Facts) → facts ≡ facts_of_size 1
-    → IsBasicEntry boolean (record { ty = Boolean; facts = facts })
-IsBasicEntry-boolean facts e = record {
+pub IsBasicEntry-boolean : (facts : Facts) (order : Vec ℕ Global) → facts ≡ facts_of_size 1
+    → order.items ≡ []
+    → IsBasicEntry boolean (record { ty = Boolean; facts = facts; order = order })
+IsBasicEntry-boolean facts order e none = record {
   tree = λ done. refl;
   below = λ count. tt;
   legal = λ format. tt;
@@ -35,11 +36,13 @@ IsBasicEntry-boolean facts e = record {
         levels = refl;
         nesting = refl;
       });
+  order = none;
 }
 
-pub IsBasicEntry-uint : (w : Width) (facts : Facts) (size : ℕ) → size ≡ byte_count w
-    → facts ≡ facts_of_size size → IsBasicEntry (uint w) (record { ty = Uint w; facts = facts })
-IsBasicEntry-uint w facts size sized e = record {
+pub IsBasicEntry-uint : (w : Width) (facts : Facts) (order : Vec ℕ Global) (size : ℕ)
+    → size ≡ byte_count w → facts ≡ facts_of_size size → order.items ≡ []
+    → IsBasicEntry (uint w) (record { ty = Uint w; facts = facts; order = order })
+IsBasicEntry-uint w facts order size sized e none = record {
   tree = λ done. refl;
   below = λ count. tt;
   legal = λ format. tt;
@@ -53,4 +56,5 @@ IsBasicEntry-uint w facts size sized e = record {
         levels = refl;
         nesting = refl;
       });
+  order = none;
 }

@@ -3,3 +3,4 @@ pub mod WidthLemmas
 pub mod BasicLemmas
 pub mod NameLemmas
 pub mod RepeatLemmas
+pub mod OrderLemmas

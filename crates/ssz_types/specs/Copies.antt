@@ -13,3 +13,4 @@ pub record IsSameType (old new : Ty) : Type 0 where
 pub record IsSameEntry (old new : Entry) : Type 0 where
   pub ty : IsSameType old.ty new.ty
   pub facts : new.facts ≡ old.facts
+  pub order : new.order.items ≡ old.order.items

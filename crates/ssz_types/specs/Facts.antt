@@ -6,6 +6,7 @@ use Rattle.ssz_types.specs.declared.facts.Facts.{Facts}
 use Rattle.ssz_types.specs.Types.{SszType}
 use Rattle.ssz_types.specs.Sizes.{fixed_size, default_length, chunk_count, depth, type_levels, nesting}
 use Rattle.ssz_types.specs.Legal.{IsLegal}
+use Rattle.ssz_types.specs.Order.{field_order}
 use Rattle.ssz_types.specs.Unfolding.{tree_over, AreBelow}
 
 -- the facts kept beside a type are the type's
@@ -23,3 +24,4 @@ pub record IsBasicEntry (t : SszType) (e : Entry) : Type 0 where
   pub below : (count : ℕ) → AreBelow count e.ty
   pub legal : (format : Format) → IsLegal format t
   pub facts : AreFactsOf e.facts t
+  pub order : e.order.items ≡ field_order t

@@ -10,3 +10,4 @@ pub mod Unfolding
 pub mod Repeats
 pub mod Facts
 pub mod Copies
+pub mod Order

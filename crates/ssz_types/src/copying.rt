@@ -34,6 +34,7 @@ impl Entry {
         Ok(Entry {
             ty: self.ty.copied(alloc)?,
             facts: self.facts,
+            order: self.order.as_slice().to_vec(alloc)?,
         })
     }
 }

@@ -14,6 +14,7 @@ mod format;
 mod name;
 mod name_table;
 mod names;
+mod order;
 mod parts;
 mod repeats;
 mod schema_fault;
