@@ -10,6 +10,7 @@ use Rattle.ssz_types.specs.Types.{SszType}
 use Rattle.ssz_types.specs.Legal.{IsLegal}
 use Rattle.ssz_types.specs.Unfolding.{tree_over}
 use Rattle.ssz_types.specs.Facts.{AreFactsOf}
+use Rattle.ssz_types.specs.Order.{field_order}
 use Rattle.ssz_schema.specs.Inside.{unfolded, types_of, IsSoundEntry, AreSound, IsSchema, IsWhole}
 
 unfolded-copied : (done : List SszType) (es fs : List Entry) → AllZip IsSameEntry es fs
@@ -29,6 +30,7 @@ IsSound-copied format done e f same sound = record {
   facts = subst (AreFactsOf f.facts) (sym (same.ty.tree done))
       (subst (λ (facts : Facts). AreFactsOf facts (tree_over done e.ty)) (sym same.facts)
       sound.facts);
+  order = same.order ∙ sound.order ∙ sym (ap field_order (same.ty.tree done));
 }
 
 AreSound-copied : (format : Format) (done : List SszType) (es fs : List Entry)

@@ -12,6 +12,7 @@ use Rattle.ssz_types.specs.Legal.{IsLegal}
 use Rattle.ssz_types.specs.Unfolding.{Types, type_tree_at, fields_over, options_over, tree_over, AreBelow, IsBelow}
 use Rattle.ssz_types.specs.Lookup.{lookup_name}
 use Rattle.ssz_types.specs.Facts.{AreFactsOf}
+use Rattle.ssz_types.specs.Order.{field_order}
 use Rattle.ssz_schema.specs.Inside.{unfolded, types_of, basic_types, IsSoundEntry, AreSound, IsSchema, IsSchemaEntry, IsWhole, AreAllLegal, NamesAreBelow}
 
 -- the first count trees are the same
@@ -72,6 +73,7 @@ pub record Stands (format : Format) (trees : List SszType) (id : ℕ) (e : Entry
   pub below : AreBelow id e.ty
   pub legal : IsLegal format (type_tree_at trees id)
   pub facts : AreFactsOf e.facts (type_tree_at trees id)
+  pub order : e.order.items ≡ field_order (type_tree_at trees id)
 
 stands_first : (format : Format) (done : List SszType) (e : Entry) (entries : List Entry)
     → IsSoundEntry format done e → Stands format (unfolded done (e ∷ entries)) (length done) e
@@ -87,6 +89,7 @@ stands_first format done e entries sound =
       below = sound.below;
       legal = subst (IsLegal format) (sym here) sound.legal;
       facts = subst (AreFactsOf e.facts) (sym here) sound.facts;
+      order = sound.order ∙ sym (ap field_order here);
     }
 
 stands_at : (format : Format) (done : List SszType) (entries : List Entry)
@@ -110,7 +113,13 @@ entry_at a h id e below is =
     let found = stands_at a.format [] a.entries.items h.entries id e below is in
     let place : 0 + id ≡ id = omega arith in
     let at = subst (λ (i : ℕ). Stands a.format (types_of a).trees i e) place found in
-    record { form = at.form; below = at.below; legal = at.legal; facts = at.facts }
+    record {
+      form = at.form;
+      below = at.below;
+      legal = at.legal;
+      facts = at.facts;
+      order = at.order;
+    }
 
 pub count_is : (a : Inside) (types : Types) → types_of a ≡ types
     → length types.trees ≡ length a.entries.items

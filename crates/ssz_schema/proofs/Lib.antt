@@ -1,6 +1,7 @@
 pub use Rattle.ssz_types.proofs.DepthLemmas
 pub use Rattle.ssz_types.proofs.WidthLemmas
 pub use Rattle.ssz_types.proofs.NameLemmas
+pub use Rattle.ssz_types.proofs.OrderLemmas
 pub mod SizeLemmas
 pub mod Entries
 pub mod PathLemmas

@@ -1,10 +1,9 @@
 -- The fields of a container, resolved one by one.
-use Rattle.std.proofs.Common.{ℕ, zero, suc, ◌≡◌, ◌<◌, ◌≤◌, ◌+◌, Bool, true, false, not, cond, eqb, List, [], ◌∷◌, ◌++◌, length, map, drop, get_or, Option, Some, Result, Ok, Err, Vec, Global, bytes_eq, refl, sym, ap, ap₂, ◌∙◌, subst, arith, length-append, eq-eqb}
+use Rattle.std.proofs.Common.{ℕ, ◌≡◌, ◌<◌, ◌≤◌, ◌+◌, Bool, true, false, not, cond, eqb, List, [], ◌∷◌, ◌++◌, length, map, drop, get_or, Option, Some, Result, Ok, Err, Vec, Global, bytes_eq, refl, sym, ap, ap₂, ◌∙◌, subst, arith, length-append, eq-eqb}
 use Rattle.std.specs.List.{AllByRecursion, list_any, IsDistinct}
 use Rattle.std.proofs.lemmas.List.{drop_all}
 use Rattle.std.proofs.lemmas.Bool.{ne_eqb}
 use Rattle.ssz_types.specs.declared.format.Format.{Format}
-use Rattle.ssz_types.specs.declared.expr.TypeExpr.{TypeExpr}
 use Rattle.ssz_types.specs.declared.schema_fault.SchemaFault.{SchemaFault}
 use Rattle.ssz_types.specs.declared.schema_fault.SchemaFault.TheVariants.{BadName, FieldTaken}
 use Rattle.ssz_types.specs.declared.schema_fault.SchemaError.{SchemaError}

@@ -12,6 +12,7 @@ use Rattle.ssz_types.specs.Types.{SszType, boolean}
 use Rattle.ssz_types.specs.Sizes.{nesting, type_levels, default_length}
 use Rattle.ssz_types.specs.Legal.{IsWithinLimits, most_levels}
 use Rattle.ssz_schema.specs.Walk.{◌>>=◌, within_limits}
+use Rattle.ssz_types.specs.Order.{field_order}
 use Rattle.ssz_types.specs.Unfolding.{Types, tree_over}
 use Rattle.ssz_schema.specs.Inside.{IsSoundEntry, IsSoundButLimits}
 use Rattle.ssz_schema.specs.Adding.{ExtendsSchema, IsType, AnswersBy, Resolves}
@@ -105,12 +106,13 @@ pushed format old new t id within number e = record {
 
 -- an entry that keeps the limits is sound
 pub sound_within : (format : Format) (done : List SszType) (e : Entry)
-    → IsSoundButLimits format done e → IsWithinLimits format (tree_over done e.ty)
-    → IsSoundEntry format done e
-sound_within format done e h within = record {
+    → IsSoundButLimits format done e.ty e.facts → IsWithinLimits format (tree_over done e.ty)
+    → e.order.items ≡ field_order (tree_over done e.ty) → IsSoundEntry format done e
+sound_within format done e h within ordered = record {
   below = h.below;
   legal = h.legal within;
   facts = uncapped_facts e.facts (tree_over done e.ty) within.default_length h.facts;
+  order = ordered;
 }
 
 -- One walk after another.

@@ -4,12 +4,14 @@ use Rattle.ssz_types.specs.declared.format.Format.{Format}
 use Rattle.ssz_types.specs.declared.width.Width.TheVariants.{W8, W16, W32, W64, W128, W256}
 use Rattle.ssz_types.specs.declared.entry.Entry.{Entry}
 use Rattle.ssz_types.specs.declared.facts.Facts.{Facts}
+use Rattle.ssz_types.specs.declared.ty.Ty.{Ty}
 use Rattle.ssz_schema.specs.declared.schema.Schema.TheInside.{Inside}
 use Rattle.ssz_types.specs.Types.{SszType, boolean, uint}
 use Rattle.ssz_types.specs.Sizes.{fixed_size, default_length, chunk_count, depth, type_levels, nesting}
 use Rattle.ssz_types.specs.Legal.{IsLegal, IsWithinLimits}
 use Rattle.ssz_types.specs.Unfolding.{Types, tree_over, AreBelow, type_of}
 use Rattle.ssz_types.specs.Lookup.{lookup_name}
+use Rattle.ssz_types.specs.Order.{field_order}
 use Rattle.ssz_types.specs.Facts.{AreFactsOf}
 
 -- the trees of all types, where those of the types before are done
@@ -29,6 +31,7 @@ pub record IsSoundEntry (format : Format) (done : List SszType) (e : Entry) : Ty
   pub below : AreBelow (length done) e.ty
   pub legal : IsLegal format (tree_over done e.ty)
   pub facts : AreFactsOf e.facts (tree_over done e.ty)
+  pub order : e.order.items ≡ field_order (tree_over done e.ty)
 
 -- the greatest number that the program counts to
 abbrev pub capped : ℕ → ℕ
@@ -43,11 +46,12 @@ pub record AreFactsUpTo (facts : Facts) (t : SszType) : Type 0 where
   pub levels : facts.levels ≡ type_levels t
   pub nesting : facts.nesting ≡ nesting t
 
--- an entry that is sound if it keeps the limits
-pub record IsSoundButLimits (format : Format) (done : List SszType) (e : Entry) : Type 0 where
-  pub below : AreBelow (length done) e.ty
-  pub legal : IsWithinLimits format (tree_over done e.ty) → IsLegal format (tree_over done e.ty)
-  pub facts : AreFactsUpTo e.facts (tree_over done e.ty)
+-- a type with its facts, whose entry is sound if it keeps the limits
+pub record IsSoundButLimits (format : Format) (done : List SszType) (ty : Ty) (told : Facts)
+    : Type 0 where
+  pub below : AreBelow (length done) ty
+  pub legal : IsWithinLimits format (tree_over done ty) → IsLegal format (tree_over done ty)
+  pub facts : AreFactsUpTo told (tree_over done ty)
 
 module _ (format : Format) where
   abbrev pub AreSound : List SszType → List Entry → Type 0
@@ -73,6 +77,7 @@ pub record IsSchemaEntry (types : Types) (id : ℕ) (e : Entry) : Type 0 where
   pub below : AreBelow id e.ty
   pub legal : IsLegal types.format (type_of types id)
   pub facts : AreFactsOf e.facts (type_of types id)
+  pub order : e.order.items ≡ field_order (type_of types id)
 
 -- what is known of the whole of every schema
 pub record IsWhole (types : Types) : Type 0 where

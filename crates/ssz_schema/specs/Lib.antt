@@ -7,6 +7,7 @@ pub use Rattle.ssz_types.specs.FaultCodes
 pub use Rattle.ssz_types.specs.Lookup
 pub use Rattle.ssz_types.specs.NameTables
 pub use Rattle.ssz_types.specs.Unfolding
+pub use Rattle.ssz_types.specs.Order
 pub use Rattle.ssz_types.specs.declared.expr
 pub use Rattle.ssz_types.specs.declared.format
 pub use Rattle.ssz_types.specs.declared.schema_fault

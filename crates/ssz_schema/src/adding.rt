@@ -33,21 +33,22 @@ pub struct Sums {
 
 impl Schema {
     // Adds a type if it keeps the limits.
-    fn add_within_limits(&mut self, entry: Entry) -> Result<TypeId, SchemaError>
-        requires { IsSoundButLimits self.old.format self.old.trees entry }
+    fn add_within_limits(&mut self, ty: Ty, facts: Facts) -> Result<TypeId, SchemaError>
+        requires { IsSoundButLimits self.old.format self.old.trees ty facts }
         ensures { Resolves IsType (within_limits self.old.format
-            (tree_over self.old.trees entry.ty)) self.old self.new result }
+            (tree_over self.old.trees ty)) self.old self.new result }
     {
-        if entry.facts.nesting > MOST_NESTING {
+        if facts.nesting > MOST_NESTING {
             return Err(SchemaError::Fault(SchemaFault::Nest));
         }
-        if entry.facts.levels > self.format().most_levels() {
+        if facts.levels > self.format().most_levels() {
             return Err(SchemaError::Fault(SchemaFault::Levels));
         }
-        if entry.facts.default_len > MOST_DEFAULT {
+        if facts.default_len > MOST_DEFAULT {
             return Err(SchemaError::Fault(SchemaFault::Size));
         }
-        Ok(self.push(entry)?)
+        let order = ty.field_order(self.allocator())?;
+        Ok(self.push(Entry { ty, facts, order })?)
     }
 
     pub(crate) fn add_bitvector(&mut self, n: u64) -> Result<TypeId, SchemaError>
@@ -68,10 +69,7 @@ impl Schema {
             levels: depth,
             nesting: 1,
         };
-        self.add_within_limits(Entry {
-            ty: Ty::Bitvector(n),
-            facts,
-        })
+        self.add_within_limits(Ty::Bitvector(n), facts)
     }
 
     pub(crate) fn add_bitlist(&mut self, limit: u64) -> Result<TypeId, SchemaError>
@@ -91,10 +89,7 @@ impl Schema {
             levels: depth + 1,
             nesting: 1,
         };
-        self.add_within_limits(Entry {
-            ty: Ty::Bitlist(limit),
-            facts,
-        })
+        self.add_within_limits(Ty::Bitlist(limit), facts)
     }
 
     pub(crate) fn add_list(&mut self, elem: TypeId, limit: u64) -> Result<TypeId, SchemaError>
@@ -116,10 +111,7 @@ impl Schema {
             levels: depth + part.levels + 1,
             nesting: part.nesting + 1,
         };
-        self.add_within_limits(Entry {
-            ty: Ty::List(elem, limit),
-            facts,
-        })
+        self.add_within_limits(Ty::List(elem, limit), facts)
     }
 
     pub(crate) fn add_vector(&mut self, elem: TypeId, n: u64) -> Result<TypeId, SchemaError>
@@ -143,10 +135,7 @@ impl Schema {
             levels: depth + part.levels,
             nesting: part.nesting + 1,
         };
-        self.add_within_limits(Entry {
-            ty: Ty::Vector(elem, n),
-            facts,
-        })
+        self.add_within_limits(Ty::Vector(elem, n), facts)
     }
 
     // What the fields tell of their container.
@@ -202,10 +191,7 @@ impl Schema {
             levels: depth + sums.levels,
             nesting: sums.nesting + 1,
         };
-        self.add_within_limits(Entry {
-            ty: Ty::Container(fields),
-            facts,
-        })
+        self.add_within_limits(Ty::Container(fields), facts)
     }
 
     // The levels and the nesting of an option, None counting 0.
@@ -274,9 +260,6 @@ impl Schema {
             levels: option_levels + 1,
             nesting: option_nesting + 1,
         };
-        self.add_within_limits(Entry {
-            ty: Ty::Union(options),
-            facts,
-        })
+        self.add_within_limits(Ty::Union(options), facts)
     }
 }

@@ -6,6 +6,7 @@ ghost use Rattle.ssz_types.specs.Sizes.{is_variable, fixed_size, basic_size, chu
 ghost use Rattle.ssz_types.specs.Types.{uint, boolean};
 ghost use Rattle.ssz_types.specs.Legal.{IsLegal, IsSize, most_levels};
 ghost use Rattle.ssz_types.specs.Lookup.{name_for};
+ghost use Rattle.ssz_types.specs.Order.{field_order};
 ghost use Rattle.ssz_types.specs.NameTables.{IsInOrder};
 
 use ssz_types::{Entry, Format, Name, NameTable, Ty, TypeId, Width, copied_entries};
@@ -64,13 +65,13 @@ impl Schema {
             { format = format; trees = basic_types; names = [] }) }
     {
         let basics = [
-            Entry::boolean(),
-            Entry::uint(Width::W8),
-            Entry::uint(Width::W16),
-            Entry::uint(Width::W32),
-            Entry::uint(Width::W64),
-            Entry::uint(Width::W128),
-            Entry::uint(Width::W256),
+            Entry::boolean(alloc),
+            Entry::uint(alloc, Width::W8),
+            Entry::uint(alloc, Width::W16),
+            Entry::uint(alloc, Width::W32),
+            Entry::uint(alloc, Width::W64),
+            Entry::uint(alloc, Width::W128),
+            Entry::uint(alloc, Width::W256),
         ];
         Ok(Schema {
             format,
@@ -249,6 +250,15 @@ impl Schema {
         ensures legal { IsLegal self.now.format (type_of self.now id) }
     {
         &self.entry(id).ty
+    }
+
+    /// The numbers of a container's fields in byte order of their names, as JSON texts have them;
+    /// none of another type.
+    pub fn field_order(&self, id: TypeId) -> &[usize]
+        requires { id < length self.now.trees }
+        ensures { result.now ≡ field_order (type_of self.now id) }
+    {
+        self.entry(id).order.as_slice()
     }
 
     /// Whether the type is variable-size: a list, bitlist or union, or a type that contains one.

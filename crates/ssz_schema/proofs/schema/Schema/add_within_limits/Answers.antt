@@ -10,9 +10,11 @@ push-requires c =
     let most : c.most_levels.result ≡ most_levels c.args.self.now.format =
     c.most_levels.ensures ∙ ap most_levels c.format.ensures in
     let within : IsWithinLimits c.args.self.now.format
-    (tree_over c.args.self.now.trees c.args.entry.ty) = record {
-      nesting = omega (arith, facts.nesting, c.if-entry-gt-MOST_NESTING.false);
-      levels = omega (arith, facts.levels, c.if-entry-most_levels.false, most);
-      default_length = omega (arith, facts.default_len, c.if-entry-gt-MOST_DEFAULT.false);
+    (tree_over c.args.self.now.trees c.args.ty) = record {
+      nesting = omega (arith, facts.nesting, c.if-facts-gt-MOST_NESTING.false);
+      levels = omega (arith, facts.levels, c.if-facts-most_levels.false, most);
+      default_length = omega (arith, facts.default_len, c.if-facts-gt-MOST_DEFAULT.false);
     } in
-    sound_within c.args.self.now.format c.args.self.now.trees c.args.entry c.requires within
+    sound_within c.args.self.now.format c.args.self.now.trees
+    (record { ty = c.args.ty; facts = c.args.facts; order = c.in_ok-order.order }) c.requires within
+    (c.in_ok-order.ensures c.args.self.now.trees)
