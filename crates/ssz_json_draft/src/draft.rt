@@ -5,7 +5,6 @@ ghost use Rattle.ssz_schema.specs.Unfolding.{IsBelow};
 
 use super::fault::NoDraft;
 use super::left::Left;
-use super::row::{Row, row_of};
 use super::strings::{bits_of, bytes_of, decimal_of, wide_of};
 use ssz_bytes::BitRun;
 use ssz_decimal::number_of_8_bits;
@@ -16,7 +15,7 @@ use std::alloc::{AllocError, Global};
 /// The value of the type that the bytes may be the text of, or None where they are no value's.
 ///
 /// It may be no value of the type, and the bytes need not be its text. The time is linear in the
-/// bytes, but for the fields of a container, which are put in order.
+/// bytes and in the fields of the containers that they begin.
 pub fn draft_of(
     alloc: Global,
     schema: &Schema,
@@ -96,11 +95,7 @@ fn sequence_of(
         return bytes_in(alloc, left);
     }
     left.pass(b'[')?;
-    let parts = match schema.ty(elem) {
-        Ty::Container(fields) => rows_of(alloc, schema, elem, fields.as_slice(), left)?,
-        _ => elements_of(alloc, schema, elem, left)?,
-    };
-    Ok(Value::Seq(parts))
+    Ok(Value::Seq(elements_of(alloc, schema, elem, left)?))
 }
 
 #[cycle(draft)]
@@ -124,31 +119,8 @@ fn elements_of(
     Ok(parts)
 }
 
-// Containers of these fields, whose types stand before id. The fields are put in order once.
-#[cycle(draft)]
-fn rows_of(
-    alloc: Global,
-    schema: &Schema,
-    id: TypeId,
-    fields: &[(Name, TypeId)],
-    left: &mut Left<'_>,
-) -> Result<Vec<Value>, NoDraft>
-    requires known { id < length schema.now.trees }
-    requires before { AllByRecursion (λ part. part.1 < id) fields.now }
-{
-    let row = row_of(alloc, fields)?;
-    let mut rows = Vec::new(alloc);
-    for i in 0..u64::MAX {
-        if !left.goes_on(i > 0)? {
-            break;
-        }
-        let parts = members_of(alloc, schema, id, &row, left)?;
-        rows.push(Value::Seq(parts))?;
-    }
-    rows.shrink_to_fit();
-    Ok(rows)
-}
-
+// Of a container of these fields, whose types stand before id. The members stand in byte order of
+// their names, and each goes to the place of its field.
 #[cycle(draft)]
 fn container_of(
     alloc: Global,
@@ -160,53 +132,21 @@ fn container_of(
     requires known { id < length schema.now.trees }
     requires before { AllByRecursion (λ part. part.1 < id) fields.now }
 {
-    let row = row_of(alloc, fields)?;
-    let parts = members_of(alloc, schema, id, &row, left)?;
-    Ok(Value::Seq(parts))
-}
-
-// The members stand in byte order of their names, and each goes to the place of its field.
-#[cycle(draft)]
-fn members_of(
-    alloc: Global,
-    schema: &Schema,
-    id: TypeId,
-    row: &Row<'_>,
-    left: &mut Left<'_>,
-) -> Result<Vec<Value>, NoDraft>
-    requires known { id < length schema.now.trees }
-    requires before { AllByRecursion (λ part. part.1 < id) row.now.fields.now }
-{
     left.pass(b'{')?;
-    let mut parts = places(alloc, row.fields.len())?;
-    for (i, (name, number)) in row.names.iter().enumerate() {
-        left.pass_key(i > 0, name)?;
-        let part = field_of(alloc, schema, id, row.fields, *number, left)?;
-        if let Some(place) = parts.get_mut(*number) {
+    let mut parts = places(alloc, fields.len())?;
+    for (i, number) in schema.field_order(id).iter().enumerate() {
+        let number = *number;
+        if number >= fields.len() {
+            return Err(NoDraft::Form);
+        }
+        left.pass_key(i > 0, fields[number].0.as_bytes())?;
+        let part = value_of(alloc, schema, fields[number].1, left)?;
+        if let Some(place) = parts.get_mut(number) {
             *place = part;
         }
     }
     left.pass(b'}')?;
-    Ok(parts)
-}
-
-// Of the field of this number.
-#[cycle(draft)]
-fn field_of(
-    alloc: Global,
-    schema: &Schema,
-    id: TypeId,
-    fields: &[(Name, TypeId)],
-    number: usize,
-    left: &mut Left<'_>,
-) -> Result<Value, NoDraft>
-    requires known { id < length schema.now.trees }
-    requires before { AllByRecursion (λ part. part.1 < id) fields.now }
-{
-    if number >= fields.len() {
-        return Err(NoDraft::Form);
-    }
-    value_of(alloc, schema, fields[number].1, left)
+    Ok(Value::Seq(parts))
 }
 
 // Places for so many parts.

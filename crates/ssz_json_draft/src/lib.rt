@@ -8,7 +8,6 @@
 mod draft;
 mod fault;
 mod left;
-mod row;
 mod strings;
 
 pub use draft::draft_of;

@@ -10,10 +10,10 @@ use Rattle.ssz_schema.specs.Types.{SszType}
 use Rattle.ssz_schema.proofs.WalkFields.{drop_at}
 use Rattle.ssz_value.specs.declared.value.Value.{Value}
 use Rattle.ssz_value.specs.Standing.{value_of}
-use Rattle.ssz_json_text.specs.Order.{Entries, members_over}
 use Rattle.ssz_json_text.specs.Text.{json, json_of}
 use Rattle.ssz_schema.specs.Names.{IsName}
 use Rattle.ssz_json_text.proofs.Plain.{quoted_plain, name_plain}
+use Rattle.ssz_json_text.proofs.NameOrder.{Entries, members_over}
 use Rattle.ssz_json_text.proofs.Pieces.{elements_left, later}
 
 -- two pieces and what is behind them
@@ -44,26 +44,26 @@ elements_passed t parts i rest z all is =
     is ∙ ap (λ s. s ++ z) (sym (ap (λ vs. items_text (nat_lt 0 i)
     (items_of (map (json_of t) (map value_of vs)))) (drop_all i parts all)))
 
-pub entry_passed : (part : ℕ → Data) (es : Entries) (i : ℕ) (e : Bor (List ℕ) × ℕ)
+pub entry_passed : (part : ℕ → Data) (es : Entries) (i : ℕ) (e : List ℕ × ℕ)
     (rest mid new z : List ℕ) → i < length es → e ≡ get_or es i e
-    → rest ≡ comma_if (nat_lt 0 i) ++ ((quoted e.0.now ++ 58 ∷ []) ++ mid)
+    → rest ≡ comma_if (nat_lt 0 i) ++ ((quoted e.0 ++ 58 ∷ []) ++ mid)
     → mid ≡ compact_text (part e.1) ++ new
     → new ≡ members_text (nat_lt 0 (i + 1)) (members_over part (drop (i + 1) es)) ++ z
     → rest ≡ members_text (nat_lt 0 i) (members_over part (drop i es)) ++ z
 entry_passed part es i e rest mid new z below here key text behind =
     let comma = comma_if (nat_lt 0 i) in
-    let name = quoted e.0.now ++ 58 ∷ [] in
+    let name = quoted e.0 ++ 58 ∷ [] in
     let more = members_text (nat_lt 0 (i + 1)) (members_over part (drop (i + 1) es)) in
     let split : members_text (nat_lt 0 i) (members_over part (drop i es))
-    ≡ comma ++ (quoted e.0.now ++ 58 ∷ (compact_text (part e.1) ++ more)) =
+    ≡ comma ++ (quoted e.0 ++ 58 ∷ (compact_text (part e.1) ++ more)) =
     ap (λ xs. members_text (nat_lt 0 i) (members_over part xs)) (drop_at es i e below here)
-    ∙ ap (λ b. comma ++ (quoted e.0.now ++ 58 ∷ (compact_text (part e.1)
+    ∙ ap (λ b. comma ++ (quoted e.0 ++ 58 ∷ (compact_text (part e.1)
     ++ members_text b (members_over part (drop (i + 1) es))))) (sym (later i)) in
     let joined : (comma ++ name) ++ (compact_text (part e.1) ++ more)
     ≡ members_text (nat_lt 0 i) (members_over part (drop i es)) =
     append_assoc comma name (compact_text (part e.1) ++ more)
     ∙ ap (λ s. comma ++ s)
-    (append_assoc (quoted e.0.now) (58 ∷ []) (compact_text (part e.1) ++ more))
+    (append_assoc (quoted e.0) (58 ∷ []) (compact_text (part e.1) ++ more))
     ∙ sym split in
     two_pieces rest mid new (comma ++ name) (compact_text (part e.1)) more z
     (key ∙ sym (append_assoc comma name mid)) text behind ∙ ap (λ s. s ++ z) joined

@@ -1,5 +1,5 @@
 -- The texts of arrays and objects, piece by piece.
-use Rattle.std.proofs.Common.{◌≡◌, Bor, ℕ, zero, suc, ◌+◌, ◌<◌, ◌≤◌, Bool, true, List, [], ◌∷◌, ◌++◌, length, map, drop, get_or, nat_lt, refl, sym, ap, ap₂, ◌∙◌, subst, arith, append_assoc}
+use Rattle.std.proofs.Common.{◌≡◌, ℕ, zero, suc, ◌+◌, ◌<◌, ◌≤◌, Bool, true, List, [], ◌∷◌, ◌++◌, length, map, drop, get_or, nat_lt, refl, sym, ap, ap₂, ◌∙◌, subst, arith, append_assoc}
 use Rattle.std.specs.List.{AllByRecursion}
 use Rattle.std.proofs.lemmas.Bool.Decides.{nat_tests}
 use Rattle.std.proofs.lemmas.List.{drop_all, length-map}
@@ -15,9 +15,9 @@ use Rattle.ssz_value.specs.Standing.{value_of, IsValue}
 use Rattle.ssz_value.specs.Shapes.{AreFields}
 use Rattle.ssz_schema.proofs.WalkFields.{drop_at}
 use Rattle.ssz_value.proofs.PartLemmas.{Part}
-use Rattle.ssz_json_text.specs.Order.{Entries, members_from, members_over}
 use Rattle.ssz_json_text.specs.Text.{json, json_of, members_json}
 use Rattle.ssz_json_text.proofs.Keeping.{moved}
+use Rattle.ssz_json_text.proofs.NameOrder.{Entries, members_from, members_over}
 
 -- the elements from i on, with the commas before them and the closing bracket
 abbrev pub elements_left : SszType → List Value → ℕ → List ℕ
@@ -128,15 +128,15 @@ value_at_field trees (p ∷ fields) (w ∷ parts) (suc i) f v all below within h
     value_at_field trees fields parts i f v all.1 (omega arith) (omega arith) here is
 
 -- the member of the entry at i moves
-pub entries_more : (part : ℕ → Data) (es : Entries) (i : ℕ) (e : Bor (List ℕ) × ℕ)
+pub entries_more : (part : ℕ → Data) (es : Entries) (i : ℕ) (e : List ℕ × ℕ)
     (out one two new whole : List ℕ) → i < length es → e ≡ get_or es i e
     → out ++ members_text (nat_lt 0 i) (members_over part (drop i es)) ≡ whole
-    → one ≡ out ++ comma_if (nat_lt 0 i) → two ≡ one ++ (quoted e.0.now ++ 58 ∷ [])
+    → one ≡ out ++ comma_if (nat_lt 0 i) → two ≡ one ++ (quoted e.0 ++ 58 ∷ [])
     → new ≡ two ++ compact_text (part e.1)
     → new ++ members_text (nat_lt 0 (i + 1)) (members_over part (drop (i + 1) es)) ≡ whole
 entries_more part es i e out one two new whole below here h comma key text =
     ap (λ b. new ++ members_text b (members_over part (drop (i + 1) es))) (later i)
-    ∙ members_moved e.0.now (part e.1) (nat_lt 0 i) (members_over part (drop (i + 1) es))
+    ∙ members_moved e.0 (part e.1) (nat_lt 0 i) (members_over part (drop (i + 1) es))
     out one two new whole
     (ap (λ xs. out ++ members_text (nat_lt 0 i) (members_over part xs))
     (sym (drop_at es i e below here)) ∙ h) comma key text

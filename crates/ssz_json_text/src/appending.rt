@@ -19,12 +19,11 @@ use super::putting::{
 };
 use ssz_schema::{Name, Schema, Ty, TypeId};
 use ssz_value::{Value, option_at};
-use std::alloc::{AllocError, Global};
+use std::alloc::AllocError;
 
 /// Appends the text of the value.
 #[cycle(append)]
 pub fn append_value(
-    alloc: Global,
     schema: &Schema,
     id: TypeId,
     value: &Value,
@@ -41,17 +40,16 @@ pub fn append_value(
         Ty::Boolean => put_flag(value, out),
         Ty::Bitvector(_) => put_bits(value, out),
         Ty::Bitlist(_) => put_bits(value, out),
-        Ty::Vector(elem, _) => append_sequence(alloc, schema, *elem, value, out),
-        Ty::List(elem, _) => append_sequence(alloc, schema, *elem, value, out),
-        Ty::Union(options) => append_chosen(alloc, schema, id, options.as_slice(), value, out),
-        Ty::Container(fields) => append_container(alloc, schema, id, fields.as_slice(), value, out),
+        Ty::Vector(elem, _) => append_sequence(schema, *elem, value, out),
+        Ty::List(elem, _) => append_sequence(schema, *elem, value, out),
+        Ty::Union(options) => append_chosen(schema, id, options.as_slice(), value, out),
+        Ty::Container(fields) => append_container(schema, id, fields.as_slice(), value, out),
     }
 }
 
 // Of elements of this type.
 #[cycle(append)]
 fn append_sequence(
-    alloc: Global,
     schema: &Schema,
     elem: TypeId,
     value: &Value,
@@ -65,37 +63,15 @@ fn append_sequence(
     ensures front { Keeps out.old.items out.new.items }
 {
     match value {
-        Value::Seq(parts) => append_parts(alloc, schema, elem, parts.as_slice(), out),
+        Value::Seq(parts) => append_elements(schema, elem, parts.as_slice(), out),
         Value::Bytes(run) => put_hex(run.as_slice(), out),
         _ => unreachable!(),
     }
 }
 
 #[cycle(append)]
-fn append_parts(
-    alloc: Global,
-    schema: &Schema,
-    elem: TypeId,
-    parts: &[Value],
-    out: &mut Vec<u8>,
-) -> Result<(), AllocError>
-    requires known { elem < length schema.now.trees }
-    requires parts { AllByRecursion (IsValue (type_of schema.now elem)) parts.now }
-    ensures text { let t = type_of schema.now elem in OnOk result
-        (out.new.items ≡ out.old.items ++ compact_text
-        (array (items_of (map (json_of t) (map value_of parts.now))))) }
-    ensures front { Keeps out.old.items out.new.items }
-{
-    match schema.ty(elem) {
-        Ty::Container(fields) => append_rows(alloc, schema, elem, fields.as_slice(), parts, out),
-        _ => append_elements(alloc, schema, elem, parts, out),
-    }
-}
-
-#[cycle(append)]
 #[tactic(auto, using(crate::proofs::Keeping::keeps_trans))]
 fn append_elements(
-    alloc: Global,
     schema: &Schema,
     elem: TypeId,
     parts: &[Value],
@@ -111,7 +87,7 @@ fn append_elements(
     put(b"[", out)?;
     for (i, part) in parts.iter().enumerate() {
         put_comma(i > 0, out)?;
-        append_value(alloc, schema, elem, part, out)?;
+        append_value(schema, elem, part, out)?;
     }
     put(b"]", out)
 }
@@ -120,7 +96,6 @@ fn append_elements(
 #[cycle(append)]
 #[tactic(auto, using(crate::proofs::Keeping::keeps_trans))]
 fn append_chosen(
-    alloc: Global,
     schema: &Schema,
     id: TypeId,
     options: &[Option<TypeId>],
@@ -142,7 +117,7 @@ fn append_chosen(
                 Some(inner) => match option_at(options, *selector) {
                     Some(Some(option)) => {
                         put(b",", out)?;
-                        append_value(alloc, schema, option, inner, out)?;
+                        append_value(schema, option, inner, out)?;
                         put(b"]", out)
                     }
                     Some(None) => unreachable!(),
@@ -155,41 +130,9 @@ fn append_chosen(
     }
 }
 
-// Of containers of these fields, whose types stand before id.
-#[cycle(append)]
-#[tactic(auto, using(crate::proofs::Keeping::keeps_trans, crate::proofs::Keeping::keeps_self))]
-fn append_rows(
-    alloc: Global,
-    schema: &Schema,
-    id: TypeId,
-    fields: &[(Name, TypeId)],
-    parts: &[Value],
-    out: &mut Vec<u8>,
-) -> Result<(), AllocError>
-    requires known { id < length schema.now.trees }
-    requires before { AllByRecursion (λ part. part.1 < id) fields.now }
-    requires form { type_of schema.now id ≡ container (fields_over schema.now.trees fields.now) }
-    requires legal { IsLegal schema.now.format (type_of schema.now id) }
-    requires parts { AllByRecursion (IsValue (type_of schema.now id)) parts.now }
-    ensures text { let t = type_of schema.now id in OnOk result
-        (out.new.items ≡ out.old.items ++ compact_text
-        (array (items_of (map (json_of t) (map value_of parts.now))))) }
-    ensures front { Keeps out.old.items out.new.items }
-{
-    let row = row_of(alloc, fields)?;
-    put(b"[", out)?;
-    for (i, part) in parts.iter().enumerate() {
-        put_comma(i > 0, out)?;
-        append_row(alloc, schema, id, &row, part, out)?;
-    }
-    put(b"]", out)
-}
-
 // Of a container of these fields, whose types stand before id.
 #[cycle(append)]
-#[tactic(auto, using(crate::proofs::Keeping::keeps_self))]
 fn append_container(
-    alloc: Global,
     schema: &Schema,
     id: TypeId,
     fields: &[(Name, TypeId)],
@@ -198,6 +141,7 @@ fn append_container(
 ) -> Result<(), AllocError>
     requires known { id < length schema.now.trees }
     requires before { AllByRecursion (λ part. part.1 < id) fields.now }
+    requires form { type_of schema.now id ≡ container (fields_over schema.now.trees fields.now) }
     requires legal { let fs = fields_over schema.now.trees fields.now in
         IsLegal schema.now.format (container fs) }
     requires value { IsValue (container (fields_over schema.now.trees fields.now)) value.now }
@@ -205,13 +149,12 @@ fn append_container(
         (out.new.items ≡ out.old.items ++ json t (value_of value.now)) }
     ensures front { Keeps out.old.items out.new.items }
 {
-    let row = row_of(alloc, fields)?;
-    append_row(alloc, schema, id, &row, value, out)
+    let row = row_of(schema, id, fields);
+    append_row(schema, id, &row, value, out)
 }
 
 #[cycle(append)]
 fn append_row(
-    alloc: Global,
     schema: &Schema,
     id: TypeId,
     row: &Row<'_>,
@@ -220,7 +163,7 @@ fn append_row(
 ) -> Result<(), AllocError>
     requires known { id < length schema.now.trees }
     requires before { AllByRecursion (λ part. part.1 < id) row.now.fields.now }
-    requires ordered { IsOrder row.now.fields.now row.now.order.items }
+    requires ordered { IsOrder row.now.fields.now row.now.order.now }
     requires legal { let fs = fields_over schema.now.trees row.now.fields.now in
         IsLegal schema.now.format (container fs) }
     requires value { let t = container (fields_over schema.now.trees row.now.fields.now) in
@@ -230,7 +173,7 @@ fn append_row(
     ensures front { Keeps out.old.items out.new.items }
 {
     match value {
-        Value::Seq(parts) => append_fields(alloc, schema, id, row, parts.as_slice(), out),
+        Value::Seq(parts) => append_fields(schema, id, row, parts.as_slice(), out),
         Value::Bytes(_) => unreachable!(),
         _ => put(b"null", out),
     }
@@ -240,7 +183,6 @@ fn append_row(
 #[cycle(append)]
 #[tactic(auto, using(crate::proofs::Keeping::keeps_trans))]
 fn append_fields(
-    alloc: Global,
     schema: &Schema,
     id: TypeId,
     row: &Row<'_>,
@@ -249,7 +191,7 @@ fn append_fields(
 ) -> Result<(), AllocError>
     requires known { id < length schema.now.trees }
     requires before { AllByRecursion (λ part. part.1 < id) row.now.fields.now }
-    requires ordered { IsOrder row.now.fields.now row.now.order.items }
+    requires ordered { IsOrder row.now.fields.now row.now.order.now }
     requires legal { let fs = fields_over schema.now.trees row.now.fields.now in
         IsLegal schema.now.format (container fs) }
     requires parts { AreFields (fields_over schema.now.trees row.now.fields.now) parts.now }
@@ -263,7 +205,7 @@ fn append_fields(
         let (name, number) = member_at(row, i);
         put_comma(i > 0, out)?;
         put_key(name, out)?;
-        append_value(alloc, schema, row.fields[number].1, &parts[number], out)?;
+        append_value(schema, row.fields[number].1, &parts[number], out)?;
     }
     put(b"}", out)
 }

@@ -116,7 +116,7 @@ fn after_whole<'b>(
         IfOk result (λ rest. bytes.now ≡ text ++ rest.now) }
 {
     room.clear();
-    append_value(*room.allocator(), schema, id, value, room)?;
+    append_value(schema, id, value, room)?;
     after(bytes, room.as_slice())
 }
 
@@ -137,33 +137,13 @@ fn after_sequence<'b>(
         IfOk result (λ rest. bytes.now ≡ text ++ rest.now) }
 {
     match value {
-        Value::Seq(parts) => after_parts(schema, elem, parts.as_slice(), bytes, room),
+        Value::Seq(parts) => after_elements(schema, elem, parts.as_slice(), bytes, room),
         Value::Bytes(run) => {
             room.clear();
             put_hex(run.as_slice(), room)?;
             after(bytes, room.as_slice())
         }
         _ => unreachable!(),
-    }
-}
-
-#[cycle(after)]
-fn after_parts<'b>(
-    schema: &Schema,
-    elem: TypeId,
-    parts: &[Value],
-    bytes: &'b [u8],
-    room: &mut Vec<u8>,
-) -> Result<&'b [u8], Unlike>
-    requires known { elem < length schema.now.trees }
-    requires parts { AllByRecursion (IsValue (type_of schema.now elem)) parts.now }
-    ensures { let t = type_of schema.now elem in
-        let text = compact_text (array (items_of (map (json_of t) (map value_of parts.now)))) in
-        IfOk result (λ rest. bytes.now ≡ text ++ rest.now) }
-{
-    match schema.ty(elem) {
-        Ty::Container(fields) => after_rows(schema, elem, fields.as_slice(), parts, bytes, room),
-        _ => after_elements(schema, elem, parts, bytes, room),
     }
 }
 
@@ -196,34 +176,6 @@ fn after_comma(later: bool, bytes: &[u8]) -> Result<&[u8], Unlike>
     if later { after(bytes, b",") } else { Ok(bytes) }
 }
 
-// Of containers of these fields, whose types stand before id.
-#[cycle(after)]
-fn after_rows<'b>(
-    schema: &Schema,
-    id: TypeId,
-    fields: &[(Name, TypeId)],
-    parts: &[Value],
-    bytes: &'b [u8],
-    room: &mut Vec<u8>,
-) -> Result<&'b [u8], Unlike>
-    requires known { id < length schema.now.trees }
-    requires before { AllByRecursion (λ part. part.1 < id) fields.now }
-    requires form { type_of schema.now id ≡ container (fields_over schema.now.trees fields.now) }
-    requires legal { IsLegal schema.now.format (type_of schema.now id) }
-    requires parts { AllByRecursion (IsValue (type_of schema.now id)) parts.now }
-    ensures { let t = type_of schema.now id in
-        let text = compact_text (array (items_of (map (json_of t) (map value_of parts.now)))) in
-        IfOk result (λ rest. bytes.now ≡ text ++ rest.now) }
-{
-    let row = row_of(*room.allocator(), fields)?;
-    let mut rest = after(bytes, b"[")?;
-    for (i, part) in parts.iter().enumerate() {
-        rest = after_comma(i > 0, rest)?;
-        rest = after_row(schema, id, &row, part, rest, room)?;
-    }
-    after(rest, b"]")
-}
-
 // Of a container of these fields, whose types stand before id.
 #[cycle(after)]
 fn after_container<'b>(
@@ -236,13 +188,14 @@ fn after_container<'b>(
 ) -> Result<&'b [u8], Unlike>
     requires known { id < length schema.now.trees }
     requires before { AllByRecursion (λ part. part.1 < id) fields.now }
+    requires form { type_of schema.now id ≡ container (fields_over schema.now.trees fields.now) }
     requires legal { let fs = fields_over schema.now.trees fields.now in
         IsLegal schema.now.format (container fs) }
     requires value { IsValue (container (fields_over schema.now.trees fields.now)) value.now }
     ensures { let t = container (fields_over schema.now.trees fields.now) in
         IfOk result (λ rest. bytes.now ≡ json t (value_of value.now) ++ rest.now) }
 {
-    let row = row_of(*room.allocator(), fields)?;
+    let row = row_of(schema, id, fields);
     after_row(schema, id, &row, value, bytes, room)
 }
 
@@ -257,7 +210,7 @@ fn after_row<'b>(
 ) -> Result<&'b [u8], Unlike>
     requires known { id < length schema.now.trees }
     requires before { AllByRecursion (λ part. part.1 < id) row.now.fields.now }
-    requires ordered { IsOrder row.now.fields.now row.now.order.items }
+    requires ordered { IsOrder row.now.fields.now row.now.order.now }
     requires legal { let fs = fields_over schema.now.trees row.now.fields.now in
         IsLegal schema.now.format (container fs) }
     requires value { let t = container (fields_over schema.now.trees row.now.fields.now) in
@@ -284,7 +237,7 @@ fn after_fields<'b>(
 ) -> Result<&'b [u8], Unlike>
     requires known { id < length schema.now.trees }
     requires before { AllByRecursion (λ part. part.1 < id) row.now.fields.now }
-    requires ordered { IsOrder row.now.fields.now row.now.order.items }
+    requires ordered { IsOrder row.now.fields.now row.now.order.now }
     requires legal { let fs = fields_over schema.now.trees row.now.fields.now in
         IsLegal schema.now.format (container fs) }
     requires parts { AreFields (fields_over schema.now.trees row.now.fields.now) parts.now }

@@ -1,57 +1,39 @@
 //! The fields of a container in byte order of their names, as a text has them.
-ghost use Rattle.std.specs.Prelude.{◌≡◌, ◌<◌, length, get_or, IfOk};
-ghost use Rattle.ssz_json_text.specs.Order.{IsFieldOf, IsOrder};
+ghost use Rattle.std.specs.Prelude.{◌≡◌, ◌<◌, length, get_or};
+ghost use Rattle.ssz_schema.specs.Types.{container};
+ghost use Rattle.ssz_schema.specs.Unfolding.{type_of, fields_over};
+ghost use Rattle.ssz_json_text.specs.Order.{in_order, IsFieldOf, IsOrder};
 
-use ssz_schema::{Name, TypeId};
-use std::alloc::{AllocError, Global};
-use std::collections::BTreeMap;
+use ssz_schema::{Name, Schema, TypeId};
 
-/// The fields of a container, and their names in byte order, each with the number of its field.
-#[derive(Drop)]
+/// The fields of a container, and their numbers in byte order of their names.
+#[derive(Clone, Copy)]
 pub(crate) struct Row<'a> {
     pub(crate) fields: &'a [(Name, TypeId)],
-    pub(crate) order: Vec<(&'a [u8], usize)>,
+    pub(crate) order: &'a [usize],
 }
 
-/// These fields, with their order.
-pub(crate) fn row_of(alloc: Global, fields: &[(Name, TypeId)]) -> Result<Row<'_>, AllocError>
-    ensures fields { IfOk result (λ row. row.fields.now ≡ fields.now) }
-    ensures order { IfOk result (λ row. IsOrder row.fields.now row.order.items) }
+/// These fields of the type, with their order.
+pub(crate) fn row_of<'a>(schema: &'a Schema, id: TypeId, fields: &'a [(Name, TypeId)]) -> Row<'a>
+    requires known { id < length schema.now.trees }
+    requires form { type_of schema.now id ≡ container (fields_over schema.now.trees fields.now) }
+    ensures fields { result.fields.now ≡ fields.now }
+    ensures order { IsOrder result.fields.now result.order.now }
 {
-    let order = order_of(alloc, fields)?;
-    Ok(Row { fields, order })
+    Row {
+        fields,
+        order: schema.field_order(id),
+    }
 }
 
 /// The name at this place of the order, and the number of its field.
 pub(crate) fn member_at<'a>(row: &Row<'a>, place: usize) -> (&'a [u8], usize)
-    requires within { place < length row.now.order.items }
-    requires ordered { IsOrder row.now.fields.now row.now.order.items }
-    ensures here { result ≡ get_or row.now.order.items place result }
-    ensures field { IsFieldOf row.now.fields.now result }
+    requires within { place < length row.now.order.now }
+    requires ordered { IsOrder row.now.fields.now row.now.order.now }
+    ensures here { (result.0.now, result.1)
+        ≡ get_or (in_order row.now.fields.now) place (result.0.now, result.1) }
+    ensures field { IsFieldOf row.now.fields.now (result.0.now, result.1) }
 {
-    row.order[place]
-}
-
-fn order_of(alloc: Global, fields: &[(Name, TypeId)]) -> Result<Vec<(&[u8], usize)>, AllocError>
-    ensures { IfOk result (λ order. IsOrder fields.now order.items) }
-{
-    let mut names = names_of(alloc, fields)?;
-    let mut order = Vec::with_capacity(alloc, fields.len())?;
-    while let Some(entry) = names.pop_first() {
-        order.push(entry)?;
-    }
-    Ok(order)
-}
-
-// The numbers of the fields by their names.
-fn names_of(alloc: Global, fields: &[(Name, TypeId)]) -> Result<BTreeMap<&[u8], usize>, AllocError>
-    ensures { IfOk result (λ names. IsOrder fields.now names.entries) }
-{
-    let mut names = BTreeMap::new(alloc);
-    let mut number = fields.len();
-    while number > 0 {
-        number -= 1;
-        names.insert(fields[number].0.as_bytes(), number)?;
-    }
-    Ok(names)
+    let number = row.order[place];
+    (row.fields[number].0.as_bytes(), number)
 }

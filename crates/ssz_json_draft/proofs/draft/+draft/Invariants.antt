@@ -13,15 +13,6 @@ decreases-inner_of l = 8 * l.id + 1
 abbrev pub decreases-container_of : goal.decreases-container_of
 decreases-container_of l = 8 * l.id + 2
 
-abbrev pub decreases-members_of : goal.decreases-members_of
-decreases-members_of l = 8 * l.id + 1
-
-abbrev pub decreases-field_of : goal.decreases-field_of
-decreases-field_of l = 8 * l.id
-
-abbrev pub decreases-rows_of : goal.decreases-rows_of
-decreases-rows_of l = 8 * l.id + 5
-
 abbrev pub decreases-elements_of : goal.decreases-elements_of
 decreases-elements_of l = 8 * l.elem + 5
 

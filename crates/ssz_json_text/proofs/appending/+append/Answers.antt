@@ -17,11 +17,12 @@ use Rattle.ssz_value.proofs.FormLemmas.{seq_elements, seq_fields, chosen_fits, u
 use Rattle.ssz_value.proofs.OptionLemmas.{option_below}
 use Rattle.ssz_json_text.specs.Strings.{hex_text}
 use Rattle.ssz_json_text.specs.Text.{json}
-use Rattle.ssz_schema.specs.Legal.{IsLegal}
 use Rattle.ssz_json_text.proofs.Keeping.{joined, keeps_trans}
+use Rattle.ssz_json_text.specs.Order.{in_order}
+use Rattle.ssz_json_text.proofs.NameOrder.{members_in_order, order_length}
 use Rattle.ssz_json_text.proofs.Names.{fields_are_named}
 use Rattle.ssz_json_text.proofs.Forms.{seq_json, bytes_json, container_json, chosen_text, none_text}
-use Rattle.ssz_json_text.proofs.Pieces.{elements_left, elements_more, elements_end, element_at, entries_more, entries_end, members_of_fields, part_json, part_json_at, value_at_field}
+use Rattle.ssz_json_text.proofs.Pieces.{elements_left, elements_more, elements_end, entries_more, entries_end, members_of_fields, part_json, part_json_at, value_at_field}
 use Rattle.ssz_json_text.proofs.appending.+append.Goals as goal
 
 pub append_value-returns-in-Uint-clause-text : goal.append_value-returns-in-Uint-clause-text
@@ -31,8 +32,8 @@ append_value-returns-in-Uint-clause-text t c =
     (ap (tree_over c.args.schema.now.trees) (sym c.in-Uint.is) ∙ c.ty.ensures.form))
     (c.put_number.ensures.text c.in-Uint.field-0)
 
-pub append_sequence-append_parts-requires : goal.append_sequence-append_parts-requires
-append_sequence-append_parts-requires t c =
+pub append_sequence-append_elements-requires : goal.append_sequence-append_elements-requires
+append_sequence-append_elements-requires t c =
     let all = seq_elements (type_of c.args.schema.now c.args.elem) c.in-Seq.parts
     (subst (IsSequence (type_of c.args.schema.now c.args.elem)) c.in-Seq.is c.requires.value) in
     let parts : AllByRecursion
@@ -43,11 +44,11 @@ append_sequence-append_parts-requires t c =
 
 pub append_sequence-returns-in-Seq-clause-text : goal.append_sequence-returns-in-Seq-clause-text
 append_sequence-returns-in-Seq-clause-text t c =
-    on_ok_weaker c.append_parts.result
+    on_ok_weaker c.append_elements.result
     (λ e. e ∙ sym (ap (λ d. c.args.out.now.items ++ compact_text d)
     (seq_json (type_of c.args.schema.now c.args.elem) c.args.value.now c.in-Seq.parts
     c.as_slice.result.now c.in-Seq.is c.requires.value c.as_slice.ensures.value)))
-    c.append_parts.ensures.text
+    c.append_elements.ensures.text
 
 pub append_sequence-returns-in-Bytes-clause-text :
     goal.append_sequence-returns-in-Bytes-clause-text
@@ -165,14 +166,13 @@ append_row-returns-in-Seq-clause-text t c =
 
 pub append_fields-loop-i-init : goal.append_fields-loop-i-init
 append_fields-loop-i-init t c =
-    let order = c.requires.ordered in
     let trees = c.args.schema.now.trees in
     let fields = c.args.row.now.fields.now in
     let part = part_json trees c.args.row.now.fields.now c.args.parts.now in
     let same = field_count_is trees fields c.args.parts.now c.requires.parts in
     record {
       text = ap₂ (λ s ms. s ++ members_text false ms) c.in_ok-put.ensures.text
-          (order.members part ∙ members_of_fields trees fields c.args.parts.now same)
+          (members_in_order part fields ∙ members_of_fields trees fields c.args.parts.now same)
           ∙ append_assoc c.args.out.now.items (123 ∷ []) _;
       front = c.in_ok-put.ensures.front;
     }
@@ -220,10 +220,15 @@ append_fields-loop-i-preserved t c =
     let json_is = part_json_at trees fields c.args.parts.now c.member_at-number.result.1
     c.index-row-number.result c.index-parts-number.result within (omega arith)
     c.index-row-number.is c.index-parts-number.is in
-    let below : c.loop-i.i < length c.args.row.now.order.items =
-    omega (arith, c.loop-i-test.true, c.len-i-end.ensures) in
+    let below : c.loop-i.i < length (in_order c.args.row.now.fields.now) =
+    omega (
+      arith,
+      c.loop-i-test.true,
+      order_length fields c.args.row.now.order.now c.requires.ordered,
+    ) in
     record {
-      text = entries_more part c.args.row.now.order.items c.loop-i.i c.member_at-number.result
+      text = entries_more part (in_order fields) c.loop-i.i
+          (c.member_at-number.result.0.now, c.member_at-number.result.1)
           c.loop-i.out.items c.put_comma.new.out.items c.put_key.new.out.items
           c.append_value.new.out.items _ below c.member_at-number.ensures.here
           c.loop-i.invariant.text c.in_ok-put_comma.ensures.text c.in_ok-put_key.ensures.text
@@ -237,60 +242,18 @@ append_fields-loop-i-preserved t c =
           c.in_ok-append_value.ensures.front;
     }
 
-pub append_rows-append_row-requires : goal.append_rows-append_row-requires
-append_rows-append_row-requires t c =
-    let trees = c.args.schema.now.trees in
-    let id = c.args.id in
-    let same = sym c.in_ok-row.ensures.fields in
-    let here : type_of c.args.schema.now c.args.id
-    ≡ container (fields_over c.args.schema.now.trees c.in_ok-row.row.fields.now) =
-    c.requires.form ∙ ap (λ fs. container (fields_over trees fs)) same in
-    let before : AllByRecursion (λ (part : Part). part.1 < c.args.id) c.in_ok-row.row.fields.now =
-    subst (AllByRecursion (λ (part : Part). part.1 < id)) same c.requires.before in
-    let legal : IsLegal c.args.schema.now.format
-    (container (fields_over c.args.schema.now.trees c.in_ok-row.row.fields.now)) =
-    subst (IsLegal c.args.schema.now.format) here c.requires.legal in
-    let value : IsValue
-    (container (fields_over c.args.schema.now.trees c.in_ok-row.row.fields.now))
-    c.index-parts-i.result =
-    subst (λ ty. IsValue ty c.index-parts-i.result) here
-    (element_at (IsValue (type_of c.args.schema.now id)) c.args.parts.now c.loop-i.i
-    c.index-parts-i.result c.loop-i-test.true c.index-parts-i.is c.requires.parts) in
-    search rules
-
-pub append_rows-loop-i-preserved : goal.append_rows-loop-i-preserved
-append_rows-loop-i-preserved t c =
-    let trees = c.args.schema.now.trees in
-    let v = c.index-parts-i.result in
-    let here : type_of c.args.schema.now c.args.id
-    ≡ container (fields_over c.args.schema.now.trees c.in_ok-row.row.fields.now) =
-    c.requires.form
-    ∙ ap (λ fs. container (fields_over trees fs)) (sym c.in_ok-row.ensures.fields) in
-    record {
-      text = elements_more (type_of c.args.schema.now c.args.id) c.args.parts.now c.loop-i.i
-          c.index-parts-i.result c.loop-i.out.items c.put_comma.new.out.items
-          c.append_row.new.out.items _ c.loop-i-test.true c.index-parts-i.is
-          c.loop-i.invariant.text c.in_ok-put_comma.ensures.text
-          (c.in_ok-append_row.ensures.text
-          ∙ ap (λ ty. c.put_comma.new.out.items ++ json ty (value_of v)) (sym here));
-      front = keeps_trans (keeps_trans c.loop-i.invariant.front c.in_ok-put_comma.ensures.front)
-          c.in_ok-append_row.ensures.front;
-    }
-
-pub append_rows-returns-clause-text : goal.append_rows-returns-clause-text
-append_rows-returns-clause-text t c =
-    on_ok_weaker c.put-2.result
-    (λ e. elements_end (type_of c.args.schema.now c.args.id) c.args.parts.now c.loop-i.i
-    c.loop-i.out.items c.put-2.new.out.items _ c.loop-i-test.false c.loop-i.invariant.text e)
-    c.put-2.ensures.text
-
 pub append_fields-returns-clause-text : goal.append_fields-returns-clause-text
 append_fields-returns-clause-text t c =
     let part = part_json c.args.schema.now.trees c.args.row.now.fields.now c.args.parts.now in
-    let all : length c.args.row.now.order.items ≤ c.loop-i.i =
-    omega (arith, c.loop-i-test.false, c.len-i-end.ensures) in
+    let fields = c.args.row.now.fields.now in
+    let all : length (in_order c.args.row.now.fields.now) ≤ c.loop-i.i =
+    omega (
+      arith,
+      c.loop-i-test.false,
+      order_length fields c.args.row.now.order.now c.requires.ordered,
+    ) in
     on_ok_weaker c.put-2.result
-    (λ e. entries_end part c.args.row.now.order.items c.loop-i.i
+    (λ e. entries_end part (in_order fields) c.loop-i.i
     c.loop-i.out.items c.put-2.new.out.items _ all c.loop-i.invariant.text e)
     c.put-2.ensures.text
 
