@@ -1,8 +1,8 @@
 -- That no path leads deeper than its type, so that the limit on levels
 -- bounds every generalized index.
-use Rattle.std.specs.Prelude.{ℕ, ◌+◌, ◌^◌, ◌<◌, ◌≤◌, ◌≡◌, Some}
+use Rattle.std.specs.Prelude.{ℕ, ◌+◌, ◌^◌, ◌<◌, ◌≡◌, Some}
 use Rattle.ssz_types.specs.Types.{SszType}
-use Rattle.ssz_types.specs.Sizes.{depth_of, type_levels}
+use Rattle.ssz_types.specs.Sizes.{type_levels}
 use Rattle.ssz_schema.specs.Paths.{Path}
 use Rattle.ssz_schema.specs.Indices.{generalized_index}
 
@@ -14,11 +14,3 @@ pub record IsWithinType (t : SszType) (index : ℕ) : Type 0 where
 abbrev pub IndicesAreWithinLevels : Type 0
 IndicesAreWithinLevels = (t : SszType) (path : Path) (index : ℕ)
     → generalized_index t path ≡ Some index → IsWithinType t index
-
--- two to the depth of a count is not less than the count
-abbrev pub DepthHolds : Type 0
-DepthHolds = (count : ℕ) → count ≤ 2 ^ depth_of count
-
--- and it is the least such power
-abbrev pub DepthIsLeast : Type 0
-DepthIsLeast = (count exponent : ℕ) → count ≤ 2 ^ exponent → depth_of count ≤ exponent

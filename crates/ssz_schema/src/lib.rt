@@ -13,10 +13,11 @@ mod reading;
 mod schema;
 mod walk;
 
-pub use law::{depth_is_next_power, indices_have_levels, legal_types_are_accepted};
+pub use law::{indices_have_levels, legal_types_are_accepted};
 pub use lead::Lead;
 pub use path::PathStep;
 pub use schema::Schema;
 pub use ssz_types::{
-    Format, Name, Names, SchemaError, SchemaFault, Ty, TypeExpr, TypeId, Width, field_at, is_name,
+    Format, Name, Names, SchemaError, SchemaFault, Ty, TypeExpr, TypeId, Width,
+    depth_is_next_power, field_at, is_name,
 };

@@ -1,5 +1,6 @@
 pub mod Types
 pub mod Sizes
+pub mod DepthLaws
 pub mod Names
 pub mod Legal
 pub mod FaultCodes

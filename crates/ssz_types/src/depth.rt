@@ -1,4 +1,5 @@
 ghost use Rattle.std.specs.Prelude.{◌≡◌, ◌≤◌};
+ghost use Rattle.ssz_types.specs.DepthLaws.{DepthHolds, DepthIsLeast};
 ghost use Rattle.ssz_types.specs.Sizes.{depth_of};
 
 /// The exponent of next_pow_of_two(count).
@@ -15,3 +16,9 @@ pub fn depth_of_count(count: u64) -> u32
     }
     64
 }
+
+/// The depth of a count is the exponent of the least power of two that is not below it.
+pub fn depth_is_next_power()
+    ensures holds { DepthHolds }
+    ensures least { DepthIsLeast }
+{}

@@ -23,7 +23,7 @@ mod type_id;
 mod width;
 
 pub use copying::copied_entries;
-pub use depth::depth_of_count;
+pub use depth::{depth_is_next_power, depth_of_count};
 pub use entry::Entry;
 pub use expr::TypeExpr;
 pub use facts::{Facts, element_chunks, part_length, size_if_fixed};
