@@ -9,13 +9,19 @@ use Rattle.ssz_chunk.specs.declared.Chunk.{Chunk}
 use Rattle.ssz_arena.specs.declared.node.NodeId.{NodeId}
 use Rattle.ssz_arena.specs.declared.node.Node.{Node}
 use Rattle.ssz_arena.specs.declared.node.Node.TheVariants.{Pair}
-use Rattle.ssz_arena.specs.Content.{child}
+use Rattle.ssz_arena.specs.Content.{ArenaContent, child}
 use Rattle.ssz_arena.specs.Invariant.{IsArena}
 use Rattle.ssz_arena.specs.Batches.{NodesAreBelow, AreDistinct, HasRoot, Wrote, id_at, kids, left_child, node_of, right_child}
 use Rattle.ssz_arena.proofs.Following.{child-cached}
 use Rattle.ssz_arena.proofs.Places.{slice_get-set_same, slice_get-set_other}
 use Rattle.ssz_arena.proofs.Nodes.{due, due-cached, due-set, trees-set, unhashed-set}
 use Rattle.ssz_arena.proofs.Sound.{arena-set}
+
+-- the root of a pair is kept, if it had none
+abbrev pub KeepsRoot : ArenaContent → ArenaContent → NodeId → Chunk → Type 0
+KeepsRoot old new id chunk = (new.spare ≡ old.spare) × (length new.nodes ≡ length old.nodes)
+    × ((left right : NodeId) → slice_get old.nodes id.0 ≡ Some (Pair left right None)
+    → new.nodes ≡ set old.nodes id.0 (Pair left right (Some chunk)))
 
 -- those from place n on are as they were
 abbrev pub AreLeft : ℕ → List NodeId → List Node → List Node → Type 0

@@ -1,5 +1,5 @@
 -- The way down from a node, past pairs of whose children one is to be hashed.
-use Rattle.std.proofs.Common.{◌≡◌, ℕ, zero, suc, ◌+◌, ◌<◌, ◌≤◌, List, [], ◌∷◌, length, take, refl, sym, ap, ◌∙◌, subst, slice_get, true, false, Option, Some, None, arith, length-take}
+use Rattle.std.proofs.Common.{◌≡◌, ℕ, zero, suc, ◌+◌, ◌<◌, ◌≤◌, List, [], ◌∷◌, length, take, refl, ap, ◌∙◌, subst, slice_get, true, false, Option, Some, None, arith, length-take}
 use Rattle.std.specs.Option.{option_and_then}
 use Rattle.std.proofs.lemmas.List.{get_or-take}
 use Rattle.std.proofs.lemmas.Option.{same_Some, slice_get-get_or}
@@ -9,9 +9,9 @@ use Rattle.ssz_arena.specs.declared.node.Node.TheVariants.{Leaf, Pair}
 use Rattle.ssz_arena.specs.Content.{child}
 use Rattle.ssz_arena.specs.Invariant.{IsArena}
 use Rattle.ssz_arena.specs.Filled.{FillsUpTo}
-use Rattle.ssz_arena.specs.Batches.{NodesAreBelow, AreHashed, NodeLeadsTo, id_at, is_due, left_child, node_of, right_child, todo_all}
+use Rattle.ssz_arena.specs.Batches.{NodesAreBelow, AreHashed, NodeLeadsTo, id_at, is_due, node_of, todo_all}
 use Rattle.ssz_arena.proofs.Nodes.{due, due-cached, due-pair, none_due}
-use Rattle.ssz_arena.proofs.Together.{due_found, todo-cons}
+use Rattle.ssz_arena.proofs.Together.{todo-cons}
 
 -- a pair has at most one pair more to be hashed than its children
 at_most_one_more : (nodes : List Node) (i : ℕ) (left right : NodeId) → left.0 < i → right.0 < i
@@ -37,15 +37,8 @@ not_due nodes id inside is =
     none_due nodes id.0 (node_of nodes id) (slice_get-get_or nodes id.0 _ inside) is
 
 module _ (p : List ℕ → List ℕ → List ℕ) (nodes : List Node) (id left right : NodeId)
-    (arena : IsArena p nodes) (inside : id.0 < length nodes) (is : is_due nodes id ≡ true)
-    (is_left : left ≡ left_child (node_of nodes id))
-    (is_right : right ≡ right_child (node_of nodes id))
+    (arena : IsArena p nodes) (found : slice_get nodes id.0 ≡ Some (Pair left right None))
   where
-    found : slice_get nodes id.0 ≡ Some (Pair left right None)
-    found = due_found nodes id inside is
-        ∙ ap (λ (n : NodeId). Some (Pair n (right_child (node_of nodes id)) None)) (sym is_left)
-        ∙ ap (λ (n : NodeId). Some (Pair left n None)) (sym is_right)
-
     pub left_low : left.0 < id.0
     left_low = (arena.sound.each _ _ found).0
 

@@ -9,7 +9,7 @@ use Rattle.ssz_chunk.specs.declared.Chunk.{Chunk}
 use Rattle.ssz_arena.specs.declared.node.NodeId.{NodeId}
 use Rattle.ssz_arena.specs.declared.node.Node.{Node}
 use Rattle.ssz_arena.specs.declared.node.Node.TheVariants.{Leaf, Pair}
-use Rattle.ssz_arena.specs.Batches.{left_child, right_child}
+use Rattle.ssz_arena.specs.Batches.{halves_of, left_child, right_child}
 use Rattle.ssz_arena.specs.Content.{is_unhashed}
 use Rattle.ssz_arena.specs.Stored.{chunk_of, link_count, first_link, links_with, links_at, pair_in, node_with, no_chunk, node_in, nodes_in, IsStored, pair_links, blocks_for}
 
@@ -65,14 +65,6 @@ pair_in-kept chunk link right low =
     let not : leb (2 ^ 31) link ≡ false = grind (arith, nat_tests) in
     ap (λ t. cond t (Pair (record { 0 = link - 2 ^ 31 }) (record { 0 = right }) None)
     (Pair (record { 0 = link }) (record { 0 = right }) (Some chunk))) not
-
--- of the marked link of a pair
-pub due_made : (chunk : Chunk) (left right : NodeId)
-    → pair_in chunk (left.0 + 2 ^ 31) right.0 ≡ Pair left right None
-due_made chunk left right =
-    let back : left.0 + 2 ^ 31 - 2 ^ 31 ≡ left.0 = omega arith in
-    pair_in-due chunk (left.0 + 2 ^ 31) right.0 (omega arith)
-    ∙ ap (λ l. Pair (record { 0 = l }) right None) back
 
 -- ---- links
 
@@ -314,6 +306,22 @@ pair_made chunk ls link right n total long = elim (cases_eq (right + 1) n) [
 
 -- ---- what is read at a place
 
+abbrev both : ℕ → ℕ → Option (NodeId × NodeId)
+both left right = Some (record { 0 = left }, record { 0 = right })
+
+-- the children of a node are its halves, where it has any
+pub no_halves : (node : Node) → None ≡ halves_of node
+    → (record { 0 = 0 } ≡ left_child node) × (record { 0 = 0 } ≡ right_child node)
+no_halves (Leaf chunk) is = (refl, refl)
+no_halves (Pair left right cached) is = absurd (cc)
+
+pub are_halves : (node : Node) (left right : NodeId) → Some (left, right) ≡ halves_of node
+    → (left ≡ left_child node) × (right ≡ right_child node)
+are_halves (Leaf chunk) left right is = absurd (cc)
+are_halves (Pair a b cached) left right is =
+    let same : (left, right) ≡ (a, b) = same_Some _ _ is in
+    (ap (λ (k : NodeId × NodeId). k.0) same, ap (λ (k : NodeId × NodeId). k.1) same)
+
 pub size_seen : (nodes : List Node) (cs : List Chunk) (ks fs ls : List ℕ)
     → nodes_in cs ks fs ls ≡ nodes → length nodes ≡ length cs
 size_seen nodes cs ks fs ls is =
@@ -341,23 +349,16 @@ module _ (nodes : List Node) (cs : List Chunk) (ks fs ls : List ℕ) (i : ℕ)
       ∙ ap Some (pair_in-kept (get_or cs i no_chunk) link right low)
 
   -- the children, marked or not
-  pub read_left : (link right : ℕ) → Some (link, right) ≡ links_at ks fs ls i → link < 2 ^ 32
-      → left_child (get_or nodes i (Leaf (record { 0 = [] }))) ≡ record { 0 = link % 2 ^ 31 }
-  read_left link right at small = elim (cases_lt link (2 ^ 31)) [
+  pub read_halves : (link right : ℕ) → Some (link, right) ≡ links_at ks fs ls i → link < 2 ^ 32
+      → Some (record { 0 = link % 2 ^ 31 }, record { 0 = right })
+      ≡ halves_of (get_or nodes i (Leaf (record { 0 = [] })))
+  read_halves link right at small = elim (cases_lt link (2 ^ 31)) [
     | inl low ↦
-        ap left_child (get_or_from_slice_get nodes i _ _ (read_kept link right at low))
-        ∙ ap (λ n. record { 0 = n }) (omega (arith, low))
+        ap (λ l. both l right) (omega (arith, low))
+        ∙ sym (ap halves_of (get_or_from_slice_get nodes i _ _ (read_kept link right at low)))
     | inr marked ↦
-        ap left_child (get_or_from_slice_get nodes i _ _ (read_due link right at marked))
-        ∙ ap (λ n. record { 0 = n }) (omega (arith, marked, small))
-  ]
-
-  pub read_right : (link right : ℕ) → Some (link, right) ≡ links_at ks fs ls i
-      → right_child (get_or nodes i (Leaf (record { 0 = [] }))) ≡ record { 0 = right }
-  read_right link right at = elim (cases_lt link (2 ^ 31)) [
-    | inl low ↦ ap right_child (get_or_from_slice_get nodes i _ _ (read_kept link right at low))
-    | inr marked ↦
-        ap right_child (get_or_from_slice_get nodes i _ _ (read_due link right at marked))
+        ap (λ l. both l right) (omega (arith, marked, small))
+        ∙ sym (ap halves_of (get_or_from_slice_get nodes i _ _ (read_due link right at marked)))
   ]
 
   pub read_chunk : (chunk : Chunk) → chunk ≡ get_or cs i chunk → get_or cs i no_chunk ≡ chunk
@@ -462,7 +463,7 @@ pair_seen chunk count first ls i some =
     ap (λ t. node_with chunk (of_links t (eqb count 1) (get_or ls first 0)
     (get_or ls (first + 1) 0) (i - 1))) not
 
-pub due_parts : (chunk : Chunk) (count first : ℕ) (ls : List ℕ) (i : ℕ)
+due_parts : (chunk : Chunk) (count first : ℕ) (ls : List ℕ) (i : ℕ)
     → is_unhashed (node_with chunk (links_with count first ls i)) ≡ true
     → (0 < count) × (2 ^ 31 ≤ get_or ls first 0)
 due_parts chunk count first ls i due = elim (cases_eq count 0) [
@@ -483,6 +484,29 @@ due_parts chunk count first ls i due = elim (cases_eq count 0) [
         | inr marked ↦ (more, marked)
       ]
 ]
+
+-- the marked link of a pair that has no root yet
+pub record HasMark (ks fs ls : List ℕ) (i : ℕ) : Type 0 where
+  pub some : 0 < link_count ks i
+  pub inside : first_link ks fs i < length ls
+  pub marked : 2 ^ 31 ≤ get_or ls (first_link ks fs i) 0
+
+pub has_mark : (n : ℕ) (ks fs : List ℕ) (total : ℕ) → IsStored n ks fs total → (cs : List Chunk)
+    (ls : List ℕ) → length cs ≡ n → length ls ≡ total → (nodes : List Node)
+    → nodes_in cs ks fs ls ≡ nodes → (i : ℕ) → i < length nodes
+    → is_unhashed (get_or nodes i (Leaf (record { 0 = [] }))) ≡ true → HasMark ks fs ls i
+has_mark n ks fs total stored cs ls long links nodes seen i within due =
+    let here : _ = get_or_from_slice_get nodes i (node_in cs ks fs ls i)
+    (Leaf (record { 0 = [] })) (found nodes cs ks fs ls i seen within) in
+    let parts : (0 < link_count ks i) × (2 ^ 31 ≤ get_or ls (first_link ks fs i) 0) =
+    due_parts (get_or cs i no_chunk) (link_count ks i) (first_link ks fs i) ls i
+    (sym (ap is_unhashed here) ∙ due) in
+    let below : i < n = omega (arith, within, long, size_seen nodes cs ks fs ls seen) in
+    record {
+      some = parts.0;
+      inside = omega (arith, stored.inside i below, parts.0, links);
+      marked = parts.1;
+    }
 
 module _ (n : ℕ) (ks fs : List ℕ) (total : ℕ) (stored : IsStored n ks fs total) (cs : List Chunk)
     (ls : List ℕ) (long : length cs ≡ n) (links : length ls ≡ total) (i : ℕ) (within : i < n)

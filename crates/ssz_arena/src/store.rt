@@ -3,8 +3,8 @@ ghost use Rattle.std.specs.Prelude.{◌≡◌, ℕ, ◌+◌, ◌-◌, ◌*◌, �
 ghost use Rattle.ssz_chunk.specs.declared.Chunk.{Chunk};
 ghost use Rattle.ssz_arena.specs.declared.node.NodeId.{NodeId};
 ghost use Rattle.ssz_arena.specs.declared.node.Node.TheVariants.{Leaf, Pair};
-ghost use Rattle.ssz_arena.specs.Batches.{is_due, left_child, node_of, right_child};
-ghost use Rattle.ssz_arena.specs.Stored.{IsShort, IsStored, blocks_for, chunk_of, first_link, links_at, pair_links};
+ghost use Rattle.ssz_arena.specs.Batches.{halves_of, is_due, left_child, node_of, right_child};
+ghost use Rattle.ssz_arena.specs.Stored.{IsShort, IsStored, blocks_for, chunk_of, first_link, links_at, pair_in, pair_links};
 
 use super::node::{MARK, MOST_NODES, Node, NodeId};
 use ssz_chunk::Chunk;
@@ -80,15 +80,6 @@ fn links_at(kinds: &Vec<u8>, firsts: &Vec<u32>, links: &Vec<u32>, i: usize) -> O
     Some((link, links[first + 1]))
 }
 
-// The place that a left link names, marked or not. No branch is taken for the mark.
-#[inline(always)]
-fn left_of(link: u32) -> NodeId
-    ensures place { result.0 ≡ link % 2 ^ 31 }
-    ensures fits { link < 2 ^ 32 }
-{
-    NodeId(link % MARK)
-}
-
 // Begins a block where the next node does, and says how many links those before it in its block
 // have.
 #[inline(always)]
@@ -128,21 +119,6 @@ fn link(links: &mut Vec<u32>, left: u32, right: NodeId, place: usize) -> u8
     }
     links.push_reserved(right.0);
     2
-}
-
-// Takes the mark off a link.
-#[inline(always)]
-fn unmark(links: &mut Vec<u32>, first: usize)
-    requires inside { first < vec_len links.old }
-    requires marked { 2 ^ 31 ≤ slice_index links.old.items first }
-    ensures links { links.new.items ≡ slice_set links.old.items first
-        (slice_index links.old.items first - 2 ^ 31) }
-    ensures fits { slice_index links.old.items first < 2 ^ 32 }
-    ensures len { vec_len links.new ≡ vec_len links.old }
-    ensures capacity { vec_capacity links.new ≡ vec_capacity links.old }
-{
-    let link = links[first];
-    links[first] = link - MARK;
 }
 
 impl Store {
@@ -243,7 +219,7 @@ impl Store {
 
     // A new leaf behind the others.
     #[inline(always)]
-    pub(crate) fn push_leaf(&mut self, chunk: Chunk)
+    fn push_leaf(&mut self, chunk: Chunk)
         requires { 0 < self.old.spare }
         ensures nodes { self.new.nodes ≡ self.old.nodes ++ Leaf chunk ∷ [] }
         ensures spare { self.new.spare + 1 ≡ self.old.spare }
@@ -253,32 +229,16 @@ impl Store {
         self.chunks.push_reserved(chunk);
     }
 
-    // A new pair that has no root yet.
+    // A new pair behind the others, of its left link and its right child.
     #[inline(always)]
-    pub(crate) fn push_pair(&mut self, left: NodeId, right: NodeId)
-        requires room { 0 < self.old.spare }
-        requires short { IsShort (Pair left right None) }
-        ensures nodes { self.new.nodes ≡ self.old.nodes ++ Pair left right None ∷ [] }
+    fn push_pair(&mut self, left: u32, right: NodeId, chunk: Chunk)
+        requires { 0 < self.old.spare }
+        ensures nodes { self.new.nodes ≡ self.old.nodes ++ pair_in chunk left right.0 ∷ [] }
         ensures spare { self.new.spare + 1 ≡ self.old.spare }
     {
         let place = self.chunks.len();
         let before = begin(&mut self.firsts, place, self.links.len());
-        let count = link(&mut self.links, left.0 + MARK, right, place);
-        self.kinds.push_reserved(count + 4 * before);
-        self.chunks.push_reserved(Chunk::ZERO);
-    }
-
-    // A new pair that has its root.
-    #[inline(always)]
-    pub(crate) fn push_root(&mut self, left: NodeId, right: NodeId, chunk: Chunk)
-        requires room { 0 < self.old.spare }
-        requires short { IsShort (Pair left right (Some chunk)) }
-        ensures nodes { self.new.nodes ≡ self.old.nodes ++ Pair left right (Some chunk) ∷ [] }
-        ensures spare { self.new.spare + 1 ≡ self.old.spare }
-    {
-        let place = self.chunks.len();
-        let before = begin(&mut self.firsts, place, self.links.len());
-        let count = link(&mut self.links, left.0, right, place);
+        let count = link(&mut self.links, left, right, place);
         self.kinds.push_reserved(count + 4 * before);
         self.chunks.push_reserved(chunk);
     }
@@ -294,8 +254,8 @@ impl Store {
         match node {
             Node::Leaf(chunk) => self.push_leaf(chunk),
             Node::Pair(left, right, cached) => match cached {
-                Some(chunk) => self.push_root(left, right, chunk),
-                None => self.push_pair(left, right),
+                Some(chunk) => self.push_pair(left.0, right, chunk),
+                None => self.push_pair(left.0 + MARK, right, Chunk::ZERO),
             },
         }
     }
@@ -348,16 +308,28 @@ impl Store {
         }
     }
 
-    // The children of a pair.
+    // The children of a pair, with its root or without. No branch is taken for the mark.
+    #[inline(always)]
+    pub(crate) fn halves(&self, id: NodeId) -> Option<(NodeId, NodeId)>
+        requires { id.0 < length self.now.nodes }
+        ensures { result ≡ halves_of (node_of self.now.nodes id) }
+    {
+        match links_at(&self.kinds, &self.firsts, &self.links, id.0 as usize) {
+            None => None,
+            Some((link, right)) => Some((NodeId(link % MARK), NodeId(right))),
+        }
+    }
+
+    // The same of a node that is known to be a pair; of a leaf, the first node twice.
     #[inline(always)]
     pub(crate) fn children(&self, id: NodeId) -> (NodeId, NodeId)
         requires { id.0 < length self.now.nodes }
         ensures left { result.0 ≡ left_child (node_of self.now.nodes id) }
         ensures right { result.1 ≡ right_child (node_of self.now.nodes id) }
     {
-        match links_at(&self.kinds, &self.firsts, &self.links, id.0 as usize) {
+        match self.halves(id) {
             None => (NodeId(0), NodeId(0)),
-            Some((link, right)) => (left_of(link), NodeId(right)),
+            Some(children) => children,
         }
     }
 
@@ -384,7 +356,8 @@ impl Store {
     {
         let i = id.0 as usize;
         let first = first_of(&self.kinds, &self.firsts, i);
-        unmark(&mut self.links, first);
+        let link = self.links[first];
+        self.links[first] = link - MARK;
         self.chunks[i] = chunk;
     }
 }

@@ -1,11 +1,11 @@
-use Rattle.std.proofs.Common.{◌∙◌, [], get_or, true, rules, ◌<◌, ◌≡◌, ◌+◌, ◌-◌, ◌*◌, take, drop, length, ap, subst, arith, length-take}
+use Rattle.std.proofs.Common.{◌∙◌, [], get_or, ◌<◌, ◌≡◌, ◌+◌, ◌-◌, ◌*◌, take, drop, length, ap, subst, arith, length-take}
 use Rattle.std.proofs.lemmas.List.Sums.{sum_by-take-drop}
 use Rattle.std.proofs.lemmas.Option.{slice_get-get_or}
 use Rattle.ssz_chunk.specs.Tree.{leaf, root}
 use Rattle.ssz_arena.specs.declared.node.Node.TheVariants.{Leaf}
 use Rattle.ssz_arena.proofs.Filling.{value_read}
 use Rattle.ssz_arena.specs.declared.node.NodeId.{NodeId}
-use Rattle.ssz_arena.specs.Batches.{NodesAreBelow, AreDue, AreHashed, id_at, is_due, kids, todo_all}
+use Rattle.ssz_arena.specs.Batches.{NodesAreBelow, AreDue, AreHashed, id_at, kids, todo_all}
 use Rattle.ssz_arena.specs.Filled.{FillsUpTo}
 use Rattle.ssz_arena.proofs.Nodes.{due}
 use Rattle.ssz_arena.proofs.Together.{KidsParts, due_below, due_hashed, due_pass, due_sum, fills_then, hashed_join, kids_parts, kids_sum, ready_later, sum_less}
@@ -46,13 +46,10 @@ fill_one-returns-clause-todo g t c =
 pub fill_below-fill_all-requires : goal.fill_below-fill_all-requires
 fill_below-fill_all-requires g t c κs within =
     let nodes = c.args.store.now.nodes in
-    let is : is_due nodes c.args.id ≡ true = search rules in
-    let low_left : c.children_of.result.0.0 < c.args.id.0 =
-    left_low g.H.PairHash.pair_of nodes c.args.id _ _ c.requires.arena c.requires.inside is
-    c.children_of.ensures.left c.children_of.ensures.right in
-    let low_right : c.children_of.result.1.0 < c.args.id.0 =
-    right_low g.H.PairHash.pair_of nodes c.args.id _ _ c.requires.arena c.requires.inside is
-    c.children_of.ensures.left c.children_of.ensures.right in (
+    let low_left : c.in-Some.left.0 < c.args.id.0 =
+    left_low g.H.PairHash.pair_of nodes c.args.id _ _ c.requires.arena c.in-Some.ensures.some in
+    let low_right : c.in-Some.right.0 < c.args.id.0 =
+    right_low g.H.PairHash.pair_of nodes c.args.id _ _ c.requires.arena c.in-Some.ensures.some in (
       omega (arith, c.decreases),
       (
         within,
@@ -70,17 +67,14 @@ pub fill_below-returns-clause-todo : goal.fill_below-returns-clause-todo
 fill_below-returns-clause-todo g t c =
     let p = g.H.PairHash.pair_of in
     let nodes = c.args.store.now.nodes in
-    let is : is_due nodes c.args.id ≡ true = search rules in
     omega (
       arith,
       c.fill_all.ensures.todo,
       c.fill_all.ensures.hashed 0 (omega arith),
       c.fill_all.ensures.hashed 1 (omega arith),
-      todo-two nodes c.children_of.result.0 c.children_of.result.1,
-      due_now p nodes c.args.id _ _ c.requires.arena c.requires.inside is
-          c.children_of.ensures.left c.children_of.ensures.right,
-      due_then p nodes c.args.id _ _ c.requires.arena c.requires.inside is
-          c.children_of.ensures.left c.children_of.ensures.right c.args.id.0
+      todo-two nodes c.in-Some.left c.in-Some.right,
+      due_now p nodes c.args.id _ _ c.requires.arena c.in-Some.ensures.some,
+      due_then p nodes c.args.id _ _ c.requires.arena c.in-Some.ensures.some c.args.id.0
           c.fill_all.new.store.nodes c.fill_all.ensures.fills,
     )
 

@@ -1,8 +1,8 @@
-use Rattle.std.proofs.Common.{◌+◌, ◌*◌, ◌^◌, refl, ap, arith, None}
+use Rattle.std.proofs.Common.{◌+◌, ◌*◌, refl, ap, arith}
 use Rattle.ssz_arena.specs.Content.{ArenaContent}
 use Rattle.std.proofs.Common.{vec_len}
-use Rattle.ssz_arena.specs.declared.node.Node.TheVariants.{Pair}
-use Rattle.ssz_arena.proofs.Storing.{pair-as, pair_nodes-as, due_made}
+use Rattle.ssz_arena.specs.Stored.{pair_in}
+use Rattle.ssz_arena.proofs.Storing.{pair-as, pair_nodes-as}
 use Rattle.ssz_arena.proofs.store.Store.push_pair.Goals as goal
 
 pub begin-before-requires-clause-total : goal.begin-before-requires-clause-total
@@ -16,7 +16,7 @@ begin-before-requires-clause-total c = omega (
 pub link-count-requires : goal.link-count-requires
 link-count-requires c = omega (
   arith,
-  c.requires.room,
+  c.requires,
   ap (λ (a : ArenaContent). a.spare)
       c.self.view_is,
   c.self.invariant.0.all,
@@ -31,13 +31,13 @@ invariant_of-self c = (
       c.begin-before.result
       c.len-place.result c.len.result c.begin-before.new.firsts.items c.len-place.ensures
       c.len.ensures
-      c.begin-before.ensures.blocks c.begin-before.ensures.before (c.args.left.0 + 2 ^ 31)
+      c.begin-before.ensures.blocks c.begin-before.ensures.before c.args.left
       c.args.right.0 c.link-count.result
       (c.link-count.result + 4 * c.begin-before.result) c.link-count.ensures.count refl _ _ _
       c.push_reserved-2.ensures.len c.push_reserved.ensures.items c.link-count.ensures.len,
   omega (
     arith,
-    c.requires.room,
+    c.requires,
     ap (λ (a : ArenaContent). a.spare) c.self.view_is,
     c.self.invariant.1,
     c.push_reserved-2.ensures.len,
@@ -55,11 +55,11 @@ returns-clause-nodes c = pair_nodes-as (vec_len c.self.inside.chunks) c.self.ins
     c.begin-before.result
     c.len-place.result c.len.result c.begin-before.new.firsts.items c.len-place.ensures
     c.len.ensures
-    c.begin-before.ensures.blocks c.begin-before.ensures.before (c.args.left.0 + 2 ^ 31)
+    c.begin-before.ensures.blocks c.begin-before.ensures.before c.args.left
     c.args.right.0 c.link-count.result
     (c.link-count.result + 4 * c.begin-before.result) c.link-count.ensures.count refl
     c.self.inside.chunks.items c.self.inside.links.items _
     (omega (arith, c.self.inside.chunks.ok.0)) (omega (arith, c.self.inside.links.ok.0)) _ _ _
-    c.push_reserved-2.ensures.items c.push_reserved.ensures.items c.link-count.ensures.links (Pair
-    c.args.left c.args.right None) (due_made _ c.args.left c.args.right) _
+    c.push_reserved-2.ensures.items c.push_reserved.ensures.items c.link-count.ensures.links
+    (pair_in c.args.chunk c.args.left c.args.right.0) refl _
     (ap (λ (a : ArenaContent). a.nodes) c.self.view_is)
