@@ -1,19 +1,35 @@
-use Rattle.std.proofs.Common.{◌∙◌, [], get_or, ◌<◌, ◌≡◌, ◌+◌, ◌-◌, ◌*◌, take, drop, length, ap, subst, arith, length-take}
+use Rattle.std.proofs.Common.{◌∙◌, [], get_or, false, rules, ◌<◌, ◌≡◌, ◌+◌, ◌-◌, ◌*◌, take, drop, length, ap, subst, arith, length-take}
 use Rattle.std.proofs.lemmas.List.Sums.{sum_by-take-drop}
 use Rattle.std.proofs.lemmas.Option.{slice_get-get_or}
 use Rattle.ssz_chunk.specs.Tree.{leaf, root}
 use Rattle.ssz_arena.specs.declared.node.Node.TheVariants.{Leaf}
 use Rattle.ssz_arena.proofs.Filling.{value_read}
 use Rattle.ssz_arena.specs.declared.node.NodeId.{NodeId}
-use Rattle.ssz_arena.specs.Batches.{NodesAreBelow, AreDue, AreHashed, id_at, kids, todo_all}
+use Rattle.ssz_arena.specs.Batches.{NodesAreBelow, AreDue, AreHashed, id_at, is_due, kids, todo_all}
 use Rattle.ssz_arena.specs.Filled.{FillsUpTo}
 use Rattle.ssz_arena.proofs.Nodes.{due}
 use Rattle.ssz_arena.proofs.Together.{KidsParts, due_below, due_hashed, due_pass, due_sum, fills_then, hashed_join, kids_parts, kids_sum, ready_later, sum_less}
-use Rattle.ssz_arena.proofs.Forks.{due_now, due_then, fills_wider, left_low, one_below, one_hashed, one_sum, right_low, todo-two, two_below}
+use Rattle.ssz_arena.proofs.Forks.{due_now, due_then, fills_wider, left_low, one_below, one_hashed, not_due, one_sum, right_low, todo-two, two_below}
 use Rattle.ssz_arena.proofs.levels.+fill.Goals as goal
 
-pub fill_one-chunk-requires : goal.fill_one-chunk-requires
-fill_one-chunk-requires g t c =
+pub fill_one-returns-then-not-is_due-clause-value :
+    goal.fill_one-returns-then-not-is_due-clause-value
+fill_one-returns-then-not-is_due-clause-value g t c =
+    let nodes = c.args.store.now.nodes in
+    let not : is_due nodes c.args.id ≡ false = search rules in
+    value_read g.H.PairHash.pair_of nodes c.args.id.0 _ c.chunk.result.now c.requires.arena
+    (not_due nodes c.args.id c.requires.inside not)
+    (slice_get-get_or nodes c.args.id.0 (Leaf (record { 0 = [] })) c.requires.inside)
+    c.chunk.ensures
+
+pub fill_one-returns-then-not-is_due-clause-hashed :
+    goal.fill_one-returns-then-not-is_due-clause-hashed
+fill_one-returns-then-not-is_due-clause-hashed g t c =
+    let not : is_due c.args.store.now.nodes c.args.id ≡ false = search rules in
+    not_due c.args.store.now.nodes c.args.id c.requires.inside not
+
+pub fill_one-chunk-requires-2 : goal.fill_one-chunk-requires-2
+fill_one-chunk-requires-2 g t c =
     omega (arith, c.requires.inside, c.fill_below.ensures.fills.count, c.fill.ensures.fills.count)
 
 pub fill_one-returns-clause-value : goal.fill_one-returns-clause-value
@@ -22,10 +38,10 @@ fill_one-returns-clause-value g t c =
     let inside : c.args.id.0 < length c.fill.new.store.nodes =
     omega (arith, c.requires.inside, c.fill_below.ensures.fills.count, c.fill.ensures.fills.count)
     in
-    value_read p c.fill.new.store.nodes c.args.id.0 _ c.chunk.result.now c.fill.ensures.arena
+    value_read p c.fill.new.store.nodes c.args.id.0 _ c.chunk-2.result.now c.fill.ensures.arena
     c.fill.ensures.hashed (slice_get-get_or c.fill.new.store.nodes c.args.id.0 (Leaf (record
     { 0 = [] })) inside)
-    c.chunk.ensures
+    c.chunk-2.ensures
     ∙ ap (λ ts. root p (get_or ts c.args.id.0 (leaf [])))
     (c.fill.ensures.fills.trees ∙ c.fill_below.ensures.fills.trees)
 
