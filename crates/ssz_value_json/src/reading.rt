@@ -145,7 +145,7 @@ fn is_text_of(
         (λ same. same ≡ bytes_eq (json (type_of schema.now id) (value_of value.now)) bytes.now) }
 {
     let mut text = Vec::with_capacity(alloc, bytes.len())?;
-    append_value(alloc, schema, id, value, &mut text)?;
+    append_value(schema, id, value, &mut text)?;
     Ok(text.as_slice() == bytes)
 }
 

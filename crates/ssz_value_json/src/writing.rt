@@ -15,7 +15,7 @@ use std::alloc::{AllocError, Global};
 /// The text is this project's form, which docs/formats.md has for each type, and not the standard's
 /// JSON mapping. The answer is `TooLong` exactly where the text has more than max bytes, and
 /// `Memory` only where it has not; after both `out` is as before. The length is taken first, with
-/// no memory, so that `out` grows once.
+/// no memory, so that `out` grows once, and nothing else is taken: `alloc` is not asked.
 pub fn write_json(
     alloc: Global,
     schema: &Schema,
@@ -34,13 +34,12 @@ pub fn write_json(
         return Err(JsonWrite::TooLong);
     }
     out.reserve(len as usize)?;
-    append_whole(alloc, schema, id, value, out)?;
+    append_whole(schema, id, value, out)?;
     Ok(())
 }
 
 // Appends the text, or nothing.
 fn append_whole(
-    alloc: Global,
     schema: &Schema,
     id: TypeId,
     value: &Value,
@@ -53,7 +52,7 @@ fn append_whole(
     ensures same { OnErr result (out.new.items ≡ out.old.items) }
 {
     let before = out.len();
-    match append_value(alloc, schema, id, value, out) {
+    match append_value(schema, id, value, out) {
         Ok(()) => Ok(()),
         Err(error) => {
             out.truncate(before);
