@@ -80,9 +80,6 @@ module _ (p : List ℕ → List ℕ → List ℕ) (nodes : List Node) (id left r
       );
     }
 
-pub LeadsTo-same : (nodes : List Node) (id : NodeId) → NodeLeadsTo nodes id id
-LeadsTo-same nodes id = record { below = omega arith; todo = λ limit after fills. omega arith }
-
 pub LeadsTo-then : (nodes : List Node) (top middle bottom : NodeId) → NodeLeadsTo nodes top middle
     → NodeLeadsTo nodes middle bottom → NodeLeadsTo nodes top bottom
 LeadsTo-then nodes top middle bottom first second = record {
