@@ -3,3 +3,4 @@ pub mod Mixing
 pub mod Stepping
 pub mod Walking
 pub mod NamedFields
+pub mod Ways

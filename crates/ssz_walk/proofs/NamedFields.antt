@@ -1,5 +1,5 @@
 -- The place of a field, by its name.
-use Rattle.std.proofs.Common.{ℕ, ◌+◌, ◌*◌, ◌%◌, ◌^◌, ◌<◌, ◌≤◌, ◌≡◌, true, List, [], ◌∷◌, length, Some, None, refl, sym, ap, ◌∙◌, arith}
+use Rattle.std.proofs.Common.{ℕ, ◌+◌, ◌*◌, ◌%◌, ◌^◌, ◌≤◌, ◌≡◌, true, List, [], ◌∷◌, Some, None, refl, sym, ap, ◌∙◌, arith}
 use Rattle.std.specs.Prelude.{option_and_then, IsSome, is_some}
 use Rattle.std.proofs.Math.Nat.{pow-le-pow_right}
 use Rattle.std.proofs.lemmas.Option.{none-some}
@@ -19,7 +19,6 @@ use Rattle.ssz_value.specs.Parts.{step_part}
 use Rattle.ssz_arena.specs.declared.node.NodeId.{NodeId}
 use Rattle.ssz_arena.specs.Content.{ArenaContent, tree_of, node_at, IsNodeOf}
 use Rattle.ssz_places.specs.PlaceLaws.{IsTreeOf}
-use Rattle.ssz_walk.specs.declared.place.Place.{Place}
 use Rattle.ssz_walk.specs.declared.place.Spot.TheVariants.{Whole}
 use Rattle.ssz_walk.specs.Found.{IsFound, IsAbsent}
 use Rattle.ssz_walk.proofs.Presence.{field_present}

@@ -1,17 +1,15 @@
-ghost use Rattle.std.specs.Prelude.{◌≡◌, ◌<◌, [], ◌∷◌, length, IfOk, IfErr, IfSome, IfNone};
-ghost use Rattle.ssz_schema.specs.Sizes.{basic_size};
-ghost use Rattle.ssz_schema.specs.Unfolding.{type_of};
-ghost use Rattle.ssz_schema.specs.Steps.{IsLead};
-ghost use Rattle.ssz_schema.specs.Indices.{step_spot, element_spot};
+ghost use Rattle.std.specs.Prelude.{◌<◌, [], ◌∷◌, length, IfOk, IfErr, IfSome, IfNone};
 ghost use Rattle.ssz_arena.specs.Content.{IsNodeOf};
-ghost use Rattle.ssz_walk.specs.Found.{IsFound, IsAbsent, IsLed, IsLost, LeadsNowhere, spot_of};
+ghost use Rattle.ssz_walk.specs.Found.{IsFound, IsAbsent, IsLed, IsLost, LeadsNowhere};
+ghost use Rattle.ssz_walk.specs.Ways.{IsWay};
 
 use super::place::{Place, Spot};
 use super::present::is_present;
+use super::way::{Way, way_of};
 use ssz_arena::{Arena, NodeId};
 use ssz_chunk::PairHash;
 use ssz_gindex::Gindex;
-use ssz_schema::{Lead, PathStep, Schema, Ty, TypeId};
+use ssz_schema::{PathStep, Schema, TypeId};
 use ssz_value::PathFault;
 
 /// The place of the part at the path, from the node of a value of the type. `BadPath` exactly where
@@ -35,13 +33,13 @@ pub fn find<H: PairHash>(
     let mut here = node;
     let mut spot = Spot::Whole;
     for step in path {
-        let Some(lead) = schema.lead(part, step) else {
+        let Some(way) = way_of(schema, part, step) else {
             return Err(PathFault::BadPath);
         };
-        let Some(next) = next_place(arena, schema, part, here, step, &lead) else {
+        let Some(next) = next_place(arena, schema, part, here, step, &way) else {
             return Err(PathFault::without(schema, id, path));
         };
-        index = index.placed(schema, part, step, lead.number);
+        index = way.index_below(index);
         part = next.id;
         here = next.node;
         spot = next.spot;
@@ -61,11 +59,11 @@ fn next_place<H: PairHash>(
     id: TypeId,
     node: NodeId,
     step: &PathStep,
-    lead: &Lead,
+    way: &Way,
 ) -> Option<Place>
     requires known { id < length schema.now.trees }
     requires node { IsNodeOf arena.now node }
-    requires lead { IsLead schema.now id step.now lead.now }
+    requires way { IsWay schema.now id step.now way.now }
     ensures found { IfSome result (IsFound schema.now arena.now id node (step.now ∷ [])) }
     ensures absent { IfNone result (IsAbsent schema.now arena.now id node (step.now ∷ [])) }
 {
@@ -73,7 +71,7 @@ fn next_place<H: PairHash>(
     if !is_present(arena, schema, id, node, step) {
         return None;
     }
-    led_place(arena, schema, id, node, step, lead)
+    led_place(arena, schema, id, node, step, way)
 }
 
 /// The place that the step leads to by the type alone, whether a part is there or not. None exactly
@@ -90,8 +88,8 @@ pub fn step_place<H: PairHash>(
     ensures led { IfSome result (IsLed schema.now arena.now id node (step.now ∷ [])) }
     ensures none { IfNone result (LeadsNowhere schema.now arena.now id node (step.now ∷ [])) }
 {
-    match schema.lead(id, step) {
-        Some(lead) => led_place(arena, schema, id, node, step, &lead),
+    match way_of(schema, id, step) {
+        Some(way) => led_place(arena, schema, id, node, step, &way),
         None => None,
     }
 }
@@ -103,50 +101,24 @@ fn led_place<H: PairHash>(
     id: TypeId,
     node: NodeId,
     step: &PathStep,
-    lead: &Lead,
+    way: &Way,
 ) -> Option<Place>
     requires known { id < length schema.now.trees }
     requires node { IsNodeOf arena.now node }
-    requires lead { IsLead schema.now id step.now lead.now }
+    requires way { IsWay schema.now id step.now way.now }
     ensures led { IfSome result (IsLed schema.now arena.now id node (step.now ∷ [])) }
     ensures none { IfNone result (LeadsNowhere schema.now arena.now id node (step.now ∷ [])) }
 {
     // A legal type has at most 126 levels, so that the index fits.
     let _legal = schema.ty(id);
-    let index = Gindex::root().placed(schema, id, step, lead.number);
+    let index = way.index_below(Gindex::root());
     let Some(found) = arena.down(node, index) else {
         return None;
     };
     Some(Place {
-        id: lead.part,
+        id: way.part,
         node: found,
         index,
-        spot: step_spot(schema, id, step),
+        spot: way.spot,
     })
-}
-
-// Where the part that the step leads to lies in its node, where the step fits.
-fn step_spot(schema: &Schema, id: TypeId, step: &PathStep) -> Spot
-    requires { id < length schema.now.trees }
-    ensures { spot_of result ≡ step_spot (type_of schema.now id) step.now }
-{
-    match step {
-        PathStep::Index(i) => match schema.ty(id) {
-            Ty::Vector(elem, _) | Ty::List(elem, _) => element_spot(schema, *elem, *i),
-            Ty::Bitvector(_) | Ty::Bitlist(_) => Spot::Bit((*i % 256) as u8),
-            _ => Spot::Whole,
-        },
-        _ => Spot::Whole,
-    }
-}
-
-// Where element i of this type lies.
-fn element_spot(schema: &Schema, elem: TypeId, i: u64) -> Spot
-    requires { elem < length schema.now.trees }
-    ensures { spot_of result ≡ element_spot (basic_size (type_of schema.now elem)) i }
-{
-    match schema.basic_size(elem) {
-        Some(size) => Spot::Byte((u128::from(i) * u128::from(size) % 32) as u8),
-        None => Spot::Whole,
-    }
 }

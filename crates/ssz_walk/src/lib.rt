@@ -12,6 +12,7 @@ mod finding;
 mod mixed;
 mod place;
 mod present;
+mod way;
 
 pub use field::find_field;
 pub use finding::{find, step_place};
