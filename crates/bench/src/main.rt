@@ -8,7 +8,7 @@
 mod repeats;
 
 use anyhow::{Result, bail};
-use bench_nodes::{arena, edit, tree, versions};
+use bench_nodes::{arena, edit, finding, tree, versions};
 use bench_proofs::{loads, partial, prove};
 use bench_values::{pairs, root, schema, script, slices};
 use std::alloc::{AllocError, Global};
@@ -24,6 +24,7 @@ fn work(rt: &HostRuntime, words: &[String]) -> Result<()> {
     match name.as_str() {
         "arena" => arena::run(rt, words),
         "edit" => edit::run(rt, words),
+        "find" => finding::run(rt, words),
         "loads" => loads::run(rt, words),
         "pairs" => pairs::run(rt, words),
         "partial" => partial::run(rt, words),

@@ -3,6 +3,7 @@
 
 pub mod arena;
 pub mod edit;
+pub mod finding;
 mod nodes;
 mod numbers;
 pub mod reading;

@@ -17,6 +17,26 @@ pub fn push_element(path: &mut Vec<PathStep>) -> Result<(), AllocError> {
     Ok(())
 }
 
+// Lets the path go on to the element of this number, or to the field of this name.
+fn push_step(path: &mut Vec<PathStep>, word: &str) -> Result<(), AllocError> {
+    match word.parse() {
+        Ok(number) => {
+            path.push(PathStep::Index(number))?;
+            Ok(())
+        }
+        Err(_) => push_field(path, word),
+    }
+}
+
+/// The path of a text: a slash before each step, which is a number or a field's name.
+pub fn path_of(alloc: Global, text: &str) -> Result<Vec<PathStep>, AllocError> {
+    let mut path = Vec::new(alloc);
+    for word in text.split('/').skip(1) {
+        push_step(&mut path, word)?;
+    }
+    Ok(path)
+}
+
 /// The path to this field of the first element.
 pub fn element_field(alloc: Global, name: &str) -> Result<Vec<PathStep>, AllocError> {
     let mut path = Vec::new(alloc);
