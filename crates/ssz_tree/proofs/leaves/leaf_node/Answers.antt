@@ -6,11 +6,11 @@ use Rattle.ssz_tree.specs.Added.{MakesNode}
 use Rattle.ssz_tree.proofs.Adding.{makes_leaf, makes_zero}
 use Rattle.ssz_tree.proofs.leaves.leaf_node.Goals as goal
 
-pub returns-then-eq : goal.returns-then-eq
-returns-then-eq g c =
+pub returns-then-is_zero : goal.returns-then-is_zero
+returns-then-is_zero g c =
     let e = c.zero.ensures in
     let zero : c.args.chunk.now.0 ≡ zero_chunk =
-    (bytes_eq-Decides c.args.chunk.now.0 zero_chunk).0 (sym c.eq.ensures ∙ c.if-eq.true) in
+    (bytes_eq-Decides c.args.chunk.now.0 zero_chunk).0 (sym c.is_zero.ensures ∙ c.if-is_zero.true) in
     subst (λ bytes. MakesNode c.args.arena.now c.args.arena.now (chunk_part bytes) c.zero.result)
     (sym zero) (makes_zero c.args.arena.now c.zero.result e.node e.tree e.todo)
 
