@@ -1,5 +1,5 @@
 -- The values of the places that are still to come.
-use Rattle.std.proofs.Common.{ℕ, suc, ◌+◌, ◌-◌, ◌^◌, ◌<◌, ◌≤◌, ◌≡◌, min, ◌*◌, List, [], ◌∷◌, ◌++◌, length, map, drop, get_or, sum_by, Option, Some, None, refl, sym, ap, ◌∙◌, subst, arith, length-append, zero-mul}
+use Rattle.std.proofs.Common.{ℕ, suc, ◌+◌, ◌-◌, ◌^◌, ◌<◌, ◌≤◌, ◌≡◌, min, ◌*◌, List, [], ◌∷◌, length, map, drop, get_or, sum_by, Option, Some, None, refl, sym, ap, ◌∙◌, subst, arith, length-append, zero-mul}
 use Rattle.std.specs.List.{AllByRecursion, concat}
 use Rattle.std.proofs.lemmas.List.{length-map, length-drop, drop_all, drop_more}
 use Rattle.std.proofs.lemmas.List.Sums.{sum_by-cons}

@@ -1,4 +1,4 @@
-use Rattle.std.proofs.Common.{List, take, ap, ◌∙◌}
+use Rattle.std.proofs.Common.{take, ap, ◌∙◌}
 use Rattle.ssz_arena.specs.Content.{tree_of}
 use Rattle.ssz_nodes.proofs.Chunked.{LastChunk, first_chunk}
 use Rattle.ssz_nodes.proofs.chunks.few_bytes.Goals as goal
