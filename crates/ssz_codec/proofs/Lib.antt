@@ -1,6 +1,7 @@
 pub mod OptionLemmas
 pub mod ByteLemmas
 pub mod BitLemmas
+pub mod CleanLemmas
 pub mod ReadLemmas
 pub mod LengthLemmas
 pub mod WritingLemmas

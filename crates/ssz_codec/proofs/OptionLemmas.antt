@@ -1,17 +1,9 @@
 -- The value of the option that a union's bytes choose.
-use Rattle.std.proofs.Common.{ℕ, zero, suc, ◌+◌, ◌<◌, ◌≡◌, List, [], ◌∷◌, length, get_or, drop, slice_get, Option, Some, None, Result, cond, ltb, refl, sym, ap, ◌∙◌, arith}
-use Rattle.ssz_schema.specs.Types.{SszType, Options, union}
+use Rattle.std.proofs.Common.{ℕ, zero, suc, ◌<◌, ◌≡◌, List, [], ◌∷◌, length, get_or, drop, slice_get, Option, Some, None, refl, ap, arith}
+use Rattle.ssz_schema.specs.Types.{SszType, union}
 use Rattle.ssz_schema.specs.Unfolding.{type_tree_at, options_over}
-use Rattle.ssz_value.specs.declared.value.Value.{Value}
 use Rattle.ssz_value.specs.Values.{chosen, chosen_none}
-use Rattle.ssz_value.specs.Standing.{Stands}
-use Rattle.ssz_value.specs.Faults.{first_fault}
-use Rattle.ssz_bytes.specs.Faults.{extra}
 use Rattle.ssz_value.specs.Reading.{value_in, option_in}
-use Rattle.ssz_parts.proofs.UnionLemmas.{union_none}
-use Rattle.ssz_codec.specs.declared.fault.DecodeFault.{DecodeFault}
-use Rattle.ssz_codec.specs.Answers.{Decodes}
-use Rattle.ssz_codec.proofs.ReadLemmas.{Decodes-map}
 
 option_in-none : (trees : List SszType) (ids : List (Option ℕ)) (left k : ℕ) (b : List ℕ)
     → Some None ≡ slice_get ids left → option_in (options_over trees ids) left k b ≡ chosen_none k
@@ -43,23 +35,3 @@ pub union_no_value : (trees : List SszType) (ids : List (Option ℕ)) (b : List 
     → value_in (union (options_over trees ids)) b ≡ chosen_none (get_or b 0 0)
 union_no_value trees ids [] some e = absurd (omega arith)
 union_no_value trees ids (k ∷ b) some e = option_in-none trees ids k k b e
-
-pub none_decodes : (trees : List SszType) (ids : List (Option ℕ)) (s : ℕ) (b rest : List ℕ)
-    (r : Result Value DecodeFault) → 0 < length b → Some None ≡ slice_get ids (get_or b 0 0)
-    → rest ≡ drop 1 b
-    → Decodes (cond (ltb 0 (length rest)) (extra (s + 1)) None) (λ v. (os : Options)
-    → Stands (union os) (chosen_none (get_or b 0 0)) v) r
-    → Decodes (first_fault (union (options_over trees ids)) s b)
-    (Stands (union (options_over trees ids)) (value_in (union (options_over trees ids)) b)) r
-none_decodes trees ids s b rest r some e is h =
-    Decodes-map _ _ (λ v. (os : Options)
-    → Stands (union os) (chosen_none (get_or b 0 0)) v)
-    (Stands (union (options_over trees ids)) (value_in (union (options_over trees ids)) b)) r h
-    (ap (λ (bytes : List ℕ). cond (ltb 0 (length bytes)) (extra (s + 1)) None) is
-    ∙ sym (union_none trees ids s b some e))
-    (λ v all. record {
-      value =
-          (all (options_over trees ids)).value ∙ sym (union_no_value trees ids b some e);
-      formed =
-          (all (options_over trees ids)).formed;
-    })

@@ -1,40 +1,23 @@
 -- Parts that are read one after another.
-use Rattle.std.proofs.Common.{ℕ, ◌+◌, ◌-◌, ◌*◌, ◌<◌, ◌≤◌, ◌≡◌, List, [], ◌∷◌, ◌++◌, length, map, replicate, slice_range, drop, get_or, Option, Some, None, Result, Ok, Err, IfOk, sym, ap, ap₂, subst, ◌∙◌, arith, append_assoc, refl}
+use Rattle.std.proofs.Common.{ℕ, ◌+◌, ◌-◌, ◌*◌, ◌<◌, ◌≤◌, ◌≡◌, List, [], ◌∷◌, ◌++◌, length, map, replicate, slice_range, drop, get_or, Option, Some, None, sym, ap, ap₂, subst, ◌∙◌, arith, append_assoc, refl}
 use Rattle.std.proofs.lemmas.List.{append-nil, drop_all}
-use Rattle.ssz_schema.specs.Types.{SszType, list, vector}
-use Rattle.ssz_schema.specs.Sizes.{head_size, fixed_size}
+use Rattle.ssz_schema.specs.Types.{SszType}
+use Rattle.ssz_schema.specs.Sizes.{head_size}
 use Rattle.ssz_schema.specs.format.Format.{Format}
 use Rattle.ssz_schema.specs.Legal.{IsLegal}
 use Rattle.ssz_schema.specs.Unfolding.{type_tree_at, fields_over}
-use Rattle.ssz_bytes.specs.declared.fault.Fault.{Fault}
 use Rattle.ssz_value.specs.declared.value.Value.{Value}
-use Rattle.ssz_value.specs.Values.{SszValue, sequence, values, Fits}
+use Rattle.ssz_value.specs.Values.{SszValue, values, Fits}
 use Rattle.ssz_value.specs.Laws.{Encodes}
 use Rattle.ssz_value.proofs.Agree.{IsInput}
 use Rattle.ssz_value.proofs.ExactLaw.{agrees}
 use Rattle.ssz_value.specs.Standing.{value_of, Stands, IsValue}
-use Rattle.ssz_value.specs.Faults.{first_fault, elements_fault, element_count, count_fault, scopes, scope_bytes, offset_at, next_offset, ◌otherwise◌}
+use Rattle.ssz_value.specs.Faults.{first_fault, scopes, scope_bytes}
 use Rattle.ssz_value.specs.Reading.{value_in, elements_in, fields_in}
 use Rattle.ssz_parts.specs.Ranges.{part_range}
 use Rattle.ssz_parts.proofs.ElementFaults.{left}
 use Rattle.ssz_schema.proofs.WalkFields.{drop_at}
 use Rattle.ssz_value.proofs.PartLemmas.{Part, sizes_of, size_at}
-use Rattle.ssz_codec.specs.declared.fault.DecodeFault.{DecodeFault}
-use Rattle.ssz_codec.specs.declared.fault.DecodeFault.TheVariants.{Bad, Memory}
-use Rattle.ssz_codec.specs.Answers.{Decodes, Faulty}
-
--- an error of a part is one of the whole
-pub error_of_part : (part whole : Option Fault) (e : DecodeFault) → Faulty part e
-    → ((f : Fault) → part ≡ Some f → whole ≡ Some f) → Faulty whole e
-error_of_part part whole (Bad f) h found = found f h
-error_of_part part whole Memory h found = tt
-
--- the same answer, of the same fault
-pub Decodes-map : {X : Type 0} (old new : Option Fault) (P Q : X
-    → Type 0) (r : Result X DecodeFault) → Decodes old P r → old ≡ new → ((x : X) → P x → Q x)
-    → Decodes new Q r
-Decodes-map old new P Q (Ok x) h e step = (sym e ∙ h.0, step x h.1)
-Decodes-map old new P Q (Err f) h e step = subst (λ (fault : Option Fault). Faulty fault f) e h
 
 -- the values read, and those of the parts from element i on, are all
 pub record ReadFrom (t : SszType) (size : Option ℕ) (count : ℕ) (b : List ℕ) (i place : ℕ)
@@ -68,29 +51,6 @@ ReadFrom-fixed t z count b i values v h below is =
           (scopes (replicate (count - (i + 1)) (Some z)) ((i + 1) * z) b)))
           ∙ ap (λ w. values ++ w ∷ map (value_in t)
           (scope_bytes (scopes (replicate (count - (i + 1)) (Some z)) ((i + 1) * z) b))) is
-          ∙ sym (ap (λ parts. values ++ map (value_in t) (scope_bytes parts)) cut) ∙ h.all;
-    }
-
-pub ReadFrom-variable : (t : SszType) (count : ℕ) (b : List ℕ) (i : ℕ) (values : List SszValue)
-    (v : SszValue) → ReadFrom t None count b i (4 * i) values → i < count
-    → v ≡ value_in t (slice_range b (offset_at b (4 * i))
-    (next_offset (replicate (count - (i + 1)) None) (4 * i + 4) b))
-    → ReadFrom t None count b (i + 1) (4 * (i + 1)) (values ++ v ∷ [])
-ReadFrom-variable t count b i values v h below is =
-    let next : 4 * i + 4 ≡ 4 * (i + 1) = omega arith in
-    let here : List ℕ = slice_range b (offset_at b (4 * i))
-    (next_offset (replicate (count - (i + 1)) None) (4 * i + 4) b) in
-    let cut : scopes (replicate (count - i) None) (4 * i) b
-    ≡ (offset_at b (4 * i), here) ∷ scopes (replicate (count - (i + 1)) None) (4 * (i + 1)) b =
-    ap (λ n. scopes (replicate n None) (4 * i) b) (left count i below)
-    ∙ ap (λ place. (offset_at b (4 * i), here) ∷ scopes
-    (replicate (count - (i + 1)) None) place b) next in
-    record {
-      all = append_assoc values (v ∷ [])
-          (map (value_in t) (scope_bytes
-          (scopes (replicate (count - (i + 1)) None) (4 * (i + 1)) b)))
-          ∙ ap (λ w. values ++ w ∷ map (value_in t)
-          (scope_bytes (scopes (replicate (count - (i + 1)) None) (4 * (i + 1)) b))) is
           ∙ sym (ap (λ parts. values ++ map (value_in t) (scope_bytes parts)) cut) ∙ h.all;
     }
 
@@ -160,49 +120,16 @@ FieldsRead-end trees parts b i place values h all =
     (ap (λ ps. values ++ fields_in (fields_over trees ps)
     (scope_bytes (scopes (sizes_of trees ps) place b))) (drop_all i parts all)) ∙ h.all
 
--- the values of one part more
--- a list whose number of elements is right
-pub list_decodes : (t : SszType) (limit count s : ℕ) (b : List ℕ) (size : Option ℕ)
-    (r : Result Value DecodeFault) → size ≡ fixed_size t → count ≡ element_count size b
-    → None ≡ count_fault size limit s b
-    → Decodes (elements_fault (first_fault t) (fixed_size t) count s b)
-    (Stands (vector t count)
-    (sequence (values (map (value_in t) (elements_in (fixed_size t) count b))))) r
-    → Decodes (first_fault (list t limit) s b) (Stands (list t limit) (value_in (list t limit) b)) r
-list_decodes t limit count s b size r e number none h =
-    let count_is : count ≡ element_count (fixed_size t) b =
-    number ∙ ap (λ z. element_count z b) e in
-    let clean : count_fault (fixed_size t) limit s b ≡ None =
-    sym (none ∙ ap (λ z. count_fault z limit s b) e) in
-    let fault : elements_fault (first_fault t) (fixed_size t) count s b
-    ≡ first_fault (list t limit) s b =
-    ap (λ n. elements_fault (first_fault t) (fixed_size t) n s b) count_is
-    ∙ sym (ap (λ f. f otherwise elements_fault (first_fault t) (fixed_size t)
-    (element_count (fixed_size t) b) s b) clean) in
-    Decodes-map _ _ (Stands (vector t count)
-    (sequence (values (map (value_in t) (elements_in (fixed_size t) count b)))))
-    (Stands (list t limit) (value_in (list t limit) b)) r h fault
-    (λ v is. record {
-      value =
-          is.value ∙ ap (λ n. sequence (values (map (value_in t) (elements_in (fixed_size t) n b))))
-          count_is;
-      formed = is.formed;
-    })
-
 -- what is decoded is a value whose encoding the bytes are
-pub decoded_encodes : (format : Format) (t : SszType) (b : List ℕ) (r : Result Value DecodeFault)
-    → IsLegal format t → IsInput b → Decodes (first_fault t 0 b) (Stands t (value_in t b)) r
-    → IfOk r (λ v. Encodes t (value_of v) b)
-decoded_encodes format t b (Ok v) legal input h =
-    let back = (agrees format t legal).only 0 b input h.0 in
-    subst (λ (w : SszValue). Encodes t w b) (sym h.1.value)
+pub decoded_encodes : (format : Format) (t : SszType) (b : List ℕ) (v : Value) → IsLegal format t
+    → IsInput b → first_fault t 0 b ≡ None → Stands t (value_in t b) v → Encodes t (value_of v) b
+decoded_encodes format t b v legal input none h =
+    let back = (agrees format t legal).only 0 b input none in
+    subst (λ (w : SszValue). Encodes t w b) (sym h.value)
     (record { fits = back.fits; bytes = back.bytes })
-decoded_encodes format t b (Err e) legal input h = tt
 
-pub decoded_fits : (format : Format) (t : SszType) (b : List ℕ) (r : Result Value DecodeFault)
-    → IsLegal format t → IsInput b → Decodes (first_fault t 0 b) (Stands t (value_in t b)) r
-    → IfOk r (IsValue t)
-decoded_fits format t b (Ok v) legal input h =
-    let back = (agrees format t legal).only 0 b input h.0 in
-    record { fits = subst (Fits t) (sym h.1.value) back.fits; formed = h.1.formed }
-decoded_fits format t b (Err e) legal input h = tt
+pub decoded_fits : (format : Format) (t : SszType) (b : List ℕ) (v : Value) → IsLegal format t
+    → IsInput b → first_fault t 0 b ≡ None → Stands t (value_in t b) v → IsValue t v
+decoded_fits format t b v legal input none h =
+    let back = (agrees format t legal).only 0 b input none in
+    record { fits = subst (Fits t) (sym h.value) back.fits; formed = h.formed }

@@ -1,38 +1,25 @@
 //! Values of basic types and of bits, read from bytes.
-ghost use Rattle.std.specs.Prelude.{◌≡◌, ◌≢◌, ◌+◌, ◌*◌, ◌<◌, ◌≤◌, ◌^◌, length, map, Some, IfOk};
-ghost use Rattle.std.specs.Result.{result_err};
+ghost use Rattle.std.specs.Prelude.{◌≡◌, ◌≢◌, ◌+◌, ◌*◌, ◌/◌, ◌<◌, ◌≤◌, ◌^◌, length, IfOk, OnOk, vec_len, vec_capacity};
 ghost use Rattle.ssz_schema.specs.width.Width.TheVariants.{W8, W64, W256};
 ghost use Rattle.ssz_schema.specs.Types.{uint, boolean, vector, bitvector, bitlist};
 ghost use Rattle.ssz_schema.specs.Sizes.{byte_count};
 ghost use Rattle.ssz_bytes.specs.Bytes.{le_number, bits_of_number};
 ghost use Rattle.ssz_value.specs.Values.{sequence, values};
-ghost use Rattle.ssz_value.specs.Faults.{first_fault, elements_fault, element_count, count_fault};
-ghost use Rattle.ssz_value.specs.Reading.{value_in, elements_in};
+ghost use Rattle.ssz_value.specs.Reading.{value_in};
 ghost use Rattle.ssz_value.specs.Standing.{Stands};
-ghost use Rattle.ssz_codec.specs.Answers.{AreNumbers, Decodes, DecodesTo};
+ghost use Rattle.ssz_value.specs.Shapes.{StandsBehind};
+ghost use Rattle.ssz_parts.specs.PartValues.{element_values};
+ghost use Rattle.ssz_codec.specs.Answers.{AreNumbers};
 
-use super::fault::DecodeFault;
-use ssz_basic::{bit, read_bitlist, read_bitvector, read_bool, read_uint};
-use ssz_bytes::{BitRun, ByteRun, Fault};
+use ssz_basic::{bit, bitlist_len, read_uint};
+use ssz_bytes::{BitRun, ByteRun};
 use ssz_chunk::Chunk;
-use ssz_parts::length_fault;
 use ssz_schema::Width;
 use ssz_value::Value;
 use std::alloc::{AllocError, Global};
 
-/// The number of the bytes, which begin at start.
-pub fn number(width: Width, start: u64, bytes: &[u8]) -> Result<Value, DecodeFault>
-    requires { start + length bytes.now < 2 ^ 32 }
-    ensures { DecodesTo (uint width) start bytes.now result }
-{
-    if let Some(fault) = length_fault(width.byte_count(), start, bytes) {
-        return Err(DecodeFault::Bad(fault));
-    }
-    Ok(number_in(width, bytes))
-}
-
-// The number of this width that these bytes encode.
-fn number_in(width: Width, bytes: &[u8]) -> Value
+/// The number of this width that the bytes encode.
+pub fn number(width: Width, bytes: &[u8]) -> Value
     requires { length bytes.now ≡ byte_count width }
     ensures { Stands (uint width) (value_in (uint width) bytes.now) result }
 {
@@ -41,6 +28,22 @@ fn number_in(width: Width, bytes: &[u8]) -> Value
         Width::W64 => narrow_in(Width::W64, bytes),
         Width::W256 => wide_in(bytes),
         _ => narrow_in(width, bytes),
+    }
+}
+
+/// Puts it behind the others, for which there is room.
+#[inline(always)]
+pub fn put_number(width: Width, bytes: &[u8], parts: &mut Vec<Value>)
+    requires exact { length bytes.now ≡ byte_count width }
+    requires room { vec_len parts.old < vec_capacity parts.old }
+    ensures put { let t = uint width in
+        StandsBehind t (value_in t bytes.now) parts.old.items parts.new.items }
+    ensures len { vec_len parts.new ≡ vec_len parts.old + 1 }
+    ensures capacity { vec_capacity parts.new ≡ vec_capacity parts.old }
+{
+    match width {
+        Width::W64 => parts.push_reserved(narrow_in(Width::W64, bytes)),
+        _ => parts.push_reserved(number(width, bytes)),
     }
 }
 
@@ -134,45 +137,30 @@ fn wide_numbers(alloc: Global, count: u64, bytes: &[u8]) -> Result<Vec<Value>, A
     Ok(parts)
 }
 
-/// The boolean of the bytes, which begin at start.
-pub fn boolean(start: u64, bytes: &[u8]) -> Result<Value, DecodeFault>
-    requires { start + length bytes.now < 2 ^ 32 }
-    ensures { DecodesTo boolean start bytes.now result }
+/// The boolean that the bytes encode.
+pub fn boolean(bytes: &[u8]) -> Value
+    requires { length bytes.now ≡ 1 }
+    ensures { Stands boolean (value_in boolean bytes.now) result }
 {
-    if let Some(fault) = length_fault(1, start, bytes) {
-        return Err(DecodeFault::Bad(fault));
-    }
-    match read_bool(bytes[0], start) {
-        Ok(flag) => Ok(Value::Bool(flag)),
-        Err(fault) => Err(DecodeFault::Bad(fault)),
-    }
+    Value::Bool(bytes[0] == 1)
 }
 
-/// The n bits of the bytes, which begin at start.
-pub fn bitvector(alloc: Global, n: u64, start: u64, bytes: &[u8]) -> Result<Value, DecodeFault>
-    requires some { 0 < n }
+/// The n bits that the bytes encode.
+pub fn bitvector(alloc: Global, n: u64, bytes: &[u8]) -> Result<Value, AllocError>
     requires few { n ≤ 2 ^ 32 }
-    requires short { start + length bytes.now < 2 ^ 32 }
-    ensures { DecodesTo (bitvector n) start bytes.now result }
+    requires exact { length bytes.now ≡ (n + 7) / 8 }
+    ensures { let t = bitvector n in IfOk result (Stands t (value_in t bytes.now)) }
 {
-    if let Some(fault) = length_fault((n + 7) / 8, start, bytes) {
-        return Err(DecodeFault::Bad(fault));
-    }
-    if let Err(fault) = read_bitvector(bytes, n, start) {
-        return Err(DecodeFault::Bad(fault));
-    }
     Ok(Value::Bits(read_bits(alloc, n, bytes)?))
 }
 
-/// The bits of the bytes, which begin at start, below their delimiter.
-pub fn bitlist(alloc: Global, limit: u64, start: u64, bytes: &[u8]) -> Result<Value, DecodeFault>
-    requires { start + length bytes.now < 2 ^ 32 }
-    ensures { DecodesTo (bitlist limit) start bytes.now result }
+/// The bits that the bytes, of which there is one, encode below their delimiter.
+pub fn bitlist(alloc: Global, limit: u64, bytes: &[u8]) -> Result<Value, AllocError>
+    requires some { 0 < length bytes.now }
+    requires short { length bytes.now < 2 ^ 32 }
+    ensures { let t = bitlist limit in IfOk result (Stands t (value_in t bytes.now)) }
 {
-    match read_bitlist(bytes, limit, start) {
-        Ok(n) => Ok(Value::Bits(read_bits(alloc, n, bytes)?)),
-        Err(fault) => Err(DecodeFault::Bad(fault)),
-    }
+    Ok(Value::Bits(read_bits(alloc, bitlist_len(bytes), bytes)?))
 }
 
 // The first n bits of the bytes.
@@ -187,37 +175,25 @@ fn read_bits(alloc: Global, n: u64, bytes: &[u8]) -> Result<BitRun, AllocError>
     Ok(BitRun::from_bits(bits))
 }
 
-/// How many elements of one byte a list has, or that they are too many.
+/// The bytes as elements of one byte, as many as there are.
 #[inline(always)]
-pub fn count_bytes(limit: u64, start: u64, bytes: &[u8]) -> Result<u64, Fault>
-    ensures ok { IfOk result (λ n. n ≡ element_count (Some 1) bytes.now) }
-    ensures fault { result_err result ≡ count_fault (Some 1) limit start bytes.now }
+pub fn bytes_run(alloc: Global, bytes: &[u8]) -> Result<Value, AllocError>
+    ensures { let count = length bytes.now in let t = uint W8 in IfOk result
+        (Stands (vector t count) (sequence (values (element_values t count bytes.now)))) }
 {
-    let len = bytes.len() as u64;
-    if limit < len {
-        return Err(Fault {
-            code: Fault::TOO_MANY,
-            position: start,
-        });
-    }
-    Ok(len)
+    Ok(Value::Bytes(ByteRun::copy_of(alloc, bytes)?))
 }
 
-/// Count elements of one byte, which begin at start.
-pub fn byte_elements(
-    alloc: Global,
-    count: u64,
-    start: u64,
-    bytes: &[u8],
-) -> Result<Value, DecodeFault>
-    requires { start + length bytes.now < 2 ^ 32 }
-    ensures { Decodes (elements_fault (first_fault (uint W8)) (Some 1) count start bytes.now)
-        (Stands (vector (uint W8) count)
-        (sequence (values (map (value_in (uint W8)) (elements_in (Some 1) count bytes.now)))))
-        result }
+/// Puts them behind the others, for which there is room.
+#[inline(always)]
+pub fn put_bytes(alloc: Global, bytes: &[u8], parts: &mut Vec<Value>) -> Result<(), AllocError>
+    requires { vec_len parts.old < vec_capacity parts.old }
+    ensures put { let count = length bytes.now in let t = uint W8 in OnOk result
+        (StandsBehind (vector t count) (sequence (values (element_values t count bytes.now)))
+        parts.old.items parts.new.items) }
+    ensures len { OnOk result (vec_len parts.new ≡ vec_len parts.old + 1) }
+    ensures capacity { OnOk result (vec_capacity parts.new ≡ vec_capacity parts.old) }
 {
-    if let Some(fault) = length_fault(count, start, bytes) {
-        return Err(DecodeFault::Bad(fault));
-    }
-    Ok(Value::Bytes(ByteRun::copy_of(alloc, bytes)?))
+    parts.push_reserved(bytes_run(alloc, bytes)?);
+    Ok(())
 }
