@@ -1,7 +1,7 @@
 -- Values that are read one after another.
 use Rattle.std.proofs.Common.{ℕ, ◌+◌, ◌%◌, ◌^◌, ◌<◌, ◌≤◌, ◌≡◌, List, [], ◌∷◌, ◌++◌, length, map, get_or, slice_get, Option, Some, None, Vec, Global, Bool, false, Result, Ok, Err, slice_range, inl, inr, refl, sym, ap, ap₂, ◌∙◌, subst, arith, append_assoc}
 use Rattle.std.specs.List.{AllByRecursion}
-use Rattle.std.specs.Prelude.{IfOk}
+use Rattle.std.specs.Prelude.{IfOk, OnOk}
 use Rattle.std.specs.declared.boxed.Box.{Box}
 use Rattle.std.specs.declared.alloc.AllocError.{AllocError}
 use Rattle.ssz_schema.specs.Indices.{whole}
@@ -172,25 +172,31 @@ as_list : (elem : SszType) (limit n : ℕ) (w : SszValue) (result : Result Value
 as_list elem limit n w (Ok v) h = record { value = h.value; formed = h.formed }
 as_list elem limit n w (Err e) h = h
 
+-- what is said of all elements is said of the vector
+pub vector_each : (elem : SszType) (n d : ℕ) (node : Tree) (P : SszValue → Type 0)
+    → d ≡ depth (vector elem n) → ForElements elem d n node (λ vs. P (sequence (values vs)))
+    → ForValue (vector elem n) node P
+vector_each elem n d node P deep read = λ v h.
+    let of : IsVector elem n v node = vector_elements elem n v node h in
+    let same : sequence (values (items of.parts)) ≡ v =
+    ap sequence (values-items of.parts) ∙ sym of.is in
+    subst P same (read (items of.parts)
+    (subst (λ k. AreElements elem k n (items of.parts) node) (sym deep) of.are))
+
 pub vector_read : (elem : SszType) (n d : ℕ) (node : Tree) (result : Result Value AllocError)
     → d ≡ depth (vector elem n)
     → ForElements elem d n node (λ vs. Reads (vector elem n) (sequence (values vs)) result)
     → ForValue (vector elem n) node (λ v. Reads (vector elem n) v result)
-vector_read elem n d node result deep read = λ v h.
-    let of : IsVector elem n v node = vector_elements elem n v node h in
-    let same : sequence (values (items of.parts)) ≡ v =
-    ap sequence (values-items of.parts) ∙ sym of.is in
-    subst (λ (w : SszValue). Reads (vector elem n) w result) same
-    (read (items of.parts)
-    (subst (λ k. AreElements elem k n (items of.parts) node) (sym deep) of.are))
+vector_read elem n d node result deep read =
+    vector_each elem n d node (λ v. Reads (vector elem n) v result) deep read
 
-pub list_read : (format : Format) (elem : SszType) (limit d count : ℕ) (node content : Tree)
-    (result : Result Value AllocError) → IsLegal format (list elem limit)
-    → d ≡ depth (list elem limit) → Unmixes node content count
-    → ForElements elem d count content
-    (λ vs. Reads (vector elem count) (sequence (values vs)) result)
-    → ForValue (list elem limit) node (λ v. Reads (list elem limit) v result)
-list_read format elem limit d count node content result legal deep mixed read = λ v h.
+-- and of the list
+pub list_each : (format : Format) (elem : SszType) (limit d count : ℕ) (node content : Tree)
+    (P : SszValue → Type 0) → IsLegal format (list elem limit) → d ≡ depth (list elem limit)
+    → Unmixes node content count
+    → ForElements elem d count content (λ vs. P (sequence (values vs)))
+    → ForValue (list elem limit) node P
+list_each format elem limit d count node content P legal deep mixed read = λ v h.
     let of : IsList elem limit v node = list_elements format elem limit v node legal h in
     let same : sequence (values (items of.parts)) ≡ v =
     ap sequence (values-items of.parts) ∙ sym of.is in
@@ -201,9 +207,28 @@ list_read format elem limit d count node content result legal deep mixed read = 
     (subst (λ k. AreElements elem (depth (list elem limit)) k (items of.parts) content) (sym many)
     (subst (λ c. AreElements elem (depth (list elem limit)) (length (items of.parts))
     (items of.parts) c) (sym under) of.are)) in
-    subst (λ (w : SszValue). Reads (list elem limit) w result) same
-    (as_list elem limit count (sequence (values (items of.parts))) result
-    (read (items of.parts) are))
+    subst P same (read (items of.parts) are)
+
+pub list_read : (format : Format) (elem : SszType) (limit d count : ℕ) (node content : Tree)
+    (result : Result Value AllocError) → IsLegal format (list elem limit)
+    → d ≡ depth (list elem limit) → Unmixes node content count
+    → ForElements elem d count content
+    (λ vs. Reads (vector elem count) (sequence (values vs)) result)
+    → ForValue (list elem limit) node (λ v. Reads (list elem limit) v result)
+list_read format elem limit d count node content result legal deep mixed read =
+    list_each format elem limit d count node content (λ v. Reads (list elem limit) v result) legal
+    deep mixed (λ vs are. as_list elem limit count (sequence (values vs)) result (read vs are))
+
+-- what stands for the elements of a vector stands for those of a list
+pub list_behind : {E : Type 0} (elem : SszType) (limit count : ℕ) (w : SszValue)
+    (old new : List Value) (r : Result Unit E) → OnOk r (StandsBehind (vector elem count) w old new)
+    → OnOk r (StandsBehind (list elem limit) w old new)
+list_behind elem limit count w old new (Ok done) h = record {
+  value = h.value;
+  items = h.items;
+  stands = record { value = h.stands.value; formed = h.stands.formed };
+}
+list_behind elem limit count w old new (Err e) h = tt
 
 pub container_read : (fs : Fields) (d : ℕ) (node : Tree) (result : Result Value AllocError)
     → d ≡ depth (container fs)

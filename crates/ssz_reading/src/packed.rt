@@ -2,13 +2,15 @@
 ghost use Rattle.std.specs.Prelude.{ℕ, ◌≡◌, ◌+◌, ◌*◌, ◌<◌, ◌≤◌, ◌^◌, ◌++◌, Bool, false, List, length, map, take, drop, slice_index_or, vec_len, vec_capacity, IfOk, OnOk, Some};
 ghost use Rattle.std.specs.List.{AllByRecursion, concat};
 ghost use Rattle.ssz_schema.specs.width.Width.TheVariants.{W8};
-ghost use Rattle.ssz_schema.specs.Types.{uint};
+ghost use Rattle.ssz_schema.specs.Types.{uint, vector};
+ghost use Rattle.ssz_chunk.specs.Tree.{Tree, leaf};
 ghost use Rattle.ssz_schema.specs.Sizes.{basic_size};
-ghost use Rattle.ssz_value.specs.Values.{SszValue, number, Fits};
+ghost use Rattle.ssz_value.specs.Values.{SszValue, number, sequence, values, Fits};
 ghost use Rattle.ssz_value.specs.Encoding.{serialize};
 ghost use Rattle.ssz_value.specs.Standing.{value_of};
+ghost use Rattle.ssz_value.specs.Shapes.{StandsBehind};
 ghost use Rattle.ssz_arena.specs.Content.{IsNodeOf, tree_of};
-ghost use Rattle.ssz_nodes.specs.Shown.{AreBits, AreElements, ForElements, basic_type, bit_in, chunk_from};
+ghost use Rattle.ssz_nodes.specs.Shown.{AreBits, AreElements, ForElements, ForValue, basic_type, bit_in, chunk_from};
 
 use ssz_arena::Arena;
 use ssz_bytes::{BitRun, ByteRun};
@@ -19,6 +21,7 @@ use ssz_value::Value;
 use std::alloc::{AllocError, Global};
 
 /// Count bytes. Those of one chunk take no memory.
+#[inline(always)]
 pub fn read_bytes<H: PairHash>(
     alloc: Global,
     arena: &Arena<H>,
@@ -33,9 +36,71 @@ pub fn read_bytes<H: PairHash>(
     if count <= 32 {
         return ByteRun::copy_of(alloc, few_bytes(arena, top, count as usize));
     }
+    read_more(alloc, arena, top, count)
+}
+
+// The same of any number, which take memory of their own.
+#[inline(never)]
+fn read_more<H: PairHash>(
+    alloc: Global,
+    arena: &Arena<H>,
+    top: Top,
+    count: u64,
+) -> Result<ByteRun, AllocError>
+    requires depth { top.depth < 64 }
+    requires node { IsNodeOf arena.now top.node }
+    ensures { ForElements (uint W8) top.depth count (tree_of arena.now top.node)
+        (λ vs. IfOk result (λ run. map number run ≡ vs)) }
+{
     let mut bytes = Vec::with_capacity(alloc, count as usize)?;
     append_chunks(arena, top, u128::from(count), &mut bytes)?;
     Ok(ByteRun::from_bytes(bytes))
+}
+
+/// Puts count bytes behind the parts, for which there is room, as one of them: those of one chunk
+/// in their place.
+#[inline(always)]
+pub fn put_bytes<H: PairHash>(
+    alloc: Global,
+    arena: &Arena<H>,
+    top: Top,
+    count: u64,
+    parts: &mut Vec<Value>,
+) -> Result<(), AllocError>
+    requires depth { top.depth < 64 }
+    requires node { IsNodeOf arena.now top.node }
+    requires room { vec_len parts.old < vec_capacity parts.old }
+    ensures put { ForElements (uint W8) top.depth count (tree_of arena.now top.node)
+        (λ vs. OnOk result (StandsBehind (vector (uint W8) count) (sequence (values vs))
+        parts.old.items parts.new.items)) }
+    ensures len { OnOk result (vec_len parts.new ≡ vec_len parts.old + 1) }
+    ensures capacity { OnOk result (vec_capacity parts.new ≡ vec_capacity parts.old) }
+{
+    if count <= 32 {
+        let bytes = few_bytes(arena, top, count as usize);
+        parts.push_reserved(Value::Bytes(ByteRun::copy_of(alloc, bytes)?));
+        return Ok(());
+    }
+    let bytes = read_more(alloc, arena, top, count)?;
+    parts.push_reserved(Value::Bytes(bytes));
+    Ok(())
+}
+
+/// Puts the number of the chunk of a leaf behind the parts, for which there is room.
+#[inline(always)]
+pub fn put_number(width: Width, chunk: &Chunk, parts: &mut Vec<Value>)
+    requires { vec_len parts.old < vec_capacity parts.old }
+    ensures put { (node : Tree) → ((bytes : List ℕ) → node ≡ leaf bytes → chunk.now.0 ≡ bytes)
+        → ForValue (uint width) node (λ v. StandsBehind (uint width) v parts.old.items
+        parts.new.items) }
+    ensures len { vec_len parts.new ≡ vec_len parts.old + 1 }
+    ensures capacity { vec_capacity parts.new ≡ vec_capacity parts.old }
+{
+    match width {
+        // The commonest, by a reader that knows the width.
+        Width::W64 => parts.push_reserved(Basic::Number(Width::W64).value_at(chunk, 0)),
+        _ => parts.push_reserved(Basic::Number(width).value_at(chunk, 0)),
+    }
 }
 
 /// Count values of a basic type.

@@ -10,7 +10,7 @@ ghost use Rattle.ssz_value.specs.Standing.{Stands};
 ghost use Rattle.ssz_arena.specs.Content.{IsNodeOf, tree_of};
 ghost use Rattle.ssz_nodes.specs.Shown.{ForValue, ForElements, ForFields};
 
-use super::packed::{read_bits, read_bytes, read_packed};
+use super::packed::{put_bytes, put_number, read_bits, read_bytes, read_packed};
 use ssz_arena::{Arena, NodeId};
 use ssz_chunk::PairHash;
 use ssz_nodes::{Basic, Places, Row, Top, chunk_of};
@@ -54,10 +54,40 @@ pub fn read_value<H: PairHash>(
     }
 }
 
-// Puts the value whose tree the node has behind the others, for which there is room. A form that is
-// known here is built in its place.
+// Puts the value whose tree the node has behind the others, for which there is room: of an element,
+// so that a container, too, is built in its place without a call.
 #[cycle(value)]
+#[inline(always)]
 fn put<H: PairHash>(
+    alloc: Global,
+    arena: &Arena<H>,
+    schema: &Schema,
+    id: TypeId,
+    node: NodeId,
+    parts: &mut Vec<Value>,
+) -> Result<(), AllocError>
+    requires known { id < length schema.now.trees }
+    requires node { IsNodeOf arena.now node }
+    requires room { vec_len parts.old < vec_capacity parts.old }
+    ensures put { let t = type_of schema.now id in ForValue t (tree_of arena.now node)
+        (λ v. OnOk result (StandsBehind t v parts.old.items parts.new.items)) }
+    ensures len { OnOk result (vec_len parts.new ≡ vec_len parts.old + 1) }
+    ensures capacity { OnOk result (vec_capacity parts.new ≡ vec_capacity parts.old) }
+{
+    if let Ty::Container(fields) = schema.ty(id) {
+        let depth = schema.depth(id);
+        let fields = fields.as_slice();
+        let value = read_fields(alloc, arena, schema, id, fields, Top { node, depth })?;
+        parts.push_reserved(value);
+        return Ok(());
+    }
+    put_field(alloc, arena, schema, id, node, parts)
+}
+
+// The same of a field: numbers, booleans, vectors and lists, the commonest, without a call.
+#[cycle(value)]
+#[inline(always)]
+fn put_field<H: PairHash>(
     alloc: Global,
     arena: &Arena<H>,
     schema: &Schema,
@@ -75,8 +105,7 @@ fn put<H: PairHash>(
 {
     match schema.ty(id) {
         Ty::Uint(width) => {
-            let value = Basic::Number(*width).value_at(chunk_of(arena, node), 0);
-            parts.push_reserved(value);
+            put_number(*width, chunk_of(arena, node), parts);
             Ok(())
         }
         Ty::Boolean => {
@@ -86,28 +115,73 @@ fn put<H: PairHash>(
         }
         Ty::Vector(elem, n) => {
             let depth = schema.depth(id);
-            let value = read_sequence(alloc, arena, schema, *elem, Top { node, depth }, *n)?;
-            parts.push_reserved(value);
-            Ok(())
+            put_sequence(alloc, arena, schema, *elem, Top { node, depth }, *n, parts)
         }
         Ty::List(elem, _) => {
-            let value = read_list(alloc, arena, schema, id, *elem, node)?;
-            parts.push_reserved(value);
-            Ok(())
+            let (content, count) = mixed_parts(arena, node);
+            let inner = Top {
+                node: content,
+                depth: schema.depth(id),
+            };
+            put_sequence(alloc, arena, schema, *elem, inner, count, parts)
         }
-        Ty::Container(fields) => {
-            let depth = schema.depth(id);
-            let fields = fields.as_slice();
-            let value = read_fields(alloc, arena, schema, id, fields, Top { node, depth })?;
-            parts.push_reserved(value);
-            Ok(())
-        }
-        _ => {
-            let value = read_value(alloc, arena, schema, id, node)?;
-            parts.push_reserved(value);
-            Ok(())
-        }
+        _ => put_other(alloc, arena, schema, id, node, parts),
     }
+}
+
+// Puts the same of count elements in a full tree: of bytes, the commonest, without a call.
+// Seven parameters, since the list or vector is known by the type of its elements alone.
+#[cycle(value)]
+#[inline(always)]
+fn put_sequence<H: PairHash>(
+    alloc: Global,
+    arena: &Arena<H>,
+    schema: &Schema,
+    elem: TypeId,
+    top: Top,
+    count: u64,
+    parts: &mut Vec<Value>,
+) -> Result<(), AllocError>
+    requires known { elem < length schema.now.trees }
+    requires depth { top.depth < 64 }
+    requires node { IsNodeOf arena.now top.node }
+    requires room { vec_len parts.old < vec_capacity parts.old }
+    ensures put { let t = type_of schema.now elem in
+        ForElements t top.depth count (tree_of arena.now top.node) (λ vs. OnOk result
+        (StandsBehind (vector t count) (sequence (values vs)) parts.old.items parts.new.items)) }
+    ensures len { OnOk result (vec_len parts.new ≡ vec_len parts.old + 1) }
+    ensures capacity { OnOk result (vec_capacity parts.new ≡ vec_capacity parts.old) }
+{
+    if is_byte(schema, elem) {
+        return put_bytes(alloc, arena, top, count, parts);
+    }
+    let value = read_sequence(alloc, arena, schema, elem, top, count)?;
+    parts.push_reserved(value);
+    Ok(())
+}
+
+// The same of the other forms.
+#[cycle(value)]
+#[inline(never)]
+fn put_other<H: PairHash>(
+    alloc: Global,
+    arena: &Arena<H>,
+    schema: &Schema,
+    id: TypeId,
+    node: NodeId,
+    parts: &mut Vec<Value>,
+) -> Result<(), AllocError>
+    requires known { id < length schema.now.trees }
+    requires node { IsNodeOf arena.now node }
+    requires room { vec_len parts.old < vec_capacity parts.old }
+    ensures put { let t = type_of schema.now id in ForValue t (tree_of arena.now node)
+        (λ v. OnOk result (StandsBehind t v parts.old.items parts.new.items)) }
+    ensures len { OnOk result (vec_len parts.new ≡ vec_len parts.old + 1) }
+    ensures capacity { OnOk result (vec_capacity parts.new ≡ vec_capacity parts.old) }
+{
+    let value = read_value(alloc, arena, schema, id, node)?;
+    parts.push_reserved(value);
+    Ok(())
 }
 
 // Of a list of these elements, whose type stands before id.
@@ -139,7 +213,7 @@ fn read_list<H: PairHash>(
 
 // Of count elements in a full tree.
 #[cycle(value)]
-#[inline(always)]
+#[inline(never)]
 fn read_sequence<H: PairHash>(
     alloc: Global,
     arena: &Arena<H>,
@@ -200,6 +274,7 @@ fn read_elements<H: PairHash>(
 
 // Of these fields, whose types stand before id, in a full tree.
 #[cycle(value)]
+#[inline(always)]
 fn read_fields<H: PairHash>(
     alloc: Global,
     arena: &Arena<H>,
@@ -220,7 +295,7 @@ fn read_fields<H: PairHash>(
     let row = Row::of(arena, top);
     for (i, field) in fields.iter().enumerate() {
         let part = row.place(arena, top, i);
-        put(alloc, arena, schema, field.1, part, &mut parts)?;
+        put_field(alloc, arena, schema, field.1, part, &mut parts)?;
     }
     Ok(Value::Seq(parts))
 }

@@ -1,11 +1,13 @@
-use Rattle.std.proofs.Common.{◌%◌, ◌<◌, ◌≤◌, ◌≡◌, length, slice_get, List, Some, None, Ok, refl, sym, ap, ◌∙◌, subst, arith, rules}
+use Rattle.std.proofs.Common.{OnOk, ◌%◌, ◌<◌, ◌≤◌, ◌≡◌, length, slice_get, List, Some, None, Ok, refl, sym, ap, ◌∙◌, subst, arith, rules}
 use Rattle.std.specs.List.{AllByRecursion}
 use Rattle.ssz_schema.specs.Types.{SszType, container, vector, list, bitvector, bitlist, union, uint}
 use Rattle.ssz_schema.specs.Sizes.{depth, byte_count}
 use Rattle.ssz_schema.specs.Unfolding.{type_of, tree_over, fields_over, options_over, AreBelow}
 use Rattle.ssz_schema.specs.Legal.{IsLegal}
 use Rattle.ssz_value.specs.declared.value.Value.{Value}
+use Rattle.ssz_value.specs.Values.{sequence, values}
 use Rattle.ssz_value.specs.Standing.{Stands}
+use Rattle.ssz_value.specs.Shapes.{StandsBehind}
 use Rattle.ssz_value.specs.declared.value.Value.TheVariants.{Bits}
 use Rattle.ssz_value.proofs.PartLemmas.{Part, part_known}
 use Rattle.ssz_packing.proofs.Options.{below_at}
@@ -13,7 +15,7 @@ use Rattle.ssz_arena.specs.Content.{tree_of}
 use Rattle.ssz_nodes.specs.Shown.{ForValue, basic_type}
 use Rattle.ssz_nodes.proofs.Formed.{union_few}
 use Rattle.ssz_nodes.proofs.Walked.{at_place}
-use Rattle.ssz_reading.proofs.Parts.{Reads, ElementsRead, ElementsRead-start, ElementsRead-more, ElementsRead-end, FieldsRead, FieldsRead-start, FieldsRead-more, FieldsRead-end, vector_read, list_read, container_read, bitvector_read, bitlist_read, basic_read, packed_read, basic_formed, option_read, none_read}
+use Rattle.ssz_reading.proofs.Parts.{Reads, ElementsRead, ElementsRead-start, ElementsRead-more, ElementsRead-end, FieldsRead, FieldsRead-start, FieldsRead-more, FieldsRead-end, vector_read, list_read, vector_each, list_each, list_behind, container_read, bitvector_read, bitlist_read, basic_read, packed_read, basic_formed, option_read, none_read}
 use Rattle.ssz_reading.proofs.reading.+value.Goals as goal
 
 pub read_elements-loop-i-init : goal.read_elements-loop-i-init
@@ -60,8 +62,8 @@ read_elements-returns g t c = λ vs are.
     c.loop-i.parts.items c.loop-i.places (c.loop-i.invariant.values vs are)
     (omega (arith, are.many, c.loop-i-test.false))
 
-pub read_fields-put-requires : goal.read_fields-put-requires
-read_fields-put-requires g t c =
+pub read_fields-put_field-requires : goal.read_fields-put_field-requires
+read_fields-put_field-requires g t c =
     let below : c.index-fields-i.result.1 < c.args.id =
     part_known c.args.id c.args.fields.now c.loop-i.i c.index-fields-i.result c.loop-i-test.true
     c.index-fields-i.is c.requires.before in
@@ -73,16 +75,16 @@ pub read_fields-loop-i-preserved : goal.read_fields-loop-i-preserved
 read_fields-loop-i-preserved g t c = record {
   values = λ vs are.
       FieldsRead-more c.args.schema.now.trees c.args.fields.now vs c.loop-i.i c.args.top.depth
-      c.index-fields-i.result c.loop-i.parts.items c.put.new.parts.items
+      c.index-fields-i.result c.loop-i.parts.items c.put_field.new.parts.items
       (tree_of c.args.arena.now c.args.top.node)
       (c.loop-i.invariant.values vs are) c.loop-i-test.true c.index-fields-i.is
-      (λ v h. c.in_ok-put.ensures.put v
+      (λ v h. c.in_ok-put_field.ensures.put v
       (at_place (type_of c.args.schema.now c.index-fields-i.result.1) c.args.top.depth c.loop-i.i v
       (tree_of c.args.arena.now c.args.top.node) (tree_of c.args.arena.now
       c.place-part.result)
       h c.place-part.ensures.tree));
-  count = omega (arith, c.in_ok-put.ensures.len, c.loop-i.invariant.count);
-  room = omega (arith, c.in_ok-put.ensures.capacity, c.loop-i.invariant.room);
+  count = omega (arith, c.in_ok-put_field.ensures.len, c.loop-i.invariant.count);
+  room = omega (arith, c.in_ok-put_field.ensures.capacity, c.loop-i.invariant.room);
 }
 
 pub read_fields-returns : goal.read_fields-returns
@@ -255,63 +257,65 @@ read_chosen-read_value-requires g t c =
     (Some c.in-Some-Some.option) here c.requires.before in
     search rules
 
-pub put-returns-in-Uint-clause-put : goal.put-returns-in-Uint-clause-put
-put-returns-in-Uint-clause-put g t c =
+pub put_field-returns-in-Uint-clause-put : goal.put_field-returns-in-Uint-clause-put
+put_field-returns-in-Uint-clause-put g t c =
     let form : uint c.in-Uint.width ≡ type_of c.args.schema.now c.args.id =
     ap (tree_over c.args.schema.now.trees) (sym c.in-Uint.is) ∙ c.ty.ensures.form in
-    λ v h. record {
-      value = c.value_at-value.result;
-      items = c.push_reserved.ensures.items;
-      stands = subst (λ ty. ForValue ty (tree_of c.args.arena.now c.args.node)
-          (λ w. Stands ty w c.value_at-value.result)) form
-          (basic_read (uint c.in-Uint.width) (byte_count c.in-Uint.width)
-          (tree_of c.args.arena.now c.args.node) c.chunk_of.result.now.0 c.value_at-value.result
-          refl (λ v. tt) c.chunk_of.ensures c.value_at-value.ensures) v h;
-    }
+    subst (λ ty. ForValue ty (tree_of c.args.arena.now c.args.node)
+    (λ v. StandsBehind ty v c.args.parts.now.items c.put_number.new.parts.items)) form
+    (c.put_number.ensures.put (tree_of c.args.arena.now c.args.node) c.chunk_of.ensures)
 
-pub put-returns-in_ok-value-in-Vector-clause-put : goal.put-returns-in_ok-value-in-Vector-clause-put
-put-returns-in_ok-value-in-Vector-clause-put g t c =
+-- of the form that the type is found to have, the value is put
+pub put_field-returns-in-Vector-clause-put : goal.put_field-returns-in-Vector-clause-put
+put_field-returns-in-Vector-clause-put g t c =
+    let elem : SszType = type_of c.args.schema.now c.in-Vector.elem in
     let form : vector (type_of c.args.schema.now c.in-Vector.elem) c.in-Vector.n
     ≡ type_of c.args.schema.now c.args.id =
     ap (tree_over c.args.schema.now.trees) (sym c.in-Vector.is) ∙ c.ty.ensures.form in
-    λ v h. record {
-      value = c.in_ok-value-in-Vector.value;
-      items = c.push_reserved-in-Vector.ensures.items;
-      stands = subst (λ ty. ForValue ty (tree_of c.args.arena.now c.args.node)
-          (λ w. Stands ty w c.in_ok-value-in-Vector.value)) form
-          (vector_read (type_of c.args.schema.now c.in-Vector.elem) c.in-Vector.n
-          c.depth-depth.result (tree_of c.args.arena.now c.args.node)
-          (Ok c.in_ok-value-in-Vector.value)
-          (c.depth-depth.ensures.exact ∙ ap depth (sym form))
-          c.in_ok-value-in-Vector.ensures) v h;
-    }
+    subst (λ ty. ForValue ty (tree_of c.args.arena.now c.args.node)
+    (λ v. OnOk c.put_sequence.result
+    (StandsBehind ty v c.args.parts.now.items c.put_sequence.new.parts.items))) form
+    (vector_each elem c.in-Vector.n c.depth-depth.result (tree_of c.args.arena.now c.args.node)
+    (λ v. OnOk c.put_sequence.result (StandsBehind (vector elem c.in-Vector.n) v
+    c.args.parts.now.items c.put_sequence.new.parts.items))
+    (c.depth-depth.ensures.exact ∙ ap depth (sym form)) c.put_sequence.ensures.put)
 
-pub put-returns-in_ok-value-in-List-clause-put : goal.put-returns-in_ok-value-in-List-clause-put
-put-returns-in_ok-value-in-List-clause-put g t c =
+pub put_field-returns-in-List-clause-put : goal.put_field-returns-in-List-clause-put
+put_field-returns-in-List-clause-put g t c =
+    let elem : SszType = type_of c.args.schema.now c.in-List.elem in
     let form : list (type_of c.args.schema.now c.in-List.elem) c.in-List.field-1
     ≡ type_of c.args.schema.now c.args.id =
     ap (tree_over c.args.schema.now.trees) (sym c.in-List.is) ∙ c.ty.ensures.form in
-    λ v h. record {
-      value = c.in_ok-value-in-List.value;
-      items = c.push_reserved-in-List.ensures.items;
-      stands = c.in_ok-value-in-List.ensures c.in-List.field-1 (sym form) v h;
-    }
+    subst (λ ty. ForValue ty (tree_of c.args.arena.now c.args.node)
+    (λ v. OnOk c.put_sequence-in-List.result
+    (StandsBehind ty v c.args.parts.now.items c.put_sequence-in-List.new.parts.items))) form
+    (list_each c.args.schema.now.format elem c.in-List.field-1 c.depth.result
+    c.mixed_parts-count.result.1 (tree_of c.args.arena.now c.args.node)
+    (tree_of c.args.arena.now c.mixed_parts-count.result.0)
+    (λ v. OnOk c.put_sequence-in-List.result (StandsBehind (list elem c.in-List.field-1) v
+    c.args.parts.now.items c.put_sequence-in-List.new.parts.items))
+    (subst (IsLegal c.args.schema.now.format) (sym form) c.ty.ensures.legal)
+    (c.depth.ensures.exact ∙ ap depth (sym form))
+    (record {
+      tree = c.mixed_parts-count.ensures.tree;
+      number = c.mixed_parts-count.ensures.number;
+    })
+    (λ vs are. list_behind elem c.in-List.field-1 c.mixed_parts-count.result.1
+    (sequence (values vs)) c.args.parts.now.items c.put_sequence-in-List.new.parts.items
+    c.put_sequence-in-List.result (c.put_sequence-in-List.ensures.put vs are)))
 
-pub put-returns-in_ok-value-in-Container-clause-put :
-    goal.put-returns-in_ok-value-in-Container-clause-put
-put-returns-in_ok-value-in-Container-clause-put g t c =
+pub put-returns-in-Container-clause-put : goal.put-returns-in-Container-clause-put
+put-returns-in-Container-clause-put g t c =
     let form : container (fields_over c.args.schema.now.trees c.as_slice-fields.result.now)
     ≡ type_of c.args.schema.now c.args.id =
     ap (λ fs. container (fields_over c.args.schema.now.trees fs)) c.as_slice-fields.ensures.value
     ∙ ap (tree_over c.args.schema.now.trees) (sym c.in-Container.is) ∙ c.ty.ensures.form in
     λ v h. record {
-      value = c.in_ok-value-in-Container.value;
-      items = c.push_reserved-in-Container.ensures.items;
+      value = c.in_ok-value.value;
+      items = c.push_reserved.ensures.items;
       stands = subst (λ ty. ForValue ty (tree_of c.args.arena.now c.args.node)
-          (λ w. Stands ty w c.in_ok-value-in-Container.value)) form
+          (λ w. Stands ty w c.in_ok-value.value)) form
           (container_read (fields_over c.args.schema.now.trees c.as_slice-fields.result.now)
-          c.depth-depth-in-Container.result (tree_of c.args.arena.now c.args.node)
-          (Ok c.in_ok-value-in-Container.value)
-          (c.depth-depth-in-Container.ensures.exact ∙ ap depth (sym form))
-          c.in_ok-value-in-Container.ensures) v h;
+          c.depth-depth.result (tree_of c.args.arena.now c.args.node) (Ok c.in_ok-value.value)
+          (c.depth-depth.ensures.exact ∙ ap depth (sym form)) c.in_ok-value.ensures) v h;
     }
