@@ -10,8 +10,8 @@ use Rattle.ssz_arena.specs.declared.node.NodeId.{NodeId}
 use Rattle.ssz_arena.specs.declared.node.Node.{Node}
 use Rattle.ssz_arena.specs.declared.node.Node.TheVariants.{Leaf, Pair}
 use Rattle.ssz_arena.specs.Batches.{halves_of, left_child, right_child}
-use Rattle.ssz_arena.specs.Content.{is_unhashed}
-use Rattle.ssz_arena.specs.Stored.{chunk_of, link_count, first_link, links_with, links_at, pair_in, node_with, no_chunk, node_in, nodes_in, IsStored, pair_links, blocks_for}
+use Rattle.ssz_arena.specs.Content.{child, is_unhashed}
+use Rattle.ssz_arena.specs.Stored.{chunk_of, shape_of, count_of, link_count, first_link, mark_of, links_with, links_at, first_at, pair_in, node_with, no_chunk, node_in, nodes_in, IsStored, pair_shape, pair_links, blocks_for}
 
 -- ---- the node at a place
 
@@ -66,28 +66,172 @@ pair_in-kept chunk link right low =
     ap (λ t. cond t (Pair (record { 0 = link - 2 ^ 31 }) (record { 0 = right }) None)
     (Pair (record { 0 = link }) (record { 0 = right }) (Some chunk))) not
 
+-- ---- marks
+
+pub mark_of-marked : (link : ℕ) → 2 ^ 31 ≤ link → mark_of link ≡ 2 ^ 31
+mark_of-marked link marked = ap (λ t. cond t (2 ^ 31) 0) (le-leb (2 ^ 31) link marked)
+
+pub mark_of-low : (link : ℕ) → link < 2 ^ 31 → mark_of link ≡ 0
+mark_of-low link low =
+    let not : leb (2 ^ 31) link ≡ false = grind (arith, nat_tests) in
+    ap (λ t. cond t (2 ^ 31) 0) not
+
+-- as it is reckoned
+pub mark_of-rest : (link : ℕ) → link < 2 ^ 32 → link - mark_of link ≡ link % 2 ^ 31
+mark_of-rest link fits = elim (cases_lt link (2 ^ 31)) [
+  | inl low ↦ omega (arith, low, mark_of-low link low)
+  | inr marked ↦ omega (arith, marked, fits, mark_of-marked link marked)
+]
+
+pub mark_of-is : (link : ℕ) → link < 2 ^ 32 → mark_of link ≡ link - link % 2 ^ 31
+mark_of-is link fits = elim (cases_lt link (2 ^ 31)) [
+  | inl low ↦ omega (arith, low, mark_of-low link low)
+  | inr marked ↦ omega (arith, marked, fits, mark_of-marked link marked)
+]
+
+-- ---- shapes
+
+count-three : (shape : ℕ) → shape ≡ 3 → count_of shape ≡ 1
+count-three shape three = ap (λ t. cond t 1 shape) (eq-eqb shape 3 three)
+
+count-other : (shape : ℕ) → shape ≢ 3 → count_of shape ≡ shape
+count-other shape other =
+    let not : eqb shape 3 ≡ false = grind (arith, nat_tests) in
+    ap (λ t. cond t 1 shape) not
+
+-- a leaf alone has no links
+pub count_some : (shape : ℕ) → 0 < shape → 0 < count_of shape
+count_some shape some = elim (cases_eq shape 3) [
+  | inl three ↦ omega (arith, count-three shape three)
+  | inr other ↦ omega (arith, some, count-other shape other)
+]
+
+pub some_count : (shape : ℕ) → 0 < count_of shape → 0 < shape
+some_count shape some = elim (cases_eq shape 3) [
+  | inl three ↦ omega (arith, three)
+  | inr other ↦ omega (arith, some, count-other shape other)
+]
+
+pub count_few : (shape : ℕ) → shape < 4 → count_of shape < 3
+count_few shape few = elim (cases_eq shape 3) [
+  | inl three ↦ omega (arith, count-three shape three)
+  | inr other ↦ omega (arith, few, other, count-other shape other)
+]
+
+count_many : (shape : ℕ) → shape ≢ 0 → shape ≢ 1 → shape ≢ 3 → 1 < count_of shape
+count_many shape some near other = omega (arith, some, near, count-other shape other)
+
 -- ---- links
 
-abbrev of_links : Bool → Bool → ℕ → ℕ → ℕ → Option (ℕ × ℕ)
-of_links none one x y z = cond none None (Some (x, cond one z y))
+abbrev of_links : Bool → Bool → Bool → ℕ → ℕ → ℕ → Option (ℕ × ℕ)
+of_links none right left i x y =
+    cond none None (cond right (Some (x, i - 1))
+    (cond left (Some (i - 1 + mark_of x, x - mark_of x)) (Some (x, y))))
 
-two_links : (none one : Bool) (x y x' y' z : ℕ) → (none ≡ false → x' ≡ x)
-    → (none ≡ false → one ≡ false → y' ≡ y) → of_links none one x' y' z ≡ of_links none one x y z
-two_links true one x y x' y' z left right = refl
-two_links false true x y x' y' z left right = ap (λ a. of_links false true a y z) (left refl)
-two_links false false x y x' y' z left right =
-    ap (λ a. of_links false false a y' z) (left refl)
-    ∙ ap (λ b. of_links false false x b z) (right refl refl)
+two_links : (none right left : Bool) (i x y x' y' : ℕ) → (none ≡ false → x' ≡ x)
+    → (none ≡ false → right ≡ false → left ≡ false → y' ≡ y)
+    → of_links none right left i x' y' ≡ of_links none right left i x y
+two_links true right left i x y x' y' one two = refl
+two_links false true left i x y x' y' one two =
+    ap (λ a. of_links false true left i a y) (one refl)
+two_links false false true i x y x' y' one two =
+    ap (λ a. of_links false false true i a y) (one refl)
+two_links false false false i x y x' y' one two =
+    ap (λ a. of_links false false false i a y') (one refl)
+    ∙ ap (λ b. of_links false false false i x b) (two refl refl refl)
 
 -- the links of a node are the same in both lists
-pub links_with-as : (count first : ℕ) (ls ls' : List ℕ) (i : ℕ)
-    → (0 < count → get_or ls' first 0 ≡ get_or ls first 0)
-    → (1 < count → get_or ls' (first + 1) 0 ≡ get_or ls (first + 1) 0)
-    → links_with count first ls' i ≡ links_with count first ls i
-links_with-as count first ls ls' i left right =
-    two_links (eqb count 0) (eqb count 1) _ _ _ _ (i - 1)
-    (λ some. let more : 0 < count = grind (arith, nat_tests) in left more)
-    (λ some many. let more : 1 < count = grind (arith, nat_tests) in right more)
+pub links_with-as : (shape first : ℕ) (ls ls' : List ℕ) (i : ℕ)
+    → (0 < count_of shape → get_or ls' first 0 ≡ get_or ls first 0)
+    → (1 < count_of shape → get_or ls' (first + 1) 0 ≡ get_or ls (first + 1) 0)
+    → links_with shape first ls' i ≡ links_with shape first ls i
+links_with-as shape first ls ls' i left right =
+    two_links (eqb shape 0) (eqb shape 1) (eqb shape 3) i _ _ _ _
+    (λ some. let more : 0 < shape = grind (arith, nat_tests) in left (count_some shape more))
+    (λ some near other.
+    let more : shape ≢ 0 = grind (arith, nat_tests) in
+    let not_near : shape ≢ 1 = grind (arith, nat_tests) in
+    let not_left : shape ≢ 3 = grind (arith, nat_tests) in
+    right (count_many shape more not_near not_left))
+
+-- the children of a pair, of which the left one has the mark, by its first and its second link
+abbrev left_of : ℕ → ℕ → ℕ → ℕ
+left_of shape i x = cond (eqb shape 1) x (cond (eqb shape 3) (i - 1 + mark_of x) x)
+
+abbrev right_of : ℕ → ℕ → ℕ → ℕ → ℕ
+right_of shape i x y = cond (eqb shape 1) (i - 1) (cond (eqb shape 3) (x - mark_of x) y)
+
+pair_seen : (chunk : Chunk) (shape first : ℕ) (ls : List ℕ) (i : ℕ) → 0 < shape
+    → node_with chunk (links_with shape first ls i)
+    ≡ pair_in chunk (left_of shape i (get_or ls first 0))
+    (right_of shape i (get_or ls first 0) (get_or ls (first + 1) 0))
+pair_seen chunk shape first ls i some =
+    let not : eqb shape 0 ≡ false = grind (arith, nat_tests) in
+    let x : ℕ = get_or ls first 0 in
+    let y : ℕ = get_or ls (first + 1) 0 in
+    ap (λ t. node_with chunk (of_links t (eqb shape 1) (eqb shape 3) i x y)) not
+    ∙ apart_by (eqb shape 1) (eqb shape 3) x y
+  where
+    apart_by : (right left : Bool) (x y : ℕ)
+        → node_with chunk (of_links false right left i x y)
+        ≡ pair_in chunk (cond right x (cond left (i - 1 + mark_of x) x))
+        (cond right (i - 1) (cond left (x - mark_of x) y))
+    apart_by true left x y = refl
+    apart_by false true x y = refl
+    apart_by false false x y = refl
+
+leaf_seen : (chunk : Chunk) (shape first : ℕ) (ls : List ℕ) (i : ℕ) → shape ≡ 0
+    → node_with chunk (links_with shape first ls i) ≡ Leaf chunk
+leaf_seen chunk shape first ls i none =
+    ap (λ t. node_with chunk (of_links t (eqb shape 1) (eqb shape 3) i (get_or ls first 0)
+    (get_or ls (first + 1) 0))) (eq-eqb shape 0 none)
+
+-- the mark of the first link is that of the left child
+module _ (shape i x : ℕ) (few : i ≤ 2 ^ 31) where
+  left_low : x < 2 ^ 31 → left_of shape i x < 2 ^ 31
+  left_low low =
+      let before : i - 1 + mark_of x < 2 ^ 31 = omega (arith, few, mark_of-low x low) in
+      by (eqb shape 1) (eqb shape 3) before
+    where
+      by : (right left : Bool) → i - 1 + mark_of x < 2 ^ 31
+          → cond right x (cond left (i - 1 + mark_of x) x) < 2 ^ 31
+      by true left before = low
+      by false true before = before
+      by false false before = low
+
+  left_marked : 2 ^ 31 ≤ x → 2 ^ 31 ≤ left_of shape i x
+  left_marked marked =
+      let before : 2 ^ 31 ≤ i - 1 + mark_of x = omega (arith, mark_of-marked x marked) in
+      by (eqb shape 1) (eqb shape 3) before
+    where
+      by : (right left : Bool) → 2 ^ 31 ≤ i - 1 + mark_of x
+          → 2 ^ 31 ≤ cond right x (cond left (i - 1 + mark_of x) x)
+      by true left before = marked
+      by false true before = before
+      by false false before = marked
+
+  -- without the mark
+  left_unmarked : 2 ^ 31 ≤ x → x < 2 ^ 32 → left_of shape i (x - 2 ^ 31) ≡ left_of shape i x - 2 ^ 31
+  left_unmarked marked fits =
+      let low : x - 2 ^ 31 < 2 ^ 31 = omega (arith, marked, fits) in
+      let before : i - 1 + mark_of (x - 2 ^ 31) ≡ i - 1 + mark_of x - 2 ^ 31 =
+      omega (arith, mark_of-low _ low, mark_of-marked x marked) in
+      by (eqb shape 1) (eqb shape 3) before
+    where
+      by : (right left : Bool) → i - 1 + mark_of (x - 2 ^ 31) ≡ i - 1 + mark_of x - 2 ^ 31
+          → cond right (x - 2 ^ 31) (cond left (i - 1 + mark_of (x - 2 ^ 31)) (x - 2 ^ 31))
+          ≡ cond right x (cond left (i - 1 + mark_of x) x) - 2 ^ 31
+      by true left before = refl
+      by false true before = before
+      by false false before = refl
+
+  right_unmarked : (y : ℕ) → 2 ^ 31 ≤ x → x < 2 ^ 32
+      → right_of shape i (x - 2 ^ 31) y ≡ right_of shape i x y
+  right_unmarked y marked fits =
+      let low : x - 2 ^ 31 < 2 ^ 31 = omega (arith, marked, fits) in
+      let rest : x - 2 ^ 31 - mark_of (x - 2 ^ 31) ≡ x - mark_of x =
+      omega (arith, mark_of-low _ low, mark_of-marked x marked) in
+      ap (λ r. cond (eqb shape 1) (i - 1) (cond (eqb shape 3) r y)) rest
 
 -- ---- a block that begins
 
@@ -132,10 +276,16 @@ begun n ks fs total stored = elim (cases_eq (32 * length fs) n) [
 
 -- ---- one node more, with these links
 
-module _ (n : ℕ) (ks fs : List ℕ) (total : ℕ) (stored : IsStored n ks fs total) (count kind before
+module _ (n : ℕ) (ks fs : List ℕ) (total : ℕ) (stored : IsStored n ks fs total) (shape kind before
     : ℕ)
-    (few : count < 3) (first : n ≡ 0 → count ≢ 1) (byte : kind ≡ count + 4 * before)
+    (small : shape < 4) (first : n ≡ 0 → count_of shape ≢ 1) (byte : kind ≡ shape + 4 * before)
     (sum : get_or (blocks_for fs n total) (n / 32) 0 + before ≡ total) where
+  abbrev count : ℕ
+  count = count_of shape
+
+  few : count < 3
+  few = count_few shape small
+
   abbrev fs' : List ℕ
   fs' = blocks_for fs n total
 
@@ -148,8 +298,11 @@ module _ (n : ℕ) (ks fs : List ℕ) (total : ℕ) (stored : IsStored n ks fs t
   old_kind : (i : ℕ) → i < n → get_or ks' i 0 ≡ get_or ks i 0
   old_kind i h = get_or_append_left ks (kind ∷ []) 0 i (omega (arith, stored.count, h))
 
+  old_shape : (i : ℕ) → i < n → shape_of ks' i ≡ shape_of ks i
+  old_shape i h = ap (λ k. k % 4) (old_kind i h)
+
   old_count : (i : ℕ) → i < n → link_count ks' i ≡ link_count ks i
-  old_count i h = ap (λ k. k % 4) (old_kind i h)
+  old_count i h = ap count_of (old_shape i h)
 
   old_first : (i : ℕ) → i < n → first_link ks' fs' i ≡ first_link ks fs i
   old_first i h =
@@ -157,17 +310,20 @@ module _ (n : ℕ) (ks fs : List ℕ) (total : ℕ) (stored : IsStored n ks fs t
       ap (λ f. f + get_or ks' i 0 / 4) (opened.kept (i / 32) block)
       ∙ ap (λ k. get_or fs (i / 32) 0 + k / 4) (old_kind i h)
 
-  new_kind : get_or ks' n 0 ≡ count + 4 * before
+  new_kind : get_or ks' n 0 ≡ shape + 4 * before
   new_kind = get_or_push ks kind 0 n stored.count ∙ byte
 
-  new_count : link_count ks' n ≡ count
-  new_count =
-      let rest : (count + 4 * before) % 4 ≡ count = omega (arith, few) in
+  new_shape : shape_of ks' n ≡ shape
+  new_shape =
+      let rest : (shape + 4 * before) % 4 ≡ shape = omega (arith, small) in
       ap (λ k. k % 4) new_kind ∙ rest
+
+  new_count : link_count ks' n ≡ count
+  new_count = ap count_of new_shape
 
   new_first : first_link ks' fs' n ≡ total
   new_first =
-      let rest : (count + 4 * before) / 4 ≡ before = omega (arith, few) in
+      let rest : (shape + 4 * before) / 4 ≡ before = omega (arith, small) in
       ap (λ k. get_or fs' (n / 32) 0 + k / 4) new_kind
       ∙ ap (λ k. get_or fs' (n / 32) 0 + k) rest ∙ sum
 
@@ -223,9 +379,9 @@ module _ (n : ℕ) (ks fs : List ℕ) (total : ℕ) (stored : IsStored n ks fs t
 
     old_links : (i : ℕ) → i < n → links_at ks' fs' ls' i ≡ links_at ks fs ls i
     old_links i h =
-        ap (λ c. links_with c (first_link ks' fs' i) ls' i) (old_count i h)
-        ∙ ap (λ f. links_with (link_count ks i) f ls' i) (old_first i h)
-        ∙ links_with-as (link_count ks i) (first_link ks fs i) ls ls' i
+        ap (λ c. links_with c (first_link ks' fs' i) ls' i) (old_shape i h)
+        ∙ ap (λ f. links_with (shape_of ks i) f ls' i) (old_first i h)
+        ∙ links_with-as (shape_of ks i) (first_link ks fs i) ls ls' i
         (λ some. get_or_append_left ls ws 0 (first_link ks fs i)
         (omega (arith, some, stored.inside i h, links)))
         (λ many. get_or_append_left ls ws 0 (first_link ks fs i + 1)
@@ -237,13 +393,13 @@ module _ (n : ℕ) (ks fs : List ℕ) (total : ℕ) (stored : IsStored n ks fs t
         ∙ ap (λ c. node_with c (links_at ks fs ls i))
         (get_or_append_left cs (chunk ∷ []) no_chunk i (omega (arith, h, long)))
 
-    new_node : node_in cs' ks' fs' ls' n ≡ node_with chunk (links_with count total ls' n)
+    new_node : node_in cs' ks' fs' ls' n ≡ node_with chunk (links_with shape total ls' n)
     new_node =
         ap (λ c. node_with c (links_at ks' fs' ls' n)) (get_or_push cs chunk no_chunk n long)
-        ∙ ap (λ c. node_with chunk (links_with c (first_link ks' fs' n) ls' n)) new_count
-        ∙ ap (λ f. node_with chunk (links_with count f ls' n)) new_first
+        ∙ ap (λ c. node_with chunk (links_with c (first_link ks' fs' n) ls' n)) new_shape
+        ∙ ap (λ f. node_with chunk (links_with shape f ls' n)) new_first
 
-    pub pushed_nodes : (node : Node) → node_with chunk (links_with count total ls' n) ≡ node
+    pub pushed_nodes : (node : Node) → node_with chunk (links_with shape total ls' n) ≡ node
         → nodes_in cs' ks' fs' ls' ≡ nodes_in cs ks fs ls ++ node ∷ []
     pushed_nodes node made =
         let old : List Node = nodes_in cs ks fs ls in
@@ -264,44 +420,91 @@ module _ (n : ℕ) (ks fs : List ℕ) (total : ℕ) (stored : IsStored n ks fs t
 
 -- ---- the links of a pair
 
-pub pair_few : (link right n : ℕ) → length (pair_links link right n) < 3
-pair_few link right n = short (eqb (right + 1) n)
+pub pair_few : (left right n : ℕ) → pair_shape left right n < 4
+pair_few left right n = short (eqb (right + 1) n) (eqb (left - mark_of left + 1) n)
   where
-    short : (t : Bool) → length (cond t (link ∷ []) (link ∷ right ∷ [])) < 3
-    short true = omega arith
-    short false = omega arith
+    short : (t u : Bool) → cond t 1 (cond u 3 2) < 4
+    short true u = omega arith
+    short false true = omega arith
+    short false false = omega arith
 
-pub pair_first : (link right n : ℕ) → n ≡ 0 → length (pair_links link right n) ≢ 1
-pair_first link right n none =
+abbrev of_shape : Bool → Bool → ℕ
+of_shape t u = cond t 1 (cond u 3 2)
+
+abbrev of_pair : ℕ → ℕ → Bool → Bool → List ℕ
+of_pair left right t u = cond t (left ∷ []) (cond u ((right + mark_of left) ∷ []) (left ∷ right ∷ []))
+
+pub pair_first : (left right n : ℕ) → n ≡ 0 → count_of (pair_shape left right n) ≢ 1
+pair_first left right n none =
     let not : eqb (right + 1) n ≡ false = grind (arith, nat_tests) in
+    let neither : eqb (left - mark_of left + 1) n ≡ false = grind (arith, nat_tests) in
     λ one. absurd (omega (
       arith,
-      ap (λ t. length (cond t (link ∷ []) (link ∷ right ∷ []))) not,
+      ap (λ t. count_of (of_shape t (eqb (left - mark_of left + 1) n))) not,
+      ap (λ u. count_of (of_shape false u)) neither,
       one,
     ))
 
-pub pair_made : (chunk : Chunk) (ls : List ℕ) (link right n total : ℕ) → length ls ≡ total
-    → node_with chunk (links_with (length (pair_links link right n)) total
-    (ls ++ pair_links link right n) n)
-    ≡ pair_in chunk link right
-pair_made chunk ls link right n total long = elim (cases_eq (right + 1) n) [
+abbrev made_of : Chunk → List ℕ → ℕ → ℕ → ℕ → ℕ → Bool → Bool → Node
+made_of chunk ls left right n total t u =
+    node_with chunk (links_with (of_shape t u) total (ls ++ of_pair left right t u) n)
+
+-- its left child just before it: the mark stands on its right child
+left_made : (chunk : Chunk) (ls : List ℕ) (left right n total : ℕ) → length ls ≡ total
+    → right < 2 ^ 31 → left - mark_of left + 1 ≡ n
+    → made_of chunk ls left right n total false true ≡ pair_in chunk left right
+left_made chunk ls left right n total long short near =
+    let x : ℕ = right + mark_of left in
+    let read : get_or (ls ++ x ∷ []) total 0 ≡ x = get_or_push ls x 0 total long in
+    let same : (mark_of x ≡ mark_of left) × (mark_of left ≤ left) =
+    elim (cases_lt left (2 ^ 31)) [
+      | inl low ↦
+          let none : mark_of left ≡ 0 = mark_of-low left low in
+          (mark_of-low x (omega (arith, short, none)) ∙ sym none, omega (arith, none))
+      | inr marked ↦
+          let one : mark_of left ≡ 2 ^ 31 = mark_of-marked left marked in
+          (mark_of-marked x (omega (arith, one)) ∙ sym one, omega (arith, one, marked))
+    ] in
+    ap (λ k. pair_in chunk (n - 1 + mark_of k) (k - mark_of k)) read
+    ∙ ap (λ l. pair_in chunk l (x - mark_of x)) (omega (arith, same.0, same.1, near))
+    ∙ ap (pair_in chunk left) (omega (arith, same.0))
+
+-- no child just before it
+wide_made : (chunk : Chunk) (ls : List ℕ) (left right n total : ℕ) → length ls ≡ total
+    → made_of chunk ls left right n total false false ≡ pair_in chunk left right
+wide_made chunk ls left right n total long =
+    let one : get_or (ls ++ left ∷ right ∷ []) total 0 ≡ left =
+    ap (λ k. get_or (ls ++ left ∷ right ∷ []) k 0) (omega (arith, long))
+    ∙ get_or-append-add ls (left ∷ right ∷ []) 0 0 in
+    let two : get_or (ls ++ left ∷ right ∷ []) (total + 1) 0 ≡ right =
+    ap (λ k. get_or (ls ++ left ∷ right ∷ []) k 0) (omega (arith, long))
+    ∙ get_or-append-add ls (left ∷ right ∷ []) 1 0 in
+    ap (λ l. pair_in chunk l (get_or (ls ++ left ∷ right ∷ []) (total + 1) 0)) one
+    ∙ ap (pair_in chunk left) two
+
+pub pair_made : (chunk : Chunk) (ls : List ℕ) (left right n total : ℕ) → length ls ≡ total
+    → right < 2 ^ 31
+    → node_with chunk (links_with (pair_shape left right n) total
+    (ls ++ pair_links left right n) n)
+    ≡ pair_in chunk left right
+pair_made chunk ls left right n total long short = elim (cases_eq (right + 1) n) [
   | inl near ↦
-      ap (λ t. node_with chunk (links_with (length (cond t (link ∷ []) (link ∷ right ∷ []))) total
-      (ls ++ cond t (link ∷ []) (link ∷ right ∷ [])) n)) (eq-eqb _ _ near)
-      ∙ ap (λ l. pair_in chunk l (n - 1)) (get_or_push ls link 0 total long)
-      ∙ ap (pair_in chunk link) (omega (arith, near))
-  | inr wide ↦
+      ap (λ t. made_of chunk ls left right n total t (eqb (left - mark_of left + 1) n))
+      (eq-eqb _ _ near)
+      ∙ ap (λ l. pair_in chunk l (n - 1)) (get_or_push ls left 0 total long)
+      ∙ ap (pair_in chunk left) (omega (arith, near))
+  | inr far ↦
       let not : eqb (right + 1) n ≡ false = grind (arith, nat_tests) in
-      let one : get_or (ls ++ link ∷ right ∷ []) total 0 ≡ link =
-      ap (λ k. get_or (ls ++ link ∷ right ∷ []) k 0) (omega (arith, long))
-      ∙ get_or-append-add ls (link ∷ right ∷ []) 0 0 in
-      let two : get_or (ls ++ link ∷ right ∷ []) (total + 1) 0 ≡ right =
-      ap (λ k. get_or (ls ++ link ∷ right ∷ []) k 0) (omega (arith, long))
-      ∙ get_or-append-add ls (link ∷ right ∷ []) 1 0 in
-      ap (λ t. node_with chunk (links_with (length (cond t (link ∷ []) (link ∷ right ∷ []))) total
-      (ls ++ cond t (link ∷ []) (link ∷ right ∷ [])) n)) not
-      ∙ ap (λ l. pair_in chunk l (get_or (ls ++ link ∷ right ∷ []) (total + 1) 0)) one
-      ∙ ap (pair_in chunk link) two
+      ap (λ t. made_of chunk ls left right n total t (eqb (left - mark_of left + 1) n)) not
+      ∙ elim (cases_eq (left - mark_of left + 1) n) [
+        | inl near ↦
+            ap (made_of chunk ls left right n total false) (eq-eqb _ _ near)
+            ∙ left_made chunk ls left right n total long short near
+        | inr wide ↦
+            let neither : eqb (left - mark_of left + 1) n ≡ false = grind (arith, nat_tests) in
+            ap (made_of chunk ls left right n total false) neither
+            ∙ wide_made chunk ls left right n total long
+      ]
 ]
 
 -- ---- what is read at a place
@@ -321,6 +524,97 @@ are_halves (Leaf chunk) left right is = absurd (cc)
 are_halves (Pair a b cached) left right is =
     let same : (left, right) ≡ (a, b) = same_Some _ _ is in
     (ap (λ (k : NodeId × NodeId). k.0) same, ap (λ (k : NodeId × NodeId). k.1) same)
+
+-- of a pair that has no root yet
+pub due_pair : (node : Node) → is_unhashed node ≡ true → (kids : NodeId × NodeId)
+    → Some kids ≡ halves_of node → node ≡ Pair kids.0 kids.1 None
+due_pair (Leaf chunk) due kids is = absurd (cc)
+due_pair (Pair left right (Some chunk)) due kids is = absurd (cc)
+due_pair (Pair left right None) due kids is =
+    let same : kids ≡ (left, right) = same_Some _ _ is in
+    ap (λ (k : NodeId × NodeId). Pair k.0 k.1 None) (sym same)
+
+pub due_halves : (node : Node) → is_unhashed node ≡ true → None ≡ halves_of node → ⊥
+due_halves (Leaf chunk) due none = absurd (cc)
+due_halves (Pair left right cached) due none = absurd (cc)
+
+-- ---- the child to one side
+
+to_right : (chunk : Chunk) (left right : ℕ)
+    → Some (record { 0 = right }) ≡ child true (pair_in chunk left right)
+to_right chunk left right = by (leb (2 ^ 31) left)
+  where
+    by : (t : Bool) → Some (record { 0 = right }) ≡ child true
+        (cond t (Pair (record { 0 = left - 2 ^ 31 }) (record { 0 = right }) None)
+        (Pair (record { 0 = left }) (record { 0 = right }) (Some chunk)))
+    by true = refl
+    by false = refl
+
+to_left : (chunk : Chunk) (left right : ℕ)
+    → Some (record { 0 = left - mark_of left }) ≡ child false (pair_in chunk left right)
+to_left chunk left right = by (leb (2 ^ 31) left)
+  where
+    by : (t : Bool) → Some (record { 0 = left - cond t (2 ^ 31) 0 }) ≡ child false
+        (cond t (Pair (record { 0 = left - 2 ^ 31 }) (record { 0 = right }) None)
+        (Pair (record { 0 = left }) (record { 0 = right }) (Some chunk)))
+    by true = refl
+    by false = ap (λ l. Some (record { 0 = l })) (omega arith)
+
+abbrev at_place : ℕ → Option NodeId
+at_place i = Some (record { 0 = i })
+
+module _ (shape first : ℕ) (ls : List ℕ) (i : ℕ) (chunk : Chunk) where
+  abbrev node_here : ℕ → Node
+  node_here s = node_with chunk (links_with s first ls i)
+
+  pub child_none : (right : Bool) → shape ≡ 0 → None ≡ child right (node_here shape)
+  child_none true none = sym (ap (child true) (leaf_seen chunk shape first ls i none))
+  child_none false none = sym (ap (child false) (leaf_seen chunk shape first ls i none))
+
+  -- just before the pair
+  pub child_before : i ≤ 2 ^ 31 → (right : Bool) → shape ≡ cond right 1 3
+      → at_place (i - 1) ≡ child right (node_here shape)
+  child_before few true one = to_right chunk (get_or ls first 0) (i - 1)
+      ∙ ap (λ s. child true (node_here s)) (sym one)
+  child_before few false three =
+      let x : ℕ = get_or ls first 0 in
+      let less : i - 1 ≡ i - 1 + mark_of x - mark_of (i - 1 + mark_of x) =
+      elim (cases_lt x (2 ^ 31)) [
+        | inl low ↦
+            let none : mark_of x ≡ 0 = mark_of-low x low in
+            omega (arith, none, few, mark_of-low (i - 1 + mark_of x) (omega (arith, none, few)))
+        | inr marked ↦
+            let one : mark_of x ≡ 2 ^ 31 = mark_of-marked x marked in
+            omega (arith, one, mark_of-marked (i - 1 + mark_of x) (omega (arith, one)))
+      ] in
+      ap at_place less ∙ to_left chunk (i - 1 + mark_of x) (x - mark_of x)
+      ∙ ap (λ s. child false (node_here s)) (sym three)
+
+  -- by the second link
+  pub child_second : shape ≡ 2 → at_place (get_or ls (first + 1) 0) ≡ child true (node_here shape)
+  child_second two = to_right chunk (get_or ls first 0) (get_or ls (first + 1) 0)
+      ∙ ap (λ s. child true (node_here s)) (sym two)
+
+  -- by the first link
+  pub child_first : (right : Bool) → get_or ls first 0 < 2 ^ 32 → shape < 4 → shape ≢ 0
+      → shape ≢ cond right 1 3 → (right ≡ true → shape ≢ 2)
+      → at_place (get_or ls first 0 % 2 ^ 31) ≡ child right (node_here shape)
+  child_first true fits few some far wide =
+      let three : shape ≡ 3 = omega (arith, few, some, far, wide refl) in
+      let x : ℕ = get_or ls first 0 in
+      ap at_place (sym (mark_of-rest x fits)) ∙ to_right chunk (i - 1 + mark_of x) (x - mark_of x)
+      ∙ ap (λ s. child true (node_here s)) (sym three)
+  child_first false fits few some far wide = elim (cases_eq shape 1) [
+    | inl one ↦
+        let x : ℕ = get_or ls first 0 in
+        ap at_place (sym (mark_of-rest x fits)) ∙ to_left chunk x (i - 1)
+        ∙ ap (λ s. child false (node_here s)) (sym one)
+    | inr not ↦
+        let two : shape ≡ 2 = omega (arith, few, some, far, not) in
+        let x : ℕ = get_or ls first 0 in
+        ap at_place (sym (mark_of-rest x fits)) ∙ to_left chunk x (get_or ls (first + 1) 0)
+        ∙ ap (λ s. child false (node_here s)) (sym two)
+  ]
 
 pub size_seen : (nodes : List Node) (cs : List Chunk) (ks fs ls : List ℕ)
     → nodes_in cs ks fs ls ≡ nodes → length nodes ≡ length cs
@@ -361,6 +655,56 @@ module _ (nodes : List Node) (cs : List Chunk) (ks fs ls : List ℕ) (i : ℕ)
         ∙ sym (ap halves_of (get_or_from_slice_get nodes i _ _ (read_due link right at marked)))
   ]
 
+  -- whether it has a root, by its first link alone
+  pub read_due_leaf : None ≡ first_at ks fs ls i
+      → is_unhashed (get_or nodes i (Leaf (record { 0 = [] }))) ≡ false
+  read_due_leaf none = elim (cases_eq (shape_of ks i) 0) [
+    | inl leaf ↦
+        ap is_unhashed (get_or_from_slice_get nodes i _ _ (found nodes cs ks fs ls i is within)
+        ∙ leaf_seen (get_or cs i no_chunk) (shape_of ks i) (first_link ks fs i) ls i leaf)
+    | inr some ↦
+        let not : eqb (shape_of ks i) 0 ≡ false = grind (arith, nat_tests) in
+        let bad : None ≡ Some (get_or ls (first_link ks fs i) 0) =
+        none ∙ ap (λ t. cond t None (Some (get_or ls (first_link ks fs i) 0))) not in
+        absurd (cc)
+  ]
+
+  pub read_due_pair : i ≤ 2 ^ 31 → (link : ℕ) → Some link ≡ first_at ks fs ls i
+      → is_unhashed (get_or nodes i (Leaf (record { 0 = [] }))) ≡ leb (2 ^ 31) link
+  read_due_pair few link some = elim (cases_eq (shape_of ks i) 0) [
+    | inl leaf ↦
+        let bad : Some link ≡ None =
+        some ∙ ap (λ t. cond t None (Some (get_or ls (first_link ks fs i) 0)))
+        (eq-eqb (shape_of ks i) 0 leaf) in
+        absurd (cc)
+    | inr pair ↦
+        let not : eqb (shape_of ks i) 0 ≡ false = grind (arith, nat_tests) in
+        let more : 0 < shape_of ks i = omega (arith, pair) in
+        let x : ℕ = get_or ls (first_link ks fs i) 0 in
+        let link_is : link ≡ x = same_Some _ _ (some ∙ ap (λ t. cond t None (Some x)) not) in
+        let here : get_or nodes i (Leaf (record { 0 = [] })) ≡ _ =
+        get_or_from_slice_get nodes i _ _ (found nodes cs ks fs ls i is within)
+        ∙ pair_seen (get_or cs i no_chunk) (shape_of ks i) (first_link ks fs i) ls i more in
+        elim (cases_lt x (2 ^ 31)) [
+          | inl low ↦
+              let no_mark : leb (2 ^ 31) x ≡ false = grind (arith, nat_tests) in
+              ap is_unhashed (here ∙ pair_in-kept (get_or cs i no_chunk)
+              (left_of (shape_of ks i) i x) _ (left_low (shape_of ks i) i x few low))
+              ∙ sym no_mark ∙ ap (leb (2 ^ 31)) (sym link_is)
+          | inr marked ↦
+              ap is_unhashed (here ∙ pair_in-due (get_or cs i no_chunk)
+              (left_of (shape_of ks i) i x) _ (left_marked (shape_of ks i) i x few marked))
+              ∙ sym (le-leb (2 ^ 31) x marked) ∙ ap (leb (2 ^ 31)) (sym link_is)
+        ]
+  ]
+
+  pub read_child : (right : Bool) (result : Option NodeId)
+      → ((chunk : Chunk) → result ≡ child right (node_with chunk (links_at ks fs ls i)))
+      → result ≡ child right (get_or nodes i (Leaf (record { 0 = [] })))
+  read_child right result seen = seen (get_or cs i no_chunk)
+      ∙ ap (child right)
+      (sym (get_or_from_slice_get nodes i _ _ (found nodes cs ks fs ls i is within)))
+
   pub read_chunk : (chunk : Chunk) → chunk ≡ get_or cs i chunk → get_or cs i no_chunk ≡ chunk
   read_chunk chunk read =
       let inside : i < length cs = omega (arith, within, size_seen nodes cs ks fs ls is) in
@@ -399,19 +743,20 @@ module _ (n : ℕ) (ks fs : List ℕ) (total : ℕ) (stored : IsStored n ks fs t
   sum_is = ap (λ xs. get_or xs (n / 32) 0 + before) (sym blocks_are)
       ∙ ap (λ m. get_or fs' (m / 32) 0 + before) (sym place_is) ∙ sum ∙ all_is
 
-  module _ (count kind : ℕ) (few : count < 3) (first : n ≡ 0 → count ≢ 1)
-      (byte : kind ≡ count + 4 * before) where
+  module _ (shape kind : ℕ) (few : shape < 4) (first : n ≡ 0 → count_of shape ≢ 1)
+      (byte : kind ≡ shape + 4 * before) where
     pub pushed-as : (n' : ℕ) (ks' : List ℕ) (total' : ℕ) → n' ≡ n + 1 → ks' ≡ ks ++ kind ∷ []
-        → total' ≡ total + count → IsStored n' ks' fs' total'
+        → total' ≡ total + count_of shape → IsStored n' ks' fs' total'
     pushed-as n' ks' total' same_n same_ks same_total =
-        stored-as (n + 1) n' (ks ++ kind ∷ []) ks' (blocks_for fs n total) fs' (total + count)
-        total' (pushed n ks fs total stored count kind before few first byte sum_is) same_n same_ks
+        stored-as (n + 1) n' (ks ++ kind ∷ []) ks' (blocks_for fs n total) fs'
+        (total + count_of shape)
+        total' (pushed n ks fs total stored shape kind before few first byte sum_is) same_n same_ks
         blocks_are same_total
 
     pub nodes-as : (cs : List Chunk) (ls ws : List ℕ) (chunk : Chunk) → length cs ≡ n
         → length ls ≡ total → (chunks : List Chunk) (kinds links_now : List ℕ)
         → chunks ≡ cs ++ chunk ∷ [] → kinds ≡ ks ++ kind ∷ [] → links_now ≡ ls ++ ws → (node : Node)
-        → node_with chunk (links_with count total (ls ++ ws) n) ≡ node → (nodes : List Node)
+        → node_with chunk (links_with shape total (ls ++ ws) n) ≡ node → (nodes : List Node)
         → nodes_in cs ks fs ls ≡ nodes → nodes_in chunks kinds fs' links_now ≡ nodes ++ node ∷ []
     nodes-as cs ls ws chunk long links chunks kinds links_now same_cs same_ks same_ls node made
         nodes seen =
@@ -419,67 +764,56 @@ module _ (n : ℕ) (ks fs : List ℕ) (total : ℕ) (stored : IsStored n ks fs t
         ∙ ap (λ xs. nodes_in (cs ++ chunk ∷ []) xs fs' links_now) same_ks
         ∙ ap (λ xs. nodes_in (cs ++ chunk ∷ []) (ks ++ kind ∷ []) xs links_now) blocks_are
         ∙ ap (nodes_in (cs ++ chunk ∷ []) (ks ++ kind ∷ []) (blocks_for fs n total)) same_ls
-        ∙ pushed_nodes n ks fs total stored count kind before few first byte sum_is cs ls ws chunk
+        ∙ pushed_nodes n ks fs total stored shape kind before few first byte sum_is cs ls ws chunk
         long links node made
         ∙ ap (λ ns. ns ++ node ∷ []) seen
 
-  module _ (link right count kind : ℕ) (count_is : count ≡ length (pair_links link right place))
-      (byte : kind ≡ count + 4 * before) where
-    counted : count ≡ length (pair_links link right n)
-    counted = count_is ∙ ap (λ m. length (pair_links link right m)) place_is
+  module _ (left right shape kind : ℕ) (shape_is : shape ≡ pair_shape left right place)
+      (byte : kind ≡ shape + 4 * before) where
+    shaped : shape ≡ pair_shape left right n
+    shaped = shape_is ∙ ap (pair_shape left right) place_is
 
-    few_links : count < 3
-    few_links = subst (λ k. k < 3) (sym counted) (pair_few link right n)
+    few_shapes : shape < 4
+    few_shapes = subst (λ k. k < 4) (sym shaped) (pair_few left right n)
 
-    not_first : n ≡ 0 → count ≢ 1
-    not_first none = λ one. pair_first link right n none (sym counted ∙ one)
+    not_first : n ≡ 0 → count_of shape ≢ 1
+    not_first none = λ one. pair_first left right n none (ap count_of (sym shaped) ∙ one)
 
     pub pair-as : (n' : ℕ) (ks' : List ℕ) (total' : ℕ) → n' ≡ n + 1 → ks' ≡ ks ++ kind ∷ []
-        → total' ≡ total + count → IsStored n' ks' fs' total'
-    pair-as = pushed-as count kind few_links not_first byte
+        → total' ≡ total + count_of shape → IsStored n' ks' fs' total'
+    pair-as = pushed-as shape kind few_shapes not_first byte
 
-    pub pair_nodes-as : (cs : List Chunk) (ls : List ℕ) (chunk : Chunk) → length cs ≡ n
+    pub pair_nodes-as : right < 2 ^ 31 → (cs : List Chunk) (ls : List ℕ) (chunk : Chunk)
+        → length cs ≡ n
         → length ls ≡ total → (cs' : List Chunk) (ks' ls' : List ℕ) → cs' ≡ cs ++ chunk ∷ []
-        → ks' ≡ ks ++ kind ∷ [] → ls' ≡ ls ++ pair_links link right place → (node : Node)
-        → pair_in chunk link right ≡ node → (nodes : List Node)
+        → ks' ≡ ks ++ kind ∷ [] → ls' ≡ ls ++ pair_links left right place → (node : Node)
+        → pair_in chunk left right ≡ node → (nodes : List Node)
         → nodes_in cs ks fs ls ≡ nodes → nodes_in cs' ks' fs' ls' ≡ nodes ++ node ∷ []
-    pair_nodes-as cs ls chunk long links cs' ks' ls' same_cs same_ks same_ls node made =
-        nodes-as count kind few_links not_first byte cs ls (pair_links link right n) chunk long
+    pair_nodes-as short cs ls chunk long links cs' ks' ls' same_cs same_ks same_ls node made =
+        nodes-as shape kind few_shapes not_first byte cs ls (pair_links left right n) chunk long
         links cs' ks' ls' same_cs same_ks
-        (same_ls ∙ ap (λ m. ls ++ pair_links link right m) place_is) node
-        (ap (λ k. node_with chunk (links_with k total (ls ++ pair_links link right n) n)) counted
-        ∙ pair_made chunk ls link right n total links ∙ made)
+        (same_ls ∙ ap (λ m. ls ++ pair_links left right m) place_is) node
+        (ap (λ k. node_with chunk (links_with k total (ls ++ pair_links left right n) n)) shaped
+        ∙ pair_made chunk ls left right n total links short ∙ made)
 
 -- ---- a root that is kept
 
-abbrev right_at : ℕ → ℕ → List ℕ → ℕ → ℕ
-right_at count first ls i = cond (eqb count 1) (i - 1) (get_or ls (first + 1) 0)
-
-pair_seen : (chunk : Chunk) (count first : ℕ) (ls : List ℕ) (i : ℕ) → 0 < count
-    → node_with chunk (links_with count first ls i)
-    ≡ pair_in chunk (get_or ls first 0) (right_at count first ls i)
-pair_seen chunk count first ls i some =
-    let not : eqb count 0 ≡ false = grind (arith, nat_tests) in
-    ap (λ t. node_with chunk (of_links t (eqb count 1) (get_or ls first 0)
-    (get_or ls (first + 1) 0) (i - 1))) not
-
-due_parts : (chunk : Chunk) (count first : ℕ) (ls : List ℕ) (i : ℕ)
-    → is_unhashed (node_with chunk (links_with count first ls i)) ≡ true
-    → (0 < count) × (2 ^ 31 ≤ get_or ls first 0)
-due_parts chunk count first ls i due = elim (cases_eq count 0) [
+due_parts : (chunk : Chunk) (shape first : ℕ) (ls : List ℕ) (i : ℕ) → i ≤ 2 ^ 31
+    → is_unhashed (node_with chunk (links_with shape first ls i)) ≡ true
+    → (0 < shape) × (2 ^ 31 ≤ get_or ls first 0)
+due_parts chunk shape first ls i few due = elim (cases_eq shape 0) [
   | inl none ↦
-      let leaf : node_with chunk (links_with count first ls i) ≡ Leaf chunk =
-      ap (λ t. node_with chunk (of_links t (eqb count 1) (get_or ls first 0)
-      (get_or ls (first + 1) 0) (i - 1))) (eq-eqb count 0 none) in
-      let bad : false ≡ true = sym (ap is_unhashed leaf) ∙ due in
+      let bad : false ≡ true =
+      sym (ap is_unhashed (leaf_seen chunk shape first ls i none)) ∙ due in
       absurd (cc)
   | inr some ↦
-      let more : 0 < count = omega (arith, some) in
+      let more : 0 < shape = omega (arith, some) in
       elim (cases_lt (get_or ls first 0) (2 ^ 31)) [
         | inl low ↦
             let bad : false ≡ true =
-            sym (ap is_unhashed (pair_seen chunk count first ls i more
-            ∙ pair_in-kept chunk (get_or ls first 0) (right_at count first ls i) low)) ∙ due in
+            sym (ap is_unhashed (pair_seen chunk shape first ls i more
+            ∙ pair_in-kept chunk (left_of shape i (get_or ls first 0)) _
+            (left_low shape i (get_or ls first 0) few low))) ∙ due in
             absurd (cc)
         | inr marked ↦ (more, marked)
       ]
@@ -487,30 +821,31 @@ due_parts chunk count first ls i due = elim (cases_eq count 0) [
 
 -- the marked link of a pair that has no root yet
 pub record HasMark (ks fs ls : List ℕ) (i : ℕ) : Type 0 where
-  pub some : 0 < link_count ks i
+  pub some : 0 < shape_of ks i
   pub inside : first_link ks fs i < length ls
   pub marked : 2 ^ 31 ≤ get_or ls (first_link ks fs i) 0
 
-pub has_mark : (n : ℕ) (ks fs : List ℕ) (total : ℕ) → IsStored n ks fs total → (cs : List Chunk)
+pub has_mark : (n : ℕ) (ks fs : List ℕ) (total : ℕ) → IsStored n ks fs total → n ≤ 2 ^ 31
+    → (cs : List Chunk)
     (ls : List ℕ) → length cs ≡ n → length ls ≡ total → (nodes : List Node)
     → nodes_in cs ks fs ls ≡ nodes → (i : ℕ) → i < length nodes
     → is_unhashed (get_or nodes i (Leaf (record { 0 = [] }))) ≡ true → HasMark ks fs ls i
-has_mark n ks fs total stored cs ls long links nodes seen i within due =
+has_mark n ks fs total stored few cs ls long links nodes seen i within due =
+    let below : i < n = omega (arith, within, long, size_seen nodes cs ks fs ls seen) in
     let here : _ = get_or_from_slice_get nodes i (node_in cs ks fs ls i)
     (Leaf (record { 0 = [] })) (found nodes cs ks fs ls i seen within) in
-    let parts : (0 < link_count ks i) × (2 ^ 31 ≤ get_or ls (first_link ks fs i) 0) =
-    due_parts (get_or cs i no_chunk) (link_count ks i) (first_link ks fs i) ls i
-    (sym (ap is_unhashed here) ∙ due) in
-    let below : i < n = omega (arith, within, long, size_seen nodes cs ks fs ls seen) in
+    let parts : (0 < shape_of ks i) × (2 ^ 31 ≤ get_or ls (first_link ks fs i) 0) =
+    due_parts (get_or cs i no_chunk) (shape_of ks i) (first_link ks fs i) ls i
+    (omega (arith, below, few)) (sym (ap is_unhashed here) ∙ due) in
     record {
       some = parts.0;
-      inside = omega (arith, stored.inside i below, parts.0, links);
+      inside = omega (arith, stored.inside i below, count_some _ parts.0, links);
       marked = parts.1;
     }
 
 module _ (n : ℕ) (ks fs : List ℕ) (total : ℕ) (stored : IsStored n ks fs total) (cs : List Chunk)
     (ls : List ℕ) (long : length cs ≡ n) (links : length ls ≡ total) (i : ℕ) (within : i < n)
-    (some : 0 < link_count ks i) (marked : 2 ^ 31 ≤ get_or ls (first_link ks fs i) 0)
+    (few : n ≤ 2 ^ 31) (shaped : 0 < shape_of ks i) (marked : 2 ^ 31 ≤ get_or ls (first_link ks fs i) 0)
     (fits : get_or ls (first_link ks fs i) 0 < 2 ^ 32) (chunk : Chunk) where
   abbrev first : ℕ
   first = first_link ks fs i
@@ -521,18 +856,30 @@ module _ (n : ℕ) (ks fs : List ℕ) (total : ℕ) (stored : IsStored n ks fs t
   abbrev unmarked : List ℕ
   unmarked = set ls first (link - 2 ^ 31)
 
+  abbrev shape : ℕ
+  shape = shape_of ks i
+
+  abbrev left : ℕ
+  left = left_of shape i link
+
   abbrev right : ℕ
-  right = right_at (link_count ks i) first ls i
+  right = right_of shape i link (get_or ls (first + 1) 0)
 
   abbrev rooted : Node
-  rooted = Pair (record { 0 = link - 2 ^ 31 }) (record { 0 = right }) (Some chunk)
+  rooted = Pair (record { 0 = left - 2 ^ 31 }) (record { 0 = right }) (Some chunk)
+
+  some : 0 < link_count ks i
+  some = count_some shape shaped
+
+  low_place : i ≤ 2 ^ 31
+  low_place = omega (arith, within, few)
 
   inside : first < length ls
   inside = omega (arith, stored.inside i within, some, links)
 
   other_links : (j : ℕ) → j < n → j ≢ i → links_at ks fs unmarked j ≡ links_at ks fs ls j
   other_links j h other =
-      links_with-as (link_count ks j) (first_link ks fs j) ls unmarked j
+      links_with-as (shape_of ks j) (first_link ks fs j) ls unmarked j
       (λ one. let ne : first_link ks fs j ≢ first = elim (cases_lt j i) [
         | inl less ↦ omega (arith, stored.apart j i less within, one)
         | inr more ↦
@@ -563,12 +910,21 @@ module _ (n : ℕ) (ks fs : List ℕ) (total : ℕ) (stored : IsStored n ks fs t
       let two : get_or unmarked (first + 1) 0 ≡ get_or ls (first + 1) 0 =
       get_or-set_other ls first (first + 1) (link - 2 ^ 31) 0 ne in
       let low : link - 2 ^ 31 < 2 ^ 31 = omega (arith, fits) in
+      let beyond : ℕ = get_or ls (first + 1) 0 in
+      let left_is : left_of shape i (link - 2 ^ 31) ≡ left - 2 ^ 31 =
+      left_unmarked shape i link low_place marked fits in
+      let below : left_of shape i (link - 2 ^ 31) < 2 ^ 31 =
+      left_low shape i (link - 2 ^ 31) low_place low in
       ap (λ c. node_with c (links_at ks fs unmarked i))
       (get_or-set_same cs i chunk no_chunk (omega (arith, within, long)))
-      ∙ pair_seen chunk (link_count ks i) first unmarked i some
-      ∙ ap (λ l. pair_in chunk l (right_at (link_count ks i) first unmarked i)) one
-      ∙ ap (λ r. pair_in chunk (link - 2 ^ 31) (cond (eqb (link_count ks i) 1) (i - 1) r)) two
-      ∙ pair_in-kept chunk (link - 2 ^ 31) right low
+      ∙ pair_seen chunk shape first unmarked i shaped
+      ∙ ap (λ l. pair_in chunk (left_of shape i l)
+      (right_of shape i l (get_or unmarked (first + 1) 0))) one
+      ∙ ap (λ r. pair_in chunk (left_of shape i (link - 2 ^ 31))
+      (right_of shape i (link - 2 ^ 31) r)) two
+      ∙ ap (λ l. pair_in chunk l (right_of shape i (link - 2 ^ 31) beyond)) left_is
+      ∙ ap (pair_in chunk (left - 2 ^ 31)) (right_unmarked shape i link low_place beyond marked fits)
+      ∙ pair_in-kept chunk (left - 2 ^ 31) right (omega (arith, left_is, below))
 
   kept_nodes : nodes_in (set cs i chunk) ks fs unmarked ≡ set (nodes_in cs ks fs ls) i rooted
   kept_nodes =
@@ -597,10 +953,11 @@ module _ (n : ℕ) (ks fs : List ℕ) (total : ℕ) (stored : IsStored n ks fs t
   kept-as nodes seen left' right' is =
       let inside_it : i < length nodes =
       omega (arith, within, long, size_seen nodes cs ks fs ls seen) in
-      let was : Pair (record { 0 = link - 2 ^ 31 }) (record { 0 = right }) None
+      let was : Pair (record { 0 = left - 2 ^ 31 }) (record { 0 = right }) None
       ≡ Pair left' right' None =
-      sym (pair_in-due (get_or cs i no_chunk) link right marked)
-      ∙ sym (pair_seen (get_or cs i no_chunk) (link_count ks i) first ls i some)
+      sym (pair_in-due (get_or cs i no_chunk) left right
+      (left_marked shape i link low_place marked))
+      ∙ sym (pair_seen (get_or cs i no_chunk) shape first ls i shaped)
       ∙ same_Some _ _ (sym (found nodes cs ks fs ls i seen inside_it) ∙ is) in
       kept_nodes
       ∙ ap (λ l. set (nodes_in cs ks fs ls) i (Pair l (record { 0 = right }) (Some chunk)))

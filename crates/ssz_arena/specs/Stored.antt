@@ -17,31 +17,44 @@ abbrev pub chunk_of : Node → Option Chunk
 chunk_of (Leaf chunk) = Some chunk
 chunk_of (Pair left right cached) = cached
 
--- how many links a node has, by the low two bits of its byte: none a leaf, one a pair whose right
--- child stands just before it, two each other pair
+-- the shape of a node, by the low two bits of its byte: 0 is a leaf, 1 a pair whose right child stands
+-- just before it, 3 one whose left child does, and 2 each other pair
+abbrev pub shape_of : List ℕ → ℕ → ℕ
+shape_of kinds i = slice_index kinds i % 4
+
+-- how many links it has: one for each child, but for one that stands just before it
+abbrev pub count_of : ℕ → ℕ
+count_of shape = if shape == 3 then 1 else shape
+
 abbrev pub link_count : List ℕ → ℕ → ℕ
-link_count kinds i = slice_index kinds i % 4
+link_count kinds i = count_of (shape_of kinds i)
 
 -- where its links begin: the nodes before its block of 32 have so many, and the other six bits say
 -- how many those before it in its block have
 abbrev pub first_link : List ℕ → List ℕ → ℕ → ℕ
 first_link kinds firsts i = slice_index firsts (i / 32) + slice_index kinds i / 4
 
--- the left link of a node with links, and the place of its right child
+-- the mark on the first link of a pair without a cached chunk
+abbrev pub mark_of : ℕ → ℕ
+mark_of link = if nat_le (2 ^ 31) link then 2 ^ 31 else 0
+
+-- the left child of a node with links, with its mark, and the right child
 abbrev pub links_with : ℕ → ℕ → List ℕ → ℕ → Option (ℕ × ℕ)
-links_with count first links i =
-    if count == 0 then None
-    else Some (
-      slice_index links first,
-      (if count == 1 then i - 1 else slice_index links (first + 1)),
+links_with shape first links i =
+    if shape == 0 then None
+    else if shape == 1 then Some (slice_index links first, i - 1)
+    else if shape == 3 then Some (
+      i - 1 + mark_of (slice_index links first),
+      slice_index links first - mark_of (slice_index links first),
     )
+    else Some (slice_index links first, slice_index links (first + 1))
 
 -- those of the node at a place
 abbrev pub links_at : List ℕ → List ℕ → List ℕ → ℕ → Option (ℕ × ℕ)
 links_at kinds firsts links i =
-    links_with (link_count kinds i) (first_link kinds firsts i) links i
+    links_with (shape_of kinds i) (first_link kinds firsts i) links i
 
--- a pair, of which the left link has 2^31 added where no chunk is cached
+-- a pair, to whose left child 2^31 is added where no chunk is cached
 abbrev pub pair_in : Chunk → ℕ → ℕ → Node
 pair_in chunk link right =
     if nat_le (2 ^ 31) link
@@ -82,9 +95,23 @@ pub record IsStored (n : ℕ) (kinds firsts : List ℕ) (total : ℕ) : Type 0 w
   pub apart : (i j : ℕ) → i < j → j < n
       → first_link kinds firsts i + link_count kinds i ≤ first_link kinds firsts j
 
--- the links of a new pair at a place
+-- the shape of a new pair at a place, and its links: the first has the mark of the left child
+abbrev pub pair_shape : ℕ → ℕ → ℕ → ℕ
+pair_shape left right place =
+    if right + 1 == place then 1
+    else if left - mark_of left + 1 == place then 3 else 2
+
 abbrev pub pair_links : ℕ → ℕ → ℕ → List ℕ
-pair_links link right place = if right + 1 == place then link ∷ [] else link ∷ right ∷ []
+pair_links left right place =
+    if right + 1 == place then left ∷ []
+    else if left - mark_of left + 1 == place then (right + mark_of left) ∷ []
+    else left ∷ right ∷ []
+
+-- the first link of a node that has one
+abbrev pub first_at : List ℕ → List ℕ → List ℕ → ℕ → Option ℕ
+first_at kinds firsts links i =
+    if shape_of kinds i == 0 then None
+    else Some (slice_index links (first_link kinds firsts i))
 
 -- the blocks, and one more if the node at a place begins one
 abbrev pub blocks_for : List ℕ → ℕ → ℕ → List ℕ

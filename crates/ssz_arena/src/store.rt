@@ -4,7 +4,8 @@ ghost use Rattle.ssz_chunk.specs.declared.Chunk.{Chunk};
 ghost use Rattle.ssz_arena.specs.declared.node.NodeId.{NodeId};
 ghost use Rattle.ssz_arena.specs.declared.node.Node.TheVariants.{Leaf, Pair};
 ghost use Rattle.ssz_arena.specs.Batches.{halves_of, is_due, left_child, node_of, right_child};
-ghost use Rattle.ssz_arena.specs.Stored.{IsShort, IsStored, blocks_for, chunk_of, first_link, links_at, pair_in, pair_links};
+ghost use Rattle.ssz_arena.specs.Content.{child};
+ghost use Rattle.ssz_arena.specs.Stored.{IsShort, IsStored, blocks_for, chunk_of, count_of, first_at, first_link, links_at, node_with, pair_in, pair_links, pair_shape};
 
 use super::node::{MARK, MOST_NODES, Node, NodeId};
 use ssz_chunk::Chunk;
@@ -14,10 +15,19 @@ use std::marker::Model;
 // So many nodes have one entry that says where their links begin.
 const BLOCK: usize = 32;
 
+// The shapes of nodes. A pair has two links, or one where a child stands just before it.
+const LEAF: u8 = 0;
+
+const RIGHT_BEFORE: u8 = 1;
+
+const WIDE: u8 = 2;
+
+const LEFT_BEFORE: u8 = 3;
+
 // A chunk for each node: a leaf's own, or the root of a pair that has one. A byte for each: the low
-// two bits say how many links it has, the others how many those before it in its block have. The
-// places of children are the links: of a pair whose right child stands just before it, as of most,
-// the left one alone. MARK is added to the left link of a pair that has no root yet.
+// two bits say its shape, the others how many links those before it in its block have. The places
+// of children are the links, but for a child that stands just before its pair, as of most pairs:
+// the shape says which. MARK is added to the first link of a pair that has no root yet.
 #[derive(Debug, Drop)]
 pub(crate) struct Store {
     chunks: Vec<Chunk>,
@@ -59,7 +69,7 @@ fn first_of(kinds: &Vec<u8>, firsts: &Vec<u32>, i: usize) -> usize
     firsts[i / BLOCK] as usize + (kinds[i] / 4) as usize
 }
 
-// The left link of a node with links, and the place of its right child.
+// The children of a pair, left and right, of which the left one has the mark.
 #[inline(always)]
 fn links_at(kinds: &Vec<u8>, firsts: &Vec<u32>, links: &Vec<u32>, i: usize) -> Option<(u32, u32)>
     requires stored { IsStored (vec_len kinds.now) kinds.now.items firsts.now.items
@@ -68,16 +78,67 @@ fn links_at(kinds: &Vec<u8>, firsts: &Vec<u32>, links: &Vec<u32>, i: usize) -> O
     requires few { i < 2 ^ 31 }
     ensures { result ≡ links_at kinds.now.items firsts.now.items links.now.items i }
 {
-    let count = kinds[i] % 4;
-    if count == 0 {
+    let shape = kinds[i] % 4;
+    if shape == LEAF {
         return None;
     }
     let first = first_of(kinds, firsts, i);
     let link = links[first];
-    if count == 1 {
+    if shape == RIGHT_BEFORE {
         return Some((link, i as u32 - 1));
     }
+    if shape == LEFT_BEFORE {
+        return Some((i as u32 - 1 + (link - link % MARK), link % MARK));
+    }
     Some((link, links[first + 1]))
+}
+
+// The first link of a pair, which tells whether it has its root.
+#[inline(always)]
+fn first_at(kinds: &Vec<u8>, firsts: &Vec<u32>, links: &Vec<u32>, i: usize) -> Option<u32>
+    requires stored { IsStored (vec_len kinds.now) kinds.now.items firsts.now.items
+        (vec_len links.now) }
+    requires inside { i < vec_len kinds.now }
+    ensures { result ≡ first_at kinds.now.items firsts.now.items links.now.items i }
+{
+    if kinds[i] % 4 == LEAF {
+        return None;
+    }
+    Some(links[first_of(kinds, firsts, i)])
+}
+
+// The child of a pair to one side. No link is read where the child stands just before the pair.
+#[inline(always)]
+fn child_at(
+    kinds: &Vec<u8>,
+    firsts: &Vec<u32>,
+    links: &Vec<u32>,
+    i: usize,
+    right: bool,
+) -> Option<NodeId>
+    requires stored { IsStored (vec_len kinds.now) kinds.now.items firsts.now.items
+        (vec_len links.now) }
+    requires inside { i < vec_len kinds.now }
+    requires few { i < 2 ^ 31 }
+    ensures { (chunk : Chunk) → result ≡ child right
+        (node_with chunk (links_at kinds.now.items firsts.now.items links.now.items i)) }
+{
+    let shape = kinds[i] % 4;
+    if shape == LEAF {
+        return None;
+    }
+    let before = if right { RIGHT_BEFORE } else { LEFT_BEFORE };
+    if shape == before {
+        return Some(NodeId(i as u32 - 1));
+    }
+    let first = first_of(kinds, firsts, i);
+    if shape == WIDE {
+        if right {
+            return Some(NodeId(links[first + 1]));
+        }
+        return Some(NodeId(links[first] % MARK));
+    }
+    Some(NodeId(links[first] % MARK))
 }
 
 // Begins a block where the next node does, and says how many links those before it in its block
@@ -104,21 +165,28 @@ fn begin(firsts: &mut Vec<u32>, place: usize, total: usize) -> u8
     (total - firsts[place / BLOCK] as usize) as u8
 }
 
-// Adds the links of a pair at a place, and says how many they are.
+// Adds the links of a pair at a place, and says its shape. The left child has the mark.
 #[inline(always)]
 fn link(links: &mut Vec<u32>, left: u32, right: NodeId, place: usize) -> u8
-    requires { vec_len links.old + 2 ≤ vec_capacity links.old }
+    requires room { vec_len links.old + 2 ≤ vec_capacity links.old }
+    requires short { right.0 < 2 ^ 31 }
     ensures links { links.new.items ≡ links.old.items ++ pair_links left right.0 place }
-    ensures count { result ≡ length (pair_links left right.0 place) }
-    ensures len { vec_len links.new ≡ vec_len links.old + result }
+    ensures shape { result ≡ pair_shape left right.0 place }
+    ensures few { result < 4 }
+    ensures len { vec_len links.new ≡ vec_len links.old + count_of result }
     ensures capacity { vec_capacity links.new ≡ vec_capacity links.old }
 {
-    links.push_reserved(left);
     if right.0 as usize + 1 == place {
-        return 1;
+        links.push_reserved(left);
+        return RIGHT_BEFORE;
     }
+    if (left % MARK) as usize + 1 == place {
+        links.push_reserved(right.0 + (left - left % MARK));
+        return LEFT_BEFORE;
+    }
+    links.push_reserved(left);
     links.push_reserved(right.0);
-    2
+    WIDE
 }
 
 impl Store {
@@ -229,17 +297,18 @@ impl Store {
         self.chunks.push_reserved(chunk);
     }
 
-    // A new pair behind the others, of its left link and its right child.
+    // A new pair behind the others, of its left child with the mark, and its right child.
     #[inline(always)]
     fn push_pair(&mut self, left: u32, right: NodeId, chunk: Chunk)
-        requires { 0 < self.old.spare }
+        requires room { 0 < self.old.spare }
+        requires short { right.0 < 2 ^ 31 }
         ensures nodes { self.new.nodes ≡ self.old.nodes ++ pair_in chunk left right.0 ∷ [] }
         ensures spare { self.new.spare + 1 ≡ self.old.spare }
     {
         let place = self.chunks.len();
         let before = begin(&mut self.firsts, place, self.links.len());
-        let count = link(&mut self.links, left, right, place);
-        self.kinds.push_reserved(count + 4 * before);
+        let shape = link(&mut self.links, left, right, place);
+        self.kinds.push_reserved(shape + 4 * before);
         self.chunks.push_reserved(chunk);
     }
 
@@ -283,9 +352,9 @@ impl Store {
         requires { id.0 < length self.now.nodes }
         ensures { result ≡ is_due self.now.nodes id }
     {
-        match links_at(&self.kinds, &self.firsts, &self.links, id.0 as usize) {
+        match first_at(&self.kinds, &self.firsts, &self.links, id.0 as usize) {
             None => false,
-            Some((link, _)) => link >= MARK,
+            Some(link) => link >= MARK,
         }
     }
 
@@ -297,15 +366,10 @@ impl Store {
             slice_get self.now.nodes id.0 ≡ Some (Pair kids.0 kids.1 None)) }
         ensures none { IfNone result (is_due self.now.nodes id ≡ false) }
     {
-        match links_at(&self.kinds, &self.firsts, &self.links, id.0 as usize) {
-            None => None,
-            Some((link, right)) => {
-                if link >= MARK {
-                    return Some((NodeId(link - MARK), NodeId(right)));
-                }
-                None
-            }
+        if self.is_due(id) {
+            return self.halves(id);
         }
+        None
     }
 
     // The children of a pair, with its root or without. No branch is taken for the mark.
@@ -320,7 +384,16 @@ impl Store {
         }
     }
 
-    // The same of a node that is known to be a pair; of a leaf, the first node twice.
+    // The child of a pair to one side.
+    #[inline(always)]
+    pub(crate) fn child(&self, id: NodeId, right: bool) -> Option<NodeId>
+        requires { id.0 < length self.now.nodes }
+        ensures { result ≡ child right (node_of self.now.nodes id) }
+    {
+        child_at(&self.kinds, &self.firsts, &self.links, id.0 as usize, right)
+    }
+
+    // Both of a node that is known to be a pair; of a leaf, the first node twice.
     #[inline(always)]
     pub(crate) fn children(&self, id: NodeId) -> (NodeId, NodeId)
         requires { id.0 < length self.now.nodes }

@@ -45,6 +45,7 @@ pub index-link-requires : goal.index-link-requires
 index-link-requires c =
     let mark = has_mark (vec_len c.self.inside.chunks) c.self.inside.kinds.items
     c.self.inside.firsts.items (vec_len c.self.inside.links) c.self.invariant.0
+    (omega (arith, c.self.invariant.1, c.self.invariant.2))
     c.self.inside.chunks.items c.self.inside.links.items
     (omega (arith, c.self.inside.chunks.ok.0)) (omega (arith, c.self.inside.links.ok.0))
     c.args.self.now.nodes (ap (λ (a : ArenaContent). a.nodes) c.self.view_is) c.args.id.0
@@ -55,6 +56,7 @@ pub index_mut-requires : goal.index_mut-requires
 index_mut-requires c =
     let mark = has_mark (vec_len c.self.inside.chunks) c.self.inside.kinds.items
     c.self.inside.firsts.items (vec_len c.self.inside.links) c.self.invariant.0
+    (omega (arith, c.self.invariant.1, c.self.invariant.2))
     c.self.inside.chunks.items c.self.inside.links.items
     (omega (arith, c.self.inside.chunks.ok.0)) (omega (arith, c.self.inside.links.ok.0))
     c.args.self.now.nodes (ap (λ (a : ArenaContent). a.nodes) c.self.view_is) c.args.id.0
@@ -66,6 +68,7 @@ overflow_sub-link c =
     let links = c.self.inside.links.items in
     let mark = has_mark (vec_len c.self.inside.chunks) c.self.inside.kinds.items
     c.self.inside.firsts.items (vec_len c.self.inside.links) c.self.invariant.0
+    (omega (arith, c.self.invariant.1, c.self.invariant.2))
     c.self.inside.chunks.items c.self.inside.links.items
     (omega (arith, c.self.inside.chunks.ok.0)) (omega (arith, c.self.inside.links.ok.0))
     c.args.self.now.nodes (ap (λ (a : ArenaContent). a.nodes) c.self.view_is) c.args.id.0
@@ -104,6 +107,7 @@ returns-clause-nodes c = λ left right is.
     ap (λ (a : ArenaContent). a.nodes) c.self.view_is in
     let mark = has_mark (vec_len c.self.inside.chunks) c.self.inside.kinds.items
     c.self.inside.firsts.items (vec_len c.self.inside.links) c.self.invariant.0
+    (omega (arith, c.self.invariant.1, c.self.invariant.2))
     c.self.inside.chunks.items c.self.inside.links.items
     (omega (arith, c.self.inside.chunks.ok.0)) (omega (arith, c.self.inside.links.ok.0))
     c.args.self.now.nodes (ap (λ (a : ArenaContent). a.nodes) c.self.view_is) c.args.id.0
@@ -123,7 +127,7 @@ returns-clause-nodes c = λ left right is.
       c.requires.inside,
       c.self.inside.chunks.ok.0,
       size_seen c.args.self.now.nodes chunks kinds firsts links seen,
-    )) mark.some mark.marked
+    )) (omega (arith, c.self.invariant.1, c.self.invariant.2)) mark.some mark.marked
     (omega (arith, small, read, ap (λ k. get_or links k 0) c.first_of-first.ensures))
     c.args.chunk c.args.self.now.nodes seen left right is
 

@@ -13,10 +13,10 @@ begin-before-requires-clause-total c = omega (
   c.self.invariant.0.all,
 )
 
-pub link-count-requires : goal.link-count-requires
-link-count-requires c = omega (
+pub link-shape-requires-clause-room : goal.link-shape-requires-clause-room
+link-shape-requires-clause-room c = omega (
   arith,
-  c.requires,
+  c.requires.room,
   ap (λ (a : ArenaContent). a.spare)
       c.self.view_is,
   c.self.invariant.0.all,
@@ -32,12 +32,12 @@ invariant_of-self c = (
       c.len-place.result c.len.result c.begin-before.new.firsts.items c.len-place.ensures
       c.len.ensures
       c.begin-before.ensures.blocks c.begin-before.ensures.before c.args.left
-      c.args.right.0 c.link-count.result
-      (c.link-count.result + 4 * c.begin-before.result) c.link-count.ensures.count refl _ _ _
-      c.push_reserved-2.ensures.len c.push_reserved.ensures.items c.link-count.ensures.len,
+      c.args.right.0 c.link-shape.result
+      (c.link-shape.result + 4 * c.begin-before.result) c.link-shape.ensures.shape refl _ _ _
+      c.push_reserved-2.ensures.len c.push_reserved.ensures.items c.link-shape.ensures.len,
   omega (
     arith,
-    c.requires,
+    c.requires.room,
     ap (λ (a : ArenaContent). a.spare) c.self.view_is,
     c.self.invariant.1,
     c.push_reserved-2.ensures.len,
@@ -46,7 +46,7 @@ invariant_of-self c = (
   omega (arith, c.push_reserved-2.ensures.capacity, c.self.invariant.3),
   omega (arith, c.push_reserved.ensures.capacity, c.self.invariant.4),
   omega (arith, c.begin-before.ensures.capacity, c.self.invariant.5),
-  omega (arith, c.link-count.ensures.capacity, c.self.invariant.6),
+  omega (arith, c.link-shape.ensures.capacity, c.self.invariant.6),
 )
 
 pub returns-clause-nodes : goal.returns-clause-nodes
@@ -56,10 +56,10 @@ returns-clause-nodes c = pair_nodes-as (vec_len c.self.inside.chunks) c.self.ins
     c.len-place.result c.len.result c.begin-before.new.firsts.items c.len-place.ensures
     c.len.ensures
     c.begin-before.ensures.blocks c.begin-before.ensures.before c.args.left
-    c.args.right.0 c.link-count.result
-    (c.link-count.result + 4 * c.begin-before.result) c.link-count.ensures.count refl
-    c.self.inside.chunks.items c.self.inside.links.items _
+    c.args.right.0 c.link-shape.result
+    (c.link-shape.result + 4 * c.begin-before.result) c.link-shape.ensures.shape refl
+    c.requires.short c.self.inside.chunks.items c.self.inside.links.items _
     (omega (arith, c.self.inside.chunks.ok.0)) (omega (arith, c.self.inside.links.ok.0)) _ _ _
-    c.push_reserved-2.ensures.items c.push_reserved.ensures.items c.link-count.ensures.links
+    c.push_reserved-2.ensures.items c.push_reserved.ensures.items c.link-shape.ensures.links
     (pair_in c.args.chunk c.args.left c.args.right.0) refl _
     (ap (λ (a : ArenaContent). a.nodes) c.self.view_is)
