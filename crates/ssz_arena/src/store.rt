@@ -132,11 +132,8 @@ fn child_at(
         return Some(NodeId(i as u32 - 1));
     }
     let first = first_of(kinds, firsts, i);
-    if shape == WIDE {
-        if right {
-            return Some(NodeId(links[first + 1]));
-        }
-        return Some(NodeId(links[first] % MARK));
+    if right && shape == WIDE {
+        return Some(NodeId(links[first + 1]));
     }
     Some(NodeId(links[first] % MARK))
 }
