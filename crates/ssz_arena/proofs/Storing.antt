@@ -76,19 +76,6 @@ mark_of-low link low =
     let not : leb (2 ^ 31) link ≡ false = grind (arith, nat_tests) in
     ap (λ t. cond t (2 ^ 31) 0) not
 
--- as it is reckoned
-pub mark_of-rest : (link : ℕ) → link < 2 ^ 32 → link - mark_of link ≡ link % 2 ^ 31
-mark_of-rest link fits = elim (cases_lt link (2 ^ 31)) [
-  | inl low ↦ omega (arith, low, mark_of-low link low)
-  | inr marked ↦ omega (arith, marked, fits, mark_of-marked link marked)
-]
-
-pub mark_of-is : (link : ℕ) → link < 2 ^ 32 → mark_of link ≡ link - link % 2 ^ 31
-mark_of-is link fits = elim (cases_lt link (2 ^ 31)) [
-  | inl low ↦ omega (arith, low, mark_of-low link low)
-  | inr marked ↦ omega (arith, marked, fits, mark_of-marked link marked)
-]
-
 -- ---- shapes
 
 count-three : (shape : ℕ) → shape ≡ 3 → count_of shape ≡ 1
@@ -103,12 +90,6 @@ count-other shape other =
 pub count_some : (shape : ℕ) → 0 < shape → 0 < count_of shape
 count_some shape some = elim (cases_eq shape 3) [
   | inl three ↦ omega (arith, count-three shape three)
-  | inr other ↦ omega (arith, some, count-other shape other)
-]
-
-pub some_count : (shape : ℕ) → 0 < count_of shape → 0 < shape
-some_count shape some = elim (cases_eq shape 3) [
-  | inl three ↦ omega (arith, three)
   | inr other ↦ omega (arith, some, count-other shape other)
 ]
 
@@ -524,97 +505,6 @@ are_halves (Leaf chunk) left right is = absurd (cc)
 are_halves (Pair a b cached) left right is =
     let same : (left, right) ≡ (a, b) = same_Some _ _ is in
     (ap (λ (k : NodeId × NodeId). k.0) same, ap (λ (k : NodeId × NodeId). k.1) same)
-
--- of a pair that has no root yet
-pub due_pair : (node : Node) → is_unhashed node ≡ true → (kids : NodeId × NodeId)
-    → Some kids ≡ halves_of node → node ≡ Pair kids.0 kids.1 None
-due_pair (Leaf chunk) due kids is = absurd (cc)
-due_pair (Pair left right (Some chunk)) due kids is = absurd (cc)
-due_pair (Pair left right None) due kids is =
-    let same : kids ≡ (left, right) = same_Some _ _ is in
-    ap (λ (k : NodeId × NodeId). Pair k.0 k.1 None) (sym same)
-
-pub due_halves : (node : Node) → is_unhashed node ≡ true → None ≡ halves_of node → ⊥
-due_halves (Leaf chunk) due none = absurd (cc)
-due_halves (Pair left right cached) due none = absurd (cc)
-
--- ---- the child to one side
-
-to_right : (chunk : Chunk) (left right : ℕ)
-    → Some (record { 0 = right }) ≡ child true (pair_in chunk left right)
-to_right chunk left right = by (leb (2 ^ 31) left)
-  where
-    by : (t : Bool) → Some (record { 0 = right }) ≡ child true
-        (cond t (Pair (record { 0 = left - 2 ^ 31 }) (record { 0 = right }) None)
-        (Pair (record { 0 = left }) (record { 0 = right }) (Some chunk)))
-    by true = refl
-    by false = refl
-
-to_left : (chunk : Chunk) (left right : ℕ)
-    → Some (record { 0 = left - mark_of left }) ≡ child false (pair_in chunk left right)
-to_left chunk left right = by (leb (2 ^ 31) left)
-  where
-    by : (t : Bool) → Some (record { 0 = left - cond t (2 ^ 31) 0 }) ≡ child false
-        (cond t (Pair (record { 0 = left - 2 ^ 31 }) (record { 0 = right }) None)
-        (Pair (record { 0 = left }) (record { 0 = right }) (Some chunk)))
-    by true = refl
-    by false = ap (λ l. Some (record { 0 = l })) (omega arith)
-
-abbrev at_place : ℕ → Option NodeId
-at_place i = Some (record { 0 = i })
-
-module _ (shape first : ℕ) (ls : List ℕ) (i : ℕ) (chunk : Chunk) where
-  abbrev node_here : ℕ → Node
-  node_here s = node_with chunk (links_with s first ls i)
-
-  pub child_none : (right : Bool) → shape ≡ 0 → None ≡ child right (node_here shape)
-  child_none true none = sym (ap (child true) (leaf_seen chunk shape first ls i none))
-  child_none false none = sym (ap (child false) (leaf_seen chunk shape first ls i none))
-
-  -- just before the pair
-  pub child_before : i ≤ 2 ^ 31 → (right : Bool) → shape ≡ cond right 1 3
-      → at_place (i - 1) ≡ child right (node_here shape)
-  child_before few true one = to_right chunk (get_or ls first 0) (i - 1)
-      ∙ ap (λ s. child true (node_here s)) (sym one)
-  child_before few false three =
-      let x : ℕ = get_or ls first 0 in
-      let less : i - 1 ≡ i - 1 + mark_of x - mark_of (i - 1 + mark_of x) =
-      elim (cases_lt x (2 ^ 31)) [
-        | inl low ↦
-            let none : mark_of x ≡ 0 = mark_of-low x low in
-            omega (arith, none, few, mark_of-low (i - 1 + mark_of x) (omega (arith, none, few)))
-        | inr marked ↦
-            let one : mark_of x ≡ 2 ^ 31 = mark_of-marked x marked in
-            omega (arith, one, mark_of-marked (i - 1 + mark_of x) (omega (arith, one)))
-      ] in
-      ap at_place less ∙ to_left chunk (i - 1 + mark_of x) (x - mark_of x)
-      ∙ ap (λ s. child false (node_here s)) (sym three)
-
-  -- by the second link
-  pub child_second : shape ≡ 2 → at_place (get_or ls (first + 1) 0) ≡ child true (node_here shape)
-  child_second two = to_right chunk (get_or ls first 0) (get_or ls (first + 1) 0)
-      ∙ ap (λ s. child true (node_here s)) (sym two)
-
-  -- by the first link
-  pub child_first : (right : Bool) → get_or ls first 0 < 2 ^ 32 → shape < 4 → shape ≢ 0
-      → shape ≢ cond right 1 3 → (right ≡ true → shape ≢ 2)
-      → at_place (get_or ls first 0 % 2 ^ 31) ≡ child right (node_here shape)
-  child_first true fits few some far wide =
-      let three : shape ≡ 3 = omega (arith, few, some, far, wide refl) in
-      let x : ℕ = get_or ls first 0 in
-      ap at_place (sym (mark_of-rest x fits)) ∙ to_right chunk (i - 1 + mark_of x) (x - mark_of x)
-      ∙ ap (λ s. child true (node_here s)) (sym three)
-  child_first false fits few some far wide = elim (cases_eq shape 1) [
-    | inl one ↦
-        let x : ℕ = get_or ls first 0 in
-        ap at_place (sym (mark_of-rest x fits)) ∙ to_left chunk x (i - 1)
-        ∙ ap (λ s. child false (node_here s)) (sym one)
-    | inr not ↦
-        let two : shape ≡ 2 = omega (arith, few, some, far, not) in
-        let x : ℕ = get_or ls first 0 in
-        ap at_place (sym (mark_of-rest x fits)) ∙ to_left chunk x (get_or ls (first + 1) 0)
-        ∙ ap (λ s. child false (node_here s)) (sym two)
-  ]
 
 pub size_seen : (nodes : List Node) (cs : List Chunk) (ks fs ls : List ℕ)
     → nodes_in cs ks fs ls ≡ nodes → length nodes ≡ length cs
