@@ -1,5 +1,6 @@
 -- Nodes as they are kept: at a place, and after a push.
 use Rattle.std.proofs.Common.{◌≡◌, ◌≢◌, ℕ, ◌+◌, ◌-◌, ◌*◌, ◌/◌, ◌%◌, ◌^◌, ◌<◌, ◌≤◌, Bool, true, false, cond, eqb, List, [], ◌∷◌, ◌++◌, length, get_or, refl, sym, ap, ◌∙◌, subst, slice_get, Option, Some, None, inl, inr, arith, length-append, length-set, leb, set}
+use Rattle.std.specs.Prelude.{unwrap_or}
 use Rattle.std.proofs.lemmas.Bool.{cases_eq, cases_lt, eq-eqb, le-leb}
 use Rattle.std.proofs.lemmas.Bool.Decides.{nat_tests}
 use Rattle.std.proofs.lemmas.List.{get_or_append_left, get_or_push, get_or-append-add, get_or-set_same, get_or-set_other}
@@ -493,17 +494,15 @@ pair_made chunk ls left right n total long short = elim (cases_eq (right + 1) n)
 abbrev both : ℕ → ℕ → Option (NodeId × NodeId)
 both left right = Some (record { 0 = left }, record { 0 = right })
 
--- the children of a node are its halves, where it has any
-pub no_halves : (node : Node) → None ≡ halves_of node
-    → (record { 0 = 0 } ≡ left_child node) × (record { 0 = 0 } ≡ right_child node)
-no_halves (Leaf chunk) is = (refl, refl)
-no_halves (Pair left right cached) is = absurd (cc)
-
-pub are_halves : (node : Node) (left right : NodeId) → Some (left, right) ≡ halves_of node
-    → (left ≡ left_child node) × (right ≡ right_child node)
-are_halves (Leaf chunk) left right is = absurd (cc)
-are_halves (Pair a b cached) left right is =
-    let same : (left, right) ≡ (a, b) = same_Some _ _ is in
+-- what is read as the children of a node are its halves, or the first node where it has none
+pub halves_or : (node : Node) (found : Option (NodeId × NodeId)) (read : NodeId × NodeId)
+    → found ≡ halves_of node → read ≡ unwrap_or found (record { 0 = 0 }, record { 0 = 0 })
+    → (read.0 ≡ left_child node) × (read.1 ≡ right_child node)
+halves_or (Leaf chunk) found read has is =
+    let same = is ∙ ap (λ o. unwrap_or o (record { 0 = 0 }, record { 0 = 0 })) has in
+    (ap (λ (k : NodeId × NodeId). k.0) same, ap (λ (k : NodeId × NodeId). k.1) same)
+halves_or (Pair a b cached) found read has is =
+    let same = is ∙ ap (λ o. unwrap_or o (record { 0 = 0 }, record { 0 = 0 })) has in
     (ap (λ (k : NodeId × NodeId). k.0) same, ap (λ (k : NodeId × NodeId). k.1) same)
 
 pub size_seen : (nodes : List Node) (cs : List Chunk) (ks fs ls : List ℕ)

@@ -17,8 +17,8 @@ abbrev pub chunk_of : Node → Option Chunk
 chunk_of (Leaf chunk) = Some chunk
 chunk_of (Pair left right cached) = cached
 
--- the shape of a node, by the low two bits of its byte: 0 is a leaf, 1 a pair whose right child stands
--- just before it, 3 one whose left child does, and 2 each other pair
+-- the shape of a node, by the low two bits of its byte: 0 is a leaf, 1 a pair whose right child
+-- stands just before it, 3 one whose left child does, and 2 each other pair
 abbrev pub shape_of : List ℕ → ℕ → ℕ
 shape_of kinds i = slice_index kinds i % 4
 

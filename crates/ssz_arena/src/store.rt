@@ -30,7 +30,7 @@ const LEFT_BEFORE: u8 = 3;
 // the shape says which. MARK is added to the first link of a pair that has no root yet.
 #[derive(Debug, Drop)]
 pub(crate) struct Store {
-    chunks: Vec<Chunk>,
+    pub(crate) chunks: Vec<Chunk>,
     kinds: Vec<u8>,
     firsts: Vec<u32>,
     links: Vec<u32>,
@@ -219,11 +219,6 @@ impl Store {
         self.room - self.chunks.len()
     }
 
-    // Where its memory is from.
-    pub(crate) fn allocator(&self) -> Global {
-        *self.chunks.allocator()
-    }
-
     // Takes memory for so many nodes in all.
     fn grow(&mut self, room: usize) -> Result<(), AllocError>
         requires most { room ≤ 2 ^ 31 }
@@ -282,18 +277,6 @@ impl Store {
         self.grow(len + n)
     }
 
-    // A new leaf behind the others.
-    #[inline(always)]
-    fn push_leaf(&mut self, chunk: Chunk)
-        requires { 0 < self.old.spare }
-        ensures nodes { self.new.nodes ≡ self.old.nodes ++ Leaf chunk ∷ [] }
-        ensures spare { self.new.spare + 1 ≡ self.old.spare }
-    {
-        let before = begin(&mut self.firsts, self.chunks.len(), self.links.len());
-        self.kinds.push_reserved(4 * before);
-        self.chunks.push_reserved(chunk);
-    }
-
     // A new pair behind the others, of its left child with the mark, and its right child.
     #[inline(always)]
     fn push_pair(&mut self, left: u32, right: NodeId, chunk: Chunk)
@@ -318,7 +301,11 @@ impl Store {
         ensures spare { self.new.spare + 1 ≡ self.old.spare }
     {
         match node {
-            Node::Leaf(chunk) => self.push_leaf(chunk),
+            Node::Leaf(chunk) => {
+                let before = begin(&mut self.firsts, self.chunks.len(), self.links.len());
+                self.kinds.push_reserved(4 * before);
+                self.chunks.push_reserved(chunk);
+            }
             Node::Pair(left, right, cached) => match cached {
                 Some(chunk) => self.push_pair(left.0, right, chunk),
                 None => self.push_pair(left.0 + MARK, right, Chunk::ZERO),
@@ -388,19 +375,6 @@ impl Store {
         ensures { result ≡ child right (node_of self.now.nodes id) }
     {
         child_at(&self.kinds, &self.firsts, &self.links, id.0 as usize, right)
-    }
-
-    // Both of a node that is known to be a pair; of a leaf, the first node twice.
-    #[inline(always)]
-    pub(crate) fn children(&self, id: NodeId) -> (NodeId, NodeId)
-        requires { id.0 < length self.now.nodes }
-        ensures left { result.0 ≡ left_child (node_of self.now.nodes id) }
-        ensures right { result.1 ≡ right_child (node_of self.now.nodes id) }
-    {
-        match self.halves(id) {
-            None => (NodeId(0), NodeId(0)),
-            Some(children) => children,
-        }
     }
 
     // The chunk of a leaf, or the root of a pair that has one.

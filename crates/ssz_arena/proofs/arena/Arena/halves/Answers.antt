@@ -3,6 +3,7 @@ use Rattle.std.proofs.lemmas.Option.{slice_get-get_or}
 use Rattle.ssz_arena.specs.declared.node.Node.{Node}
 use Rattle.ssz_arena.specs.declared.node.Node.TheVariants.{Leaf}
 use Rattle.ssz_arena.specs.Content.{ArenaContent, IsNodeOf, tree_of}
+use Rattle.ssz_arena.proofs.Storing.{halves_or}
 use Rattle.ssz_arena.proofs.Seen.{left_known, right_known, left_tree, right_tree}
 use Rattle.ssz_arena.proofs.arena.Arena.halves.Goals as goal
 
@@ -13,7 +14,7 @@ returns-clause-left g c =
     let child = left_known g.H.PairHash.pair_of nodes c.self.invariant c.args.self.now seen
     c.args.id c.requires _ (slice_get-get_or nodes c.args.id.0 (Leaf (record { 0 = [] }))
     (omega (arith, c.requires, ap (λ (ns : List Node). length ns) seen))) in
-    subst (IsNodeOf c.args.self.now) (sym c.children.ensures.left) child
+    subst (IsNodeOf c.args.self.now) (sym (halves_or _ _ _ c.halves.ensures c.unwrap_or.ensures).0) child
 
 pub returns-clause-right : goal.returns-clause-right
 returns-clause-right g c =
@@ -22,7 +23,7 @@ returns-clause-right g c =
     let child = right_known g.H.PairHash.pair_of nodes c.self.invariant c.args.self.now seen
     c.args.id c.requires _ (slice_get-get_or nodes c.args.id.0 (Leaf (record { 0 = [] }))
     (omega (arith, c.requires, ap (λ (ns : List Node). length ns) seen))) in
-    subst (IsNodeOf c.args.self.now) (sym c.children.ensures.right) child
+    subst (IsNodeOf c.args.self.now) (sym (halves_or _ _ _ c.halves.ensures c.unwrap_or.ensures).1) child
 
 pub returns-clause-left_tree : goal.returns-clause-left_tree
 returns-clause-left_tree g c =
@@ -31,7 +32,7 @@ returns-clause-left_tree g c =
     let child = left_tree g.H.PairHash.pair_of nodes c.self.invariant c.args.self.now seen
     c.args.id c.requires _ (slice_get-get_or nodes c.args.id.0 (Leaf (record { 0 = [] }))
     (omega (arith, c.requires, ap (λ (ns : List Node). length ns) seen))) in
-    λ a b is. ap (tree_of c.args.self.now) c.children.ensures.left ∙ child a b is
+    λ a b is. ap (tree_of c.args.self.now) (halves_or _ _ _ c.halves.ensures c.unwrap_or.ensures).0 ∙ child a b is
 
 pub returns-clause-right_tree : goal.returns-clause-right_tree
 returns-clause-right_tree g c =
@@ -40,4 +41,4 @@ returns-clause-right_tree g c =
     let child = right_tree g.H.PairHash.pair_of nodes c.self.invariant c.args.self.now seen
     c.args.id c.requires _ (slice_get-get_or nodes c.args.id.0 (Leaf (record { 0 = [] }))
     (omega (arith, c.requires, ap (λ (ns : List Node). length ns) seen))) in
-    λ a b is. ap (tree_of c.args.self.now) c.children.ensures.right ∙ child a b is
+    λ a b is. ap (tree_of c.args.self.now) (halves_or _ _ _ c.halves.ensures c.unwrap_or.ensures).1 ∙ child a b is
