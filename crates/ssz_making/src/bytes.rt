@@ -6,8 +6,10 @@ ghost use Rattle.ssz_schema.specs.Unfolding.{type_of, fields_over, options_over,
 ghost use Rattle.ssz_schema.specs.Legal.{IsLegal, AreLegalFields, AreLegalOptions};
 ghost use Rattle.ssz_value.specs.Faults.{first_fault, elements_fault};
 ghost use Rattle.ssz_value.specs.Reading.{value_in};
+ghost use Rattle.ssz_value.specs.Trees.{number_chunk, padded};
 ghost use Rattle.ssz_parts.specs.PartValues.{element_values, field_values};
-ghost use Rattle.ssz_making.specs.Parts.{whole_of, chosen_part, elements_part, field_parts, part_of_value};
+ghost use Rattle.ssz_making.specs.Parts.{MadePart, whole_of, chunk_part, joined_leaf, chosen_part, elements_part, field_parts, part_of_value};
+ghost use Rattle.ssz_making.specs.Making.{CanJoinLeaf};
 ghost use Rattle.ssz_making.specs.Nodes.{new_nodes};
 
 use super::maker::Maker;
@@ -20,6 +22,7 @@ use ssz_schema::{Name, Schema, Ty, TypeId};
 
 /// The value that the bytes stand for, which have no fault, made where there is room for its nodes.
 #[cycle(node)]
+#[inline(always)]
 pub fn bytes_part<M: Maker>(maker: &mut M, schema: &Schema, id: TypeId, bytes: &[u8]) -> M::Out
     requires known { id < length schema.now.trees }
     requires short { length bytes.now < 2 ^ 32 }
@@ -30,16 +33,15 @@ pub fn bytes_part<M: Maker>(maker: &mut M, schema: &Schema, id: TypeId, bytes: &
         M.made maker.old maker.new (part_of_value t (value_in t bytes.now)) result }
 {
     match schema.ty(id) {
-        Ty::Uint(_) => maker.leaf(&chunk_at(bytes, 0)),
-        Ty::Boolean => maker.leaf(&chunk_at(bytes, 0)),
+        Ty::Uint(_) => leaf_made(maker, bytes),
+        Ty::Boolean => leaf_made(maker, bytes),
         Ty::Vector(elem, count) => {
             elements_made(maker, schema, *elem, schema.depth(id), *count, bytes)
         }
         Ty::List(elem, limit) => {
             let count = element_count(schema.fixed_size(*elem), *limit, bytes);
             let elements = elements_made(maker, schema, *elem, schema.depth(id), count, bytes);
-            let len = number_chunk(u128::from(count));
-            maker.join(elements, &len)
+            counted(maker, elements, count)
         }
         Ty::Bitvector(_) => maker.packed(schema.depth(id), bytes),
         Ty::Container(fields) => {
@@ -56,10 +58,30 @@ pub fn bytes_part<M: Maker>(maker: &mut M, schema: &Schema, id: TypeId, bytes: &
         Ty::Bitlist(_) => {
             let count = bitlist_len(bytes);
             let bits = maker.bits(schema.depth(id), count, bytes);
-            let len = number_chunk(u128::from(count));
-            maker.join(bits, &len)
+            counted(maker, bits, count)
         }
     }
+}
+
+// The leaf of a basic value. A function of its own, as the next, so that a call of `bytes_part` has
+// no chunk on its stack to be zeroed.
+#[inline(always)]
+fn leaf_made<M: Maker>(maker: &mut M, bytes: &[u8]) -> M::Out
+    requires { M.room maker.old 1 }
+    ensures { M.made maker.old maker.new (chunk_part (padded bytes.now)) result }
+{
+    maker.leaf(&chunk_at(bytes, 0))
+}
+
+// A part with its length to its right.
+#[inline(always)]
+fn counted<M: Maker>(maker: &mut M, part: M::Out, count: u64) -> M::Out
+    requires { CanJoinLeaf M.room M.made maker.old part }
+    ensures { (start : M) (one : MadePart) → M.made start maker.old one part
+        → M.made start maker.new (joined_leaf one (number_chunk count)) result }
+{
+    let len = number_chunk(u128::from(count));
+    maker.join(part, &len)
 }
 
 // Of count elements, in a full tree of this depth.
@@ -128,6 +150,7 @@ fn parts_made<M: Maker>(
 
 // Of a container of these fields, whose types stand before id.
 #[cycle(node)]
+#[inline(never)]
 fn fields_made<M: Maker>(
     maker: &mut M,
     schema: &Schema,

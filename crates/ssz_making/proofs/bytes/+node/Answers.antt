@@ -12,7 +12,6 @@ use Rattle.ssz_value.specs.Trees.{number_chunk}
 use Rattle.ssz_value.proofs.Agree.{IsInput, no_faults}
 use Rattle.ssz_value.proofs.PartLemmas.{known_weaker, part_known, size_at}
 use Rattle.ssz_parts.proofs.ElementLemmas.{element_faultless}
-use Rattle.ssz_packing.specs.Bits.{undelimited}
 use Rattle.ssz_parts.specs.PartValues.{element_values}
 use Rattle.ssz_packing.proofs.Options.{chosen_at}
 use Rattle.ssz_packing.proofs.Arms.{vector_elements, list_elements, IsPackedBits-bitvector, container_fields}
@@ -552,16 +551,15 @@ bytes_part-element_count-count-requires-clause-faultless g t c =
     subst (λ (size : Option ℕ). count_fault size limit 0 b ≡ None) (sym c.fixed_size.ensures.exact)
     both.0
 
-pub bytes_part-join-requires : goal.bytes_part-join-requires
-bytes_part-join-requires g t c =
+pub bytes_part-counted-requires : goal.bytes_part-counted-requires
+bytes_part-counted-requires g t c =
     let trees = c.args.schema.now.trees in
     let form = sym c.ty.ensures.form ∙ ap (tree_over trees) c.in-List.is in
     let count = c.element_count-count.ensures ∙ ap
     (λ (size : Option ℕ). element_count size c.args.bytes.now) c.fixed_size.ensures.exact in
-    let number = c.number_chunk-len.ensures ∙ ap number_chunk c.from.ensures in
     let made = list_made (type_of c.args.schema.now c.args.id) (type_tree_at trees c.in-List.elem)
-    c.in-List.limit c.element_count-count.result c.depth-in-List.result c.args.bytes.now
-    c.number_chunk-len.result.0 form c.depth-in-List.ensures.exact count number in
+    c.in-List.limit c.element_count-count.result c.depth-in-List.result c.args.bytes.now _ form
+    c.depth-in-List.ensures.exact count refl in
     record {
       start = c.args.maker.now;
       one = _;
@@ -576,32 +574,29 @@ bytes_part-returns-in-List g t c =
     let form = sym c.ty.ensures.form ∙ ap (tree_over trees) c.in-List.is in
     let count = c.element_count-count.ensures ∙ ap
     (λ (size : Option ℕ). element_count size c.args.bytes.now) c.fixed_size.ensures.exact in
-    let number = c.number_chunk-len.ensures ∙ ap number_chunk c.from.ensures in
     let made = list_made (type_of c.args.schema.now c.args.id) (type_tree_at trees c.in-List.elem)
-    c.in-List.limit c.element_count-count.result c.depth-in-List.result c.args.bytes.now
-    c.number_chunk-len.result.0 form c.depth-in-List.ensures.exact count number in
-    subst (λ part. g.M.Maker.made c.args.maker.now c.join.new.self part c.join.result) made
-    (c.join.ensures _ _ c.elements_made-elements.ensures)
+    c.in-List.limit c.element_count-count.result c.depth-in-List.result c.args.bytes.now _ form
+    c.depth-in-List.ensures.exact count refl in
+    subst (λ part. g.M.Maker.made c.args.maker.now c.counted.new.maker part c.counted.result) made
+    (c.counted.ensures _ _ c.elements_made-elements.ensures)
 
 pub bytes_part-returns-in-Uint : goal.bytes_part-returns-in-Uint
 bytes_part-returns-in-Uint g t c =
     let input = input_of c.args.bytes.now c.type_inv.bytes c.requires.short in
     let form = sym c.ty.ensures.form ∙ ap (tree_over c.args.schema.now.trees) c.in-Uint.is in
-    subst (λ part. g.M.Maker.made c.args.maker.now c.leaf.new.self part c.leaf.result)
+    subst (λ part. g.M.Maker.made c.args.maker.now c.leaf_made.new.maker part c.leaf_made.result)
     (basic_made c.args.schema.now.format (type_of c.args.schema.now c.args.id) _ c.args.bytes.now
-    c.chunk_at.result.0 (ap basic_size form) c.ty.ensures.legal input c.requires.faultless
-    c.chunk_at.ensures) c.leaf.ensures
+    _ (ap basic_size form) c.ty.ensures.legal input c.requires.faultless refl) c.leaf_made.ensures
 
 pub bytes_part-returns-in-Boolean : goal.bytes_part-returns-in-Boolean
 bytes_part-returns-in-Boolean g t c =
     let input = input_of c.args.bytes.now c.type_inv.bytes c.requires.short in
     let form = sym c.ty.ensures.form ∙ ap (tree_over c.args.schema.now.trees) c.in-Boolean.is in
-    subst (λ part. g.M.Maker.made c.args.maker.now c.leaf-in-Boolean.new.self part
-    c.leaf-in-Boolean.result)
+    subst (λ part. g.M.Maker.made c.args.maker.now c.leaf_made-in-Boolean.new.maker part
+    c.leaf_made-in-Boolean.result)
     (basic_made c.args.schema.now.format (type_of c.args.schema.now c.args.id) _ c.args.bytes.now
-    c.chunk_at-in-Boolean.result.0 (ap basic_size form) c.ty.ensures.legal input
-    c.requires.faultless
-    c.chunk_at-in-Boolean.ensures) c.leaf-in-Boolean.ensures
+    _ (ap basic_size form) c.ty.ensures.legal input c.requires.faultless refl)
+    c.leaf_made-in-Boolean.ensures
 
 pub bytes_part-union_made-requires : goal.bytes_part-union_made-requires
 bytes_part-union_made-requires g t c κs within =
@@ -775,21 +770,17 @@ bytes_part-bits-bits-requires-clause-room g t c =
     g.met.M.Maker.room_less c.args.maker.now _ _ (omega (arith, same_nodes _ _ made))
     c.requires.room
 
-pub bytes_part-join-requires-in-Bitlist : goal.bytes_part-join-requires-in-Bitlist
-bytes_part-join-requires-in-Bitlist g t c =
+pub bytes_part-counted-requires-in-Bitlist : goal.bytes_part-counted-requires-in-Bitlist
+bytes_part-counted-requires-in-Bitlist g t c =
     let input = input_of c.args.bytes.now c.type_inv.bytes c.requires.short in
     let form = sym c.ty.ensures.form ∙ ap (tree_over c.args.schema.now.trees) c.in-Bitlist.is in
     let h = HasBits-bitlist (λ l r. l) c.args.schema.now.format
     (type_of c.args.schema.now c.args.id) c.in-Bitlist.field-0 c.depth-in-Bitlist.result
     c.args.bytes.now form c.ty.ensures.legal input c.requires.faultless
     c.depth-in-Bitlist.ensures.exact in
-    let number = c.number_chunk-len-in-Bitlist.ensures ∙ ap number_chunk c.from-in-Bitlist.ensures
-    in
     let made = bitlist_made (type_of c.args.schema.now c.args.id) c.in-Bitlist.field-0
-    c.depth-in-Bitlist.result c.bitlist_len-count.result c.args.bytes.now
-    c.number_chunk-len-in-Bitlist.result.0 form input h.some h.delimited
-    c.depth-in-Bitlist.ensures.exact
-    c.bitlist_len-count.ensures.exact number in
+    c.depth-in-Bitlist.result c.bitlist_len-count.result c.args.bytes.now _ form input h.some
+    h.delimited c.depth-in-Bitlist.ensures.exact c.bitlist_len-count.ensures.exact refl in
     record {
       start = c.args.maker.now;
       one = _;
@@ -806,12 +797,8 @@ bytes_part-returns-in-Bitlist g t c =
     (type_of c.args.schema.now c.args.id) c.in-Bitlist.field-0 c.depth-in-Bitlist.result
     c.args.bytes.now form c.ty.ensures.legal input c.requires.faultless
     c.depth-in-Bitlist.ensures.exact in
-    let number = c.number_chunk-len-in-Bitlist.ensures ∙ ap number_chunk c.from-in-Bitlist.ensures
-    in
     let made = bitlist_made (type_of c.args.schema.now c.args.id) c.in-Bitlist.field-0
-    c.depth-in-Bitlist.result c.bitlist_len-count.result c.args.bytes.now
-    c.number_chunk-len-in-Bitlist.result.0 form input h.some h.delimited
-    c.depth-in-Bitlist.ensures.exact
-    c.bitlist_len-count.ensures.exact number in
-    subst (λ part. g.M.Maker.made c.args.maker.now c.join-in-Bitlist.new.self part
-    c.join-in-Bitlist.result) made (c.join-in-Bitlist.ensures _ _ c.bits-bits.ensures)
+    c.depth-in-Bitlist.result c.bitlist_len-count.result c.args.bytes.now _ form input h.some
+    h.delimited c.depth-in-Bitlist.ensures.exact c.bitlist_len-count.ensures.exact refl in
+    subst (λ part. g.M.Maker.made c.args.maker.now c.counted-in-Bitlist.new.maker part
+    c.counted-in-Bitlist.result) made (c.counted-in-Bitlist.ensures _ _ c.bits-bits.ensures)
