@@ -80,6 +80,7 @@ impl Places {
     }
 
     /// The node of the next place. There is one, if fewer than 2^depth were taken.
+    #[inline(always)]
     pub fn next<H: PairHash>(&mut self, arena: &Arena<H>) -> NodeId
         requires { AheadAreNodes arena.now self.old }
         ensures nodes { AheadAreNodes arena.now self.new }
@@ -101,6 +102,7 @@ impl Places {
     }
 
     // Comes down to the next row, where all nodes of the one before were taken.
+    #[inline(always)]
     fn refill<H: PairHash>(&mut self, arena: &Arena<H>)
         requires { AheadAreNodes arena.now self.old }
         ensures nodes { AheadAreNodes arena.now self.new }
@@ -108,7 +110,7 @@ impl Places {
             → AheadHolds arena.now trees self.new }
         ensures some { self.new.from ≡ self.new.to → self.new.left ≡ 0 }
     {
-        if self.from < self.to {
+        if self.from != self.to {
             return;
         }
         if self.left == 0 {
@@ -117,7 +119,9 @@ impl Places {
         self.fill(arena);
     }
 
-    // Comes down to the first row of the lowest subtree.
+    // Comes down to the first row of the lowest subtree: a call of its own, so that taking the next
+    // node of a row is none.
+    #[inline(never)]
     fn fill<H: PairHash>(&mut self, arena: &Arena<H>)
         requires nodes { AheadAreNodes arena.now self.old }
         requires taken { self.old.from ≡ self.old.to }
