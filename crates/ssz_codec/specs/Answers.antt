@@ -13,12 +13,12 @@ use Rattle.ssz_value.specs.Shapes.{StandAlike}
 use Rattle.ssz_codec.specs.declared.fault.DecodeFault.{DecodeFault}
 use Rattle.ssz_codec.specs.declared.fault.DecodeFault.TheVariants.{Bad, Memory}
 
--- this is the first fault, or memory ran out
+-- this is the first fault; memory runs out only where there is none
 abbrev pub Faulty : Option Fault → DecodeFault → Type 0
 Faulty fault (Bad f) = fault ≡ Some f
-Faulty fault Memory = Unit {0}
+Faulty fault Memory = fault ≡ None
 
--- there is no fault and the answer is as wanted, or it is the first fault, or memory ran out
+-- there is no fault, and the answer is as wanted or memory ran out; or it is the first fault
 abbrev pub Decodes : {X : Type 0} → Option Fault → (X → Type 0) → Result X DecodeFault → Type 0
 Decodes fault P (Ok x) = (fault ≡ None) × P x
 Decodes fault P (Err e) = Faulty fault e

@@ -25,7 +25,8 @@ use ssz_value::{Value, is_byte, option_at};
 use std::alloc::{AllocError, Global};
 
 /// The value whose encoding the bytes are. `Bad` holds their first fault, the one that `check`
-/// answers; bytes that have one give no value. `Memory` may come for want of memory alone.
+/// answers; bytes that have one give no value. `Memory` comes for want of memory alone, and only
+/// where they have none.
 pub fn decode(
     alloc: Global,
     schema: &Schema,
