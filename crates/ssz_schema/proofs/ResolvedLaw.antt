@@ -23,7 +23,7 @@ guard_ok : {A : Type 0} (b : Bool) (d : SchemaFault) (r : Result A SchemaFault) 
 guard_ok true d r y e = cc
 guard_ok false d r y e = (refl, e)
 
-ok_is : {A : Type 0} (x y : A) → ◌≡◌ {A = Result A SchemaFault} (Ok x) (Ok y) → x ≡ y
+pub ok_is : {A : Type 0} (x y : A) → ◌≡◌ {A = Result A SchemaFault} (Ok x) (Ok y) → x ≡ y
 ok_is x y e = cc
 
 module _ (format : Format) where

@@ -20,7 +20,7 @@ use Rattle.ssz_schema.specs.Adding.{ExtendsSchema, Resolves, AreFieldTypes, IsFi
 pub use Rattle.ssz_types.proofs.RepeatLemmas.{Written, names_of, drop_at}
 use Rattle.ssz_schema.proofs.WalkLemmas.{Extends-refl, Extends-trans}
 use Rattle.ssz_schema.proofs.KnownLemmas.{known_in-more, known_legal, type_of-more}
-use Rattle.ssz_schema.proofs.ResolvedLaw.{fields_are_legal}
+use Rattle.ssz_schema.proofs.ResolvedLaw.{ok_is, fields_are_legal}
 
 abbrev Part : Type 0
 Part = List ℕ × ℕ
@@ -117,6 +117,32 @@ fresh_field : {A : Type 0} (bad taken : Bool) (r : Result A SchemaFault) (x : A)
 fresh_field true taken r x e = cc
 fresh_field false true r x e = cc
 fresh_field false false r x e = refl
+
+named_field : (bad taken : Bool) (name : List ℕ) (r : Result SszType SchemaFault)
+    (rest : Result Fields SchemaFault) (fs : Fields) (names : List (List ℕ))
+    → cond bad (Err BadName) (cond taken (Err FieldTaken)
+    (r >>= (λ t. rest >>= (λ fields. Ok (field name t fields))))) ≡ Ok fs
+    → ((fields : Fields) → rest ≡ Ok fields → field_names fields ≡ names)
+    → field_names fs ≡ name ∷ names
+named_field true taken name r rest fs names e h = cc
+named_field false true name r rest fs names e h = cc
+named_field false false name (Err x) rest fs names e h = cc
+named_field false false name (Ok t) (Err x) fs names e h = cc
+named_field false false name (Ok t) (Ok fields) fs names e h =
+    sym (ap field_names (ok_is (field name t fields) fs e))
+    ∙ ap (λ others. name ∷ others) (h fields refl)
+
+-- fields that are resolved have the names that were written
+pub named_fields : (format : Format) (known : List ℕ → Option SszType) (seen : List (List ℕ))
+    (fields : List Written) (fs : Fields)
+    → resolved_fields format known seen (field_forms (map field_form_of fields)) ≡ Ok fs
+    → field_names fs ≡ names_of fields
+named_fields format known seen [] fs e = sym (ap field_names (ok_is no_fields fs e))
+named_fields format known seen (written ∷ fields) fs e =
+    named_field (not (is_name written.0)) (list_any (λ other. bytes_eq other written.0) seen)
+    written.0 (resolved format known (form_of written.1))
+    (resolved_fields format known (written.0 ∷ seen) (field_forms (map field_form_of fields))) fs
+    (names_of fields) e (named_fields format known (written.0 ∷ seen) fields)
 
 module _ (old : Types) (fields : List Written) where
   abbrev known : List ℕ → Option SszType

@@ -4,6 +4,7 @@ ghost use Rattle.std.specs.List.{AllByRecursion, IsDistinct};
 ghost use Rattle.ssz_types.specs.Types.{vector, list, bitvector, bitlist, container, union};
 ghost use Rattle.ssz_types.specs.Sizes.{field_count, option_count, default_option_length};
 ghost use Rattle.ssz_types.specs.Legal.{AreLegalFields, AreLegalOptions, IsNoneFirst, field_names, most_options};
+ghost use Rattle.ssz_types.specs.Order.{name_order, field_order};
 ghost use Rattle.ssz_schema.specs.Walk.{within_limits, of_length, of_limit};
 ghost use Rattle.ssz_types.specs.Unfolding.{type_of, tree_over, fields_over, options_over, IsBelow};
 ghost use Rattle.ssz_schema.specs.Inside.{IsSoundButLimits};
@@ -32,9 +33,15 @@ pub struct Sums {
 }
 
 impl Schema {
-    // Adds a type if it keeps the limits.
-    fn add_within_limits(&mut self, ty: Ty, facts: Facts) -> Result<TypeId, SchemaError>
-        requires { IsSoundButLimits self.old.format self.old.trees ty facts }
+    // Adds a type if it keeps the limits, with its fields in order.
+    fn add_within_limits(
+        &mut self,
+        ty: Ty,
+        facts: Facts,
+        order: Vec<usize>,
+    ) -> Result<TypeId, SchemaError>
+        requires sound { IsSoundButLimits self.old.format self.old.trees ty facts }
+        requires order { order.items ≡ field_order (tree_over self.old.trees ty) }
         ensures { Resolves IsType (within_limits self.old.format
             (tree_over self.old.trees ty)) self.old self.new result }
     {
@@ -47,7 +54,6 @@ impl Schema {
         if facts.default_len > MOST_DEFAULT {
             return Err(SchemaError::Fault(SchemaFault::Size));
         }
-        let order = ty.field_order(self.allocator())?;
         Ok(self.push(Entry { ty, facts, order })?)
     }
 
@@ -69,7 +75,7 @@ impl Schema {
             levels: depth,
             nesting: 1,
         };
-        self.add_within_limits(Ty::Bitvector(n), facts)
+        self.add_within_limits(Ty::Bitvector(n), facts, Vec::new(self.allocator()))
     }
 
     pub(crate) fn add_bitlist(&mut self, limit: u64) -> Result<TypeId, SchemaError>
@@ -89,7 +95,7 @@ impl Schema {
             levels: depth + 1,
             nesting: 1,
         };
-        self.add_within_limits(Ty::Bitlist(limit), facts)
+        self.add_within_limits(Ty::Bitlist(limit), facts, Vec::new(self.allocator()))
     }
 
     pub(crate) fn add_list(&mut self, elem: TypeId, limit: u64) -> Result<TypeId, SchemaError>
@@ -111,7 +117,7 @@ impl Schema {
             levels: depth + part.levels + 1,
             nesting: part.nesting + 1,
         };
-        self.add_within_limits(Ty::List(elem, limit), facts)
+        self.add_within_limits(Ty::List(elem, limit), facts, Vec::new(self.allocator()))
     }
 
     pub(crate) fn add_vector(&mut self, elem: TypeId, n: u64) -> Result<TypeId, SchemaError>
@@ -135,7 +141,7 @@ impl Schema {
             levels: depth + part.levels,
             nesting: part.nesting + 1,
         };
-        self.add_within_limits(Ty::Vector(elem, n), facts)
+        self.add_within_limits(Ty::Vector(elem, n), facts, Vec::new(self.allocator()))
     }
 
     // What the fields tell of their container.
@@ -170,12 +176,15 @@ impl Schema {
     pub(crate) fn add_container(
         &mut self,
         fields: Vec<(Name, TypeId)>,
+        order: Vec<usize>,
     ) -> Result<TypeId, SchemaError>
         requires some { 0 < length fields.items }
         requires known { AllByRecursion (λ part. part.1 < length self.old.trees) fields.items }
         requires legal { AreLegalFields self.old.format (fields_over self.old.trees fields.items) }
         requires distinct { IsDistinct bytes_eq
             (field_names (fields_over self.old.trees fields.items)) }
+        requires order { order.items
+            ≡ name_order (field_names (fields_over self.old.trees fields.items)) }
         ensures { Resolves IsType (within_limits self.old.format
             (container (fields_over self.old.trees fields.items))) self.old self.new result }
     {
@@ -191,7 +200,7 @@ impl Schema {
             levels: depth + sums.levels,
             nesting: sums.nesting + 1,
         };
-        self.add_within_limits(Ty::Container(fields), facts)
+        self.add_within_limits(Ty::Container(fields), facts, order)
     }
 
     // The levels and the nesting of an option, None counting 0.
@@ -260,6 +269,6 @@ impl Schema {
             levels: option_levels + 1,
             nesting: option_nesting + 1,
         };
-        self.add_within_limits(Ty::Union(options), facts)
+        self.add_within_limits(Ty::Union(options), facts, Vec::new(self.allocator()))
     }
 }

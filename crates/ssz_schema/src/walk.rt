@@ -10,7 +10,7 @@ ghost use Rattle.ssz_types.specs.Legal.{AreLegalFields, AreLegalOptions, IsNoneF
 
 use super::schema::Schema;
 use ssz_types::{
-    Name, SchemaError, SchemaFault, TypeExpr, TypeId, first_repeat, is_at, is_name, is_wrong_size,
+    FieldOrder, Name, SchemaError, SchemaFault, TypeExpr, TypeId, is_at, is_name, is_wrong_size,
 };
 
 impl Schema {
@@ -84,15 +84,19 @@ impl Schema {
         if fields.is_empty() {
             return Err(SchemaError::Fault(SchemaFault::EmptyContainer));
         }
-        let fields = self.resolve_fields(fields)?;
-        self.add_container(fields)
+        let order = FieldOrder::of(self.allocator(), fields)?;
+        let fields = self.resolve_fields(fields, order.repeat)?;
+        self.add_container(fields, order.numbers)
     }
 
+    // The first field that has the name of an earlier one, the caller knows.
     #[cycle(walk)]
     fn resolve_fields(
         &mut self,
         fields: &Vec<(Name, TypeExpr)>,
+        repeat: Option<usize>,
     ) -> Result<Vec<(Name, TypeId)>, SchemaError>
+        requires { repeat ≡ first_repeat [] 0 (map (λ field. field.0) fields.now.items) }
         ensures walk { Resolves AreFieldTypes
             (resolved_fields self.old.format (known_in self.old) []
             (field_forms (map field_form_of fields.now.items))) self.old self.new result }
@@ -103,7 +107,6 @@ impl Schema {
             (field_names (fields_over self.new.trees parts.items))) }
     {
         let alloc = self.allocator();
-        let repeat = first_repeat(alloc, fields)?;
         let mut resolved = Vec::with_capacity(alloc, fields.len())?;
         for (i, field) in fields.iter().enumerate() {
             let part = self.resolve_field(field, is_at(repeat, i))?;

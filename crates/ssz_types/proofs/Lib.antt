@@ -4,3 +4,4 @@ pub mod BasicLemmas
 pub mod NameLemmas
 pub mod RepeatLemmas
 pub mod OrderLemmas
+pub mod DistinctLemmas

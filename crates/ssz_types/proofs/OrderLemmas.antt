@@ -4,15 +4,8 @@ use Rattle.std.specs.BTreeMap.{insert_entry}
 use Rattle.std.specs.Cmp.Lexicographic.{slice_cmp}
 use Rattle.std.specs.Ordering.{nat_cmp, match_ordering}
 use Rattle.std.proofs.lemmas.List.{drop_all}
-use Rattle.ssz_types.specs.Types.{SszType}
-use Rattle.ssz_types.specs.Legal.{field_names}
 use Rattle.ssz_types.specs.Order.{order_from}
-use Rattle.ssz_types.specs.Unfolding.{fields_over}
-use Rattle.ssz_types.proofs.RepeatLemmas.{drop_at}
-
--- a field with the number of its type
-abbrev pub Numbered : Type 0
-Numbered = List ℕ × ℕ
+use Rattle.ssz_types.proofs.RepeatLemmas.{Written, drop_at}
 
 abbrev Lent : Type 0
 Lent = List (Bor (List ℕ) × ℕ)
@@ -45,10 +38,10 @@ numbers-lent [] = refl
 numbers-lent (e ∷ es) = ap (λ ns. e.1 ∷ ns) (numbers-lent es)
 
 -- the names from this number on
-abbrev pub names_left : List Numbered → ℕ → List (List ℕ)
+abbrev pub names_left : List Written → ℕ → List (List ℕ)
 names_left fields i = map (λ f. f.0) (drop i fields)
 
-pub lent-start : (fields : List Numbered) (es : Lent) → es ≡ []
+pub lent-start : (fields : List Written) (es : Lent) → es ≡ []
     → lent es ≡ order_from (length fields) (names_left fields (length fields))
 unfolding order_from
 lent-start fields es none =
@@ -56,7 +49,7 @@ lent-start fields es none =
     (drop_all (length fields) fields (omega arith)))
 
 -- the name of field i comes to those behind it
-pub lent-more : (fields : List Numbered) (es new : Lent) (i : ℕ) (k : Bor (List ℕ)) (f : Numbered)
+pub lent-more : (fields : List Written) (es new : Lent) (i : ℕ) (k : Bor (List ℕ)) (f : Written)
     → i < length fields → f ≡ get_or fields i f → k.now ≡ f.0
     → new ≡ insert_entry lent_cmp es k i
     → lent es ≡ order_from (i + 1) (names_left fields (i + 1))
@@ -66,9 +59,3 @@ lent-more fields es new i k f below here name is h =
     ap lent is ∙ lent-insert es k i
     ∙ ap₂ (λ later l. insert_entry (slice_cmp nat_cmp) later l i) h name
     ∙ sym (ap (λ fs. order_from i (map (λ f. f.0) fs)) (drop_at fields i f below here))
-
--- the names of a container's fields
-pub names_over : (trees : List SszType) (fields : List Numbered)
-    → field_names (fields_over trees fields) ≡ map (λ f. f.0) fields
-names_over trees [] = refl
-names_over trees (f ∷ fields) = ap (λ names. f.0 ∷ names) (names_over trees fields)

@@ -8,7 +8,10 @@ use std::alloc::{AllocError, Global};
 use std::collections::BTreeSet;
 
 /// The number of the first field that has the name of an earlier one.
-pub fn first_repeat(alloc: Global, fields: &[(Name, TypeExpr)]) -> Result<Option<usize>, AllocError>
+pub(crate) fn first_repeat(
+    alloc: Global,
+    fields: &[(Name, TypeExpr)],
+) -> Result<Option<usize>, AllocError>
     ensures { IfOk result (λ repeat.
         repeat ≡ first_repeat [] 0 (map (λ field. field.0) fields.now)) }
 {

@@ -1,6 +1,7 @@
 use Rattle.std.proofs.Common.{ℕ, ◌≡◌, ◌+◌, ◌-◌, ◌<◌, length, ap, sym, subst, ◌∙◌, arith}
 use Rattle.ssz_types.specs.Order.{order_from}
-use Rattle.ssz_types.proofs.OrderLemmas.{Numbered, lent, names_left, lent-start, lent-more}
+use Rattle.ssz_types.proofs.RepeatLemmas.{Written}
+use Rattle.ssz_types.proofs.OrderLemmas.{lent, names_left, lent-start, lent-more}
 use Rattle.ssz_types.proofs.order.names_of.Goals as goal
 
 pub loop-number-init : goal.loop-number-init
@@ -20,7 +21,7 @@ loop-number-preserved c =
       within = omega arith;
       names = lent-more fields es c.insert.new.self.entries (c.loop-number.number - 1)
           c.as_bytes.result c.index-fields-number.result below c.index-fields-number.is
-          (c.as_bytes.ensures ∙ ap (λ (f : Numbered). f.0) (sym c.index-fields-number.is))
+          (c.as_bytes.ensures ∙ ap (λ (f : Written). f.0) (sym c.index-fields-number.is))
           c.in_ok-insert.ensures.entries
           (subst (λ (n : ℕ). lent es ≡ order_from n (names_left fields n)) next
           c.loop-number.invariant.names);

@@ -1,6 +1,6 @@
 use Rattle.std.proofs.Common.{List, [], length, get_or, max, ap, sym, subst, ◌≡◌, ◌<◌, ◌≤◌, ◌+◌, ◌∙◌, Err, arith}
 use Rattle.ssz_schema.proofs.WalkFields.{Written as Field}
-use Rattle.ssz_schema.proofs.WalkFields.{FieldsFrom, FieldsFrom-start, FieldsFrom-more, fields_stop, fields_end, fields_end-legal, names_of}
+use Rattle.ssz_schema.proofs.WalkFields.{FieldsFrom, FieldsFrom-start, FieldsFrom-more, fields_stop, fields_end, fields_end-legal, names_of, named_fields}
 use Rattle.ssz_schema.proofs.WalkOptions.{Written as Choice, OptionsFrom, OptionsFrom-more, options_stop, options_end, options_end-legal}
 use Rattle.ssz_schema.proofs.FormLemmas.{container_is, vector_is, list_is, bitvector_is, bitlist_is, element_then, union_is, container_walk, container_then, union_walk, union_refused, union_then}
 use Rattle.ssz_schema.proofs.WalkLemmas.{refused, same_walk, ends}
@@ -9,7 +9,8 @@ use Rattle.ssz_types.specs.Types.{vector, list, union}
 use Rattle.ssz_schema.specs.Forms.{form_of, vector_form, list_form}
 use Rattle.ssz_types.specs.Repeats.{first_repeat}
 use Rattle.ssz_schema.specs.Walk.{resolved, within_limits, of_length, of_limit}
-use Rattle.ssz_types.specs.Legal.{is_wrong_size}
+use Rattle.ssz_types.specs.Legal.{is_wrong_size, field_names}
+use Rattle.ssz_types.specs.Order.{name_order}
 use Rattle.ssz_types.specs.Unfolding.{known_in}
 use Rattle.ssz_schema.specs.Adding.{IsType, AreOptions}
 use Rattle.std.proofs.lemmas.Bool.{eqb-false}
@@ -123,12 +124,29 @@ resolve_container-returns t c =
     c.in_ok-fields.fields c.add_container.result c.in_ok-fields.ensures.walk
     c.add_container.ensures)
 
+pub resolve_container-resolve_fields-requires : goal.resolve_container-resolve_fields-requires
+resolve_container-resolve_fields-requires t c = (
+  omega (arith, c.decreases),
+  c.in_ok-order.ensures.repeat
+      ∙ ap (λ (fs : List Field). first_repeat [] 0 (names_of fs)) c.deref.ensures.value,
+)
+
+pub
+    resolve_container-add_container-requires-clause-order :
+    goal.resolve_container-add_container-requires-clause-order
+resolve_container-add_container-requires-clause-order t c =
+    let fields = c.in_ok-fields.ensures.walk.answer in
+    let named = named_fields c.args.self.now.format (known_in c.args.self.now) []
+    c.args.fields.now.items fields.0 fields.1 in
+    c.in_ok-order.ensures.numbers
+    ∙ ap (λ (fs : List Field). name_order (names_of fs)) c.deref.ensures.value
+    ∙ ap name_order (sym named ∙ ap field_names (sym fields.2.are))
+
 pub resolve_fields-loop-i-init : goal.resolve_fields-loop-i-init
 resolve_fields-loop-i-init t c =
     subst (FieldsFrom c.args.self.now c.args.fields.now.items c.args.self.now 0
-    c.in_ok-repeat.repeat) (sym c.in_ok-resolved.ensures.items)
-    (FieldsFrom-start c.args.self.now c.args.fields.now.items c.in_ok-repeat.repeat
-    (c.in_ok-repeat.ensures ∙ ap (λ fs. first_repeat [] 0 (names_of fs)) c.deref.ensures.value))
+    c.args.repeat) (sym c.in_ok-resolved.ensures.items)
+    (FieldsFrom-start c.args.self.now c.args.fields.now.items c.args.repeat c.requires)
 
 pub
     resolve_fields-returns-in_err-part-clause-walk :
@@ -139,7 +157,7 @@ resolve_fields-returns-in_err-part-clause-walk t c =
     let here : c.loop-i.i < length c.args.fields.now.items =
     omega (arith, c.deref-field-items.ensures.len) in
     rw (p.1, p.2) (fields_stop c.args.self.now c.args.fields.now.items c.loop-i.self
-    c.resolve_field.new.self c.loop-i.i c.in_ok-repeat.repeat c.loop-i.resolved.items
+    c.resolve_field.new.self c.loop-i.i c.args.repeat c.loop-i.resolved.items
     c.field-item.result c.is_at.result c.in_err-part.field-0.0
     c.allocator-alloc.ensures.whole c.loop-i.invariant here
     (c.field-item.is ∙ ap (λ (fs : List Field). get_or fs c.loop-i.i c.field-item.result)
@@ -150,9 +168,9 @@ resolve_fields-loop-i-preserved t c =
     let here : c.loop-i.i < length c.args.fields.now.items =
     omega (arith, c.deref-field-items.ensures.len) in
     subst (FieldsFrom c.args.self.now c.args.fields.now.items c.resolve_field.new.self
-    (c.loop-i.i + 1) c.in_ok-repeat.repeat) (sym c.in_ok-push.ensures.items)
+    (c.loop-i.i + 1) c.args.repeat) (sym c.in_ok-push.ensures.items)
     (FieldsFrom-more c.args.self.now c.args.fields.now.items c.loop-i.self c.resolve_field.new.self
-    c.loop-i.i c.in_ok-repeat.repeat c.loop-i.resolved.items c.field-item.result c.is_at.result
+    c.loop-i.i c.args.repeat c.loop-i.resolved.items c.field-item.result c.is_at.result
     c.in_ok-part.part
     c.allocator-alloc.ensures.whole c.loop-i.invariant here
     (c.field-item.is ∙ ap (λ (fs : List Field). get_or fs c.loop-i.i c.field-item.result)
@@ -163,14 +181,14 @@ resolve_fields-returns-clause-walk t c =
     let all : length c.args.fields.now.items ≤ c.loop-i.i =
     omega (arith, c.deref-field-items.ensures.len) in
     fields_end c.args.self.now c.args.fields.now.items c.loop-i.self c.loop-i.i
-    c.in_ok-repeat.repeat c.loop-i.resolved c.loop-i.invariant all
+    c.args.repeat c.loop-i.resolved c.loop-i.invariant all
 
 pub resolve_fields-returns-clause-legal : goal.resolve_fields-returns-clause-legal
 resolve_fields-returns-clause-legal t c =
     let all : length c.args.fields.now.items ≤ c.loop-i.i =
     omega (arith, c.deref-field-items.ensures.len) in
     (fields_end-legal c.args.self.now c.args.fields.now.items c.loop-i.self c.loop-i.i
-    c.in_ok-repeat.repeat c.loop-i.resolved.items c.allocator-alloc.ensures.whole
+    c.args.repeat c.loop-i.resolved.items c.allocator-alloc.ensures.whole
     c.allocator-alloc.ensures.legal c.loop-i.invariant all).legal
 
 pub resolve_fields-returns-clause-distinct : goal.resolve_fields-returns-clause-distinct
@@ -178,7 +196,7 @@ resolve_fields-returns-clause-distinct t c =
     let all : length c.args.fields.now.items ≤ c.loop-i.i =
     omega (arith, c.deref-field-items.ensures.len) in
     (fields_end-legal c.args.self.now c.args.fields.now.items c.loop-i.self c.loop-i.i
-    c.in_ok-repeat.repeat c.loop-i.resolved.items c.allocator-alloc.ensures.whole
+    c.args.repeat c.loop-i.resolved.items c.allocator-alloc.ensures.whole
     c.allocator-alloc.ensures.legal c.loop-i.invariant all).distinct
 
 pub

@@ -6,8 +6,8 @@ use Rattle.ssz_schema.proofs.FactLemmas.{container_facts}
 use Rattle.ssz_schema.proofs.SumLemmas.{field_count-over, Part}
 use Rattle.ssz_schema.proofs.schema.Schema.add_container.Goals as goal
 
-pub add_within_limits-requires : goal.add_within_limits-requires
-add_within_limits-requires c =
+pub add_within_limits-requires-clause-sound : goal.add_within_limits-requires-clause-sound
+add_within_limits-requires-clause-sound c =
     let sums = c.sums-sums.result in
     let told : AreSums (fields_over c.args.self.now.trees c.args.fields.items) c.sums-sums.result =
     subst (λ (parts : List Part). AreSums (fields_over c.args.self.now.trees parts)

@@ -6,8 +6,8 @@ use Rattle.ssz_schema.proofs.FactLemmas.{union_facts}
 use Rattle.ssz_schema.proofs.OptionLemmas.{option_count-over}
 use Rattle.ssz_schema.proofs.schema.Schema.add_union.Goals as goal
 
-pub add_within_limits-requires : goal.add_within_limits-requires
-add_within_limits-requires c =
+pub add_within_limits-requires-clause-sound : goal.add_within_limits-requires-clause-sound
+add_within_limits-requires-clause-sound c =
     let sums = c.options_sums-option_levels.result in
     let told : AreOptionSums (options_over c.args.self.now.trees c.args.options.items)
     c.options_sums-option_levels.result.0 c.options_sums-option_levels.result.1 =

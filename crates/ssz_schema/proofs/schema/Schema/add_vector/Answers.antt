@@ -5,8 +5,8 @@ use Rattle.ssz_types.specs.Unfolding.{type_of}
 use Rattle.ssz_schema.proofs.FactLemmas.{vector_facts}
 use Rattle.ssz_schema.proofs.schema.Schema.add_vector.Goals as goal
 
-pub add_within_limits-requires : goal.add_within_limits-requires
-add_within_limits-requires c =
+pub add_within_limits-requires-clause-sound : goal.add_within_limits-requires-clause-sound
+add_within_limits-requires-clause-sound c =
     let t = type_of c.args.self.now c.args.elem in
     let known = c.entry.ensures.entry.facts in
     let len = c.saturating_mul-default_len.result in

@@ -6,7 +6,7 @@ use Rattle.ssz_schema.proofs.schema.Schema.add_within_limits.Goals as goal
 
 pub push-requires : goal.push-requires
 push-requires c =
-    let facts = c.requires.facts in
+    let facts = c.requires.sound.facts in
     let most : c.most_levels.result ≡ most_levels c.args.self.now.format =
     c.most_levels.ensures ∙ ap most_levels c.format.ensures in
     let within : IsWithinLimits c.args.self.now.format
@@ -16,5 +16,5 @@ push-requires c =
       default_length = omega (arith, facts.default_len, c.if-facts-gt-MOST_DEFAULT.false);
     } in
     sound_within c.args.self.now.format c.args.self.now.trees
-    (record { ty = c.args.ty; facts = c.args.facts; order = c.in_ok-order.order }) c.requires within
-    (c.in_ok-order.ensures c.args.self.now.trees)
+    (record { ty = c.args.ty; facts = c.args.facts; order = c.args.order }) c.requires.sound
+    within c.requires.order
