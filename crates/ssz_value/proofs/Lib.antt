@@ -1,6 +1,7 @@
 pub mod Examples
 pub mod Cut
 pub mod Agree
+pub mod Inputs
 pub mod Basic
 pub mod Sequences
 pub mod Composite

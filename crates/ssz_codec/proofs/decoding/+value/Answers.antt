@@ -11,7 +11,8 @@ use Rattle.ssz_value.specs.Faults.{first_fault, elements_fault}
 use Rattle.ssz_value.specs.Reading.{value_in, elements_in}
 use Rattle.ssz_value.specs.Standing.{value_of, Stands, IsFormed, FieldsFormed}
 use Rattle.ssz_value.specs.Shapes.{StandsBehind}
-use Rattle.ssz_value.proofs.Agree.{IsInput, IsInput-range}
+use Rattle.ssz_value.proofs.Agree.{IsInput-range}
+use Rattle.ssz_value.proofs.Inputs.{input_of}
 use Rattle.ssz_value.proofs.OptionLemmas.{option_below}
 use Rattle.ssz_value.proofs.PartLemmas.{known_weaker, part_known, values_push}
 use Rattle.ssz_value.proofs.ValueLemmas.{chosen_is, chosen_none_is}
@@ -27,9 +28,6 @@ use Rattle.ssz_codec.proofs.OptionLemmas.{union_value, union_no_value}
 use Rattle.ssz_codec.proofs.CleanLemmas.{field_clean, elements_length, of_bytes, option_clean, option_there}
 use Rattle.ssz_codec.proofs.decoding.+value.Goals as goal
 
--- what is known of the bytes
-input_of : (b : List ℕ) → ((i : ℕ) → Fits w8 (get_or b i 0)) → length b < 2 ^ 32 → IsInput b
-input_of b fits short = record { bytes = λ i. omega (arith, fits i); short = short }
 
 pub chosen-value-requires : goal.chosen-value-requires
 chosen-value-requires t c =
