@@ -12,7 +12,7 @@ use Rattle.ssz_arena.specs.declared.node.Node.{Node}
 use Rattle.ssz_arena.specs.declared.node.Node.TheVariants.{Leaf, Pair}
 use Rattle.ssz_arena.specs.Batches.{halves_of, left_child, right_child}
 use Rattle.ssz_arena.specs.Content.{child, is_unhashed}
-use Rattle.ssz_arena.specs.Stored.{chunk_of, shape_of, count_of, link_count, first_link, mark_of, links_with, links_at, first_at, pair_in, node_with, no_chunk, node_in, nodes_in, IsStored, pair_shape, pair_links, blocks_for}
+use Rattle.ssz_arena.specs.Stored.{chunk_of, shape_of, count_of, link_count, first_link, mark_of, links_with, links_at, pair_in, node_with, no_chunk, node_in, nodes_in, IsStored, pair_shape, pair_links, blocks_for}
 
 -- ---- the node at a place
 
@@ -545,47 +545,32 @@ module _ (nodes : List Node) (cs : List Chunk) (ks fs ls : List ℕ) (i : ℕ)
   ]
 
   -- whether it has a root, by its first link alone
-  pub read_due_leaf : None ≡ first_at ks fs ls i
+  pub read_due_leaf : shape_of ks i ≡ 0
       → is_unhashed (get_or nodes i (Leaf (record { 0 = [] }))) ≡ false
-  read_due_leaf none = elim (cases_eq (shape_of ks i) 0) [
-    | inl leaf ↦
-        ap is_unhashed (get_or_from_slice_get nodes i _ _ (found nodes cs ks fs ls i is within)
-        ∙ leaf_seen (get_or cs i no_chunk) (shape_of ks i) (first_link ks fs i) ls i leaf)
-    | inr some ↦
-        let not : eqb (shape_of ks i) 0 ≡ false = grind (arith, nat_tests) in
-        let bad : None ≡ Some (get_or ls (first_link ks fs i) 0) =
-        none ∙ ap (λ t. cond t None (Some (get_or ls (first_link ks fs i) 0))) not in
-        absurd (cc)
-  ]
+  read_due_leaf leaf =
+      ap is_unhashed (get_or_from_slice_get nodes i _ _ (found nodes cs ks fs ls i is within)
+      ∙ leaf_seen (get_or cs i no_chunk) (shape_of ks i) (first_link ks fs i) ls i leaf)
 
-  pub read_due_pair : i ≤ 2 ^ 31 → (link : ℕ) → Some link ≡ first_at ks fs ls i
-      → is_unhashed (get_or nodes i (Leaf (record { 0 = [] }))) ≡ leb (2 ^ 31) link
-  read_due_pair few link some = elim (cases_eq (shape_of ks i) 0) [
-    | inl leaf ↦
-        let bad : Some link ≡ None =
-        some ∙ ap (λ t. cond t None (Some (get_or ls (first_link ks fs i) 0)))
-        (eq-eqb (shape_of ks i) 0 leaf) in
-        absurd (cc)
-    | inr pair ↦
-        let not : eqb (shape_of ks i) 0 ≡ false = grind (arith, nat_tests) in
-        let more : 0 < shape_of ks i = omega (arith, pair) in
-        let x : ℕ = get_or ls (first_link ks fs i) 0 in
-        let link_is : link ≡ x = same_Some _ _ (some ∙ ap (λ t. cond t None (Some x)) not) in
-        let here : get_or nodes i (Leaf (record { 0 = [] })) ≡ _ =
-        get_or_from_slice_get nodes i _ _ (found nodes cs ks fs ls i is within)
-        ∙ pair_seen (get_or cs i no_chunk) (shape_of ks i) (first_link ks fs i) ls i more in
-        elim (cases_lt x (2 ^ 31)) [
-          | inl low ↦
-              let no_mark : leb (2 ^ 31) x ≡ false = grind (arith, nat_tests) in
-              ap is_unhashed (here ∙ pair_in-kept (get_or cs i no_chunk)
-              (left_of (shape_of ks i) i x) _ (left_low (shape_of ks i) i x few low))
-              ∙ sym no_mark ∙ ap (leb (2 ^ 31)) (sym link_is)
-          | inr marked ↦
-              ap is_unhashed (here ∙ pair_in-due (get_or cs i no_chunk)
-              (left_of (shape_of ks i) i x) _ (left_marked (shape_of ks i) i x few marked))
-              ∙ sym (le-leb (2 ^ 31) x marked) ∙ ap (leb (2 ^ 31)) (sym link_is)
-        ]
-  ]
+  pub read_due_pair : i ≤ 2 ^ 31 → shape_of ks i ≢ 0
+      → is_unhashed (get_or nodes i (Leaf (record { 0 = [] })))
+      ≡ leb (2 ^ 31) (get_or ls (first_link ks fs i) 0)
+  read_due_pair few pair =
+      let more : 0 < shape_of ks i = omega (arith, pair) in
+      let x : ℕ = get_or ls (first_link ks fs i) 0 in
+      let here : get_or nodes i (Leaf (record { 0 = [] })) ≡ _ =
+      get_or_from_slice_get nodes i _ _ (found nodes cs ks fs ls i is within)
+      ∙ pair_seen (get_or cs i no_chunk) (shape_of ks i) (first_link ks fs i) ls i more in
+      elim (cases_lt x (2 ^ 31)) [
+        | inl low ↦
+            let no_mark : leb (2 ^ 31) x ≡ false = grind (arith, nat_tests) in
+            ap is_unhashed (here ∙ pair_in-kept (get_or cs i no_chunk)
+            (left_of (shape_of ks i) i x) _ (left_low (shape_of ks i) i x few low))
+            ∙ sym no_mark
+        | inr marked ↦
+            ap is_unhashed (here ∙ pair_in-due (get_or cs i no_chunk)
+            (left_of (shape_of ks i) i x) _ (left_marked (shape_of ks i) i x few marked))
+            ∙ sym (le-leb (2 ^ 31) x marked)
+      ]
 
   pub read_child : (right : Bool) (result : Option NodeId)
       → ((chunk : Chunk) → result ≡ child right (node_with chunk (links_at ks fs ls i)))

@@ -107,12 +107,6 @@ pair_links left right place =
     else if left - mark_of left + 1 == place then (right + mark_of left) ∷ []
     else left ∷ right ∷ []
 
--- the first link of a node that has one
-abbrev pub first_at : List ℕ → List ℕ → List ℕ → ℕ → Option ℕ
-first_at kinds firsts links i =
-    if shape_of kinds i == 0 then None
-    else Some (slice_index links (first_link kinds firsts i))
-
 -- the blocks, and one more if the node at a place begins one
 abbrev pub blocks_for : List ℕ → ℕ → ℕ → List ℕ
 blocks_for firsts place total =

@@ -5,7 +5,7 @@ ghost use Rattle.ssz_arena.specs.declared.node.NodeId.{NodeId};
 ghost use Rattle.ssz_arena.specs.declared.node.Node.TheVariants.{Leaf, Pair};
 ghost use Rattle.ssz_arena.specs.Batches.{halves_of, is_due, left_child, node_of, right_child};
 ghost use Rattle.ssz_arena.specs.Content.{child};
-ghost use Rattle.ssz_arena.specs.Stored.{IsShort, IsStored, blocks_for, chunk_of, count_of, first_at, first_link, links_at, node_with, pair_in, pair_links, pair_shape};
+ghost use Rattle.ssz_arena.specs.Stored.{IsShort, IsStored, blocks_for, chunk_of, count_of, first_link, links_at, node_with, pair_in, pair_links, pair_shape};
 
 use super::node::{MARK, MOST_NODES, Node, NodeId};
 use ssz_chunk::Chunk;
@@ -91,20 +91,6 @@ fn links_at(kinds: &Vec<u8>, firsts: &Vec<u32>, links: &Vec<u32>, i: usize) -> O
         return Some((i as u32 - 1 + (link - link % MARK), link % MARK));
     }
     Some((link, links[first + 1]))
-}
-
-// The first link of a pair, which tells whether it has its root.
-#[inline(always)]
-fn first_at(kinds: &Vec<u8>, firsts: &Vec<u32>, links: &Vec<u32>, i: usize) -> Option<u32>
-    requires stored { IsStored (vec_len kinds.now) kinds.now.items firsts.now.items
-        (vec_len links.now) }
-    requires inside { i < vec_len kinds.now }
-    ensures { result ≡ first_at kinds.now.items firsts.now.items links.now.items i }
-{
-    if kinds[i] % 4 == LEAF {
-        return None;
-    }
-    Some(links[first_of(kinds, firsts, i)])
 }
 
 // The child of a pair to one side. No link is read where the child stands just before the pair.
@@ -330,16 +316,18 @@ impl Store {
         }
     }
 
-    // Whether it is a pair that has no root yet. To read the whole node would copy its chunk.
+    // Whether it is a pair that has no root yet: its first link tells. To read the whole node would
+    // copy its chunk.
     #[inline(always)]
     pub(crate) fn is_due(&self, id: NodeId) -> bool
         requires { id.0 < length self.now.nodes }
         ensures { result ≡ is_due self.now.nodes id }
     {
-        match first_at(&self.kinds, &self.firsts, &self.links, id.0 as usize) {
-            None => false,
-            Some(link) => link >= MARK,
+        let i = id.0 as usize;
+        if self.kinds[i] % 4 == LEAF {
+            return false;
         }
+        self.links[first_of(&self.kinds, &self.firsts, i)] >= MARK
     }
 
     // The children of a pair that has no root yet.
