@@ -79,14 +79,15 @@ fn links_at(kinds: &Vec<u8>, firsts: &Vec<u32>, links: &Vec<u32>, i: usize) -> O
     ensures { result ≡ links_at kinds.now.items firsts.now.items links.now.items i }
 {
     let shape = kinds[i] % 4;
+    // Most pairs are of this shape. A test of its own keeps it off the way of the others.
+    if shape == RIGHT_BEFORE {
+        return Some((links[first_of(kinds, firsts, i)], i as u32 - 1));
+    }
     if shape == LEAF {
         return None;
     }
     let first = first_of(kinds, firsts, i);
     let link = links[first];
-    if shape == RIGHT_BEFORE {
-        return Some((link, i as u32 - 1));
-    }
     if shape == LEFT_BEFORE {
         return Some((i as u32 - 1 + (link - link % MARK), link % MARK));
     }
