@@ -1,4 +1,4 @@
--- The way down from a node, past pairs of whose children one is to be hashed.
+-- Where the way down from a node parts: two children to be hashed.
 use Rattle.std.proofs.Common.{◌≡◌, ℕ, zero, suc, ◌+◌, ◌<◌, ◌≤◌, List, [], ◌∷◌, length, take, refl, ap, ◌∙◌, subst, slice_get, true, false, Option, Some, None, arith, length-take}
 use Rattle.std.specs.Option.{option_and_then}
 use Rattle.std.proofs.lemmas.List.{get_or-take}
@@ -9,7 +9,7 @@ use Rattle.ssz_arena.specs.declared.node.Node.TheVariants.{Leaf, Pair}
 use Rattle.ssz_arena.specs.Content.{child}
 use Rattle.ssz_arena.specs.Invariant.{IsArena}
 use Rattle.ssz_arena.specs.Filled.{FillsUpTo}
-use Rattle.ssz_arena.specs.Batches.{NodesAreBelow, AreHashed, NodeLeadsTo, id_at, is_due, node_of, todo_all}
+use Rattle.ssz_arena.specs.Batches.{NodesAreBelow, AreHashed, id_at, is_due, node_of, todo_all}
 use Rattle.ssz_arena.proofs.Nodes.{due, due-cached, due-pair, none_due}
 use Rattle.ssz_arena.proofs.Together.{todo-cons}
 
@@ -55,41 +55,6 @@ module _ (p : List ℕ → List ℕ → List ℕ) (nodes : List Node) (id left r
         at_most_one_more after id.0 left right left_low right_low (slice_get after id.0) refl
         (fills.children id.0 false ∙ ap (option_and_then (child false)) found)
         (fills.children id.0 true ∙ ap (option_and_then (child true)) found)
-
-    pub LeadsTo-left : due nodes right.0 ≡ 0 → NodeLeadsTo nodes id left
-    LeadsTo-left none = record {
-      below = omega (arith, left_low);
-      todo = λ limit after fills. omega (
-        arith,
-        none,
-        due_now,
-        due_then limit after fills,
-        fills.todo right.0,
-      );
-    }
-
-    pub LeadsTo-right : due nodes left.0 ≡ 0 → NodeLeadsTo nodes id right
-    LeadsTo-right none = record {
-      below = omega (arith, right_low);
-      todo = λ limit after fills. omega (
-        arith,
-        none,
-        due_now,
-        due_then limit after fills,
-        fills.todo left.0,
-      );
-    }
-
-pub LeadsTo-then : (nodes : List Node) (top middle bottom : NodeId) → NodeLeadsTo nodes top middle
-    → NodeLeadsTo nodes middle bottom → NodeLeadsTo nodes top bottom
-LeadsTo-then nodes top middle bottom first second = record {
-  below = omega (arith, first.below, second.below);
-  todo = λ limit after fills. omega (
-    arith,
-    first.todo limit after fills,
-    second.todo limit after fills,
-  );
-}
 
 -- the pairs to be hashed for two
 pub todo-two : (nodes : List Node) (left right : NodeId)

@@ -1,71 +1,51 @@
-use Rattle.std.proofs.Common.{◌∙◌, [], get_or, false, rules, ◌<◌, ◌≡◌, ◌+◌, ◌-◌, ◌*◌, take, drop, length, ap, subst, arith, length-take}
+use Rattle.std.proofs.Common.{◌∙◌, [], get_or, ◌<◌, ◌≡◌, ◌+◌, ◌-◌, ◌*◌, take, drop, length, ap, subst, arith, length-take}
 use Rattle.std.proofs.lemmas.List.Sums.{sum_by-take-drop}
-use Rattle.std.proofs.lemmas.Option.{slice_get-get_or}
+use Rattle.std.proofs.lemmas.Option.{get_or_from_slice_get, slice_get-get_or}
 use Rattle.ssz_chunk.specs.Tree.{leaf, root}
 use Rattle.ssz_arena.specs.declared.node.Node.TheVariants.{Leaf}
-use Rattle.ssz_arena.proofs.Filling.{value_read}
+use Rattle.ssz_arena.proofs.Filling.{found_two, value_read, left_before, right_before, due_old, fills, hashed, unhashed_fall, arena_filled, counts_none, counts_all}
 use Rattle.ssz_arena.specs.declared.node.NodeId.{NodeId}
-use Rattle.ssz_arena.specs.Batches.{NodesAreBelow, AreDue, AreHashed, id_at, is_due, kids, todo_all}
+use Rattle.ssz_arena.specs.Content.{is_unhashed}
+use Rattle.std.specs.List.{count_by}
+use Rattle.ssz_arena.specs.Batches.{NodesAreBelow, AreDue, AreHashed, id_at, kids, todo_all}
 use Rattle.ssz_arena.specs.Filled.{FillsUpTo}
-use Rattle.ssz_arena.proofs.Nodes.{due}
+use Rattle.ssz_arena.proofs.Nodes.{tree, due, none_due}
 use Rattle.ssz_arena.proofs.Together.{KidsParts, due_below, due_hashed, due_pass, due_sum, fills_then, hashed_join, kids_parts, kids_sum, ready_later, sum_less}
-use Rattle.ssz_arena.proofs.Forks.{due_now, due_then, fills_wider, left_low, one_below, one_hashed, not_due, one_sum, right_low, todo-two, two_below}
+use Rattle.ssz_arena.proofs.Forks.{due_now, due_then, fills_wider, left_low, one_below, one_hashed, one_sum, right_low, todo-two, two_below}
 use Rattle.ssz_arena.proofs.levels.+fill.Goals as goal
 
-pub fill_one-returns-then-not-is_due-clause-value :
-    goal.fill_one-returns-then-not-is_due-clause-value
-fill_one-returns-then-not-is_due-clause-value g t c =
+pub fill_way-returns-in_default-clause-hashed : goal.fill_way-returns-in_default-clause-hashed
+fill_way-returns-in_default-clause-hashed g t c =
+    none_due c.args.store.now.nodes c.args.id.0 _
+    (slice_get-get_or _ _ _ c.requires.inside) c.in_default.ensures.none
+
+pub fill_way-returns-in_default-clause-counts : goal.fill_way-returns-in_default-clause-counts
+fill_way-returns-in_default-clause-counts g t c =
+    counts_none (count_by is_unhashed c.args.store.now.nodes) _
+
+pub fill_fork-is_due-requires : goal.fill_fork-is_due-requires
+fill_fork-is_due-requires g t c = omega (
+  arith,
+  c.requires.inside,
+  left_before g.H.PairHash.pair_of c.args.store.now.nodes c.args.id.0 c.args.left c.args.right
+      c.requires.arena c.requires.found,
+)
+
+pub fill_fork-is_due-requires-then-is_due : goal.fill_fork-is_due-requires-then-is_due
+fill_fork-is_due-requires-then-is_due g t c = omega (
+  arith,
+  c.requires.inside,
+  right_before g.H.PairHash.pair_of c.args.store.now.nodes c.args.id.0 c.args.left c.args.right
+      c.requires.arena c.requires.found,
+)
+
+pub fill_fork-fill_all-requires : goal.fill_fork-fill_all-requires
+fill_fork-fill_all-requires g t c κs within =
     let nodes = c.args.store.now.nodes in
-    let not : is_due nodes c.args.id ≡ false = search rules in
-    value_read g.H.PairHash.pair_of nodes c.args.id.0 _ c.chunk.result.now c.requires.arena
-    (not_due nodes c.args.id c.requires.inside not)
-    (slice_get-get_or nodes c.args.id.0 (Leaf (record { 0 = [] })) c.requires.inside)
-    c.chunk.ensures
-
-pub fill_one-returns-then-not-is_due-clause-hashed :
-    goal.fill_one-returns-then-not-is_due-clause-hashed
-fill_one-returns-then-not-is_due-clause-hashed g t c =
-    let not : is_due c.args.store.now.nodes c.args.id ≡ false = search rules in
-    not_due c.args.store.now.nodes c.args.id c.requires.inside not
-
-pub fill_one-chunk-requires-2 : goal.fill_one-chunk-requires-2
-fill_one-chunk-requires-2 g t c =
-    omega (arith, c.requires.inside, c.fill_below.ensures.fills.count, c.fill.ensures.fills.count)
-
-pub fill_one-returns-clause-value : goal.fill_one-returns-clause-value
-fill_one-returns-clause-value g t c =
-    let p = g.H.PairHash.pair_of in
-    let inside : c.args.id.0 < length c.fill.new.store.nodes =
-    omega (arith, c.requires.inside, c.fill_below.ensures.fills.count, c.fill.ensures.fills.count)
-    in
-    value_read p c.fill.new.store.nodes c.args.id.0 _ c.chunk-2.result.now c.fill.ensures.arena
-    c.fill.ensures.hashed (slice_get-get_or c.fill.new.store.nodes c.args.id.0 (Leaf (record
-    { 0 = [] })) inside)
-    c.chunk-2.ensures
-    ∙ ap (λ ts. root p (get_or ts c.args.id.0 (leaf [])))
-    (c.fill.ensures.fills.trees ∙ c.fill_below.ensures.fills.trees)
-
-pub fill_one-returns-clause-fills : goal.fill_one-returns-clause-fills
-fill_one-returns-clause-fills g t c =
-    fills_then _ _ _ _ _ _ c.fork_of-fork.ensures.below (omega arith) c.fill_below.ensures.fills
-    c.fill.ensures.fills
-
-pub fill_one-returns-clause-todo : goal.fill_one-returns-clause-todo
-fill_one-returns-clause-todo g t c =
-    omega (
-      arith,
-      c.fork_of-fork.ensures.todo _ _ c.fill_below.ensures.fills,
-      c.fill_below.ensures.todo,
-      c.fill.ensures.todo,
-    )
-
-pub fill_below-fill_all-requires : goal.fill_below-fill_all-requires
-fill_below-fill_all-requires g t c κs within =
-    let nodes = c.args.store.now.nodes in
-    let low_left : c.in-Some.left.0 < c.args.id.0 =
-    left_low g.H.PairHash.pair_of nodes c.args.id _ _ c.requires.arena c.in-Some.ensures.some in
-    let low_right : c.in-Some.right.0 < c.args.id.0 =
-    right_low g.H.PairHash.pair_of nodes c.args.id _ _ c.requires.arena c.in-Some.ensures.some in (
+    let low_left : c.args.left.0 < c.args.id.0 =
+    left_low g.H.PairHash.pair_of nodes c.args.id _ _ c.requires.arena c.requires.found in
+    let low_right : c.args.right.0 < c.args.id.0 =
+    right_low g.H.PairHash.pair_of nodes c.args.id _ _ c.requires.arena c.requires.found in (
       omega (arith, c.decreases),
       (
         within,
@@ -79,20 +59,224 @@ fill_below-fill_all-requires g t c κs within =
       ),
     )
 
-pub fill_below-returns-clause-todo : goal.fill_below-returns-clause-todo
-fill_below-returns-clause-todo g t c =
+pub fill_fork-returns-then-is_due-2-clause-fills : goal.fill_fork-returns-then-is_due-2-clause-fills
+fill_fork-returns-then-is_due-2-clause-fills g t c =
+    fills_then c.args.id.0 c.args.id.0 c.args.id.0 c.args.store.now.nodes
+    c.fill_all.new.store.nodes c.fill.new.store.nodes (omega arith) (omega arith)
+    c.fill_all.ensures.fills c.fill.ensures.fills
+
+pub fill_fork-returns-then-is_due-2-clause-todo : goal.fill_fork-returns-then-is_due-2-clause-todo
+fill_fork-returns-then-is_due-2-clause-todo g t c =
     let p = g.H.PairHash.pair_of in
     let nodes = c.args.store.now.nodes in
     omega (
       arith,
+      c.fill.ensures.todo,
       c.fill_all.ensures.todo,
       c.fill_all.ensures.hashed 0 (omega arith),
       c.fill_all.ensures.hashed 1 (omega arith),
-      todo-two nodes c.in-Some.left c.in-Some.right,
-      due_now p nodes c.args.id _ _ c.requires.arena c.in-Some.ensures.some,
-      due_then p nodes c.args.id _ _ c.requires.arena c.in-Some.ensures.some c.args.id.0
+      todo-two nodes c.args.left c.args.right,
+      due_now p nodes c.args.id _ _ c.requires.arena c.requires.found,
+      due_then p nodes c.args.id _ _ c.requires.arena c.requires.found c.args.id.0
           c.fill_all.new.store.nodes c.fill_all.ensures.fills,
     )
+
+pub fill_fork-fill_way-requires : goal.fill_fork-fill_way-requires
+fill_fork-fill_way-requires g t c κs within =
+    let before : c.args.left.0 < c.args.id.0 = left_before g.H.PairHash.pair_of
+    c.args.store.now.nodes c.args.id.0 c.args.left c.args.right
+    c.requires.arena c.requires.found in (
+      omega (arith, c.decreases, before),
+      (
+        within,
+        (
+          c.requires.arena,
+          omega (
+            arith,
+            before,
+            c.requires.inside,
+          ),
+        ),
+      ),
+    )
+
+pub fill_fork-fill_way-requires-2 : goal.fill_fork-fill_way-requires-2
+fill_fork-fill_way-requires-2 g t c κs within =
+    let before : c.args.right.0 < c.args.id.0 = right_before g.H.PairHash.pair_of
+    c.args.store.now.nodes c.args.id.0 c.args.left c.args.right
+    c.requires.arena c.requires.found in (
+      omega (arith, c.decreases, before),
+      (
+        within,
+        (
+          c.fill_way.ensures.arena,
+          omega (
+            arith,
+            before,
+            c.requires.inside,
+            c.fill_way.ensures.fills.count,
+          ),
+        ),
+      ),
+    )
+
+pub fill_fork-chunk-requires : goal.fill_fork-chunk-requires
+fill_fork-chunk-requires g t c =
+    omega (
+      arith,
+      left_before g.H.PairHash.pair_of c.args.store.now.nodes c.args.id.0 c.args.left c.args.right
+          c.requires.arena c.requires.found,
+      c.requires.inside,
+      c.fill_way.ensures.fills.count,
+      c.fill_way-2.ensures.fills.count,
+    )
+
+pub fill_fork-chunk-requires-2 : goal.fill_fork-chunk-requires-2
+fill_fork-chunk-requires-2 g t c =
+    omega (
+      arith,
+      right_before g.H.PairHash.pair_of c.args.store.now.nodes c.args.id.0 c.args.left c.args.right
+          c.requires.arena c.requires.found,
+      c.requires.inside,
+      c.fill_way.ensures.fills.count,
+      c.fill_way-2.ensures.fills.count,
+    )
+
+pub fill_fork-keep_root-requires-clause-inside : goal.fill_fork-keep_root-requires-clause-inside
+fill_fork-keep_root-requires-clause-inside g t c =
+    omega (arith, c.requires.inside, c.fill_way.ensures.fills.count, c.fill_way-2.ensures.fills.count)
+
+pub fill_fork-keep_root-requires-clause-due : goal.fill_fork-keep_root-requires-clause-due
+fill_fork-keep_root-requires-clause-due g t c =
+    ap is_unhashed (get_or_from_slice_get c.fill_way-2.new.store.nodes c.args.id.0 _ _
+    (found_two g.H.PairHash.pair_of c.args.store.now.nodes c.args.id.0 c.args.left c.args.right
+    c.requires.arena c.requires.found c.fill_way.new.store.nodes c.fill_way-2.new.store.nodes
+    c.pair-chunk.result
+    c.fill_way.ensures.fills c.fill_way.ensures.hashed c.fill_way-2.ensures.fills c.fill_way-2.ensures.hashed))
+
+pub fill_fork-returns-clause-fills : goal.fill_fork-returns-clause-fills
+fill_fork-returns-clause-fills g t c =
+    let kept : c.keep_root.new.self.nodes ≡ _ =
+    c.keep_root.ensures.nodes c.args.left c.args.right (found_two g.H.PairHash.pair_of
+    c.args.store.now.nodes c.args.id.0 c.args.left c.args.right
+    c.requires.arena c.requires.found c.fill_way.new.store.nodes c.fill_way-2.new.store.nodes
+    c.pair-chunk.result
+    c.fill_way.ensures.fills c.fill_way.ensures.hashed c.fill_way-2.ensures.fills c.fill_way-2.ensures.hashed) in
+    rw kept (fills g.H.PairHash.pair_of c.args.store.now.nodes c.args.id.0 c.args.left c.args.right
+    c.requires.arena c.requires.found c.fill_way.new.store.nodes c.fill_way-2.new.store.nodes
+    c.pair-chunk.result
+    c.fill_way.ensures.fills c.fill_way.ensures.hashed c.fill_way-2.ensures.fills c.fill_way-2.ensures.hashed)
+
+pub fill_fork-returns-clause-hashed : goal.fill_fork-returns-clause-hashed
+fill_fork-returns-clause-hashed g t c =
+    let kept : c.keep_root.new.self.nodes ≡ _ =
+    c.keep_root.ensures.nodes c.args.left c.args.right (found_two g.H.PairHash.pair_of
+    c.args.store.now.nodes c.args.id.0 c.args.left c.args.right
+    c.requires.arena c.requires.found c.fill_way.new.store.nodes c.fill_way-2.new.store.nodes
+    c.pair-chunk.result
+    c.fill_way.ensures.fills c.fill_way.ensures.hashed c.fill_way-2.ensures.fills c.fill_way-2.ensures.hashed) in
+    rw kept (hashed g.H.PairHash.pair_of c.args.store.now.nodes c.args.id.0 c.args.left c.args.right
+    c.requires.arena c.requires.found c.fill_way.new.store.nodes c.fill_way-2.new.store.nodes
+    c.pair-chunk.result
+    c.fill_way.ensures.fills c.fill_way.ensures.hashed c.fill_way-2.ensures.fills c.fill_way-2.ensures.hashed)
+
+pub fill_fork-returns-clause-todo : goal.fill_fork-returns-clause-todo
+fill_fork-returns-clause-todo g t c =
+    omega (
+      arith,
+      c.pair-chunk.ensures.counts.at_most,
+      c.fill_way-2.ensures.todo,
+      c.fill_way.ensures.todo,
+      c.fill_way.ensures.fills.todo c.args.right.0,
+      due_old g.H.PairHash.pair_of c.args.store.now.nodes c.args.id.0 c.args.left c.args.right
+          c.requires.arena c.requires.found,
+    )
+
+pub fill_fork-returns-clause-falls : goal.fill_fork-returns-clause-falls
+fill_fork-returns-clause-falls g t c =
+    let kept : c.keep_root.new.self.nodes ≡ _ =
+    c.keep_root.ensures.nodes c.args.left c.args.right (found_two g.H.PairHash.pair_of
+    c.args.store.now.nodes c.args.id.0 c.args.left c.args.right
+    c.requires.arena c.requires.found c.fill_way.new.store.nodes c.fill_way-2.new.store.nodes
+    c.pair-chunk.result
+    c.fill_way.ensures.fills c.fill_way.ensures.hashed c.fill_way-2.ensures.fills c.fill_way-2.ensures.hashed) in
+    rw kept (omega (
+      arith,
+      c.fill_way.ensures.falls,
+      c.fill_way-2.ensures.falls,
+      unhashed_fall g.H.PairHash.pair_of c.args.store.now.nodes c.args.id.0 c.args.left c.args.right
+          c.requires.arena c.requires.found c.fill_way.new.store.nodes c.fill_way-2.new.store.nodes
+          c.pair-chunk.result
+          c.fill_way.ensures.fills c.fill_way.ensures.hashed c.fill_way-2.ensures.fills c.fill_way-2.ensures.hashed,
+    ))
+
+pub fill_fork-returns-clause-counts : goal.fill_fork-returns-clause-counts
+fill_fork-returns-clause-counts g t c =
+    let kept : c.keep_root.new.self.nodes ≡ _ =
+    c.keep_root.ensures.nodes c.args.left c.args.right (found_two g.H.PairHash.pair_of
+    c.args.store.now.nodes c.args.id.0 c.args.left c.args.right
+    c.requires.arena c.requires.found c.fill_way.new.store.nodes c.fill_way-2.new.store.nodes
+    c.pair-chunk.result
+    c.fill_way.ensures.fills c.fill_way.ensures.hashed c.fill_way-2.ensures.fills c.fill_way-2.ensures.hashed) in
+    rw kept (counts_all (count_by is_unhashed c.args.store.now.nodes) (count_by is_unhashed
+    c.fill_way.new.store.nodes)
+    (count_by is_unhashed c.fill_way-2.new.store.nodes) _ _ _ _ _ c.fill_way.ensures.falls
+    c.fill_way-2.ensures.falls
+    (unhashed_fall g.H.PairHash.pair_of c.args.store.now.nodes c.args.id.0 c.args.left c.args.right
+    c.requires.arena c.requires.found c.fill_way.new.store.nodes c.fill_way-2.new.store.nodes
+    c.pair-chunk.result
+    c.fill_way.ensures.fills c.fill_way.ensures.hashed c.fill_way-2.ensures.fills c.fill_way-2.ensures.hashed)
+    c.fill_way.ensures.counts c.fill_way-2.ensures.counts c.pair-chunk.ensures.counts)
+
+pub fill_fork-returns-clause-arena : goal.fill_fork-returns-clause-arena
+fill_fork-returns-clause-arena g t c =
+    let kept : c.keep_root.new.self.nodes ≡ _ =
+    c.keep_root.ensures.nodes c.args.left c.args.right (found_two g.H.PairHash.pair_of
+    c.args.store.now.nodes c.args.id.0 c.args.left c.args.right
+    c.requires.arena c.requires.found c.fill_way.new.store.nodes c.fill_way-2.new.store.nodes
+    c.pair-chunk.result
+    c.fill_way.ensures.fills c.fill_way.ensures.hashed c.fill_way-2.ensures.fills c.fill_way-2.ensures.hashed) in
+    let p = g.H.PairHash.pair_of in
+    let left_inside : c.args.left.0 < length c.fill_way-2.new.store.nodes =
+    omega (
+      arith,
+      left_before g.H.PairHash.pair_of c.args.store.now.nodes c.args.id.0 c.args.left c.args.right
+          c.requires.arena c.requires.found,
+      c.requires.inside,
+      c.fill_way.ensures.fills.count,
+      c.fill_way-2.ensures.fills.count,
+    ) in
+    let right_inside : c.args.right.0 < length c.fill_way-2.new.store.nodes =
+    omega (
+      arith,
+      right_before g.H.PairHash.pair_of c.args.store.now.nodes c.args.id.0 c.args.left c.args.right
+          c.requires.arena c.requires.found,
+      c.requires.inside,
+      c.fill_way.ensures.fills.count,
+      c.fill_way-2.ensures.fills.count,
+    ) in
+    let left_none : due c.fill_way-2.new.store.nodes c.args.left.0 ≡ 0 =
+    omega (arith, c.fill_way.ensures.hashed, c.fill_way-2.ensures.fills.todo c.args.left.0) in
+    let left_root : c.chunk.result.now.0 ≡ root p (tree c.args.store.now.nodes c.args.left.0) =
+    value_read p c.fill_way-2.new.store.nodes c.args.left.0 _ c.chunk.result.now
+    c.fill_way-2.ensures.arena left_none (slice_get-get_or c.fill_way-2.new.store.nodes c.args.left.0
+    (Leaf (record { 0 = [] })) left_inside) c.chunk.ensures
+    ∙ ap (λ ts. root p (get_or ts c.args.left.0 (leaf [])))
+    (c.fill_way-2.ensures.fills.trees ∙ c.fill_way.ensures.fills.trees) in
+    let right_root : c.chunk-2.result.now.0 ≡ root p (tree c.fill_way.new.store.nodes c.args.right.0) =
+    value_read p c.fill_way-2.new.store.nodes c.args.right.0 _ c.chunk-2.result.now
+    c.fill_way-2.ensures.arena c.fill_way-2.ensures.hashed (slice_get-get_or c.fill_way-2.new.store.nodes
+    c.args.right.0
+    (Leaf (record { 0 = [] })) right_inside) c.chunk-2.ensures
+    ∙ ap (λ ts. root p (get_or ts c.args.right.0 (leaf []))) c.fill_way-2.ensures.fills.trees in
+    rw kept (arena_filled g.H.PairHash.pair_of c.args.store.now.nodes c.args.id.0 c.args.left
+    c.args.right
+    c.requires.arena c.requires.found c.fill_way.new.store.nodes c.fill_way-2.new.store.nodes
+    c.pair-chunk.result
+    c.fill_way.ensures.fills c.fill_way.ensures.hashed c.fill_way-2.ensures.fills c.fill_way-2.ensures.hashed
+    (c.pair-chunk.ensures.value ∙ ap (λ a. p a c.chunk-2.result.now.0) left_root
+    ∙ ap (p (root p (tree c.args.store.now.nodes c.args.left.0))) right_root)
+    c.fill_way-2.ensures.arena)
 
 pub fill_all-returns-then-count-eq0-clause-hashed :
     goal.fill_all-returns-then-count-eq0-clause-hashed
@@ -105,8 +289,8 @@ fill_all-returns-then-count-eq0-clause-hashed g t c =
     (λ j inner. omega (arith, c.requires.below j inner, c.requires.inside)) (λ j. omega arith)
     (subst (AreHashed nodes) c.due_of-count.ensures.due none)
 
-pub fill_all-fill_one-requires : goal.fill_all-fill_one-requires
-fill_all-fill_one-requires g t c κs within =
+pub fill_all-fill_way-requires : goal.fill_all-fill_way-requires
+fill_all-fill_way-requires g t c κs within =
     let found = c.due_of-count.result.0 in
     let low : (id_at found 0).0 < c.args.limit =
     one_below found c.due_of-count.result.1 c.if-count-eq1.true c.args.limit
@@ -124,23 +308,23 @@ fill_all-returns-then-count-eq1-clause-fills g t c =
     c.args.limit c.due_of-count.ensures.long
     (due_below c.args.store.now.nodes c.args.ids.now _ c.args.limit c.due_of-count.ensures.due
     c.requires.below) in
-    fills_wider _ _ _ _ (omega (arith, low)) c.fill_one.ensures.fills
+    fills_wider _ _ _ _ (omega (arith, low)) c.fill_way.ensures.fills
 
 pub fill_all-returns-then-count-eq1-clause-hashed :
     goal.fill_all-returns-then-count-eq1-clause-hashed
 fill_all-returns-then-count-eq1-clause-hashed g t c =
-    due_hashed c.args.store.now.nodes c.fill_one.new.store.nodes c.args.ids.now
+    due_hashed c.args.store.now.nodes c.fill_way.new.store.nodes c.args.ids.now
     (λ j inner. omega (arith, c.requires.below j inner, c.requires.inside))
-    c.fill_one.ensures.fills.todo
-    (subst (AreHashed c.fill_one.new.store.nodes) c.due_of-count.ensures.due
+    c.fill_way.ensures.fills.todo
+    (subst (AreHashed c.fill_way.new.store.nodes) c.due_of-count.ensures.due
     (one_hashed c.due_of-count.result.0 c.due_of-count.result.1 c.if-count-eq1.true
-    c.fill_one.new.store.nodes c.fill_one.ensures.hashed))
+    c.fill_way.new.store.nodes c.fill_way.ensures.hashed))
 
 pub fill_all-returns-then-count-eq1-clause-todo : goal.fill_all-returns-then-count-eq1-clause-todo
 fill_all-returns-then-count-eq1-clause-todo g t c =
     omega (
       arith,
-      c.fill_one.ensures.todo,
+      c.fill_way.ensures.todo,
       one_sum c.args.store.now.nodes c.due_of-count.result.0 c.due_of-count.result.1
           c.if-count-eq1.true
           c.due_of-count.ensures.long,
