@@ -11,8 +11,9 @@ use super::store::Store;
 // A way of fewer levels is gone step by step.
 const LONG: u32 = 8;
 
-// Goes down to the left while the digits of a generalized index are 0, and says how many steps it
-// went: none where the index has few levels, and fewer than the digits where it meets a leaf.
+// Goes down to the left while the digits of a generalized index are 0: one step, and then those
+// along a spine, where each child stands just before its pair. Says how many steps it went: none
+// where the index has few levels.
 pub(crate) fn lefts(store: &Store, id: NodeId, number: u128, levels: u32) -> (NodeId, u32)
     requires ordered { AreOrdered store.now.nodes }
     requires inside { id.0 < length store.now.nodes }
@@ -31,14 +32,20 @@ pub(crate) fn lefts(store: &Store, id: NodeId, number: u128, levels: u32) -> (No
     let zeros = (number - (1 << levels))
         .leading_zeros()
         .saturating_sub(128 - levels);
-    let mut place = id;
-    let mut left = zeros;
-    'left: while left > 0 {
-        match store.child(place, false) {
-            None => return (place, zeros - left),
-            Some(next) => place = next,
-        }
-        left -= 1;
+    if zeros == 0 {
+        return (id, 0);
     }
-    (place, zeros)
+    // Beside the elements stands their number, and below it the spine.
+    let Some(first) = store.child(id, false) else {
+        return (id, 0);
+    };
+    let low = first.0.saturating_sub(zeros - 1);
+    let mut place = first.0;
+    'left: while place > low {
+        if !store.left_is_before(NodeId(place)) {
+            return (NodeId(place), first.0 - place + 1);
+        }
+        place -= 1;
+    }
+    (NodeId(place), first.0 - place + 1)
 }
