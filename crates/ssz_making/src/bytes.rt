@@ -1,13 +1,15 @@
-ghost use Rattle.std.specs.Prelude.{◌≡◌, ◌<◌, ◌≤◌, ◌^◌, length, map, None, IfSome};
+ghost use Rattle.std.specs.Prelude.{◌≡◌, ℕ, ◌+◌, ◌<◌, ◌≤◌, ◌^◌, List, drop, length, map, slice_index_or, None, IfSome};
 ghost use Rattle.std.specs.List.{AllByRecursion};
-ghost use Rattle.ssz_schema.specs.Sizes.{fixed_size, basic_size, element_chunks};
+ghost use Rattle.ssz_schema.specs.Sizes.{fixed_size, head_size, basic_size, element_chunks, part_sizes};
 ghost use Rattle.ssz_schema.specs.Types.{container, union};
 ghost use Rattle.ssz_schema.specs.Unfolding.{type_of, fields_over, options_over, IsBelow};
 ghost use Rattle.ssz_schema.specs.Legal.{IsLegal, AreLegalFields, AreLegalOptions};
+ghost use Rattle.ssz_value.specs.Encoding.{heads_length};
 ghost use Rattle.ssz_value.specs.Faults.{first_fault, elements_fault};
 ghost use Rattle.ssz_value.specs.Reading.{value_in};
 ghost use Rattle.ssz_value.specs.Trees.{number_chunk, padded};
 ghost use Rattle.ssz_parts.specs.PartValues.{element_values, field_values};
+ghost use Rattle.ssz_parts.specs.Ranges.{part_range};
 ghost use Rattle.ssz_making.specs.Parts.{MadePart, whole_of, chunk_part, joined_leaf, chosen_part, elements_part, field_parts, part_of_value};
 ghost use Rattle.ssz_making.specs.Making.{CanJoinLeaf};
 ghost use Rattle.ssz_making.specs.Nodes.{new_nodes};
@@ -148,6 +150,34 @@ fn parts_made<M: Maker>(
     maker.finish(rows)
 }
 
+// Where the part of field i of a container lies, whose size this is and whose fixed part is at
+// place. The size of most is known here, and is asked of the schema once.
+#[inline(always)]
+fn range_at(
+    schema: &Schema,
+    size: Option<u64>,
+    fields: &[(Name, TypeId)],
+    i: usize,
+    place: usize,
+    bytes: &[u8],
+) -> (usize, usize)
+    requires below { i < length fields.now }
+    requires known { AllByRecursion (λ part. part.1 < length schema.now.trees) fields.now }
+    requires size { (field : List ℕ × ℕ) → field ≡ slice_index_or fields.now i field
+        → size ≡ fixed_size (type_of schema.now field.1) }
+    requires room { place + head_size size
+        + heads_length (part_sizes (fields_over schema.now.trees (drop (i + 1) fields.now)))
+        ≤ length bytes.now }
+    requires short { length bytes.now < 2 ^ 32 }
+    ensures { result ≡ part_range size
+        (part_sizes (fields_over schema.now.trees (drop (i + 1) fields.now))) place bytes.now }
+{
+    match size {
+        Some(size) => (place, place + size as usize),
+        None => part_range(schema, fields[i].1, fields, i, place, bytes),
+    }
+}
+
 // Of a container of these fields, whose types stand before id.
 #[cycle(node)]
 #[inline(never)]
@@ -177,11 +207,12 @@ fn fields_made<M: Maker>(
     let mut rows = maker.start(depth, fields.len() as u64);
     let mut place = 0usize;
     for (i, field) in fields.iter().enumerate() {
-        let (from, to) = part_range(schema, field.1, fields, i, place, bytes);
+        let size = schema.fixed_size(field.1);
+        let (from, to) = range_at(schema, size, fields, i, place, bytes);
         let part = &bytes[from..to];
         let out = bytes_part(maker, schema, field.1, part);
         maker.push(&mut rows, &out);
-        place += head_len(schema.fixed_size(field.1)) as usize;
+        place += head_len(size) as usize;
     }
     maker.finish(rows)
 }

@@ -9,7 +9,11 @@ pub fn pairs_above(depth: u32, n: u64) -> u64
 {
     let mut left = n;
     let mut pairs = 0u64;
-    for _j in 0..depth {
+    for j in 0..depth {
+        // From here on a level has one pair, or none.
+        if left <= 1 {
+            return pairs.saturating_add(left * u64::from(depth - j));
+        }
         left = left / 2 + left % 2;
         pairs = pairs.saturating_add(left);
     }

@@ -1,4 +1,4 @@
-use Rattle.std.proofs.Common.{rules, ◌≡◌, ◌∙◌, ◌+◌, ◌-◌, ◌/◌, ◌<◌, ◌≤◌, ◌^◌, length, map, take, drop, get_or, slice_range, List, [], Option, None, ℕ, refl, sym, ap, subst, arith, length-drop}
+use Rattle.std.proofs.Common.{rules, ◌≡◌, ◌∙◌, ◌+◌, ◌-◌, ◌/◌, ◌<◌, ◌≤◌, ◌^◌, ◌∷◌, length, map, take, drop, get_or, slice_range, List, [], Option, None, ℕ, zero, suc, refl, sym, ap, subst, arith, length-drop}
 use Rattle.std.specs.Prelude.{IfSome}
 use Rattle.std.specs.List.{AllByRecursion}
 use Rattle.std.proofs.lemmas.List.{take_rest, length-map}
@@ -10,9 +10,10 @@ use Rattle.ssz_value.specs.Faults.{first_fault, element_count, elements_fault, c
 use Rattle.ssz_value.specs.Reading.{value_in, elements_in}
 use Rattle.ssz_value.specs.Trees.{number_chunk}
 use Rattle.ssz_value.proofs.Agree.{IsInput, no_faults}
-use Rattle.ssz_value.proofs.PartLemmas.{known_weaker, part_known, size_at}
+use Rattle.ssz_value.proofs.PartLemmas.{Part as FieldPart, known_weaker, part_known, size_at, sizes_of}
 use Rattle.ssz_parts.proofs.ElementLemmas.{element_faultless}
 use Rattle.ssz_parts.specs.PartValues.{element_values}
+use Rattle.ssz_parts.specs.Ranges.{part_range}
 use Rattle.ssz_packing.proofs.Options.{chosen_at}
 use Rattle.ssz_packing.proofs.Arms.{vector_elements, list_elements, IsPackedBits-bitvector, container_fields}
 use Rattle.ssz_packing.proofs.BitChunks.{HasBits-bitlist}
@@ -22,7 +23,7 @@ use Rattle.ssz_packing.proofs.Options.{below_at}
 use Rattle.ssz_making.specs.Nodes.{new_nodes}
 use Rattle.ssz_making.specs.Parts.{MadePart, whole_of, joined_leaf, part_of_value, chosen_part, elements_part}
 use Rattle.ssz_making.proofs.BytesForms.{element-at, packed_elements, vector_made, list_made, bitvector_made, bitlist_made, basic_made, union-part, same_nodes}
-use Rattle.ssz_making.proofs.FieldGathering.{FirstFields, FieldsAt-start, FieldsAt-faultless, FieldsAt-next, FieldsAt-room, FieldsAt-within, container_made, length-parts_from, parts_from}
+use Rattle.ssz_making.proofs.FieldGathering.{FirstFields, FieldsAt-start, FieldsAt-faultless, FieldsAt-next, FieldsAt-room, FieldsAt-within, container_made, length-parts_from, parts_from, range_of}
 use Rattle.ssz_making.proofs.Forms.{elements-composite}
 use Rattle.ssz_making.proofs.Placing.{split-at}
 use Rattle.std.proofs.lemmas.List.{take-map, take_all, length-take-le}
@@ -225,59 +226,81 @@ elements_made-returns-in-None g t c =
     (elements-composite ty c.args.depth (element_values ty c.args.count c.args.bytes.now)
     (sym (sym c.in-None.is ∙ c.basic_size.ensures.exact))) c.parts_made.ensures
 
+-- where a field of this size lies
+range-is : (trees : List SszType) (parts : List FieldPart) (b : List ℕ) (i place : ℕ)
+    (part : FieldPart) (size : Option ℕ) (range : ℕ × ℕ) → size ≡ size_at trees part
+    → range ≡ part_range size (sizes_of trees (drop (i + 1) parts)) place b
+    → range ≡ range_of trees parts b i place part
+range-is trees parts b i place part size range sized is =
+    is ∙ ap (λ z. part_range z (sizes_of trees (drop (i + 1) parts)) place b) sized
+
+-- the field at i is one
+same_part : (parts : List FieldPart) (i : ℕ) (part other : FieldPart) → i < length parts
+    → part ≡ get_or parts i part → other ≡ get_or parts i other → part ≡ other
+same_part [] i part other below e f = absurd (omega arith)
+same_part (p ∷ parts) zero part other below e f = e ∙ sym f
+same_part (p ∷ parts) (suc i) part other below e f = same_part parts i part other (omega arith) e f
+
 pub fields_made-loop-i-init : goal.fields_made-loop-i-init
 fields_made-loop-i-init g t c = record {
   fields = FieldsAt-start _ _ _ c.requires.faultless;
   pushed = c.start-rows.ensures;
 }
 
-pub fields_made-part_range-from-requires-clause-known :
-    goal.fields_made-part_range-from-requires-clause-known
-fields_made-part_range-from-requires-clause-known g t c =
+pub fields_made-range_at-from-requires-clause-known :
+    goal.fields_made-range_at-from-requires-clause-known
+fields_made-range_at-from-requires-clause-known g t c =
     known_weaker c.args.id (length c.args.schema.now.trees)
     c.args.fields.now c.requires.known c.requires.before
 
-pub fields_made-part_range-from-requires-clause-field :
-    goal.fields_made-part_range-from-requires-clause-field
-fields_made-part_range-from-requires-clause-field g t c =
+pub fields_made-range_at-from-requires-clause-size :
+    goal.fields_made-range_at-from-requires-clause-size
+fields_made-range_at-from-requires-clause-size g t c = λ field is.
+    c.fixed_size-size.ensures.exact
+    ∙ ap (λ (part : FieldPart). fixed_size (type_tree_at c.args.schema.now.trees part.1))
+    (same_part c.args.fields.now c.loop-i.i c.index-fields-i.result field c.loop-i-test.true
+    c.index-fields-i.is is)
+
+pub fields_made-fixed_size-size-requires : goal.fields_made-fixed_size-size-requires
+fields_made-fixed_size-size-requires g t c =
     let below : c.index-fields-i.result.1 < c.args.id =
     part_known c.args.id c.args.fields.now c.loop-i.i c.index-fields-i.result c.loop-i-test.true
     c.index-fields-i.is c.requires.before in
     omega (arith, below, c.requires.known)
 
-pub fields_made-fixed_size-requires : goal.fields_made-fixed_size-requires
-fields_made-fixed_size-requires g t c =
-    let below : c.index-fields-i.result.1 < c.args.id =
-    part_known c.args.id c.args.fields.now c.loop-i.i c.index-fields-i.result c.loop-i-test.true
-    c.index-fields-i.is c.requires.before in
-    omega (arith, below, c.requires.known)
-
-pub fields_made-part_range-from-requires-clause-room :
-    goal.fields_made-part_range-from-requires-clause-room
-fields_made-part_range-from-requires-clause-room g t c =
-    FieldsAt-room c.args.schema.now.trees c.args.fields.now c.args.bytes.now c.loop-i.i
+pub fields_made-range_at-from-requires-clause-room :
+    goal.fields_made-range_at-from-requires-clause-room
+fields_made-range_at-from-requires-clause-room g t c =
+    let room = FieldsAt-room c.args.schema.now.trees c.args.fields.now c.args.bytes.now c.loop-i.i
     c.loop-i.place c.index-fields-i.result c.loop-i.invariant.fields c.loop-i-test.true
-    c.index-fields-i.is
+    c.index-fields-i.is in
+    omega (arith, room, ap head_size c.fixed_size-size.ensures.exact)
 
 pub fields_made-slice_bounds-part-count : goal.fields_made-slice_bounds-part-count
 fields_made-slice_bounds-part-count g t c =
     let within = FieldsAt-within c.args.schema.now.trees c.args.fields.now c.args.bytes.now
-    c.loop-i.i c.loop-i.place c.index-fields-i.result c.part_range-from.result
-    c.loop-i.invariant.fields c.loop-i-test.true c.index-fields-i.is c.part_range-from.ensures in
+    c.loop-i.i c.loop-i.place c.index-fields-i.result c.range_at-from.result
+    c.loop-i.invariant.fields c.loop-i-test.true c.index-fields-i.is (range-is c.args.schema.now.trees c.args.fields.now
+    c.args.bytes.now c.loop-i.i c.loop-i.place c.index-fields-i.result c.fixed_size-size.result
+    c.range_at-from.result c.fixed_size-size.ensures.exact c.range_at-from.ensures) in
     omega (arith, within.0, within.1)
 
 pub fields_made-slice_bounds-part-start : goal.fields_made-slice_bounds-part-start
 fields_made-slice_bounds-part-start g t c =
     let within = FieldsAt-within c.args.schema.now.trees c.args.fields.now c.args.bytes.now
-    c.loop-i.i c.loop-i.place c.index-fields-i.result c.part_range-from.result
-    c.loop-i.invariant.fields c.loop-i-test.true c.index-fields-i.is c.part_range-from.ensures in
+    c.loop-i.i c.loop-i.place c.index-fields-i.result c.range_at-from.result
+    c.loop-i.invariant.fields c.loop-i-test.true c.index-fields-i.is (range-is c.args.schema.now.trees c.args.fields.now
+    c.args.bytes.now c.loop-i.i c.loop-i.place c.index-fields-i.result c.fixed_size-size.result
+    c.range_at-from.result c.fixed_size-size.ensures.exact c.range_at-from.ensures) in
     omega (arith, within.0, within.1)
 
 pub fields_made-slice_bounds-part-end : goal.fields_made-slice_bounds-part-end
 fields_made-slice_bounds-part-end g t c =
     let within = FieldsAt-within c.args.schema.now.trees c.args.fields.now c.args.bytes.now
-    c.loop-i.i c.loop-i.place c.index-fields-i.result c.part_range-from.result
-    c.loop-i.invariant.fields c.loop-i-test.true c.index-fields-i.is c.part_range-from.ensures in
+    c.loop-i.i c.loop-i.place c.index-fields-i.result c.range_at-from.result
+    c.loop-i.invariant.fields c.loop-i-test.true c.index-fields-i.is (range-is c.args.schema.now.trees c.args.fields.now
+    c.args.bytes.now c.loop-i.i c.loop-i.place c.index-fields-i.result c.fixed_size-size.result
+    c.range_at-from.result c.fixed_size-size.ensures.exact c.range_at-from.ensures) in
     omega (arith, within.0, within.1)
 
 pub fields_made-bytes_part-out-requires : goal.fields_made-bytes_part-out-requires
@@ -290,16 +313,22 @@ fields_made-bytes_part-out-requires g t c κs within =
     let before : c.index-fields-i.result.1 < c.args.id =
     part_known c.args.id c.args.fields.now c.loop-i.i c.index-fields-i.result c.loop-i-test.true
     c.index-fields-i.is c.requires.before in
-    let none : first_fault ty 0 (slice_range c.args.bytes.now c.part_range-from.result.0
-    c.part_range-from.result.1) ≡ None =
+    let none : first_fault ty 0 (slice_range c.args.bytes.now c.range_at-from.result.0
+    c.range_at-from.result.1) ≡ None =
     subst (λ (r : ℕ × ℕ). first_fault ty 0 (slice_range c.args.bytes.now r.0 r.1) ≡ None)
-    (sym c.part_range-from.ensures) good.none in
-    let short : length (slice_range c.args.bytes.now c.part_range-from.result.0
-    c.part_range-from.result.1) < 2 ^ 32 =
+    (sym (range-is c.args.schema.now.trees c.args.fields.now
+    c.args.bytes.now c.loop-i.i c.loop-i.place c.index-fields-i.result c.fixed_size-size.result
+    c.range_at-from.result c.fixed_size-size.ensures.exact c.range_at-from.ensures)) good.none in
+    let short : length (slice_range c.args.bytes.now c.range_at-from.result.0
+    c.range_at-from.result.1) < 2 ^ 32 =
     subst (λ (r : ℕ × ℕ). length (slice_range c.args.bytes.now r.0 r.1) < 2 ^ 32)
-    (sym c.part_range-from.ensures) good.input.short in
+    (sym (range-is c.args.schema.now.trees c.args.fields.now
+    c.args.bytes.now c.loop-i.i c.loop-i.place c.index-fields-i.result c.fixed_size-size.result
+    c.range_at-from.result c.fixed_size-size.ensures.exact c.range_at-from.ensures)) good.input.short in
     let next = FieldsAt-next _ _ _ _ _ c.index-fields-i.result _ c.loop-i.invariant.fields
-    c.loop-i-test.true c.index-fields-i.is c.part_range-from.ensures c.requires.faultless in
+    c.loop-i-test.true c.index-fields-i.is (range-is c.args.schema.now.trees c.args.fields.now
+    c.args.bytes.now c.loop-i.i c.loop-i.place c.index-fields-i.result c.fixed_size-size.result
+    c.range_at-from.result c.fixed_size-size.ensures.exact c.range_at-from.ensures) c.requires.faultless in
     let all = parts_from c.args.schema.now.trees c.args.fields.now 0 c.args.bytes.now in
     let many : length all ≡ length c.args.fields.now =
     length-parts_from c.args.schema.now.trees c.args.fields.now 0 c.args.bytes.now in
@@ -308,17 +337,19 @@ fields_made-bytes_part-out-requires g t c κs within =
     (sym split) c.requires.room in
     let room : g.M.Maker.room c.loop-i.maker (new_nodes ty (value_in ty (slice_range
     c.args.bytes.now
-    c.part_range-from.result.0 c.part_range-from.result.1))) =
+    c.range_at-from.result.0 c.range_at-from.result.1))) =
     g.met.M.Maker.room_next _ _ c.args.depth (length c.args.fields.now) (take c.loop-i.i all) (drop
     (c.loop-i.i + 1) all)
-    (part_of_value ty (value_in ty (slice_range c.args.bytes.now c.part_range-from.result.0
-    c.part_range-from.result.1))) _ c.loop-i.invariant.pushed space in
+    (part_of_value ty (value_in ty (slice_range c.args.bytes.now c.range_at-from.result.0
+    c.range_at-from.result.1))) _ c.loop-i.invariant.pushed space in
     search rules
 
 pub fields_made-push-requires : goal.fields_made-push-requires
 fields_made-push-requires g t c =
     let next = FieldsAt-next _ _ _ _ _ c.index-fields-i.result _ c.loop-i.invariant.fields
-    c.loop-i-test.true c.index-fields-i.is c.part_range-from.ensures c.requires.faultless in
+    c.loop-i-test.true c.index-fields-i.is (range-is c.args.schema.now.trees c.args.fields.now
+    c.args.bytes.now c.loop-i.i c.loop-i.place c.index-fields-i.result c.fixed_size-size.result
+    c.range_at-from.result c.fixed_size-size.ensures.exact c.range_at-from.ensures) c.requires.faultless in
     let all = parts_from c.args.schema.now.trees c.args.fields.now 0 c.args.bytes.now in
     let many : length all ≡ length c.args.fields.now =
     length-parts_from c.args.schema.now.trees c.args.fields.now 0 c.args.bytes.now in
@@ -344,9 +375,11 @@ fields_made-push-requires g t c =
 pub fields_made-loop-i-preserved : goal.fields_made-loop-i-preserved
 fields_made-loop-i-preserved g t c =
     let head : head_size (size_at c.args.schema.now.trees c.index-fields-i.result)
-    ≡ c.head_len.result = sym (c.head_len.ensures ∙ ap head_size c.fixed_size.ensures.exact) in
+    ≡ c.head_len.result = sym (c.head_len.ensures ∙ ap head_size c.fixed_size-size.ensures.exact) in
     let next = FieldsAt-next _ _ _ _ _ c.index-fields-i.result _ c.loop-i.invariant.fields
-    c.loop-i-test.true c.index-fields-i.is c.part_range-from.ensures c.requires.faultless in
+    c.loop-i-test.true c.index-fields-i.is (range-is c.args.schema.now.trees c.args.fields.now
+    c.args.bytes.now c.loop-i.i c.loop-i.place c.index-fields-i.result c.fixed_size-size.result
+    c.range_at-from.result c.fixed_size-size.ensures.exact c.range_at-from.ensures) c.requires.faultless in
     subst (λ n. FirstFields g.M.Maker.gathered c.args.maker.now c.push.new.self c.args.depth
     c.push.new.rows c.args.schema.now.trees c.args.fields.now c.args.bytes.now (c.loop-i.i + 1)
     (c.loop-i.place + n)) head
