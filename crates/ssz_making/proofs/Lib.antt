@@ -9,3 +9,4 @@ pub mod ValueForms
 mod Saturating
 mod Tallying
 mod Summing
+mod Eight
