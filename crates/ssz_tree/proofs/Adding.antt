@@ -75,6 +75,14 @@ Adds-pair old new keeps same one more less = record {
   spare = omega (arith, less);
 }
 
+-- a pair a level from the lowest on
+pub one_more : (low level : ℕ) (first now end : ArenaContent) → low ≤ level
+    → AddsNodes (level - low) (level - low) first now → AddsNodes 1 1 now end
+    → AddsNodes (level + 1 - low) (level + 1 - low) first end
+one_more low level first now end above before last =
+    let sum : level - low + 1 ≡ level + 1 - low = omega arith in
+    subst (λ n. AddsNodes n n first end) sum (Adds-then _ _ 1 1 first now end before last)
+
 -- what a caller holds stays
 pub IsPart-kept : (old new : ArenaContent) (part : MadePart) (node : NodeId) → KeepsNodes old new
     → IsPartNode old part node → IsPartNode new part node

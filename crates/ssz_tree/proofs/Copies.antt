@@ -49,7 +49,7 @@ IsPart-twice old new k part node id is made =
 -- the whole subtrees up to a level were made
 pub record HasCopies (start now : ArenaContent) (count level : ℕ) (node copies : NodeId)
     (nodes : List NodeId) : Type 0 where
-  pub length_is : length nodes ≡ 127
+  pub length_is : length nodes ≡ 64
   pub inside : IsNodeOf now copies
   pub all : LevelsAreNodes now nodes
   pub some : level ≤ whole_pairs level count
@@ -61,7 +61,7 @@ pub record HasCopies (start now : ArenaContent) (count level : ℕ) (node copies
 
 pub HasCopies-more : (start now new : ArenaContent) (count level : ℕ) (node copies id : NodeId)
     (nodes : List NodeId) → HasCopies start now count level node copies nodes
-    → 0 < count / 2 ^ (level + 1) → level + 1 < 127 → MakesPair now new copies copies id
+    → 0 < count / 2 ^ (level + 1) → level + 1 < 64 → MakesPair now new copies copies id
     → HasCopies start new count (level + 1) node id (slice_set nodes (level + 1) id)
 unfolding whole_pairs
 HasCopies-more start now new count level node copies id nodes h more room made =
@@ -182,11 +182,11 @@ level-within count level depth some few = ⊎_elim
 
 -- one copy
 pub HasCopies-start : (start : ArenaContent) (count : ℕ) (node : NodeId) → IsNodeOf start node
-    → HasCopies start start count 0 node node (replicate 127 node)
+    → HasCopies start start count 0 node node (replicate 64 node)
 HasCopies-start start count node inside = record {
-  length_is = length-replicate 127 node;
+  length_is = length-replicate 64 node;
   inside = inside;
-  all = AreNodes-one start 127 node inside;
+  all = AreNodes-one start 64 node inside;
   some = omega arith;
   adds = Adds-none start;
   top = λ part is. IsPart-one start part node is;
@@ -194,6 +194,6 @@ HasCopies-start start count node inside = record {
 }
   where
     first : (part : MadePart) → IsPartNode start part node → (k : ℕ) → k ≤ 0
-        → IsPartNode start (whole_of k (replicate (2 ^ k) part)) (stack_node (replicate 127 node) k)
+        → IsPartNode start (whole_of k (replicate (2 ^ k) part)) (stack_node (replicate 64 node) k)
     first part is zero low = IsPart-one start part node is
     first part is (suc k) low = absurd (omega arith)

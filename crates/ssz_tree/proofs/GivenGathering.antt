@@ -48,7 +48,7 @@ pub record HasPieceRoom (start : ArenaContent) (depth : ℕ) (all : List Piece) 
   pub few : length all ≤ 2 ^ depth
   pub room : merkle_pairs depth (length all) + sum_by made_in all ≤ start.spare
 
-pushed : (start now : ArenaContent) (depth : ℕ) (stack : Stack) (all : List Piece) (i : ℕ)
+pub pushed : (start now : ArenaContent) (depth : ℕ) (stack : Stack) (all : List Piece) (i : ℕ)
     → FirstPieces start now depth stack all i → stack.pushed ≡ i
 pushed start now depth stack all i h = h.holds.number
     ∙ length-take-le i (map part_in all) (omega (arith, h.within, length-map all part_in))

@@ -1,5 +1,5 @@
 -- The room of a maker of nodes, and what it keeps.
-use Rattle.std.proofs.Common.{◌≡◌, ℕ, ◌+◌, ◌-◌, ◌^◌, ◌≤◌, List, [], ◌∷◌, ◌++◌, length, take, refl, sym, ap, subst, ◌∙◌, arith, length-append}
+use Rattle.std.proofs.Common.{◌≡◌, ℕ, ◌+◌, ◌-◌, ◌^◌, ◌<◌, ◌≤◌, List, [], ◌∷◌, ◌++◌, length, take, refl, sym, ap, subst, ◌∙◌, arith, length-append}
 use Rattle.std.proofs.lemmas.List.{append-nil, take_all}
 use Rattle.ssz_chunk.specs.Tree.{merkle_pairs}
 use Rattle.ssz_merkle.specs.Frontier.{whole_pairs}
@@ -69,6 +69,13 @@ can_push start middle now d before rest one rows node h made few room =
     First-push start middle now d rows (before ++ one ∷ rest) (length before) one node
     (first start middle d before (one ∷ rest) (before ++ one ∷ rest) rows refl h)
     (at_seam before rest one) (record { few = few; room = room }) made
+
+-- a u64 counts them
+pub few_pushed : (now : ArenaContent) (before rest : List MadePart) (one : MadePart) (rows : Stack)
+    → StackHolds now before rows → length (before ++ one ∷ rest) < 2 ^ 64
+    → rows.pushed + 1 < 2 ^ 64
+few_pushed now before rest one rows held few =
+    omega (arith, held.number, few, length-append before (one ∷ rest))
 
 pub one_more : (start middle now end : ArenaContent) (d : ℕ) (parts : List MadePart)
     (one : MadePart)

@@ -1,4 +1,4 @@
-ghost use Rattle.std.specs.Prelude.{◌≡◌, ◌+◌, ◌-◌, ◌^◌, ◌<◌, ◌≤◌, min, List, [], ◌∷◌, ◌++◌, replicate};
+ghost use Rattle.std.specs.Prelude.{◌≡◌, ◌+◌, ◌-◌, ◌^◌, ◌<◌, ◌≤◌, min, List, [], ◌∷◌, ◌++◌, length, replicate};
 ghost use Rattle.ssz_chunk.specs.declared.TheConstants.{LEVELS};
 ghost use Rattle.ssz_chunk.specs.Tree.{merkle_pairs};
 ghost use Rattle.ssz_merkle.specs.Frontier.{whole_pairs};
@@ -11,15 +11,15 @@ use ssz_arena::{Arena, NodeId};
 use ssz_chunk::{LEVELS, PairHash};
 use std::marker::Model;
 
-// A node for each level, the tree's own included.
-const NODES: usize = LEVELS as usize + 1;
+// A node for each binary digit of the number of nodes that were pushed.
+const NODES: usize = 64;
 
 /// The nodes that were pushed so far on a full tree, by the whole subtrees that they make: one for
 /// each binary digit 1 of their number.
 #[derive(Drop)]
 pub struct Builder {
     depth: u32,
-    pushed: u128,
+    pushed: u64,
     nodes: [NodeId; NODES],
 }
 
@@ -34,7 +34,28 @@ impl Model for Builder {
         record { depth = stack.depth; pushed = stack.pushed; nodes = stack.nodes } };
 
     ghost invariant = { λ stack. (stack.depth ≤ 126) × (stack.pushed ≤ 2 ^ stack.depth)
-        × (length stack.nodes ≡ 127) };
+        × (length stack.nodes ≡ 64) };
+}
+
+/// The node of the full tree of depth `to` over the parts that the node of depth `from` has, with
+/// zero trees to the right of it.
+#[inline(always)]
+pub fn beside_zeros<H: PairHash>(arena: &mut Arena<H>, node: NodeId, from: u32, to: u32) -> NodeId
+    requires node { IsNodeOf arena.old node }
+    requires up { from ≤ to }
+    requires deep { to ≤ LEVELS }
+    requires room { to - from ≤ arena.old.spare }
+    ensures part { (parts : List MadePart) → 0 < length parts → length parts ≤ 2 ^ from
+        → IsPartNode arena.old (whole_of from parts) node
+        → IsPartNode arena.new (whole_of to parts) result }
+    ensures adds { AddsNodes (to - from) (to - from) arena.old arena.new }
+{
+    let mut node = node;
+    for level in from..to {
+        let right = arena.zero(level);
+        node = arena.pair(node, right);
+    }
+    node
 }
 
 impl Builder {
@@ -71,26 +92,28 @@ impl Builder {
             → StackHolds arena.new (replicate count part) result }
         ensures adds { AddsNodes depth (min depth (whole_pairs depth count)) arena.old arena.new }
     {
-        let pushed = u128::from(count);
         let mut nodes = [node; NODES];
         let mut copies = node;
         let mut level = 0u32;
-        while pushed >> (level + 1) > 0 {
+        let mut left = count / 2;
+        'levels: while left > 0 {
             copies = arena.pair(copies, copies);
             level += 1;
             nodes[level as usize] = copies;
+            left /= 2;
         }
         Builder {
             depth,
-            pushed,
+            pushed: count,
             nodes,
         }
     }
 
-    /// Takes one more node, at the next place: fewer than 2^depth were pushed so far. Makes the
-    /// pairs of which it is the last node.
+    /// Takes one more node, at the next place: fewer than 2^depth were pushed so far, and fewer than
+    /// a u64 counts. Makes the pairs of which it is the last node.
     pub fn push<H: PairHash>(&mut self, arena: &mut Arena<H>, node: NodeId)
         requires below { self.old.pushed < 2 ^ self.old.depth }
+        requires counted { self.old.pushed + 1 < 2 ^ 64 }
         requires nodes { LevelsAreNodes arena.old self.old.nodes }
         requires node { IsNodeOf arena.old node }
         requires room { whole_pairs self.old.depth (self.old.pushed + 1)
@@ -116,7 +139,8 @@ impl Builder {
 
     /// The node of the full tree of the nodes that were pushed, with zero chunks behind them. Makes
     /// the pairs that are not whole, one a level, each with a zero tree or with the node to its
-    /// left.
+    /// left. Inlined, it reads the nodes where they are, and not a copy.
+    #[inline(always)]
     pub fn finish<H: PairHash>(&self, arena: &mut Arena<H>) -> NodeId
         requires nodes { LevelsAreNodes arena.old self.now.nodes }
         requires room { merkle_pairs self.now.depth self.now.pushed
@@ -130,18 +154,20 @@ impl Builder {
         if self.pushed == 0 {
             return arena.zero(self.depth);
         }
-        let last = self.pushed - 1;
         let first = self.pushed.trailing_zeros();
         let mut node = self.nodes[first as usize];
-        for level in first..self.depth {
-            if (last >> level) % 2 == 1 {
-                let left = self.nodes[level as usize];
-                node = arena.pair(left, node);
+        let mut level = first;
+        let mut left = (self.pushed - 1) >> first;
+        'levels: while left > 0 {
+            if left % 2 == 1 {
+                node = arena.pair(self.nodes[level as usize], node);
             } else {
                 let zero = arena.zero(level);
                 node = arena.pair(node, zero);
             }
+            level += 1;
+            left /= 2;
         }
-        node
+        beside_zeros(arena, node, level, self.depth)
     }
 }

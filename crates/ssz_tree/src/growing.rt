@@ -18,7 +18,7 @@ pub(crate) struct Growing<'a, H: PairHash> {
 }
 
 impl<'a, H: PairHash> Maker for Growing<'a, H> {
-    ghost use Rattle.std.specs.Prelude.{◌≡◌, ◌≤◌};
+    ghost use Rattle.std.specs.Prelude.{◌≡◌, ◌^◌, ◌<◌, ◌≤◌};
     ghost use Rattle.ssz_tree.specs.Added.{MakesNode};
     ghost use Rattle.ssz_tree.specs.Making.{PushesNodes};
     ghost use Rattle.ssz_tree.specs.RoomLaws.{less_room, next_room};
@@ -34,7 +34,7 @@ impl<'a, H: PairHash> Maker for Growing<'a, H> {
 
     ghost gathered = { λ start now d count parts rows.
         (now.arena.ghost_name ≡ start.arena.ghost_name)
-        × PushesNodes start.arena.now now.arena.now d parts rows };
+        × PushesNodes start.arena.now now.arena.now d parts rows × (count < 2 ^ 64) };
 
     ghost room_less = { λ now n m less room. less_room now.arena.now n m less room };
 
@@ -66,6 +66,7 @@ impl<'a, H: PairHash> Maker for Growing<'a, H> {
         0
     }
 
+    #[inline(always)]
     fn finish(&mut self, rows: Builder) -> NodeId {
         rows.finish(self.arena)
     }

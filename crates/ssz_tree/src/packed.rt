@@ -7,8 +7,8 @@ ghost use Rattle.ssz_packing.specs.Bits.{undelimited};
 ghost use Rattle.ssz_tree.specs.Added.{MakesNode};
 ghost use Rattle.ssz_making.specs.Parts.{whole_of, chunk_part};
 
-use super::builder::Builder;
-use super::leaves::leaf_node;
+use super::builder::{Builder, beside_zeros};
+use super::leaves::{front_node, leaf_node};
 use ssz_arena::{Arena, NodeId};
 use ssz_chunk::PairHash;
 use ssz_merkle::chunk_at;
@@ -23,12 +23,15 @@ pub fn packed_node<H: PairHash>(arena: &mut Arena<H>, depth: u32, bytes: &[u8]) 
     ensures { MakesNode arena.old arena.new
         (whole_of depth (map chunk_part (pack bytes.now))) result }
 {
-    // One chunk stands for itself, and needs no builder; nor do two.
-    if depth == 0 && !bytes.is_empty() {
-        return leaf_node(arena, &chunk_at(bytes, 0));
+    // One chunk needs no builder; nor do two.
+    let chunks = (bytes.len() + 31) / 32;
+    if chunks == 1 {
+        let leaf = front_node(arena, bytes);
+        return beside_zeros(arena, leaf, 0, depth);
     }
-    if depth == 1 && bytes.len() > 32 {
-        return two_chunks_node(arena, bytes);
+    if chunks == 2 {
+        let both = two_chunks_node(arena, bytes);
+        return beside_zeros(arena, both, 1, depth);
     }
     chunks_node(arena, depth, bytes)
 }
@@ -39,8 +42,8 @@ fn two_chunks_node<H: PairHash>(arena: &mut Arena<H>, bytes: &[u8]) -> NodeId
     requires room { 3 ≤ arena.old.spare }
     ensures { MakesNode arena.old arena.new (whole_of 1 (map chunk_part (pack bytes.now))) result }
 {
-    let left = leaf_node(arena, &chunk_at(bytes, 0));
-    let right = leaf_node(arena, &chunk_at(bytes, 1));
+    let left = front_node(arena, bytes);
+    let right = front_node(arena, &bytes[32..]);
     arena.pair(left, right)
 }
 

@@ -21,7 +21,7 @@ use Rattle.ssz_tree.proofs.Adding.{makes_pair}
 use Rattle.ssz_tree.proofs.Copies.{grow-few}
 use Rattle.ssz_tree.proofs.DefaultForms.{MakesWith-zero, MakesWith-same, MakesWith-joined, MakesWith-copies, zero-leaf, copies_room, basic-default, bitvector-default, list-default, bitlist-default, elements-zeros, elements-copies, vector-default, container-default, union-default, union-none, shared-chosen, shared-none, shared-empty, shared-container, shared-of-vector, count-fields}
 use Rattle.ssz_tree.proofs.FieldPieces.{pieces, pieces-many, piece-stands, given_there, given-kept, field-made, taken_there, nothing_given}
-use Rattle.ssz_tree.proofs.GivenGathering.{FirstPieces-start, FirstPieces-room, FirstPieces-push, FirstPieces-more, FirstPieces-finish, FirstPieces-done, fields_room, fields_made, default_made}
+use Rattle.ssz_tree.proofs.GivenGathering.{FirstPieces-start, FirstPieces-room, FirstPieces-push, FirstPieces-more, FirstPieces-finish, FirstPieces-done, pushed, fields_room, fields_made, default_made}
 use Rattle.ssz_tree.proofs.defaults.+default.Goals as goal
 
 -- fields
@@ -63,6 +63,10 @@ container_node-push-requires-clause-room g t c =
     c.field_node-node.result
     c.loop-i.invariant.adds.keeps c.requires.given c.given_at.ensures c.field_node-node.ensures in
     (FirstPieces-push _ _ _ _ _ _ _ _ _ c.loop-i.invariant stands room made).room
+
+pub container_node-push-requires-clause-counted : goal.container_node-push-requires-clause-counted
+container_node-push-requires-clause-counted g t c =
+    omega (arith, pushed _ _ _ _ _ _ c.loop-i.invariant, c.loop-i-test.true)
 
 pub container_node-loop-i-preserved : goal.container_node-loop-i-preserved
 container_node-loop-i-preserved g t c =

@@ -3,7 +3,7 @@ use Rattle.ssz_value.specs.Trees.{chunks}
 use Rattle.ssz_making.specs.Parts.{chunk_part}
 use Rattle.ssz_making.proofs.Chunks.{chunk-at, length-parts}
 use Rattle.ssz_tree.proofs.Chunks.{chunks-room}
-use Rattle.ssz_tree.proofs.Gathering.{First-start, First-room, First-push, First-more, First-finish, First-done}
+use Rattle.ssz_tree.proofs.Gathering.{First-start, First-room, First-push, First-pushed, First-more, First-finish, First-done}
 use Rattle.ssz_tree.proofs.packed.chunks_node.Goals as goal
 
 pub loop-i-init : goal.loop-i-init
@@ -27,6 +27,10 @@ push-requires-clause-room g c =
     c.chunk_at.ensures in
     let made = c.leaf_node-leaf.ensures in
     (First-push _ _ _ _ _ _ _ _ _ c.loop-i.invariant at room made).room
+
+pub push-requires-clause-counted : goal.push-requires-clause-counted
+push-requires-clause-counted g c =
+    omega (arith, First-pushed _ _ _ _ _ _ c.loop-i.invariant, c.loop-i-test.true)
 
 pub loop-i-preserved : goal.loop-i-preserved
 loop-i-preserved g c =

@@ -5,7 +5,7 @@ use Rattle.ssz_making.specs.Parts.{whole_of, chunk_part}
 use Rattle.ssz_tree.proofs.Adding.{Makes-same}
 use Rattle.ssz_making.proofs.Chunks.{chunk-at, length-parts}
 use Rattle.ssz_tree.proofs.Chunks.{chunks-room}
-use Rattle.ssz_tree.proofs.Gathering.{First-start, First-room, First-push, First-more, First-finish, First-done}
+use Rattle.ssz_tree.proofs.Gathering.{First-start, First-room, First-push, First-pushed, First-more, First-finish, First-done}
 use Rattle.ssz_tree.proofs.packed_values.bit_values_node.Goals as goal
 
 pub loop-i-init : goal.loop-i-init
@@ -35,6 +35,10 @@ push-requires-clause-room g c =
     < length c.args.bits.now = omega arith in within)) in
     let made = c.leaf_node-leaf.ensures in
     (First-push _ _ _ _ _ _ _ _ _ c.loop-i.invariant at room made).room
+
+pub push-requires-clause-counted : goal.push-requires-clause-counted
+push-requires-clause-counted g c =
+    omega (arith, First-pushed _ _ _ _ _ _ c.loop-i.invariant, c.loop-i-test.true)
 
 pub loop-i-preserved : goal.loop-i-preserved
 loop-i-preserved g c =

@@ -12,7 +12,7 @@ use Rattle.ssz_making.specs.Parts.{whole_of, chunk_part}
 use Rattle.ssz_tree.proofs.Adding.{Makes-same}
 use Rattle.ssz_making.proofs.Chunks.{chunk-at, length-parts}
 use Rattle.ssz_tree.proofs.Chunks.{chunks-room}
-use Rattle.ssz_tree.proofs.Gathering.{First-start, First-room, First-push, First-more, First-finish, First-done}
+use Rattle.ssz_tree.proofs.Gathering.{First-start, First-room, First-push, First-pushed, First-more, First-finish, First-done}
 use Rattle.ssz_tree.proofs.packed_values.packed_values_node.Goals as goal
 
 pub loop-i-init : goal.loop-i-init
@@ -52,7 +52,15 @@ push-requires g c =
     let made = c.leaf_node-leaf.ensures in
     let can = First-push _ _ _ _ _ _ _ _ _
     (c.loop-i.invariant.first basic.type basic.sized basic.fit) at room made in
-    record { below = can.below; nodes = can.nodes; node = made.is.node; room = can.room }
+    let few = First-pushed _ _ _ _ _ _
+    (c.loop-i.invariant.first basic.type basic.sized basic.fit) in
+    record {
+      below = can.below;
+      counted = omega (arith, few, c.loop-i-test.true);
+      nodes = can.nodes;
+      node = made.is.node;
+      room = can.room;
+    }
 
 pub loop-i-preserved : goal.loop-i-preserved
 loop-i-preserved g c = record {

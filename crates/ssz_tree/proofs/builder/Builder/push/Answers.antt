@@ -1,5 +1,4 @@
 use Rattle.std.proofs.Common.{◌≡◌, ◌+◌, ◌-◌, ◌<◌, ◌≤◌, ◌^◌, ℕ, [], ◌∷◌, ◌++◌, refl, sym, ap, subst, ◌∙◌, arith}
-use Rattle.std.proofs.Math.Nat.{pow-le-pow_right}
 use Rattle.ssz_merkle.specs.Frontier.{whole_pairs}
 use Rattle.ssz_merkle.proofs.Carrying.{Carries}
 use Rattle.ssz_tree.specs.Added.{AddsNodes}
@@ -34,16 +33,19 @@ loop-level-init g c = record {
 
 pub bounds-self-inside-level : goal.bounds-self-inside-level
 bounds-self-inside-level g c =
-    let carries : Carries c.self.inside.pushed c.trailing_ones-whole.result c.self.inside.depth =
-    Carries-push _ _ _ c.self.inside.nodes _ c.self.view_is c.requires.below c.self.invariant.0
+    let up : Carries c.self.inside.pushed c.trailing_ones-whole.result c.self.inside.depth
+    × (c.trailing_ones-whole.result < 64) =
+    Carries-push _ _ _ c.self.inside.nodes _ c.self.view_is c.requires.below c.requires.counted
     c.trailing_ones-whole.ensures in
-    omega (arith, carries.within, c.self.invariant.0)
+    omega (arith, up.1, c.self.invariant.2)
 
 pub pair-carry-requires-clause-room : goal.pair-carry-requires-clause-room
 pair-carry-requires-clause-room g c =
-    let carries : Carries c.self.inside.pushed c.trailing_ones-whole.result c.self.inside.depth =
-    Carries-push _ _ _ c.self.inside.nodes _ c.self.view_is c.requires.below c.self.invariant.0
+    let up : Carries c.self.inside.pushed c.trailing_ones-whole.result c.self.inside.depth
+    × (c.trailing_ones-whole.result < 64) =
+    Carries-push _ _ _ c.self.inside.nodes _ c.self.view_is c.requires.below c.requires.counted
     c.trailing_ones-whole.ensures in
+    let carries = up.0 in
     let low : c.trailing_ones-whole.result ≤ c.args.arena.now.spare =
     room_for c.args.self.now _ _ _ _ carries (sym (ap (λ (s : Stack). s.depth) c.self.view_is))
     (sym (ap (λ (s : Stack). s.pushed) c.self.view_is))
@@ -53,9 +55,11 @@ pair-carry-requires-clause-room g c =
 
 pub loop-level-preserved : goal.loop-level-preserved
 loop-level-preserved g c =
-    let carries : Carries c.self.inside.pushed c.trailing_ones-whole.result c.self.inside.depth =
-    Carries-push _ _ _ c.self.inside.nodes _ c.self.view_is c.requires.below c.self.invariant.0
+    let up : Carries c.self.inside.pushed c.trailing_ones-whole.result c.self.inside.depth
+    × (c.trailing_ones-whole.result < 64) =
+    Carries-push _ _ _ c.self.inside.nodes _ c.self.view_is c.requires.below c.requires.counted
     c.trailing_ones-whole.ensures in
+    let carries = up.0 in
     let e = c.pair-carry.ensures in
     record {
       inside = e.node;
@@ -71,18 +75,17 @@ loop-level-preserved g c =
 
 pub bounds-self-inside-whole : goal.bounds-self-inside-whole
 bounds-self-inside-whole g c =
-    let carries : Carries c.self.inside.pushed c.trailing_ones-whole.result c.self.inside.depth =
-    Carries-push _ _ _ c.self.inside.nodes _ c.self.view_is c.requires.below c.self.invariant.0
+    let up : Carries c.self.inside.pushed c.trailing_ones-whole.result c.self.inside.depth
+    × (c.trailing_ones-whole.result < 64) =
+    Carries-push _ _ _ c.self.inside.nodes _ c.self.view_is c.requires.below c.requires.counted
     c.trailing_ones-whole.ensures in
-    omega (arith, carries.within, c.self.invariant.0)
+    omega (arith, up.1, c.self.invariant.2)
 
 pub overflow_add-self : goal.overflow_add-self
 overflow_add-self g c =
-    let room : c.self.inside.pushed < 2 ^ c.self.inside.depth =
-    subst (λ (s : Stack). s.pushed < 2 ^ s.depth) (sym c.self.view_is) c.requires.below in
-    let small : 2 ^ c.self.inside.depth ≤ 2 ^ 126 =
-    pow-le-pow_right (omega arith) c.self.invariant.0 in
-    omega arith
+    let few : c.self.inside.pushed + 1 < 2 ^ 64 =
+    subst (λ (s : Stack). s.pushed + 1 < 2 ^ 64) (sym c.self.view_is) c.requires.counted in
+    omega (arith, few)
 
 pub returns-clause-holds : goal.returns-clause-holds
 returns-clause-holds g c = λ parts part held is.
@@ -93,22 +96,26 @@ returns-clause-holds g c = λ parts part held is.
       nodes = c.self.inside.nodes;
     }) =
     subst (StackHolds c.args.arena.now parts) (sym c.self.view_is) held in
-    let carries : Carries c.self.inside.pushed c.trailing_ones-whole.result c.self.inside.depth =
-    Carries-push _ _ _ c.self.inside.nodes _ c.self.view_is c.requires.below c.self.invariant.0
+    let up : Carries c.self.inside.pushed c.trailing_ones-whole.result c.self.inside.depth
+    × (c.trailing_ones-whole.result < 64) =
+    Carries-push _ _ _ c.self.inside.nodes _ c.self.view_is c.requires.below c.requires.counted
     c.trailing_ones-whole.ensures in
+    let carries = up.0 in
     let last : c.loop-level.level ≡ c.trailing_ones-whole.result = omega arith in
     Holds-push c.args.arena.now c.loop-level.arena parts _ _ part c.loop-level.carry
     c.trailing_ones-whole.result carries.before known c.loop-level.invariant.adds.keeps carries.is
-    (omega (arith, carries.within, c.self.invariant.0, c.self.invariant.2))
+    (omega (arith, up.1, c.self.invariant.2))
     (subst (λ k. IsTop c.loop-level.arena c.self.inside.pushed k (parts ++ part ∷ [])
     c.loop-level.carry) last (c.loop-level.invariant.top parts part known is))
     refl refl
 
 pub returns-clause-adds : goal.returns-clause-adds
 returns-clause-adds g c =
-    let carries : Carries c.self.inside.pushed c.trailing_ones-whole.result c.self.inside.depth =
-    Carries-push _ _ _ c.self.inside.nodes _ c.self.view_is c.requires.below c.self.invariant.0
+    let up : Carries c.self.inside.pushed c.trailing_ones-whole.result c.self.inside.depth
+    × (c.trailing_ones-whole.result < 64) =
+    Carries-push _ _ _ c.self.inside.nodes _ c.self.view_is c.requires.below c.requires.counted
     c.trailing_ones-whole.ensures in
+    let carries = up.0 in
     let room : c.self.inside.pushed < 2 ^ c.self.inside.depth =
     subst (λ (s : Stack). s.pushed < 2 ^ s.depth) (sym c.self.view_is) c.requires.below in
     let last : c.loop-level.level ≡ c.trailing_ones-whole.result = omega arith in
