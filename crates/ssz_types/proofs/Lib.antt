@@ -4,4 +4,5 @@ pub mod BasicLemmas
 pub mod NameLemmas
 pub mod RepeatLemmas
 pub mod OrderLemmas
+pub mod PlaceLemmas
 pub mod DistinctLemmas
