@@ -94,7 +94,8 @@ fn links_at(kinds: &Vec<u8>, firsts: &Vec<u32>, links: &Vec<u32>, i: usize) -> O
     Some((link, links[first + 1]))
 }
 
-// The child of a pair to one side. No link is read where the child stands just before the pair.
+// The child of a pair to one side. No link is read where the child stands just before the pair. The
+// sides are told apart once.
 #[inline(always)]
 fn child_at(
     kinds: &Vec<u8>,
@@ -114,15 +115,20 @@ fn child_at(
     if shape == LEAF {
         return None;
     }
-    let before = if right { RIGHT_BEFORE } else { LEFT_BEFORE };
-    if shape == before {
+    if right {
+        if shape == RIGHT_BEFORE {
+            return Some(NodeId(i as u32 - 1));
+        }
+        let first = first_of(kinds, firsts, i);
+        if shape == WIDE {
+            return Some(NodeId(links[first + 1]));
+        }
+        return Some(NodeId(links[first] % MARK));
+    }
+    if shape == LEFT_BEFORE {
         return Some(NodeId(i as u32 - 1));
     }
-    let first = first_of(kinds, firsts, i);
-    if right && shape == WIDE {
-        return Some(NodeId(links[first + 1]));
-    }
-    Some(NodeId(links[first] % MARK))
+    Some(NodeId(links[first_of(kinds, firsts, i)] % MARK))
 }
 
 // Begins a block where the next node does, and says how many links those before it in its block
