@@ -8,8 +8,8 @@ ghost use Rattle.ssz_arena.specs.Shown.{steps_left};
 use super::node::NodeId;
 use super::store::Store;
 
-// A way of fewer levels is gone step by step.
-const LONG: u32 = 8;
+// A way of fewer levels is gone step by step: to count zeros pays where a list has a long limit.
+const LONG: u32 = 20;
 
 // Goes down to the left while the digits of a generalized index are 0: one step, and then those
 // along a spine, where each child stands just before its pair. Says how many steps it went: none
