@@ -2,3 +2,4 @@ pub mod PlainLemmas
 pub mod SoundLemmas
 pub mod RangeLemmas
 pub mod NumberLemmas
+pub mod CleanLemmas

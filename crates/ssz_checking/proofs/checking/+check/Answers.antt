@@ -8,9 +8,7 @@ use Rattle.ssz_schema.specs.Legal.{IsLegal}
 use Rattle.ssz_schema.proofs.SizeLemmas.{vector_few}
 use Rattle.ssz_value.specs.Faults.{first_fault}
 use Rattle.ssz_value.proofs.Agree.{length_from_fault}
-use Rattle.ssz_checking.proofs.SoundLemmas.{elements_sound}
-use Rattle.ssz_checking.proofs.NumberLemmas.{FieldsFrom-number, numbers_list}
-use Rattle.ssz_parts.proofs.HeadLemmas.{heads_few}
+use Rattle.ssz_checking.proofs.NumberLemmas.{numbers_clean}
 use Rattle.ssz_parts.proofs.ElementFaults.{FixedFrom-more, FixedFrom-found, FixedFrom-end, VariableFrom-start, VariableFrom-part, VariableFrom-more, VariableFrom-found, fixed_found_head}
 use Rattle.ssz_parts.proofs.FieldLemmas.{FieldsFrom, FieldsFrom-start, FieldsFrom-found, FieldsFrom-more, FieldsFrom-end}
 use Rattle.ssz_value.proofs.PartLemmas.{known_weaker, part_known}
@@ -38,14 +36,6 @@ fixed_elements-returns-in-Some-scope t c =
     c.args.count
     c.args.start c.args.bytes.now c.loop-i.i c.in-Some-scope.fault
     c.loop-i.invariant (omega arith) (sym c.in-Some-scope.ensures))
-
-pub fixed_elements-returns-then-is_sound : goal.fixed_elements-returns-then-is_sound
-fixed_elements-returns-then-is_sound t c =
-    let whole = length_from_fault (c.args.count * c.args.size) c.args.start c.args.bytes.now
-    (sym c.in_default.ensures) in
-    sym (elements_sound (type_of c.args.schema.now c.args.elem) c.args.size c.args.count
-    c.args.start c.args.bytes.now c.requires.in_range.some c.requires.size
-    (λ i. omega (arith, c.type_inv.bytes i)) whole (sym c.is_sound.ensures ∙ c.if-is_sound.true))
 
 pub fixed_elements-loop-i-preserved : goal.fixed_elements-loop-i-preserved
 fixed_elements-loop-i-preserved t c =
@@ -107,25 +97,25 @@ variable_elements-loop-i-preserved t c =
     (omega arith)
     (sym same ∙ sym c.in_default-scope.ensures)
 
-pub fields_behind-loop-i-init : goal.fields_behind-loop-i-init
-fields_behind-loop-i-init t c =
+pub container-loop-i-init : goal.container-loop-i-init
+container-loop-i-init t c =
     FieldsFrom-start c.args.schema.now.trees c.args.fields.now c.args.start c.args.bytes.now
-    c.requires.head
+    (sym c.in_default.ensures)
 
 pub
-    fields_behind-part_range-from-requires-clause-known :
-    goal.fields_behind-part_range-from-requires-clause-known
-fields_behind-part_range-from-requires-clause-known t c =
+    container-part_range-from-requires-clause-known :
+    goal.container-part_range-from-requires-clause-known
+container-part_range-from-requires-clause-known t c =
     known_weaker c.args.id (length c.args.schema.now.trees) c.args.fields.now c.requires.known
     c.requires.before
 
-pub fields_behind-returns-in-Some : goal.fields_behind-returns-in-Some
-fields_behind-returns-in-Some t c =
+pub container-returns-in-Some-scope : goal.container-returns-in-Some-scope
+container-returns-in-Some-scope t c =
     sym (FieldsFrom-found c.args.schema.now.trees c.args.fields.now c.args.start c.args.bytes.now
     c.loop-i.i c.loop-i.place c.part_range-from.result.0 c.part_range-from.result.1
-    c.index-fields-i.result c.in-Some.fault
+    c.index-fields-i.result c.in-Some-scope.fault
     c.loop-i.invariant c.loop-i-test.true c.index-fields-i.is c.part_range-from.ensures
-    (sym c.in-Some.ensures))
+    (sym c.in-Some-scope.ensures))
 
 pub scope-scope-requires : goal.scope-scope-requires
 scope-scope-requires t c =
@@ -159,56 +149,49 @@ container-fields_head_fault-requires-clause-known t c =
     known_weaker c.args.id (length c.args.schema.now.trees) c.args.fields.now c.requires.known
     c.requires.before
 
-pub fields_behind-fixed_size-requires : goal.fields_behind-fixed_size-requires
-fields_behind-fixed_size-requires t c =
+pub
+    container-part_range-from-requires-clause-field :
+    goal.container-part_range-from-requires-clause-field
+container-part_range-from-requires-clause-field t c =
     let below : c.index-fields-i.result.1 < c.args.id =
     part_known c.args.id c.args.fields.now c.loop-i.i c.index-fields-i.result c.loop-i-test.true
     c.index-fields-i.is c.requires.before in
     omega (arith, below, c.requires.known)
 
 pub
-    fields_behind-part_range-from-requires-clause-field :
-    goal.fields_behind-part_range-from-requires-clause-field
-fields_behind-part_range-from-requires-clause-field t c =
-    let below : c.index-fields-i.result.1 < c.args.id =
-    part_known c.args.id c.args.fields.now c.loop-i.i c.index-fields-i.result c.loop-i-test.true
-    c.index-fields-i.is c.requires.before in
-    omega (arith, below, c.requires.known)
-
-pub
-    fields_behind-part_range-from-requires-clause-room :
-    goal.fields_behind-part_range-from-requires-clause-room
-fields_behind-part_range-from-requires-clause-room t c =
+    container-part_range-from-requires-clause-room :
+    goal.container-part_range-from-requires-clause-room
+container-part_range-from-requires-clause-room t c =
     field_room c.args.schema.now.trees c.args.fields.now c.args.start c.args.bytes.now
     c.loop-i.i c.loop-i.place c.index-fields-i.result c.loop-i.invariant c.loop-i-test.true
     c.index-fields-i.is
 
-pub fields_behind-slice_bounds-part-count : goal.fields_behind-slice_bounds-part-count
-fields_behind-slice_bounds-part-count t c =
+pub container-slice_bounds-part-count : goal.container-slice_bounds-part-count
+container-slice_bounds-part-count t c =
     let range = field_range c.args.schema.now.trees c.args.fields.now c.args.start
     c.args.bytes.now c.loop-i.i c.loop-i.place c.part_range-from.result.0
     c.part_range-from.result.1 c.index-fields-i.result c.loop-i.invariant c.loop-i-test.true
     c.index-fields-i.is c.part_range-from.ensures in
     omega (arith, range.0, range.1)
 
-pub fields_behind-slice_bounds-part-end : goal.fields_behind-slice_bounds-part-end
-fields_behind-slice_bounds-part-end t c =
+pub container-slice_bounds-part-end : goal.container-slice_bounds-part-end
+container-slice_bounds-part-end t c =
     let range = field_range c.args.schema.now.trees c.args.fields.now c.args.start
     c.args.bytes.now c.loop-i.i c.loop-i.place c.part_range-from.result.0
     c.part_range-from.result.1 c.index-fields-i.result c.loop-i.invariant c.loop-i-test.true
     c.index-fields-i.is c.part_range-from.ensures in
     omega (arith, range.0, range.1)
 
-pub fields_behind-slice_bounds-part-start : goal.fields_behind-slice_bounds-part-start
-fields_behind-slice_bounds-part-start t c =
+pub container-slice_bounds-part-start : goal.container-slice_bounds-part-start
+container-slice_bounds-part-start t c =
     let range = field_range c.args.schema.now.trees c.args.fields.now c.args.start
     c.args.bytes.now c.loop-i.i c.loop-i.place c.part_range-from.result.0
     c.part_range-from.result.1 c.index-fields-i.result c.loop-i.invariant c.loop-i-test.true
     c.index-fields-i.is c.part_range-from.ensures in
     omega (arith, range.0, range.1)
 
-pub fields_behind-overflow_add-start : goal.fields_behind-overflow_add-start
-fields_behind-overflow_add-start t c =
+pub container-overflow_add-start : goal.container-overflow_add-start
+container-overflow_add-start t c =
     let range = field_range c.args.schema.now.trees c.args.fields.now c.args.start
     c.args.bytes.now c.loop-i.i c.loop-i.place c.part_range-from.result.0
     c.part_range-from.result.1 c.index-fields-i.result c.loop-i.invariant c.loop-i-test.true
@@ -217,8 +200,8 @@ fields_behind-overflow_add-start t c =
     omega (arith, range.0, range.1) in
     search rules
 
-pub fields_behind-field_fault-requires : goal.fields_behind-field_fault-requires
-fields_behind-field_fault-requires t c =
+pub container-scope-requires : goal.container-scope-requires
+container-scope-requires t c =
     let below : c.index-fields-i.result.1 < c.args.id =
     part_known c.args.id c.args.fields.now c.loop-i.i c.index-fields-i.result c.loop-i-test.true
     c.index-fields-i.is c.requires.before in
@@ -230,21 +213,21 @@ fields_behind-field_fault-requires t c =
     let within : c.part_range-from.result.1 ≤ length c.args.bytes.now = range.1 in
     search rules
 
-pub fields_behind-loop-i-preserved : goal.fields_behind-loop-i-preserved
-fields_behind-loop-i-preserved t c =
+pub container-loop-i-preserved : goal.container-loop-i-preserved
+container-loop-i-preserved t c =
     let size : head_size (fixed_size
     (type_tree_at c.args.schema.now.trees c.index-fields-i.result.1))
-    ≡ c.head_len-in-loop-i.result = sym (c.head_len-in-loop-i.ensures
-    ∙ ap head_size c.fixed_size-in-loop-i.ensures.exact) in
+    ≡ c.head_len.result = sym (c.head_len.ensures
+    ∙ ap head_size c.fixed_size.ensures.exact) in
     subst (FieldsFrom c.args.schema.now.trees c.args.fields.now c.args.start c.args.bytes.now
     (c.loop-i.i + 1)) (ap (λ n. c.loop-i.place + n) size)
     (FieldsFrom-more c.args.schema.now.trees c.args.fields.now c.args.start c.args.bytes.now
     c.loop-i.i c.loop-i.place c.part_range-from.result.0 c.part_range-from.result.1
     c.index-fields-i.result c.loop-i.invariant c.loop-i-test.true c.index-fields-i.is
-    c.part_range-from.ensures (sym c.in_default-field_fault.ensures))
+    c.part_range-from.ensures (sym c.in_default-scope.ensures))
 
-pub fields_behind-returns : goal.fields_behind-returns
-fields_behind-returns t c =
+pub container-returns : goal.container-returns
+container-returns t c =
     sym (FieldsFrom-end c.args.schema.now.trees c.args.fields.now c.args.start c.args.bytes.now
     c.loop-i.i c.loop-i.place c.loop-i.invariant (omega arith))
 
@@ -260,94 +243,12 @@ scope-returns-in-Ok t c =
     ∙ sym (c.in-Ok.ensures.ok c.args.schema.now.trees)
     ∙ ap (λ (ty : SszType). first_fault ty c.args.start c.args.bytes.now) form
 
--- a number of the right size has no fault
-pub fields_behind-loop-i-preserved-in-Uint : goal.fields_behind-loop-i-preserved-in-Uint
-fields_behind-loop-i-preserved-in-Uint t c =
-    let is = sym c.ty.ensures.form ∙ ap (tree_over c.args.schema.now.trees) c.in-Uint.is in
-    subst (λ (n : ℕ). FieldsFrom c.args.schema.now.trees c.args.fields.now c.args.start
-    c.args.bytes.now (c.loop-i.i + 1) (c.loop-i.place + n))
-    (sym (c.head_len.ensures ∙ ap head_size (c.fixed_size.ensures.exact ∙ ap fixed_size is)))
-    (FieldsFrom-number c.args.schema.now.trees c.args.fields.now c.args.start c.args.bytes.now
-    c.loop-i.i c.loop-i.place c.index-fields-i.result c.in-Uint.field-0 c.loop-i.invariant
-    c.loop-i-test.true c.index-fields-i.is is)
-
--- a list of numbers has no fault but that of their number
-pub list-returns-in-Uint : goal.list-returns-in-Uint
-list-returns-in-Uint t c =
-    sym (numbers_list (type_of c.args.schema.now c.args.elem) c.in-Uint.field-0 c.fixed_size.result
-    c.args.limit c.args.start c.args.bytes.now
+-- numbers have no fault of their own
+pub fixed_elements-returns-in-Uint : goal.fixed_elements-returns-in-Uint
+fixed_elements-returns-in-Uint t c =
+    let whole = length_from_fault (c.args.count * c.args.size) c.args.start c.args.bytes.now
+    (sym c.in_default.ensures) in
+    sym (numbers_clean (type_of c.args.schema.now c.args.elem) c.in-Uint.field-0 c.args.size
+    c.args.count c.args.start c.args.bytes.now
     (sym c.ty.ensures.form ∙ ap (tree_over c.args.schema.now.trees) c.in-Uint.is)
-    c.fixed_size.ensures.exact (λ i. omega (arith, c.type_inv.bytes i))
-    (sym c.in-Ok.ensures.fault))
-
-pub containers-loop-i-init : goal.containers-loop-i-init
-containers-loop-i-init t c =
-    VariableFrom-start (first_fault (type_of c.args.schema.now c.args.id)) c.args.count c.args.start
-    c.args.bytes.now c.requires.head
-
-pub containers-slice_bounds-part-count : goal.containers-slice_bounds-part-count
-containers-slice_bounds-part-count t c =
-    let part = VariableFrom-part
-    (first_fault (type_of c.args.schema.now c.args.id)) c.args.count c.args.start c.args.bytes.now
-    c.loop-i.i c.loop-i.invariant (omega arith) in
-    omega (arith, c.offset_at-from.ensures, c.end_of_part.ensures, part.up)
-
-pub containers-slice_bounds-part-start : goal.containers-slice_bounds-part-start
-containers-slice_bounds-part-start t c =
-    let part = VariableFrom-part
-    (first_fault (type_of c.args.schema.now c.args.id)) c.args.count c.args.start c.args.bytes.now
-    c.loop-i.i c.loop-i.invariant (omega arith) in
-    omega (arith, c.offset_at-from.ensures, c.end_of_part.ensures, part.up)
-
-pub containers-slice_bounds-part-end : goal.containers-slice_bounds-part-end
-containers-slice_bounds-part-end t c =
-    let part = VariableFrom-part
-    (first_fault (type_of c.args.schema.now c.args.id)) c.args.count c.args.start c.args.bytes.now
-    c.loop-i.i c.loop-i.invariant (omega arith) in
-    omega (arith, c.end_of_part.ensures, part.inside)
-
-pub containers-returns-in-Some : goal.containers-returns-in-Some
-containers-returns-in-Some t c =
-    let child = first_fault (type_of c.args.schema.now c.args.id) in
-    let same = ap₂ (λ (from to : ℕ).
-    child (c.args.start + from) (slice_range c.args.bytes.now from to)) c.offset_at-from.ensures
-    c.end_of_part.ensures in
-    sym (VariableFrom-found child c.args.count c.args.start c.args.bytes.now c.loop-i.i
-    c.in-Some.fault c.loop-i.invariant (omega arith)
-    (sym same ∙ ap (λ (ty : SszType). first_fault ty (c.args.start + c.offset_at-from.result)
-    (slice_range c.args.bytes.now c.offset_at-from.result c.end_of_part.result)) c.requires.form
-    ∙ sym c.in-Some.ensures))
-
-pub containers-loop-i-preserved : goal.containers-loop-i-preserved
-containers-loop-i-preserved t c =
-    let child = first_fault (type_of c.args.schema.now c.args.id) in
-    let same = ap₂ (λ (from to : ℕ).
-    child (c.args.start + from) (slice_range c.args.bytes.now from to)) c.offset_at-from.ensures
-    c.end_of_part.ensures in
-    VariableFrom-more child c.args.count c.args.start c.args.bytes.now c.loop-i.i c.loop-i.invariant
-    (omega arith)
-    (sym same ∙ ap (λ (ty : SszType). first_fault ty (c.args.start + c.offset_at-from.result)
-    (slice_range c.args.bytes.now c.offset_at-from.result c.end_of_part.result)) c.requires.form
-    ∙ sym c.in_default.ensures)
-
-pub
-    containers-heads_len-heads-requires-clause-known :
-    goal.containers-heads_len-heads-requires-clause-known
-containers-heads_len-heads-requires-clause-known t c =
-    known_weaker c.args.id (length c.args.schema.now.trees) c.args.fields.now c.requires.known
-    c.requires.before
-
-pub
-    containers-heads_len-heads-requires-clause-short :
-    goal.containers-heads_len-heads-requires-clause-short
-containers-heads_len-heads-requires-clause-short t c =
-    heads_few c.args.schema.now.format
-    (fields_over c.args.schema.now.trees c.args.fields.now)
-    (subst (IsLegal c.args.schema.now.format) c.requires.form c.ty-legal.ensures.legal)
-
-pub
-    variable_container-variable_head_fault-requires-clause-known :
-    goal.variable_container-variable_head_fault-requires-clause-known
-variable_container-variable_head_fault-requires-clause-known t c =
-    known_weaker c.args.id (length c.args.schema.now.trees) c.args.fields.now c.requires.known
-    c.requires.before
+    c.requires.size (λ i. omega (arith, c.type_inv.bytes i)) whole)

@@ -11,18 +11,6 @@ decreases-scope l = 8 * l.id + 4
 abbrev pub decreases-container : goal.decreases-container
 decreases-container l = 8 * l.id + 3
 
-abbrev pub decreases-containers : goal.decreases-containers
-decreases-containers l = 8 * l.id + 5
-
-abbrev pub decreases-variable_container : goal.decreases-variable_container
-decreases-variable_container l = 8 * l.id + 2
-
-abbrev pub decreases-fields_behind : goal.decreases-fields_behind
-decreases-fields_behind l = 8 * l.id + 1
-
-abbrev pub decreases-field_fault : goal.decreases-field_fault
-decreases-field_fault l = 8 * l.id + 5
-
 abbrev pub decreases-elements : goal.decreases-elements
 decreases-elements l = 8 * l.elem + 7
 
@@ -43,9 +31,5 @@ abbrev pub invariant-variable_elements-loop-i : goal.invariant-variable_elements
 invariant-variable_elements-loop-i l =
     VariableFrom (first_fault (type_of l.schema l.elem)) l.count l.start l.bytes l.i
 
-abbrev pub invariant-containers-loop-i : goal.invariant-containers-loop-i
-invariant-containers-loop-i l =
-    VariableFrom (first_fault (type_of l.schema l.id)) l.count l.start l.bytes l.i
-
-abbrev pub invariant-fields_behind-loop-i : goal.invariant-fields_behind-loop-i
-invariant-fields_behind-loop-i l = FieldsFrom l.schema.trees l.fields l.start l.bytes l.i l.place
+abbrev pub invariant-container-loop-i : goal.invariant-container-loop-i
+invariant-container-loop-i l = FieldsFrom l.schema.trees l.fields l.start l.bytes l.i l.place

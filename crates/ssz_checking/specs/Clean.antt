@@ -1,0 +1,16 @@
+-- Bytes without a fault.
+use Rattle.std.specs.Prelude.{ℕ, ◌≤◌, ◌≡◌, List, length, slice_range, Option, Some, None}
+use Rattle.ssz_schema.specs.Types.{SszType}
+use Rattle.ssz_schema.specs.Unfolding.{type_tree_at}
+use Rattle.ssz_value.specs.Faults.{first_fault}
+
+-- the bytes have no fault, wherever they begin
+abbrev pub HasNoFault : SszType → List ℕ → Type 0
+HasNoFault t b = (s : ℕ) → first_fault t s b ≡ None
+
+-- the variable part before, which begins at from, ends at to and has no fault; where there is none
+-- before, the fixed parts end at to
+abbrev pub Closes : List SszType → Option ℕ → ℕ → ℕ → List ℕ → Type 0
+Closes trees None from to b = to ≡ from
+Closes trees (Some part) from to b = (from ≤ to) × (to ≤ length b)
+    × HasNoFault (type_tree_at trees part) (slice_range b from to)

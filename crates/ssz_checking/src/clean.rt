@@ -1,0 +1,297 @@
+//! Whether bytes have no fault. To ask it takes less than to find the fault: it goes over the bytes
+//! once, and of what it passes it keeps no more than where the part before begins.
+ghost use Rattle.std.specs.Prelude.{◌≡◌, ◌*◌, ◌<◌, ◌≤◌, ◌^◌, length, Some, None, IsTrue};
+ghost use Rattle.std.specs.List.{AllByRecursion};
+ghost use Rattle.std.specs.Option.{ForSome};
+ghost use Rattle.ssz_schema.specs.Types.{container, list};
+ghost use Rattle.ssz_schema.specs.Sizes.{fixed_size, part_sizes};
+ghost use Rattle.ssz_schema.specs.Legal.{IsSize};
+ghost use Rattle.ssz_schema.specs.Unfolding.{type_of, fields_over};
+ghost use Rattle.ssz_value.specs.Encoding.{heads_length};
+ghost use Rattle.ssz_value.specs.Faults.{first_fault, elements_fault, offset_at};
+ghost use Rattle.ssz_checking.specs.Clean.{HasNoFault, Closes};
+
+use super::leaves::{bitvector, boolean};
+use super::sound::is_sound;
+use ssz_basic::read_bitlist;
+use ssz_parts::{
+    container_heads_len, count_of, end_of_part, heads_len, length_fault, offset_at, union_head,
+};
+use ssz_schema::{Name, Schema, Ty, TypeId};
+
+/// Whether it is seen that the bytes have no fault, wherever they begin.
+#[cycle(clean)]
+pub fn is_clean(schema: &Schema, id: TypeId, bytes: &[u8]) -> bool
+    requires known { id < length schema.now.trees }
+    requires short { length bytes.now < 2 ^ 32 }
+    ensures { IsTrue result → HasNoFault (type_of schema.now id) bytes.now }
+{
+    match schema.ty(id) {
+        Ty::Uint(width) => length_fault(width.byte_count(), 0, bytes).is_none(),
+        Ty::Boolean => boolean(0, bytes).is_none(),
+        Ty::Bitvector(n) => bitvector(*n, 0, bytes).is_none(),
+        Ty::Bitlist(limit) => read_bitlist(bytes, *limit, 0).is_ok(),
+        Ty::Vector(elem, count) => are_elements_clean(schema, *elem, *count, bytes),
+        Ty::List(elem, limit) => is_list_clean(schema, *elem, *limit, bytes),
+        Ty::Union(options) => match union_head(options.as_slice(), 0, bytes) {
+            Ok(option) => is_clean(schema, option, &bytes[1..]),
+            Err(fault) => fault.is_none(),
+        },
+        Ty::Container(fields) => is_container_clean(schema, id, fields.as_slice(), bytes),
+    }
+}
+
+// Of a list of so many elements at most.
+#[cycle(clean)]
+#[inline(always)]
+fn is_list_clean(schema: &Schema, elem: TypeId, limit: u64, bytes: &[u8]) -> bool
+    requires known { elem < length schema.now.trees }
+    requires short { length bytes.now < 2 ^ 32 }
+    ensures { let t = list (type_of schema.now elem) limit in
+        IsTrue result → first_fault t 0 bytes.now ≡ None }
+{
+    match count_of(schema.fixed_size(elem), limit, 0, bytes) {
+        Ok(count) => {
+            // Numbers have no fault of their own.
+            if let Ty::Uint(_) = schema.ty(elem) {
+                return true;
+            }
+            are_elements_clean(schema, elem, count, bytes)
+        }
+        Err(_) => false,
+    }
+}
+
+// Of count elements.
+#[cycle(clean)]
+#[inline(never)]
+fn are_elements_clean(schema: &Schema, elem: TypeId, count: u64, bytes: &[u8]) -> bool
+    requires known { elem < length schema.now.trees }
+    requires few { count ≤ 2 ^ 32 }
+    requires short { length bytes.now < 2 ^ 32 }
+    ensures { let t = type_of schema.now elem in
+        IsTrue result → elements_fault (first_fault t) (fixed_size t) count 0 bytes.now ≡ None }
+{
+    match schema.fixed_size(elem) {
+        Some(size) => are_alike_clean(schema, elem, size, count, bytes),
+        None => are_variable_clean(schema, elem, count, bytes),
+    }
+}
+
+// Of count elements of this size.
+#[cycle(clean)]
+fn are_alike_clean(schema: &Schema, elem: TypeId, size: u64, count: u64, bytes: &[u8]) -> bool
+    requires known { elem < length schema.now.trees }
+    requires size { fixed_size (type_of schema.now elem) ≡ Some size }
+    requires in_range { IsSize size }
+    requires few { count ≤ 2 ^ 32 }
+    requires short { length bytes.now < 2 ^ 32 }
+    ensures { let t = type_of schema.now elem in
+        IsTrue result → elements_fault (first_fault t) (Some size) count 0 bytes.now ≡ None }
+{
+    if bytes.len() as u64 != count * size {
+        return false;
+    }
+    // Asked of two elements at least, so that the question costs no more than the bytes.
+    if count > 1 {
+        if is_sound(schema, elem, 0, size as usize, bytes) {
+            return true;
+        }
+    }
+    for i in 0..count {
+        let place = (i * size) as usize;
+        if !is_clean(schema, elem, &bytes[place..place + size as usize]) {
+            return false;
+        }
+    }
+    true
+}
+
+// Of count elements of a variable-size type.
+#[cycle(clean)]
+fn are_variable_clean(schema: &Schema, elem: TypeId, count: u64, bytes: &[u8]) -> bool
+    requires known { elem < length schema.now.trees }
+    requires size { fixed_size (type_of schema.now elem) ≡ None }
+    requires few { count ≤ 2 ^ 32 }
+    requires short { length bytes.now < 2 ^ 32 }
+    ensures { let t = type_of schema.now elem in
+        IsTrue result → elements_fault (first_fault t) None count 0 bytes.now ≡ None }
+{
+    if count == 0 {
+        return bytes.is_empty();
+    }
+    if (bytes.len() as u64) < 4 * count {
+        return false;
+    }
+    if u64::from(offset_at(bytes, 0)) != 4 * count {
+        return false;
+    }
+    if let Ty::Container(fields) = schema.ty(elem) {
+        return are_containers_clean(schema, elem, fields.as_slice(), count, bytes);
+    }
+    let mut from = 4 * count as usize;
+    for i in 0..count {
+        let to = end_of_part(count, i, bytes);
+        if to < from {
+            return false;
+        }
+        if bytes.len() < to {
+            return false;
+        }
+        if !is_clean(schema, elem, &bytes[from..to]) {
+            return false;
+        }
+        from = to;
+    }
+    true
+}
+
+// Of count containers of these fields behind their offsets, of which the first is right. How long
+// the fixed parts are is asked once for all.
+#[cycle(clean)]
+fn are_containers_clean(
+    schema: &Schema,
+    id: TypeId,
+    fields: &[(Name, TypeId)],
+    count: u64,
+    bytes: &[u8],
+) -> bool
+    requires known { id < length schema.now.trees }
+    requires form { type_of schema.now id ≡ container (fields_over schema.now.trees fields.now) }
+    requires before { AllByRecursion (λ part. part.1 < id) fields.now }
+    requires some { 0 < count }
+    requires room { 4 * count ≤ length bytes.now }
+    requires first { offset_at bytes.now 0 ≡ 4 * count }
+    requires short { length bytes.now < 2 ^ 32 }
+    ensures { let t = type_of schema.now id in
+        IsTrue result → elements_fault (first_fault t) None count 0 bytes.now ≡ None }
+{
+    // Every type of a schema is legal.
+    let _legal = schema.ty(id);
+    let heads = heads_len(schema, fields);
+    let mut from = 4 * count as usize;
+    for i in 0..count {
+        let to = end_of_part(count, i, bytes);
+        if to < from {
+            return false;
+        }
+        if bytes.len() < to {
+            return false;
+        }
+        if !are_fields_clean(schema, id, fields, heads, &bytes[from..to]) {
+            return false;
+        }
+        from = to;
+    }
+    true
+}
+
+// Of a container of these fields, whose types stand before id.
+#[cycle(clean)]
+fn is_container_clean(schema: &Schema, id: TypeId, fields: &[(Name, TypeId)], bytes: &[u8]) -> bool
+    requires known { id < length schema.now.trees }
+    requires form { type_of schema.now id ≡ container (fields_over schema.now.trees fields.now) }
+    requires before { AllByRecursion (λ part. part.1 < id) fields.now }
+    requires short { length bytes.now < 2 ^ 32 }
+    ensures { let t = container (fields_over schema.now.trees fields.now) in
+        IsTrue result → first_fault t 0 bytes.now ≡ None }
+{
+    // Every type of a schema is legal.
+    let _legal = schema.ty(id);
+    let heads = container_heads_len(schema, id, fields);
+    are_fields_clean(schema, id, fields, heads, bytes)
+}
+
+// Of a container of these fields, whose fixed parts have this length. Each offset is read once: it
+// ends the variable part before it, which is judged then.
+#[cycle(clean)]
+#[inline(always)]
+fn are_fields_clean(
+    schema: &Schema,
+    id: TypeId,
+    fields: &[(Name, TypeId)],
+    heads: usize,
+    bytes: &[u8],
+) -> bool
+    requires known { id < length schema.now.trees }
+    requires before { AllByRecursion (λ part. part.1 < id) fields.now }
+    requires heads { let sizes = part_sizes (fields_over schema.now.trees fields.now) in
+        heads ≡ heads_length sizes }
+    requires short { length bytes.now < 2 ^ 32 }
+    ensures { let t = container (fields_over schema.now.trees fields.now) in
+        IsTrue result → first_fault t 0 bytes.now ≡ None }
+{
+    if bytes.len() < heads {
+        return false;
+    }
+    let mut place = 0usize;
+    let mut from = heads;
+    let mut last: Option<TypeId> = None;
+    for field in fields {
+        match schema.fixed_size(field.1) {
+            Some(size) => {
+                let end = place + size as usize;
+                if !is_part_clean(schema, field.1, &bytes[place..end]) {
+                    return false;
+                }
+                place = end;
+            }
+            None => {
+                let to = offset_at(bytes, place) as usize;
+                if !is_closed_clean(schema, id, last, from, to, bytes) {
+                    return false;
+                }
+                place += 4;
+                last = Some(field.1);
+                from = to;
+            }
+        }
+    }
+    is_closed_clean(schema, id, last, from, bytes.len(), bytes)
+}
+
+// Of the variable part that begins at from and ends at to; where there is none before, whether to is
+// where the fixed parts end.
+#[cycle(clean)]
+#[inline(always)]
+fn is_closed_clean(
+    schema: &Schema,
+    id: TypeId,
+    last: Option<TypeId>,
+    from: usize,
+    to: usize,
+    bytes: &[u8],
+) -> bool
+    requires known { id < length schema.now.trees }
+    requires before { ForSome last (λ part. part < id) }
+    requires short { length bytes.now < 2 ^ 32 }
+    ensures { IsTrue result → Closes schema.now.trees last from to bytes.now }
+{
+    match last {
+        None => to == from,
+        Some(part) => {
+            if to < from {
+                return false;
+            }
+            if bytes.len() < to {
+                return false;
+            }
+            is_part_clean(schema, part, &bytes[from..to])
+        }
+    }
+}
+
+// Of a part of a container. Numbers and lists, the commonest, are judged without a call.
+#[cycle(clean)]
+#[inline(always)]
+fn is_part_clean(schema: &Schema, id: TypeId, bytes: &[u8]) -> bool
+    requires known { id < length schema.now.trees }
+    requires short { length bytes.now < 2 ^ 32 }
+    ensures { IsTrue result → HasNoFault (type_of schema.now id) bytes.now }
+{
+    match schema.ty(id) {
+        Ty::Uint(width) => length_fault(width.byte_count(), 0, bytes).is_none(),
+        Ty::List(elem, limit) => is_list_clean(schema, *elem, *limit, bytes),
+        _ => is_clean(schema, id, bytes),
+    }
+}
