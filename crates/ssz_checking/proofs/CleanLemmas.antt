@@ -330,6 +330,6 @@ pub FieldsSoFar-end : (trees : List SszType) (parts : List Part) (b : List ℕ) 
     → length parts ≤ i → Closes trees last from (length b) b
     → first_fault (container (fields_over trees parts)) 0 b ≡ None
 FieldsSoFar-end trees parts b end i place last from h all closes =
-    h.all (subst (λ (ps : List Part). FieldsLeft trees (sizes_of trees ps) (fields_over trees ps) end
-    place last from b) (sym (drop_all i parts all))
+    h.all (subst (λ (ps : List Part). FieldsLeft trees (sizes_of trees ps) (fields_over trees ps)
+    end place last from b) (sym (drop_all i parts all))
     (left_none trees end place last from b closes h.begins))

@@ -1,5 +1,5 @@
 -- Elements that are numbers.
-use Rattle.std.proofs.Common.{ℕ, ◌*◌, ◌/◌, ◌%◌, ◌≡◌, List, length, Option, Some, None, sym, ap, ◌∙◌, arith, eqb, eqb-true, refl}
+use Rattle.std.proofs.Common.{ℕ, ◌*◌, ◌/◌, ◌%◌, ◌≡◌, List, length, Option, Some, None, sym, ap, ◌∙◌, arith, eqb, eqb-true, refl, not, true, le-ltb, eq-eqb, ◌≤◌}
 use Rattle.std.proofs.lemmas.Bool.{not-false}
 use Rattle.std.proofs.lemmas.Nat.{div-add-mod'}
 use Rattle.ssz_bytes.specs.Bytes.{IsBytes}
@@ -7,8 +7,12 @@ use Rattle.ssz_schema.specs.width.Width.{Width}
 use Rattle.ssz_schema.specs.Types.{SszType, uint, list}
 use Rattle.ssz_schema.specs.Sizes.{byte_count, fixed_size}
 use Rattle.ssz_value.specs.Faults.{first_fault, count_fault, elements_fault}
-use Rattle.ssz_value.proofs.Agree.{no_fault}
-use Rattle.ssz_value.proofs.Cut.{passes}
+use Rattle.ssz_value.proofs.Agree.{no_fault, right_length, same_some}
+use Rattle.ssz_value.proofs.Cut.{passes, passed}
+use Rattle.ssz_value.proofs.FormLemmas.{byte_type}
+use Rattle.ssz_value.specs.Standing.{is_byte}
+use Rattle.ssz_schema.specs.width.Width.TheVariants.{W8}
+use Rattle.ssz_checking.specs.Clean.{HasNoFault}
 use Rattle.ssz_checking.proofs.PlainLemmas.{clean_of, elements_clean}
 
 -- numbers of a list have no fault where their number has none
@@ -41,3 +45,24 @@ numbers_clean t w size count s b is fixed bytes long =
     ap (λ (elem : SszType). elements_fault (first_fault elem) (Some size) count s b) is
     ∙ elements_clean (uint w) size count s b (clean_of (uint w) refl)
     (sym (ap fixed_size is) ∙ fixed) bytes long
+
+-- a number of the right size has no fault
+pub number_clean : (t : SszType) (w : Width) (b : List ℕ) → t ≡ uint w
+    → fixed_size t ≡ Some (length b) → HasNoFault t b
+number_clean t w b is size s =
+    ap (λ (ty : SszType). first_fault ty s b) is
+    ∙ right_length (byte_count w) s b
+    (same_some (length b) (byte_count w) (sym size ∙ ap fixed_size is))
+
+-- nor have bytes that are not too many
+pub bytes_list : (t : SszType) (limit : ℕ) (b : List ℕ) → is_byte t ≡ true → IsBytes b
+    → length b ≤ limit → first_fault (list t limit) 0 b ≡ None
+bytes_list t limit b e bytes few =
+    let is : t ≡ uint W8 = byte_type t e in
+    let whole : length b % 1 ≡ 0 = omega arith in
+    let many : length b / 1 ≤ limit = omega (arith, few) in
+    let size : Some 1 ≡ fixed_size t = sym (ap fixed_size is) in
+    let none : count_fault (Some 1) limit 0 b ≡ None =
+    passed _ _ _ (ap not (eq-eqb (length b % 1) 0 whole))
+    (passed _ _ _ (le-ltb limit (length b / 1) many) refl) in
+    numbers_list t W8 (Some 1) limit 0 b is size bytes none

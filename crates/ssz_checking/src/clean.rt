@@ -18,6 +18,7 @@ use ssz_parts::{
     container_heads_len, count_of, end_of_part, heads_len, length_fault, offset_at, union_head,
 };
 use ssz_schema::{Name, Schema, Ty, TypeId};
+use ssz_value::is_byte;
 
 /// Whether it is seen that the bytes have no fault, wherever they begin.
 #[cycle(clean)]
@@ -50,6 +51,10 @@ fn is_list_clean(schema: &Schema, elem: TypeId, limit: u64, bytes: &[u8]) -> boo
     ensures { let t = list (type_of schema.now elem) limit in
         IsTrue result → first_fault t 0 bytes.now ≡ None }
 {
+    // Bytes are as many elements as there are, and have no fault of their own.
+    if is_byte(schema, elem) {
+        return bytes.len() as u64 <= limit;
+    }
     match count_of(schema.fixed_size(elem), limit, 0, bytes) {
         Ok(count) => {
             // Numbers have no fault of their own.
@@ -231,7 +236,7 @@ fn are_fields_clean(
         match schema.fixed_size(field.1) {
             Some(size) => {
                 let end = place + size as usize;
-                if !is_part_clean(schema, field.1, &bytes[place..end]) {
+                if !is_fixed_clean(schema, field.1, &bytes[place..end]) {
                     return false;
                 }
                 place = end;
@@ -250,8 +255,8 @@ fn are_fields_clean(
     is_closed_clean(schema, id, last, from, bytes.len(), bytes)
 }
 
-// Of the variable part that begins at from and ends at to; where there is none before, whether to is
-// where the fixed parts end.
+// Of the variable part that begins at from and ends at to; where there is none before, whether to
+// is where the fixed parts end.
 #[cycle(clean)]
 #[inline(always)]
 fn is_closed_clean(
@@ -281,7 +286,22 @@ fn is_closed_clean(
     }
 }
 
-// Of a part of a container. Numbers and lists, the commonest, are judged without a call.
+// Of a field of fixed size. A number of the right size, the commonest, has no fault.
+#[cycle(clean)]
+#[inline(always)]
+fn is_fixed_clean(schema: &Schema, id: TypeId, bytes: &[u8]) -> bool
+    requires known { id < length schema.now.trees }
+    requires size { fixed_size (type_of schema.now id) ≡ Some (length bytes.now) }
+    requires short { length bytes.now < 2 ^ 32 }
+    ensures { IsTrue result → HasNoFault (type_of schema.now id) bytes.now }
+{
+    if let Ty::Uint(_) = schema.ty(id) {
+        return true;
+    }
+    is_clean(schema, id, bytes)
+}
+
+// Of a field of variable size. A list, the commonest, is judged without a call.
 #[cycle(clean)]
 #[inline(always)]
 fn is_part_clean(schema: &Schema, id: TypeId, bytes: &[u8]) -> bool
@@ -289,9 +309,8 @@ fn is_part_clean(schema: &Schema, id: TypeId, bytes: &[u8]) -> bool
     requires short { length bytes.now < 2 ^ 32 }
     ensures { IsTrue result → HasNoFault (type_of schema.now id) bytes.now }
 {
-    match schema.ty(id) {
-        Ty::Uint(width) => length_fault(width.byte_count(), 0, bytes).is_none(),
-        Ty::List(elem, limit) => is_list_clean(schema, *elem, *limit, bytes),
-        _ => is_clean(schema, id, bytes),
+    if let Ty::List(elem, limit) = schema.ty(id) {
+        return is_list_clean(schema, *elem, *limit, bytes);
     }
+    is_clean(schema, id, bytes)
 }

@@ -1,18 +1,20 @@
-use Rattle.std.proofs.Common.{◌∙◌, ◌≡◌, ◌*◌, ◌≤◌, ◌+◌, ◌^◌, ◌<◌, ℕ, ap, sym, subst, arith, rules, length, List, Option, get_or, refl, eqb-true, Fits, w8}
+use Rattle.std.proofs.Common.{◌∙◌, ◌≡◌, ◌*◌, ◌≤◌, ◌+◌, ◌^◌, ◌<◌, ℕ, ap, sym, subst, arith, rules, length, List, Option, get_or, refl, eqb-true, Fits, w8, leb-true, slice_range, Some}
 use Rattle.std.proofs.lemmas.List.{take_rest}
 use Rattle.std.specs.List.{AllByRecursion}
 use Rattle.ssz_schema.specs.Types.{container, union}
+use Rattle.ssz_schema.specs.Sizes.{fixed_size}
 use Rattle.ssz_schema.specs.Legal.{IsLegal}
 use Rattle.ssz_schema.specs.Unfolding.{type_of, type_tree_at, tree_over, AreBelow, IsBelow, fields_over, options_over}
 use Rattle.ssz_schema.proofs.SizeLemmas.{vector_few}
 use Rattle.ssz_value.specs.Faults.{first_fault, elements_fault, length_fault}
 use Rattle.ssz_value.proofs.Agree.{IsInput}
-use Rattle.ssz_value.proofs.PartLemmas.{known_weaker}
+use Rattle.ssz_value.proofs.PartLemmas.{known_weaker, part_known}
 use Rattle.ssz_parts.proofs.ElementFaults.{FixedFrom-start, FixedFrom-more, FixedFrom-end}
 use Rattle.ssz_parts.proofs.HeadLemmas.{heads_few}
 use Rattle.ssz_checking.specs.Clean.{Closes}
-use Rattle.ssz_checking.proofs.CleanLemmas.{none_of, none_of_ok, lifted, lifted_more, list_none, none_none, CleanSoFar-start, CleanSoFar-more, CleanSoFar-end, FieldsSoFar-start}
-use Rattle.ssz_checking.proofs.NumberLemmas.{numbers_list}
+use Rattle.ssz_checking.proofs.CleanLemmas.{none_of, none_of_ok, lifted, lifted_more, list_none, none_none, CleanSoFar-start, CleanSoFar-more, CleanSoFar-end, FieldsSoFar-start, fixed_room}
+use Rattle.ssz_checking.proofs.NumberLemmas.{numbers_list, bytes_list, number_clean}
+use Rattle.ssz_checking.proofs.PlainLemmas.{range_length}
 use Rattle.ssz_checking.proofs.SoundLemmas.{elements_sound}
 use Rattle.ssz_checking.proofs.clean.+clean.Goals as goal
 
@@ -223,14 +225,6 @@ is_closed_clean-returns-in-None t c = λ holds.
     subst (λ (last : Option ℕ). Closes c.args.schema.now.trees last c.args.from c.args.to
     c.args.bytes.now) (sym c.in-None.is) (eqb-true _ _ holds)
 
-pub is_part_clean-returns-in-Uint : goal.is_part_clean-returns-in-Uint
-is_part_clean-returns-in-Uint t c = λ holds.
-    lifted _ _ _ c.args.bytes.now
-    (sym c.ty.ensures.form ∙ ap (tree_over c.args.schema.now.trees) c.in-Uint.is)
-    c.ty.ensures.legal (input_of c.args.bytes.now c.type_inv.bytes c.requires.short)
-    (ap (λ (n : ℕ). length_fault n 0 c.args.bytes.now) (sym c.byte_count.ensures.exact)
-    ∙ sym c.length_fault.ensures ∙ none_of _ _ c.is_none.ensures holds)
-
 pub is_part_clean-returns-in-List : goal.is_part_clean-returns-in-List
 is_part_clean-returns-in-List t c = λ holds.
     lifted _ _ _ c.args.bytes.now
@@ -278,3 +272,33 @@ is_container_clean-container_heads_len-heads-requires-clause-short t c =
     heads_few c.args.schema.now.format
     (fields_over c.args.schema.now.trees c.args.fields.now)
     (subst (IsLegal c.args.schema.now.format) c.requires.form c.ty-legal.ensures.legal)
+
+-- bytes are as many elements as there are
+pub is_list_clean-returns-then-is_byte : goal.is_list_clean-returns-then-is_byte
+is_list_clean-returns-then-is_byte t c = λ holds.
+    bytes_list (type_of c.args.schema.now c.args.elem) c.args.limit c.args.bytes.now
+    (sym c.is_byte.ensures ∙ c.if-is_byte.true) (λ i. omega (arith, c.type_inv.bytes i))
+    (leb-true _ _ holds)
+
+-- a number of the right size has no fault
+pub is_fixed_clean-returns-in-Uint : goal.is_fixed_clean-returns-in-Uint
+is_fixed_clean-returns-in-Uint t c = λ holds.
+    number_clean (type_of c.args.schema.now c.args.id) c.in-Uint.field-0 c.args.bytes.now
+    (sym c.ty.ensures.form ∙ ap (tree_over c.args.schema.now.trees) c.in-Uint.is) c.requires.size
+
+pub are_fields_clean-is_fixed_clean-requires : goal.are_fields_clean-is_fixed_clean-requires
+are_fields_clean-is_fixed_clean-requires t c =
+    let below : c.field-item.result.1 < c.args.id =
+    part_known c.args.id c.args.fields.now c.loop-field.field-index c.field-item.result
+    c.loop-field-test.true c.field-item.is c.requires.before in
+    let room : c.loop-field.place + c.in-Some.size ≤ length c.args.bytes.now =
+    fixed_room c.args.schema.now.trees c.args.fields.now c.args.bytes.now c.args.heads
+    c.loop-field.field-index c.loop-field.place c.loop-field.last c.loop-field.from
+    c.field-item.result c.in-Some.size c.loop-field.invariant.so_far c.loop-field-test.true
+    c.field-item.is (sym c.in-Some.ensures.exact) in
+    let size : fixed_size (type_of c.args.schema.now c.field-item.result.1)
+    ≡ Some (length (slice_range c.args.bytes.now c.loop-field.place
+    (c.loop-field.place + c.in-Some.size))) =
+    sym c.in-Some.ensures.exact
+    ∙ ap Some (sym (range_length c.args.bytes.now c.loop-field.place c.in-Some.size room)) in
+    search rules

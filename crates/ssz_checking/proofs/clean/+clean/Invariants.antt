@@ -9,6 +9,9 @@ use Rattle.ssz_checking.proofs.clean.+clean.Given as goal
 abbrev pub decreases-is_clean : goal.decreases-is_clean
 decreases-is_clean l = 8 * l.id + 4
 
+abbrev pub decreases-is_fixed_clean : goal.decreases-is_fixed_clean
+decreases-is_fixed_clean l = 8 * l.id + 5
+
 abbrev pub decreases-is_part_clean : goal.decreases-is_part_clean
 decreases-is_part_clean l = 8 * l.id + 5
 
