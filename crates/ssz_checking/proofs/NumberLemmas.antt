@@ -1,11 +1,16 @@
--- Elements that are numbers.
-use Rattle.std.proofs.Common.{ℕ, ◌*◌, ◌/◌, ◌%◌, ◌≡◌, List, length, Option, Some, None, sym, ap, ◌∙◌, arith, eqb, eqb-true, refl, not, true, le-ltb, eq-eqb, ◌≤◌}
+-- Fields and elements that are numbers.
+use Rattle.std.proofs.Common.{ℕ, ◌*◌, ◌/◌, ◌%◌, ◌≡◌, List, length, Option, Some, None, sym, ap, ◌∙◌, arith, eqb, eqb-true, refl, not, true, le-ltb, eq-eqb, ◌≤◌, ◌+◌, ◌<◌, get_or, drop, slice_range, subst}
 use Rattle.std.proofs.lemmas.Bool.{not-false}
 use Rattle.std.proofs.lemmas.Nat.{div-add-mod'}
+use Rattle.ssz_schema.specs.Unfolding.{type_tree_at}
+use Rattle.ssz_value.proofs.PartLemmas.{Part, sizes_of, size_at}
+use Rattle.ssz_parts.specs.Ranges.{part_range}
+use Rattle.ssz_parts.proofs.FieldLemmas.{FieldsFrom, FieldsFrom-more}
+use Rattle.ssz_checking.proofs.RangeLemmas.{field_range}
 use Rattle.ssz_bytes.specs.Bytes.{IsBytes}
 use Rattle.ssz_schema.specs.width.Width.{Width}
 use Rattle.ssz_schema.specs.Types.{SszType, uint, list}
-use Rattle.ssz_schema.specs.Sizes.{byte_count, fixed_size}
+use Rattle.ssz_schema.specs.Sizes.{byte_count, fixed_size, head_size}
 use Rattle.ssz_value.specs.Faults.{first_fault, count_fault, elements_fault}
 use Rattle.ssz_value.proofs.Agree.{no_fault, right_length, same_some}
 use Rattle.ssz_value.proofs.Cut.{passes, passed}
@@ -13,7 +18,35 @@ use Rattle.ssz_value.proofs.FormLemmas.{byte_type}
 use Rattle.ssz_value.specs.Standing.{is_byte}
 use Rattle.ssz_schema.specs.width.Width.TheVariants.{W8}
 use Rattle.ssz_checking.specs.Clean.{HasNoFault}
-use Rattle.ssz_checking.proofs.PlainLemmas.{clean_of, elements_clean}
+use Rattle.ssz_checking.proofs.PlainLemmas.{clean_of, elements_clean, range_length}
+
+-- where its part lies
+pub number_range : (trees : List SszType) (parts : List Part) (b : List ℕ) (i place : ℕ)
+    (part : Part) (w : Width) → type_tree_at trees part.1 ≡ uint w
+    → (place, place + byte_count w)
+    ≡ part_range (size_at trees part) (sizes_of trees (drop (i + 1) parts)) place b
+number_range trees parts b i place part w is =
+    sym (ap (λ (t : SszType). part_range (fixed_size t)
+    (sizes_of trees (drop (i + 1) parts)) place b) is)
+
+-- it has no fault
+pub FieldsFrom-number : (trees : List SszType) (parts : List Part) (s : ℕ) (b : List ℕ)
+    (i place : ℕ) (part : Part) (w : Width) → FieldsFrom trees parts s b i place
+    → i < length parts → part ≡ get_or parts i part → type_tree_at trees part.1 ≡ uint w
+    → FieldsFrom trees parts s b (i + 1) (place + byte_count w)
+FieldsFrom-number trees parts s b i place part w h below e is =
+    let range = number_range trees parts b i place part w is in
+    let room = (field_range trees parts s b i place place (place + byte_count w) part h below e
+    range).1 in
+    let whole = range_length b place (byte_count w) room in
+    let clean : first_fault (type_tree_at trees part.1) (s + place)
+    (slice_range b place (place + byte_count w)) ≡ None =
+    ap (λ (t : SszType). first_fault t (s + place) (slice_range b place (place + byte_count w))) is
+    ∙ right_length (byte_count w) (s + place) (slice_range b place (place + byte_count w)) whole in
+    subst (λ (n : ℕ). FieldsFrom trees parts s b (i + 1) (place + n))
+    (ap (λ (t : SszType). head_size (fixed_size t)) is)
+    (FieldsFrom-more trees parts s b i place place (place + byte_count w) part h below e range
+    clean)
 
 -- numbers of a list have no fault where their number has none
 list_clean : (w : Width) (limit s : ℕ) (b : List ℕ) → IsBytes b

@@ -166,6 +166,11 @@ fn container(
     }
     let mut place = 0usize;
     for (i, field) in fields.iter().enumerate() {
+        // A number of the right size has no fault.
+        if let Ty::Uint(_) = schema.ty(field.1) {
+            place += head_len(schema.fixed_size(field.1)) as usize;
+            continue;
+        }
         let (from, to) = part_range(schema, field.1, fields, i, place, bytes);
         let part = &bytes[from..to];
         if let Some(fault) = scope(schema, field.1, start + from as u64, part) {

@@ -8,7 +8,7 @@ use Rattle.ssz_schema.specs.Legal.{IsLegal}
 use Rattle.ssz_schema.proofs.SizeLemmas.{vector_few}
 use Rattle.ssz_value.specs.Faults.{first_fault}
 use Rattle.ssz_value.proofs.Agree.{length_from_fault}
-use Rattle.ssz_checking.proofs.NumberLemmas.{numbers_clean}
+use Rattle.ssz_checking.proofs.NumberLemmas.{FieldsFrom-number, numbers_clean}
 use Rattle.ssz_parts.proofs.ElementFaults.{FixedFrom-more, FixedFrom-found, FixedFrom-end, VariableFrom-start, VariableFrom-part, VariableFrom-more, VariableFrom-found, fixed_found_head}
 use Rattle.ssz_parts.proofs.FieldLemmas.{FieldsFrom, FieldsFrom-start, FieldsFrom-found, FieldsFrom-more, FieldsFrom-end}
 use Rattle.ssz_value.proofs.PartLemmas.{known_weaker, part_known}
@@ -217,8 +217,8 @@ pub container-loop-i-preserved : goal.container-loop-i-preserved
 container-loop-i-preserved t c =
     let size : head_size (fixed_size
     (type_tree_at c.args.schema.now.trees c.index-fields-i.result.1))
-    ≡ c.head_len.result = sym (c.head_len.ensures
-    ∙ ap head_size c.fixed_size.ensures.exact) in
+    ≡ c.head_len-in-loop-i.result = sym (c.head_len-in-loop-i.ensures
+    ∙ ap head_size c.fixed_size-in-loop-i.ensures.exact) in
     subst (FieldsFrom c.args.schema.now.trees c.args.fields.now c.args.start c.args.bytes.now
     (c.loop-i.i + 1)) (ap (λ n. c.loop-i.place + n) size)
     (FieldsFrom-more c.args.schema.now.trees c.args.fields.now c.args.start c.args.bytes.now
@@ -252,3 +252,21 @@ fixed_elements-returns-in-Uint t c =
     c.args.count c.args.start c.args.bytes.now
     (sym c.ty.ensures.form ∙ ap (tree_over c.args.schema.now.trees) c.in-Uint.is)
     c.requires.size (λ i. omega (arith, c.type_inv.bytes i)) whole)
+
+pub container-fixed_size-requires : goal.container-fixed_size-requires
+container-fixed_size-requires t c =
+    let below : c.index-fields-i.result.1 < c.args.id =
+    part_known c.args.id c.args.fields.now c.loop-i.i c.index-fields-i.result c.loop-i-test.true
+    c.index-fields-i.is c.requires.before in
+    omega (arith, below, c.requires.known)
+
+-- a number of the right size has no fault
+pub container-loop-i-preserved-in-Uint : goal.container-loop-i-preserved-in-Uint
+container-loop-i-preserved-in-Uint t c =
+    let is = sym c.ty.ensures.form ∙ ap (tree_over c.args.schema.now.trees) c.in-Uint.is in
+    subst (λ (n : ℕ). FieldsFrom c.args.schema.now.trees c.args.fields.now c.args.start
+    c.args.bytes.now (c.loop-i.i + 1) (c.loop-i.place + n))
+    (sym (c.head_len.ensures ∙ ap head_size (c.fixed_size.ensures.exact ∙ ap fixed_size is)))
+    (FieldsFrom-number c.args.schema.now.trees c.args.fields.now c.args.start c.args.bytes.now
+    c.loop-i.i c.loop-i.place c.index-fields-i.result c.in-Uint.field-0 c.loop-i.invariant
+    c.loop-i-test.true c.index-fields-i.is is)
