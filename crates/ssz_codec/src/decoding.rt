@@ -73,18 +73,21 @@ fn value(alloc: Global, schema: &Schema, id: TypeId, bytes: &[u8]) -> Result<Val
     }
 }
 
-// Puts the value of the bytes behind the others, for which there is room: of an element, so that a
-// container, too, is built in its place without a call.
+// Puts a container of these fields behind the others, for which there is room: built in its place
+// without a call.
 #[cycle(value)]
 #[inline(always)]
-fn put(
+fn put_container(
     alloc: Global,
     schema: &Schema,
     id: TypeId,
+    fields: &[(Name, TypeId)],
     bytes: &[u8],
     parts: &mut Vec<Value>,
 ) -> Result<(), AllocError>
     requires known { id < length schema.now.trees }
+    requires form { type_of schema.now id ≡ container (fields_over schema.now.trees fields.now) }
+    requires before { AllByRecursion (λ part. part.1 < id) fields.now }
     requires short { length bytes.now < 2 ^ 32 }
     requires faultless { first_fault (type_of schema.now id) 0 bytes.now ≡ None }
     requires room { vec_len parts.old < vec_capacity parts.old }
@@ -93,15 +96,13 @@ fn put(
     ensures len { OnOk result (vec_len parts.new ≡ vec_len parts.old + 1) }
     ensures capacity { OnOk result (vec_capacity parts.new ≡ vec_capacity parts.old) }
 {
-    if let Ty::Container(fields) = schema.ty(id) {
-        let fields = container(alloc, schema, id, fields.as_slice(), bytes)?;
-        parts.push_reserved(Value::Seq(fields));
-        return Ok(());
-    }
-    put_field(alloc, schema, id, bytes, parts)
+    let fields = container(alloc, schema, id, fields, bytes)?;
+    parts.push_reserved(Value::Seq(fields));
+    Ok(())
 }
 
-// The same of a field: numbers, booleans and bytes, the commonest, without a call.
+// Puts the value of the bytes behind the others, for which there is room: numbers, booleans and
+// bytes, the commonest, without a call.
 #[cycle(value)]
 #[inline(always)]
 fn put_field(
@@ -195,7 +196,6 @@ fn elements(
 
 // Of count elements, each a value of its own.
 #[cycle(value)]
-#[inline(never)]
 fn parts_of(
     alloc: Global,
     schema: &Schema,
@@ -211,14 +211,72 @@ fn parts_of(
     ensures { let t = type_of schema.now elem in
         IfOk result (λ parts. StandAlike t (element_values t count bytes.now) parts.items) }
 {
-    if let Ty::Uint(width) = schema.ty(elem) {
-        return numbers(alloc, *width, count, bytes);
+    match schema.ty(elem) {
+        Ty::Uint(width) => numbers(alloc, *width, count, bytes),
+        Ty::Container(fields) => {
+            containers(alloc, schema, elem, fields.as_slice(), count, bytes)
+        }
+        _ => others(alloc, schema, elem, count, bytes),
     }
+}
+
+// Of count elements that are neither numbers nor containers.
+#[cycle(value)]
+#[inline(never)]
+fn others(
+    alloc: Global,
+    schema: &Schema,
+    elem: TypeId,
+    count: u64,
+    bytes: &[u8],
+) -> Result<Vec<Value>, AllocError>
+    requires known { elem < length schema.now.trees }
+    requires few { count ≤ 2 ^ 32 }
+    requires short { length bytes.now < 2 ^ 32 }
+    requires faultless { let t = type_of schema.now elem in
+        elements_fault (first_fault t) (fixed_size t) count 0 bytes.now ≡ None }
+    ensures { let t = type_of schema.now elem in
+        IfOk result (λ parts. StandAlike t (element_values t count bytes.now) parts.items) }
+{
+    // Every type of a schema is legal.
+    let _legal = schema.ty(elem);
     let size = schema.fixed_size(elem);
     let mut parts = Vec::with_capacity(alloc, count as usize)?;
     for i in 0..count {
         let part = element_at(size, count, i, bytes);
-        put(alloc, schema, elem, part, &mut parts)?;
+        put_field(alloc, schema, elem, part, &mut parts)?;
+    }
+    Ok(parts)
+}
+
+// Of count containers of these fields, which are looked up once for all.
+#[cycle(value)]
+#[inline(never)]
+fn containers(
+    alloc: Global,
+    schema: &Schema,
+    id: TypeId,
+    fields: &[(Name, TypeId)],
+    count: u64,
+    bytes: &[u8],
+) -> Result<Vec<Value>, AllocError>
+    requires known { id < length schema.now.trees }
+    requires form { type_of schema.now id ≡ container (fields_over schema.now.trees fields.now) }
+    requires before { AllByRecursion (λ part. part.1 < id) fields.now }
+    requires few { count ≤ 2 ^ 32 }
+    requires short { length bytes.now < 2 ^ 32 }
+    requires faultless { let t = type_of schema.now id in
+        elements_fault (first_fault t) (fixed_size t) count 0 bytes.now ≡ None }
+    ensures { let t = type_of schema.now id in
+        IfOk result (λ parts. StandAlike t (element_values t count bytes.now) parts.items) }
+{
+    // Every type of a schema is legal.
+    let _legal = schema.ty(id);
+    let size = schema.fixed_size(id);
+    let mut parts = Vec::with_capacity(alloc, count as usize)?;
+    for i in 0..count {
+        let inner = element_at(size, count, i, bytes);
+        put_container(alloc, schema, id, fields, inner, &mut parts)?;
     }
     Ok(parts)
 }

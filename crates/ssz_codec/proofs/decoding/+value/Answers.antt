@@ -191,11 +191,11 @@ parts_of-numbers-requires-clause-exact t c =
     elements_length (type_of c.args.schema.now c.args.elem) (byte_count c.in-Uint.width)
     c.args.count c.args.bytes.now size c.requires.faultless
 
-pub parts_of-put-requires : goal.parts_of-put-requires
-parts_of-put-requires t c =
+pub others-put_field-requires : goal.others-put_field-requires
+others-put_field-requires t c =
     let ty = type_of c.args.schema.now c.args.elem in
     let input = input_of c.args.bytes.now c.type_inv.bytes c.requires.short in
-    let good = element_faultless _ ty c.ty.ensures.legal (fixed_size ty) c.args.count
+    let good = element_faultless _ ty c.ty-legal.ensures.legal (fixed_size ty) c.args.count
     c.args.bytes.now c.loop-i.i input c.requires.faultless c.loop-i-test.true in
     let is = c.element_at-part.ensures ∙ ap (λ (size : Option ℕ). get_or
     (elements_in size c.args.count c.args.bytes.now) c.loop-i.i
@@ -207,8 +207,8 @@ parts_of-put-requires t c =
     subst (λ (b : List ℕ). length b < 2 ^ 32) (sym is) good.input.short in
     search rules
 
-pub parts_of-loop-i-preserved : goal.parts_of-loop-i-preserved
-parts_of-loop-i-preserved t c =
+pub others-loop-i-preserved : goal.others-loop-i-preserved
+others-loop-i-preserved t c =
     let ty = type_of c.args.schema.now c.args.elem in
     let all = elements_in (fixed_size ty) c.args.count c.args.bytes.now in
     let is = c.element_at-part.ensures ∙ ap (λ (size : Option ℕ). get_or
@@ -220,19 +220,19 @@ parts_of-loop-i-preserved t c =
       c.loop-i-test.true,
     ) in
     record {
-      read = values_push _ _ c.in_ok-put.ensures.put.value c.in_ok-put.ensures.put.items
+      read = values_push _ _ c.in_ok-put_field.ensures.put.value c.in_ok-put_field.ensures.put.items
           ∙ ap₂ (λ vs w. vs ++ w ∷ []) c.loop-i.invariant.read
-          (c.in_ok-put.ensures.put.stands.value ∙ ap (value_in ty) is)
+          (c.in_ok-put_field.ensures.put.stands.value ∙ ap (value_in ty) is)
           ∙ sym (take-map-more (value_in ty) all c.loop-i.i within);
-      formed = subst (AllByRecursion (IsFormed ty)) (sym c.in_ok-put.ensures.put.items)
-          (formed_push ty c.loop-i.parts.items c.in_ok-put.ensures.put.value
-          c.loop-i.invariant.formed c.in_ok-put.ensures.put.stands.formed);
-      count = omega (arith, c.in_ok-put.ensures.len, c.loop-i.invariant.count);
-      room = omega (arith, c.in_ok-put.ensures.capacity, c.loop-i.invariant.room);
+      formed = subst (AllByRecursion (IsFormed ty)) (sym c.in_ok-put_field.ensures.put.items)
+          (formed_push ty c.loop-i.parts.items c.in_ok-put_field.ensures.put.value
+          c.loop-i.invariant.formed c.in_ok-put_field.ensures.put.stands.formed);
+      count = omega (arith, c.in_ok-put_field.ensures.len, c.loop-i.invariant.count);
+      room = omega (arith, c.in_ok-put_field.ensures.capacity, c.loop-i.invariant.room);
     }
 
-pub parts_of-returns : goal.parts_of-returns
-parts_of-returns t c =
+pub others-returns : goal.others-returns
+others-returns t c =
     let ty = type_of c.args.schema.now c.args.elem in
     let many = length-element_values ty c.args.count c.args.bytes.now in
     record {
@@ -242,22 +242,78 @@ parts_of-returns t c =
       formed = c.loop-i.invariant.formed;
     }
 
-pub put-container-requires : goal.put-container-requires
-put-container-requires t c =
+pub parts_of-containers-requires : goal.parts_of-containers-requires
+parts_of-containers-requires t c =
     let P : List (List ℕ × ℕ) → Type 0 =
-    AllByRecursion (λ (part : List ℕ × ℕ). part.1 < c.args.id) in
+    AllByRecursion (λ (part : List ℕ × ℕ). part.1 < c.args.elem) in
     let all : P c.in-Container.fields.items =
-    subst (AreBelow c.args.id) c.in-Container.is c.ty.ensures.before in
+    subst (AreBelow c.args.elem) c.in-Container.is c.ty.ensures.before in
     let known : P c.as_slice.result.now =
     subst P (sym c.as_slice.ensures.value) all in
-    let form : type_of c.args.schema.now c.args.id
+    let form : type_of c.args.schema.now c.args.elem
     ≡ container (fields_over c.args.schema.now.trees c.as_slice.result.now) =
     sym c.ty.ensures.form ∙ ap (tree_over c.args.schema.now.trees) c.in-Container.is
     ∙ ap (λ fs. container (fields_over c.args.schema.now.trees fs))
     (sym c.as_slice.ensures.value) in
-    let none : first_fault (container (fields_over c.args.schema.now.trees
-    c.as_slice.result.now)) 0 c.args.bytes.now ≡ None =
-    subst (λ (ty : SszType). first_fault ty 0 c.args.bytes.now ≡ None) form c.requires.faultless in
+    search rules
+
+pub containers-put_container-requires : goal.containers-put_container-requires
+containers-put_container-requires t c =
+    let ty = type_of c.args.schema.now c.args.id in
+    let input = input_of c.args.bytes.now c.type_inv.bytes c.requires.short in
+    let good = element_faultless _ ty c.ty-legal.ensures.legal (fixed_size ty) c.args.count
+    c.args.bytes.now c.loop-i.i input c.requires.faultless c.loop-i-test.true in
+    let is = c.element_at-inner.ensures ∙ ap (λ (size : Option ℕ). get_or
+    (elements_in size c.args.count c.args.bytes.now) c.loop-i.i
+    (let none : List ℕ = [] in none)) c.fixed_size-size.ensures.exact in
+    let none : first_fault (type_of c.args.schema.now c.args.id) 0 c.element_at-inner.result.now
+    ≡ None =
+    subst (λ (b : List ℕ). first_fault ty 0 b ≡ None) (sym is) good.none in
+    let short : length c.element_at-inner.result.now < 2 ^ 32 =
+    subst (λ (b : List ℕ). length b < 2 ^ 32) (sym is) good.input.short in
+    search rules
+
+pub containers-loop-i-preserved : goal.containers-loop-i-preserved
+containers-loop-i-preserved t c =
+    let ty = type_of c.args.schema.now c.args.id in
+    let all = elements_in (fixed_size ty) c.args.count c.args.bytes.now in
+    let is = c.element_at-inner.ensures ∙ ap (λ (size : Option ℕ). get_or
+    (elements_in size c.args.count c.args.bytes.now) c.loop-i.i
+    (let none : List ℕ = [] in none)) c.fixed_size-size.ensures.exact in
+    let within : c.loop-i.i < length all = omega (
+      arith,
+      length-elements_in (fixed_size ty) c.args.count c.args.bytes.now,
+      c.loop-i-test.true,
+    ) in
+    record {
+      read = values_push _ _ c.in_ok-put_container.ensures.put.value c.in_ok-put_container.ensures.put.items
+          ∙ ap₂ (λ vs w. vs ++ w ∷ []) c.loop-i.invariant.read
+          (c.in_ok-put_container.ensures.put.stands.value ∙ ap (value_in ty) is)
+          ∙ sym (take-map-more (value_in ty) all c.loop-i.i within);
+      formed = subst (AllByRecursion (IsFormed ty)) (sym c.in_ok-put_container.ensures.put.items)
+          (formed_push ty c.loop-i.parts.items c.in_ok-put_container.ensures.put.value
+          c.loop-i.invariant.formed c.in_ok-put_container.ensures.put.stands.formed);
+      count = omega (arith, c.in_ok-put_container.ensures.len, c.loop-i.invariant.count);
+      room = omega (arith, c.in_ok-put_container.ensures.capacity, c.loop-i.invariant.room);
+    }
+
+pub containers-returns : goal.containers-returns
+containers-returns t c =
+    let ty = type_of c.args.schema.now c.args.id in
+    let many = length-element_values ty c.args.count c.args.bytes.now in
+    record {
+      value = c.loop-i.invariant.read
+          ∙ take_all c.loop-i.i (element_values ty c.args.count c.args.bytes.now)
+          (omega (arith, many));
+      formed = c.loop-i.invariant.formed;
+    }
+
+pub put_container-container-requires : goal.put_container-container-requires
+put_container-container-requires t c =
+    let none : first_fault (container (fields_over c.args.schema.now.trees c.args.fields.now)) 0
+    c.args.bytes.now ≡ None =
+    subst (λ (ty : SszType). first_fault ty 0 c.args.bytes.now ≡ None) c.requires.form
+    c.requires.faultless in
     search rules
 
 pub put_field-returns-then-is_byte-clause-put : goal.put_field-returns-then-is_byte-clause-put

@@ -16,8 +16,8 @@ decreases-chosen l = 8 * l.id + 3
 abbrev pub decreases-container : goal.decreases-container
 decreases-container l = 8 * l.id + 3
 
-abbrev pub decreases-put : goal.decreases-put
-decreases-put l = 8 * l.id + 7
+abbrev pub decreases-put_container : goal.decreases-put_container
+decreases-put_container l = 8 * l.id + 4
 
 abbrev pub decreases-put_field : goal.decreases-put_field
 decreases-put_field l = 8 * l.id + 6
@@ -31,11 +31,26 @@ decreases-elements l = 8 * l.elem + 9
 abbrev pub decreases-parts_of : goal.decreases-parts_of
 decreases-parts_of l = 8 * l.elem + 8
 
-abbrev pub invariant-parts_of-loop-i : goal.invariant-parts_of-loop-i
-invariant-parts_of-loop-i l = record {
+abbrev pub decreases-others : goal.decreases-others
+decreases-others l = 8 * l.elem + 7
+
+abbrev pub decreases-containers : goal.decreases-containers
+decreases-containers l = 8 * l.id + 7
+
+abbrev pub invariant-others-loop-i : goal.invariant-others-loop-i
+invariant-others-loop-i l = record {
   read : map value_of l.parts.items
       ≡ take l.i (element_values (type_of l.schema l.elem) l.count l.bytes);
   formed : AllByRecursion (IsFormed (type_of l.schema l.elem)) l.parts.items;
+  count : vec_len l.parts ≡ l.i;
+  room : l.count ≤ vec_capacity l.parts;
+}
+
+abbrev pub invariant-containers-loop-i : goal.invariant-containers-loop-i
+invariant-containers-loop-i l = record {
+  read : map value_of l.parts.items
+      ≡ take l.i (element_values (type_of l.schema l.id) l.count l.bytes);
+  formed : AllByRecursion (IsFormed (type_of l.schema l.id)) l.parts.items;
   count : vec_len l.parts ≡ l.i;
   room : l.count ≤ vec_capacity l.parts;
 }
