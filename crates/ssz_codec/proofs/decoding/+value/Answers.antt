@@ -1,4 +1,4 @@
-use Rattle.std.proofs.Common.{rules, ◌≡◌, ◌∙◌, ◌+◌, ◌-◌, ◌<◌, ◌≤◌, ◌^◌, ◌++◌, [], ◌∷◌, ℕ, List, length, map, take, drop, get_or, slice_range, Some, None, Option, IfOk, OnOk, sym, ap, ap₂, subst, arith, Fits, w8}
+use Rattle.std.proofs.Common.{rules, ◌≡◌, ◌∙◌, ◌+◌, ◌-◌, ◌<◌, ◌≤◌, ◌^◌, ◌++◌, [], ◌∷◌, ℕ, List, length, map, take, drop, get_or, slice_range, Some, None, Option, IfOk, OnOk, sym, ap, ap₂, subst, arith}
 use Rattle.std.specs.List.{AllByRecursion}
 use Rattle.std.proofs.lemmas.List.{take_rest, take_all, length_push}
 use Rattle.ssz_schema.specs.Types.{SszType, uint, container, vector}
@@ -27,7 +27,6 @@ use Rattle.ssz_codec.proofs.ReadLemmas.{FieldsRead, FieldsRead-start, FieldsRead
 use Rattle.ssz_codec.proofs.OptionLemmas.{union_value, union_no_value}
 use Rattle.ssz_codec.proofs.CleanLemmas.{field_clean, elements_length, of_bytes, option_clean, option_there}
 use Rattle.ssz_codec.proofs.decoding.+value.Goals as goal
-
 
 pub chosen-value-requires : goal.chosen-value-requires
 chosen-value-requires t c =

@@ -9,7 +9,8 @@ use Rattle.ssz_schema.specs.Unfolding.{type_of, type_tree_at, tree_over, fields_
 use Rattle.ssz_value.specs.Faults.{first_fault, element_count, elements_fault, count_fault}
 use Rattle.ssz_value.specs.Reading.{value_in, elements_in}
 use Rattle.ssz_value.specs.Trees.{number_chunk}
-use Rattle.ssz_value.proofs.Agree.{IsInput, no_faults}
+use Rattle.ssz_value.proofs.Agree.{no_faults}
+use Rattle.ssz_value.proofs.Inputs.{input_of}
 use Rattle.ssz_value.proofs.PartLemmas.{Part as FieldPart, known_weaker, part_known, size_at, sizes_of}
 use Rattle.ssz_parts.proofs.ElementLemmas.{element_faultless}
 use Rattle.ssz_parts.specs.PartValues.{element_values}
@@ -30,13 +31,7 @@ use Rattle.std.proofs.lemmas.List.{take-map, take_all, length-take-le}
 use Rattle.std.specs.Prelude.{IsSome}
 use Rattle.std.proofs.Math.Seq.{take-add}
 use Rattle.ssz_making.proofs.Alike.{elements_alike}
-use mir.Val.{Fits}
-use mir.Syntax.{w8}
 use Rattle.ssz_making.proofs.bytes.+node.Goals as goal
-
--- what is known of the bytes
-input_of : (b : List ℕ) → ((i : ℕ) → Fits w8 (get_or b i 0)) → length b < 2 ^ 32 → IsInput b
-input_of b fits short = record { bytes = λ i. omega (arith, fits i); short = short }
 
 pub parts_made-elements-init : goal.parts_made-elements-init
 parts_made-elements-init g t c =
