@@ -24,6 +24,11 @@ behind : (n : ℕ) → steps_left n ++ false ∷ [] ≡ steps_left (suc n)
 behind zero = refl
 behind (suc n) = ap (λ w. false ∷ w) (behind n)
 
+-- no step at all
+pub no_steps : (nodes : List Node) (id : NodeId) (n : ℕ) → n ≡ 0
+    → node_at nodes id (steps_left n) ≡ Some id
+no_steps nodes id n none = ap (λ k. node_at nodes id (steps_left k)) none
+
 -- where one more step leads
 module _ (nodes : List Node) (place next : NodeId) (within : place.0 < length nodes)
     (is : Some next ≡ child false (node_of nodes place)) where

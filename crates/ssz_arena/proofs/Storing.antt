@@ -572,30 +572,6 @@ module _ (nodes : List Node) (cs : List Chunk) (ks fs ls : List ℕ) (i : ℕ)
             ∙ sym (le-leb (2 ^ 31) x marked)
       ]
 
-  -- its left child, where that stands just before it
-  pub read_left_before : i ≤ 2 ^ 31 → shape_of ks i ≡ 3
-      → child false (get_or nodes i (Leaf (record { 0 = [] }))) ≡ Some (record { 0 = i - 1 })
-  read_left_before few three =
-      let more : 0 < shape_of ks i = omega (arith, three) in
-      let x : ℕ = get_or ls (first_link ks fs i) 0 in
-      let left : ℕ = left_of (shape_of ks i) i x in
-      let here : get_or nodes i (Leaf (record { 0 = [] })) ≡ _ =
-      get_or_from_slice_get nodes i _ _ (found nodes cs ks fs ls i is within)
-      ∙ pair_seen (get_or cs i no_chunk) (shape_of ks i) (first_link ks fs i) ls i more in
-      let left_is : left ≡ i - 1 + mark_of x = ap (λ s. left_of s i x) three in
-      elim (cases_lt x (2 ^ 31)) [
-        | inl low ↦
-            let same : left ≡ i - 1 = omega (arith, left_is, mark_of-low x low) in
-            ap (child false) (here ∙ pair_in-kept (get_or cs i no_chunk) left _
-            (left_low (shape_of ks i) i x few low))
-            ∙ ap (λ (k : ℕ). Some (record { 0 = k })) same
-        | inr marked ↦
-            let same : left - 2 ^ 31 ≡ i - 1 = omega (arith, left_is, mark_of-marked x marked) in
-            ap (child false) (here ∙ pair_in-due (get_or cs i no_chunk) left _
-            (left_marked (shape_of ks i) i x few marked))
-            ∙ ap (λ (k : ℕ). Some (record { 0 = k })) same
-      ]
-
   pub read_child : (right : Bool) (result : Option NodeId)
       → ((chunk : Chunk) → result ≡ child right (node_with chunk (links_at ks fs ls i)))
       → result ≡ child right (get_or nodes i (Leaf (record { 0 = [] })))

@@ -1,5 +1,5 @@
 // Where nodes are kept, in some 35 bytes each.
-ghost use Rattle.std.specs.Prelude.{◌≡◌, ℕ, ◌+◌, ◌-◌, ◌*◌, ◌/◌, ◌%◌, ◌<◌, ◌≤◌, ◌^◌, max, List, [], ◌∷◌, ◌++◌, true, false, Some, None, IfNone, IfSome, IfOk, IsOk, IsTrue, OnOk, OnErr, length, vec_len, vec_capacity, slice_get, slice_index, slice_set};
+ghost use Rattle.std.specs.Prelude.{◌≡◌, ℕ, ◌+◌, ◌-◌, ◌*◌, ◌/◌, ◌%◌, ◌<◌, ◌≤◌, ◌^◌, max, List, [], ◌∷◌, ◌++◌, true, false, Some, None, IfNone, IfSome, IfOk, IsOk, OnOk, OnErr, length, vec_len, vec_capacity, slice_get, slice_index, slice_set};
 ghost use Rattle.ssz_chunk.specs.declared.Chunk.{Chunk};
 ghost use Rattle.ssz_arena.specs.declared.node.NodeId.{NodeId};
 ghost use Rattle.ssz_arena.specs.declared.node.Node.TheVariants.{Leaf, Pair};
@@ -370,16 +370,6 @@ impl Store {
         ensures { result ≡ child right (node_of self.now.nodes id) }
     {
         child_at(&self.kinds, &self.firsts, &self.links, id.0 as usize, right)
-    }
-
-    // Whether its left child stands just before it, as down the spine of a long list.
-    #[inline(always)]
-    pub(crate) fn left_is_before(&self, id: NodeId) -> bool
-        requires { id.0 < length self.now.nodes }
-        ensures { IsTrue result
-            → child false (node_of self.now.nodes id) ≡ Some (record { 0 = id.0 - 1 }) }
-    {
-        self.kinds[id.0 as usize] % 4 == LEFT_BEFORE
     }
 
     // The chunk of a leaf, or the root of a pair that has one.
