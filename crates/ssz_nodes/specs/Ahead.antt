@@ -48,3 +48,12 @@ pub record AheadHolds (arena : ArenaContent) (trees : List Tree) (places : Ahead
   pub row : (i : ℕ) → i < waiting places
       → tree_of arena (ahead_node places.row (places.from + i)) ≡ place trees i
   pub nodes : Stand arena (drop (waiting places) trees) places.left places.nodes
+
+-- there is a next row, unless no place is left
+abbrev pub IsFilled : Ahead → Type 0
+IsFilled places = places.from ≡ places.to → places.left ≡ 0
+
+-- these trees, so far as there are so many, have the nodes of a row
+abbrev pub AreNext : ArenaContent → List Tree → List NodeId → Type 0
+AreNext arena trees row = (i : ℕ) → i < length row → i < length trees
+    → tree_of arena (ahead_node row i) ≡ place trees i

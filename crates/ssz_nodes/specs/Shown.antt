@@ -1,5 +1,5 @@
 -- The values whose trees nodes have.
-use Rattle.std.specs.Prelude.{ℕ, ◌^◌, ◌<◌, ◌≤◌, ◌≡◌, ◌==◌, ◌*◌, ◌/◌, ◌%◌, slice_index, drop, Bool, List, ◌++◌, length, map}
+use Rattle.std.specs.Prelude.{ℕ, ◌^◌, ◌+◌, ◌<◌, ◌≤◌, ◌≡◌, ◌==◌, ◌*◌, ◌/◌, ◌%◌, slice_index, drop, Bool, List, ◌++◌, length, map}
 use Rattle.std.specs.List.{AllByRecursion}
 use Rattle.ssz_chunk.specs.Tree.{Tree, leaf, merkle_tree, place}
 use Rattle.ssz_schema.specs.Types.{SszType, Fields, uint, boolean}
@@ -8,6 +8,9 @@ use Rattle.ssz_value.specs.Values.{SszValue, Fits, FitFields}
 use Rattle.ssz_value.specs.Encoding.{serialize}
 use Rattle.ssz_places.specs.PlaceLaws.{IsTreeOf}
 use Rattle.ssz_value.specs.Trees.{tree, element_leaves, field_trees, padded, pack, pack_bits}
+use Rattle.ssz_arena.specs.declared.node.NodeId.{NodeId}
+use Rattle.ssz_arena.specs.Content.{ArenaContent, tree_of}
+use Rattle.ssz_nodes.specs.Ahead.{ahead_node}
 use Rattle.ssz_nodes.specs.declared.basics.Basic.{Basic}
 use Rattle.ssz_nodes.specs.declared.basics.Basic.TheVariants.{Number, Flag}
 
@@ -74,6 +77,11 @@ bit_in chunk k = slice_index chunk (k / 8) / 2 ^ (k % 8) % 2 == 1
 -- chunk j of some bytes
 abbrev pub chunk_from : List ℕ → ℕ → List ℕ
 chunk_from bytes j = padded (drop (32 * j) bytes)
+
+-- the nodes of a row have these chunks of some bytes, from chunk j on
+abbrev pub AreChunksFrom : ArenaContent → List ℕ → ℕ → List NodeId → Type 0
+AreChunksFrom arena bytes j row = (i : ℕ) → i < length row
+    → tree_of arena (ahead_node row i) ≡ leaf (chunk_from bytes (j + i))
 
 abbrev pub basic_type : Basic → SszType
 basic_type (Number width) = uint width

@@ -1,7 +1,7 @@
-ghost use Rattle.std.specs.Prelude.{ℕ, ◌≡◌, ◌<◌, ◌≤◌, ◌/◌, ◌%◌, ◌^◌, List, ◌∷◌, length};
+ghost use Rattle.std.specs.Prelude.{ℕ, ◌≡◌, ◌<◌, ◌≤◌, ◌/◌, ◌%◌, ◌^◌, List, ◌∷◌, All, drop, length};
 ghost use Rattle.ssz_chunk.specs.Tree.{Tree, pair, merkle_tree, place};
 ghost use Rattle.ssz_arena.specs.Content.{ArenaContent, IsNodeOf, tree_of};
-ghost use Rattle.ssz_nodes.specs.Ahead.{AheadAreNodes, AheadHolds};
+ghost use Rattle.ssz_nodes.specs.Ahead.{AheadAreNodes, AheadHolds, AreNext, IsFilled, waiting};
 
 use super::rows::spread;
 use ssz_arena::{Arena, NodeId};
@@ -101,14 +101,14 @@ impl Places {
         node
     }
 
-    // Comes down to the next row, where all nodes of the one before were taken.
+    /// Comes down to the next row, where all nodes of the one before were taken.
     #[inline(always)]
-    fn refill<H: PairHash>(&mut self, arena: &Arena<H>)
+    pub fn refill<H: PairHash>(&mut self, arena: &Arena<H>)
         requires { AheadAreNodes arena.now self.old }
         ensures nodes { AheadAreNodes arena.now self.new }
         ensures holds { (trees : List Tree) → AheadHolds arena.now trees self.old
             → AheadHolds arena.now trees self.new }
-        ensures some { self.new.from ≡ self.new.to → self.new.left ≡ 0 }
+        ensures filled { IsFilled self.new }
     {
         if self.from != self.to {
             return;
@@ -117,6 +117,36 @@ impl Places {
             return;
         }
         self.fill(arena);
+    }
+
+    /// The nodes of the next places that are come down to, of which there is at least one: taken
+    /// together, they cost a caller's loop nothing but what it does with each.
+    #[inline(always)]
+    pub fn row(&self) -> &[NodeId]
+        ensures some { 0 < length result.now }
+        ensures nodes { (arena : ArenaContent) → AheadAreNodes arena self.now
+            → All (IsNodeOf arena) result.now }
+        ensures trees { (arena : ArenaContent) (trees : List Tree) → IsFilled self.now
+            → AheadHolds arena trees self.now → AreNext arena trees result.now }
+        ensures few { (arena : ArenaContent) (trees : List Tree) → IsFilled self.now
+            → AheadHolds arena trees self.now → 0 < length trees
+            → length result.now ≡ waiting self.now }
+    {
+        if self.from == self.to {
+            return &self.nodes[..1];
+        }
+        &self.row[self.from..self.to]
+    }
+
+    /// Passes over the next places of the row.
+    #[inline(always)]
+    pub fn skip(&mut self, count: usize)
+        ensures nodes { (arena : ArenaContent) → AheadAreNodes arena self.old
+            → AheadAreNodes arena self.new }
+        ensures rest { (arena : ArenaContent) (trees : List Tree) → count ≤ waiting self.old
+            → AheadHolds arena trees self.old → AheadHolds arena (drop count trees) self.new }
+    {
+        self.from = self.from.saturating_add(count).min(self.to);
     }
 
     // Comes down to the first row of the lowest subtree: a call of its own, so that taking the next

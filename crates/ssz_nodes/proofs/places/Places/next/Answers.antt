@@ -14,13 +14,13 @@ no_place arena tree trees ahead none end held = omega (arith, held.few, none, en
 pub returns-then-self-clause-tree : goal.returns-then-self-clause-tree
 returns-then-self-clause-tree g c = λ tree trees held.
     absurd (no_place c.args.arena.now tree trees c.refill.new.self
-    (subst (λ (a : Ahead). a.from ≡ a.to) c.self.view_is c.if-self.true) c.refill.ensures.some
+    (subst (λ (a : Ahead). a.from ≡ a.to) c.self.view_is c.if-self.true) c.refill.ensures.filled
     (c.refill.ensures.holds _ held))
 
 pub returns-then-self-clause-rest : goal.returns-then-self-clause-rest
 returns-then-self-clause-rest g c = λ tree trees held.
     absurd (no_place c.args.arena.now tree trees c.refill.new.self
-    (subst (λ (a : Ahead). a.from ≡ a.to) c.self.view_is c.if-self.true) c.refill.ensures.some
+    (subst (λ (a : Ahead). a.from ≡ a.to) c.self.view_is c.if-self.true) c.refill.ensures.filled
     (c.refill.ensures.holds _ held))
 
 pub returns-clause-tree : goal.returns-clause-tree
