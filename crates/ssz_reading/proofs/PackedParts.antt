@@ -22,9 +22,9 @@ use Rattle.ssz_places.proofs.Elements.{is_basic, AreSized-enc}
 use Rattle.ssz_arena.specs.declared.node.NodeId.{NodeId}
 use Rattle.ssz_arena.specs.Content.{ArenaContent, tree_of}
 use Rattle.ssz_nodes.specs.Ahead.{Ahead, AheadHolds}
-use Rattle.ssz_nodes.specs.Shown.{AreElements, ArePacked, bit_in, chunk_from}
+use Rattle.ssz_nodes.specs.Shown.{AreChunksFrom, AreElements, ArePacked, bit_in, chunk_from}
 use Rattle.ssz_nodes.proofs.Walked.{Takes, length-encodings}
-use Rattle.ssz_nodes.proofs.Chunked.{pack-more}
+use Rattle.ssz_nodes.proofs.Chunked.{ChunkRow, TakesRow, chunk_row, pack-more}
 
 -- the chunks of some bytes from number j on are still to come
 pub record ChunksLeft (arena : ArenaContent) (bytes : List ℕ) (j : ℕ) (places : Ahead)
@@ -254,6 +254,82 @@ ValuesLeft-more arena t z per vs left here done chunk old new node size whole fi
       where
         swap : (per j z : ℕ) → per * j * z ≡ z * per * j
         swap per j z = omega arith
+
+-- the values of another chunk, behind those of the first i of a row
+pub values_row : (vs : List SszValue) (per j i : ℕ) (old sofar new : List SszValue)
+    → sofar ≡ old ++ take (per * i) (drop (per * j) vs)
+    → new ≡ sofar ++ take per (drop (per * (j + i)) vs)
+    → new ≡ old ++ take (per * (i + 1)) (drop (per * j) vs)
+values_row vs per j i old sofar new sofar_is new_is =
+    let there : drop (per * i) (drop (per * j) vs) ≡ drop (per * (j + i)) vs =
+    drop-drop (per * i) (per * j) vs
+    ∙ ap (λ n. drop n vs) (let e : per * j + per * i ≡ per * (j + i) = omega arith in e) in
+    let more : per * i + per ≡ per * (i + 1) = omega arith in
+    new_is ∙ ap (λ xs. xs ++ take per (drop (per * (j + i)) vs)) sofar_is
+    ∙ append_assoc old (take (per * i) (drop (per * j) vs)) (take per (drop (per * (j + i)) vs))
+    ∙ ap (λ xs. old ++ xs)
+    (ap (λ ys. take (per * i) (drop (per * j) vs) ++ take per ys) (sym there)
+    ∙ sym (take-add (per * i) per (drop (per * j) vs))
+    ∙ ap (λ n. take n (drop (per * j) vs)) more)
+
+-- so many values have so many chunks
+pub chunks_of : (per j z : ℕ) → z * per ≡ 32 → per * j * z ≡ 32 * j
+chunks_of per j z e = swap per j z ∙ ap (λ n. n * j) e
+  where
+    swap : (per j z : ℕ) → per * j * z ≡ z * per * j
+    swap per j z = omega arith
+
+pub record ValueRow (arena : ArenaContent) (t : SszType) (per : ℕ) (vs : List SszValue)
+    (left n : ℕ) (done : List SszValue) (row : List NodeId) (places : Ahead) : Type 0 where
+  pub j : ℕ
+  pub are : AreChunksFrom arena (concat (map (serialize t) vs)) j (take n row)
+  pub within : per * (j + n) ≤ length vs
+  pub next : (more : List SszValue) → more ≡ done ++ take (per * n) (drop (per * j) vs)
+      → ValuesLeft arena t per vs (left - per * n) more places
+
+-- the next n chunks of them
+pub ValuesLeft-row : (arena : ArenaContent) (t : SszType) (z per : ℕ) (vs : List SszValue)
+    (left n : ℕ) (done : List SszValue) (row : List NodeId) (before old new : Ahead)
+    → basic_size t ≡ Some z → z * per ≡ 32 → AllByRecursion (Fits t) vs
+    → ValuesLeft arena t per vs left done before
+    → ((trees : List Tree) → AheadHolds arena trees before → AheadHolds arena trees old)
+    → 0 < left → 0 < n → per * n ≤ left → n ≤ length row → TakesRow arena old new n row
+    → ValueRow arena t per vs left n done row new
+ValuesLeft-row arena t z per vs left n done row before old new size whole fit h stays some one few
+    inside takes =
+    let basic = is_basic t z size in
+    let bytes : List ℕ = concat (map (serialize t) vs) in
+    let sum : per * (h.j + n) ≡ per * h.j + per * n = omega arith in
+    let within : per * (h.j + n) ≤ length vs = omega (arith, sum, h.many, some, few) in
+    let scaled : per * (h.j + n) * z ≤ length vs * z = mul-le-mul_right z within in
+    let start : per * (h.j + n) * z ≡ 32 * (h.j + n) = chunks_of per (h.j + n) z whole in
+    let long : 32 * (h.j + n) ≤ length (concat (map (serialize t) vs)) =
+    omega (arith, length-encodings t z basic vs fit, scaled, start) in
+    let room : 32 * n ≤ length (drop (32 * h.j) (concat (map (serialize t) vs))) =
+    omega (arith, long, length-drop (32 * h.j) (concat (map (serialize t) vs))) in
+    let chunks : ChunkRow arena (drop (32 * h.j) (concat (map (serialize t) vs))) n row new =
+    chunk_row arena (drop (32 * h.j) bytes) n row old new (stays _ h.chunks.holds) one inside room
+    takes in
+    let there : (i : ℕ) → drop (32 * i) (drop (32 * h.j) bytes) ≡ drop (32 * (h.j + i)) bytes =
+    λ i. drop-drop (32 * i) (32 * h.j) bytes
+    ∙ ap (λ k. drop k bytes) (let e : 32 * h.j + 32 * i ≡ 32 * (h.j + i) = omega arith in e) in
+    record {
+      j = h.j;
+      are = λ i below.
+          let first : 0 + i ≡ i = omega arith in
+          chunks.are i below ∙ ap (λ k. leaf (padded (drop (32 * k) (drop (32 * h.j) bytes)))) first
+          ∙ ap (λ b. leaf (padded b)) (there i);
+      within = within;
+      next = λ more more_is. record {
+        j = h.j + n;
+        many = omega (arith, h.many, sum);
+        chunks = record {
+          holds = subst (λ b. AheadHolds arena (map leaf (pack b)) new) (there n) chunks.holds;
+        };
+        all = more_is ∙ ap (λ xs. xs ++ take (per * n) (drop (per * h.j) vs)) h.all
+            ∙ sym (take-add (per * h.j) (per * n) vs) ∙ ap (λ k. take k vs) (sym sum);
+      };
+    }
 
 pub ValuesLeft-end : (arena : ArenaContent) (t : SszType) (per : ℕ) (vs : List SszValue) (left : ℕ)
     (done : List SszValue) (places : Ahead) → ValuesLeft arena t per vs left done places

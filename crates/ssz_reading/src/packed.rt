@@ -1,5 +1,5 @@
 //! Basic values and bits that are packed in the chunks of a full tree.
-ghost use Rattle.std.specs.Prelude.{ℕ, ◌≡◌, ◌+◌, ◌*◌, ◌<◌, ◌≤◌, ◌^◌, ◌++◌, Bool, false, List, length, map, take, drop, slice_index_or, vec_len, vec_capacity, IfOk, OnOk, Some};
+ghost use Rattle.std.specs.Prelude.{ℕ, ◌≡◌, ◌+◌, ◌*◌, ◌<◌, ◌≤◌, ◌^◌, ◌++◌, Bool, false, List, length, map, take, drop, slice_index_or, vec_len, vec_capacity, All, IfOk, OnOk, Some};
 ghost use Rattle.std.specs.List.{AllByRecursion, concat};
 ghost use Rattle.ssz_schema.specs.width.Width.TheVariants.{W8};
 ghost use Rattle.ssz_schema.specs.Types.{uint, vector};
@@ -10,9 +10,9 @@ ghost use Rattle.ssz_value.specs.Encoding.{serialize};
 ghost use Rattle.ssz_value.specs.Standing.{value_of};
 ghost use Rattle.ssz_value.specs.Shapes.{StandsBehind};
 ghost use Rattle.ssz_arena.specs.Content.{IsNodeOf, tree_of};
-ghost use Rattle.ssz_nodes.specs.Shown.{AreBits, AreElements, ForElements, ForValue, basic_type, bit_in, chunk_from};
+ghost use Rattle.ssz_nodes.specs.Shown.{AreBits, AreChunksFrom, AreElements, ForElements, ForValue, basic_type, bit_in, chunk_from};
 
-use ssz_arena::Arena;
+use ssz_arena::{Arena, NodeId};
 use ssz_bytes::{BitRun, ByteRun};
 use ssz_chunk::{Chunk, PairHash};
 use ssz_nodes::{Basic, Places, Top, append_chunks, bit_of, chunk_of, few_bytes};
@@ -144,9 +144,12 @@ fn read_each<H: PairHash>(
     let mut left = count as usize;
     // Whole chunks come first, so that it is known how many values each of them has.
     while left >= per_chunk {
-        let chunk = chunk_of(arena, places.next(arena));
-        append_values(basic, chunk, per_chunk, &mut parts);
-        left -= per_chunk;
+        places.refill(arena);
+        let row = places.row();
+        let chunks = row.len().min(left / per_chunk);
+        append_row(arena, basic, per_chunk, &row[..chunks], &mut parts);
+        places.skip(chunks);
+        left -= chunks * per_chunk;
     }
     if left == 0 {
         return Ok(parts);
@@ -154,6 +157,32 @@ fn read_each<H: PairHash>(
     let last = chunk_of(arena, places.next(arena));
     append_values(basic, last, left, &mut parts);
     Ok(parts)
+}
+
+// Appends the values of whole chunks, for which there is room: of each so many.
+#[inline(always)]
+fn append_row<H: PairHash>(
+    arena: &Arena<H>,
+    basic: Basic,
+    per_chunk: usize,
+    row: &[NodeId],
+    parts: &mut Vec<Value>,
+)
+    requires per_chunk { (size : ℕ) → basic_size (basic_type basic) ≡ Some size
+        → size * per_chunk ≡ 32 }
+    requires nodes { All (IsNodeOf arena.now) row.now }
+    requires room { vec_len parts.old + per_chunk * length row.now ≤ vec_capacity parts.old }
+    ensures values { (vs : List SszValue) (j : ℕ) → AllByRecursion (Fits (basic_type basic)) vs
+        → AreChunksFrom arena.now (concat (map (serialize (basic_type basic)) vs)) j row.now
+        → per_chunk * (j + length row.now) ≤ length vs
+        → map value_of parts.new.items ≡ map value_of parts.old.items
+        ++ take (per_chunk * length row.now) (drop (per_chunk * j) vs) }
+    ensures len { vec_len parts.new ≡ vec_len parts.old + per_chunk * length row.now }
+    ensures capacity { vec_capacity parts.new ≡ vec_capacity parts.old }
+{
+    for node in row {
+        append_values(basic, chunk_of(arena, *node), per_chunk, parts);
+    }
 }
 
 // Appends the first count values of a chunk, for which there is room.
