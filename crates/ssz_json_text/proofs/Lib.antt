@@ -8,3 +8,4 @@ pub mod Names
 pub mod Forms
 pub mod OneLine
 pub mod Passing
+pub mod FieldNames

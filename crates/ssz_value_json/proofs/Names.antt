@@ -7,20 +7,12 @@ use Rattle.serde_json.specs.Data.{Data}
 use Rattle.serde_json.specs.Find.{as_array}
 use Rattle.serde_json.specs.View.{view, items_view}
 use Rattle.serde_json.specs.declared.value.Value.{Value as Json}
-use Rattle.ssz_schema.specs.Types.{SszType}
-use Rattle.ssz_schema.specs.Legal.{field_names}
-use Rattle.ssz_schema.specs.Unfolding.{fields_over}
 use Rattle.ssz_schema.proofs.WalkFields.{drop_at}
 use Rattle.ssz_value.proofs.PartLemmas.{Part}
 use Rattle.ssz_value_json.specs.Walk.{two_items, json_selector, selected}
 
 abbrev pub names_of : List Part → List (List ℕ)
 names_of fields = map (λ part. part.0) fields
-
-pub names_over : (trees : List SszType) (fields : List Part)
-    → field_names (fields_over trees fields) ≡ names_of fields
-names_over trees [] = refl
-names_over trees (f ∷ fields) = ap (λ names. f.0 ∷ names) (names_over trees fields)
 
 -- the test of the names from i on
 pub here_false : (test : List ℕ → Bool) (fields : List Part) (i : ℕ) (f : Part)

@@ -21,7 +21,8 @@ use Rattle.ssz_value_json.specs.declared.fault.JsonRead.{JsonRead}
 use Rattle.ssz_value_json.specs.declared.fault.JsonRead.TheVariants.{Bad, Memory}
 use Rattle.ssz_value_json.specs.Steps.{Found, Walked, ◌>>=◌, leaf, next, where_holds, allows, bad_kind, bad_count, bad_member, json_bad_selector}
 use Rattle.ssz_value_json.specs.Walk.{json_walk, sequence_at, elements_at, fields_at, option_at, none_at, are_members, members_in}
-use Rattle.ssz_value_json.proofs.Names.{names_of, names_over}
+use Rattle.ssz_json_text.proofs.FieldNames.{names_over}
+use Rattle.ssz_value_json.proofs.Names.{names_of}
 use Rattle.ssz_value_json.specs.Answers.{FindsJson, WalksJson}
 
 -- what is found stands behind these

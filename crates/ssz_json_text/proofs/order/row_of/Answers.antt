@@ -1,5 +1,5 @@
 use Rattle.std.proofs.Common.{ap, ◌∙◌}
-use Rattle.ssz_schema.proofs.OrderLemmas.{names_over}
+use Rattle.ssz_json_text.proofs.FieldNames.{names_over}
 use Rattle.ssz_schema.specs.Order.{name_order, field_order}
 use Rattle.ssz_json_text.proofs.order.row_of.Goals as goal
 
