@@ -193,7 +193,8 @@ module _ (shape i x : ℕ) (few : i ≤ 2 ^ 31) where
       by false false before = marked
 
   -- without the mark
-  left_unmarked : 2 ^ 31 ≤ x → x < 2 ^ 32 → left_of shape i (x - 2 ^ 31) ≡ left_of shape i x - 2 ^ 31
+  left_unmarked : 2 ^ 31 ≤ x → x < 2 ^ 32 → left_of shape i (x - 2 ^ 31) ≡ left_of shape i x - 2
+      ^ 31
   left_unmarked marked fits =
       let low : x - 2 ^ 31 < 2 ^ 31 = omega (arith, marked, fits) in
       let before : i - 1 + mark_of (x - 2 ^ 31) ≡ i - 1 + mark_of x - 2 ^ 31 =
@@ -414,7 +415,8 @@ abbrev of_shape : Bool → Bool → ℕ
 of_shape t u = cond t 1 (cond u 3 2)
 
 abbrev of_pair : ℕ → ℕ → Bool → Bool → List ℕ
-of_pair left right t u = cond t (left ∷ []) (cond u ((right + mark_of left) ∷ []) (left ∷ right ∷ []))
+of_pair left right t u = cond t (left ∷ [])
+    (cond u ((right + mark_of left) ∷ []) (left ∷ right ∷ []))
 
 pub pair_first : (left right n : ℕ) → n ≡ 0 → count_of (pair_shape left right n) ≢ 1
 pair_first left right n none =
@@ -719,7 +721,8 @@ has_mark n ks fs total stored few cs ls long links nodes seen i within due =
 
 module _ (n : ℕ) (ks fs : List ℕ) (total : ℕ) (stored : IsStored n ks fs total) (cs : List Chunk)
     (ls : List ℕ) (long : length cs ≡ n) (links : length ls ≡ total) (i : ℕ) (within : i < n)
-    (few : n ≤ 2 ^ 31) (shaped : 0 < shape_of ks i) (marked : 2 ^ 31 ≤ get_or ls (first_link ks fs i) 0)
+    (few : n ≤ 2 ^ 31) (shaped : 0 < shape_of ks i) (marked : 2 ^ 31
+        ≤ get_or ls (first_link ks fs i) 0)
     (fits : get_or ls (first_link ks fs i) 0 < 2 ^ 32) (chunk : Chunk) where
   abbrev first : ℕ
   first = first_link ks fs i
@@ -797,7 +800,8 @@ module _ (n : ℕ) (ks fs : List ℕ) (total : ℕ) (stored : IsStored n ks fs t
       ∙ ap (λ r. pair_in chunk (left_of shape i (link - 2 ^ 31))
       (right_of shape i (link - 2 ^ 31) r)) two
       ∙ ap (λ l. pair_in chunk l (right_of shape i (link - 2 ^ 31) beyond)) left_is
-      ∙ ap (pair_in chunk (left - 2 ^ 31)) (right_unmarked shape i link low_place beyond marked fits)
+      ∙ ap (pair_in chunk (left - 2 ^ 31))
+          (right_unmarked shape i link low_place beyond marked fits)
       ∙ pair_in-kept chunk (left - 2 ^ 31) right (omega (arith, left_is, below))
 
   kept_nodes : nodes_in (set cs i chunk) ks fs unmarked ≡ set (nodes_in cs ks fs ls) i rooted

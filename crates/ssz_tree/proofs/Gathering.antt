@@ -69,7 +69,8 @@ First-start start depth stack all deep held = record {
 }
 
 -- so many were pushed
-pub First-pushed : (start now : ArenaContent) (depth : ℕ) (stack : Stack) (all : List MadePart) (i : ℕ)
+pub First-pushed : (start now : ArenaContent) (depth : ℕ) (stack : Stack) (all : List MadePart)
+    (i : ℕ)
     → First start now depth stack all i → stack.pushed ≡ i
 First-pushed start now depth stack all i h = h.holds.number ∙ length-take-le i all h.within
 

@@ -109,8 +109,8 @@ impl Builder {
         }
     }
 
-    /// Takes one more node, at the next place: fewer than 2^depth were pushed so far, and fewer than
-    /// a u64 counts. Makes the pairs of which it is the last node.
+    /// Takes one more node, at the next place: fewer than 2^depth were pushed so far, and fewer
+    /// than a u64 counts. Makes the pairs of which it is the last node.
     pub fn push<H: PairHash>(&mut self, arena: &mut Arena<H>, node: NodeId)
         requires below { self.old.pushed < 2 ^ self.old.depth }
         requires counted { self.old.pushed + 1 < 2 ^ 64 }

@@ -80,7 +80,8 @@ chosen-returns-in-Some-None t c =
     in
     record {
       value = chosen_none_is (get_or c.args.bytes.now 0 0)
-          ∙ sym (union_no_value c.args.schema.now.trees c.args.options.now c.args.bytes.now some at);
+          ∙ sym (union_no_value c.args.schema.now.trees c.args.options.now c.args.bytes.now some
+              at);
       formed = none_formed (options_over c.args.schema.now.trees c.args.options.now)
           (get_or c.args.bytes.now 0 0);
     }
@@ -285,7 +286,8 @@ containers-loop-i-preserved t c =
       c.loop-i-test.true,
     ) in
     record {
-      read = values_push _ _ c.in_ok-put_container.ensures.put.value c.in_ok-put_container.ensures.put.items
+      read = values_push _ _ c.in_ok-put_container.ensures.put.value
+          c.in_ok-put_container.ensures.put.items
           ∙ ap₂ (λ vs w. vs ++ w ∷ []) c.loop-i.invariant.read
           (c.in_ok-put_container.ensures.put.stands.value ∙ ap (value_in ty) is)
           ∙ sym (take-map-more (value_in ty) all c.loop-i.i within);

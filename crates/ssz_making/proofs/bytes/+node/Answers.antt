@@ -275,7 +275,8 @@ pub fields_made-slice_bounds-part-count : goal.fields_made-slice_bounds-part-cou
 fields_made-slice_bounds-part-count g t c =
     let within = FieldsAt-within c.args.schema.now.trees c.args.fields.now c.args.bytes.now
     c.loop-i.i c.loop-i.place c.index-fields-i.result c.range_at-from.result
-    c.loop-i.invariant.fields c.loop-i-test.true c.index-fields-i.is (range-is c.args.schema.now.trees c.args.fields.now
+    c.loop-i.invariant.fields c.loop-i-test.true c.index-fields-i.is
+        (range-is c.args.schema.now.trees c.args.fields.now
     c.args.bytes.now c.loop-i.i c.loop-i.place c.index-fields-i.result c.fixed_size-size.result
     c.range_at-from.result c.fixed_size-size.ensures.exact c.range_at-from.ensures) in
     omega (arith, within.0, within.1)
@@ -284,7 +285,8 @@ pub fields_made-slice_bounds-part-start : goal.fields_made-slice_bounds-part-sta
 fields_made-slice_bounds-part-start g t c =
     let within = FieldsAt-within c.args.schema.now.trees c.args.fields.now c.args.bytes.now
     c.loop-i.i c.loop-i.place c.index-fields-i.result c.range_at-from.result
-    c.loop-i.invariant.fields c.loop-i-test.true c.index-fields-i.is (range-is c.args.schema.now.trees c.args.fields.now
+    c.loop-i.invariant.fields c.loop-i-test.true c.index-fields-i.is
+        (range-is c.args.schema.now.trees c.args.fields.now
     c.args.bytes.now c.loop-i.i c.loop-i.place c.index-fields-i.result c.fixed_size-size.result
     c.range_at-from.result c.fixed_size-size.ensures.exact c.range_at-from.ensures) in
     omega (arith, within.0, within.1)
@@ -293,7 +295,8 @@ pub fields_made-slice_bounds-part-end : goal.fields_made-slice_bounds-part-end
 fields_made-slice_bounds-part-end g t c =
     let within = FieldsAt-within c.args.schema.now.trees c.args.fields.now c.args.bytes.now
     c.loop-i.i c.loop-i.place c.index-fields-i.result c.range_at-from.result
-    c.loop-i.invariant.fields c.loop-i-test.true c.index-fields-i.is (range-is c.args.schema.now.trees c.args.fields.now
+    c.loop-i.invariant.fields c.loop-i-test.true c.index-fields-i.is
+        (range-is c.args.schema.now.trees c.args.fields.now
     c.args.bytes.now c.loop-i.i c.loop-i.place c.index-fields-i.result c.fixed_size-size.result
     c.range_at-from.result c.fixed_size-size.ensures.exact c.range_at-from.ensures) in
     omega (arith, within.0, within.1)
@@ -319,11 +322,13 @@ fields_made-bytes_part-out-requires g t c κs within =
     subst (λ (r : ℕ × ℕ). length (slice_range c.args.bytes.now r.0 r.1) < 2 ^ 32)
     (sym (range-is c.args.schema.now.trees c.args.fields.now
     c.args.bytes.now c.loop-i.i c.loop-i.place c.index-fields-i.result c.fixed_size-size.result
-    c.range_at-from.result c.fixed_size-size.ensures.exact c.range_at-from.ensures)) good.input.short in
+    c.range_at-from.result c.fixed_size-size.ensures.exact c.range_at-from.ensures))
+        good.input.short in
     let next = FieldsAt-next _ _ _ _ _ c.index-fields-i.result _ c.loop-i.invariant.fields
     c.loop-i-test.true c.index-fields-i.is (range-is c.args.schema.now.trees c.args.fields.now
     c.args.bytes.now c.loop-i.i c.loop-i.place c.index-fields-i.result c.fixed_size-size.result
-    c.range_at-from.result c.fixed_size-size.ensures.exact c.range_at-from.ensures) c.requires.faultless in
+    c.range_at-from.result c.fixed_size-size.ensures.exact c.range_at-from.ensures)
+        c.requires.faultless in
     let all = parts_from c.args.schema.now.trees c.args.fields.now 0 c.args.bytes.now in
     let many : length all ≡ length c.args.fields.now =
     length-parts_from c.args.schema.now.trees c.args.fields.now 0 c.args.bytes.now in
@@ -344,7 +349,8 @@ fields_made-push-requires g t c =
     let next = FieldsAt-next _ _ _ _ _ c.index-fields-i.result _ c.loop-i.invariant.fields
     c.loop-i-test.true c.index-fields-i.is (range-is c.args.schema.now.trees c.args.fields.now
     c.args.bytes.now c.loop-i.i c.loop-i.place c.index-fields-i.result c.fixed_size-size.result
-    c.range_at-from.result c.fixed_size-size.ensures.exact c.range_at-from.ensures) c.requires.faultless in
+    c.range_at-from.result c.fixed_size-size.ensures.exact c.range_at-from.ensures)
+        c.requires.faultless in
     let all = parts_from c.args.schema.now.trees c.args.fields.now 0 c.args.bytes.now in
     let many : length all ≡ length c.args.fields.now =
     length-parts_from c.args.schema.now.trees c.args.fields.now 0 c.args.bytes.now in
@@ -374,7 +380,8 @@ fields_made-loop-i-preserved g t c =
     let next = FieldsAt-next _ _ _ _ _ c.index-fields-i.result _ c.loop-i.invariant.fields
     c.loop-i-test.true c.index-fields-i.is (range-is c.args.schema.now.trees c.args.fields.now
     c.args.bytes.now c.loop-i.i c.loop-i.place c.index-fields-i.result c.fixed_size-size.result
-    c.range_at-from.result c.fixed_size-size.ensures.exact c.range_at-from.ensures) c.requires.faultless in
+    c.range_at-from.result c.fixed_size-size.ensures.exact c.range_at-from.ensures)
+        c.requires.faultless in
     subst (λ n. FirstFields g.M.Maker.gathered c.args.maker.now c.push.new.self c.args.depth
     c.push.new.rows c.args.schema.now.trees c.args.fields.now c.args.bytes.now (c.loop-i.i + 1)
     (c.loop-i.place + n)) head

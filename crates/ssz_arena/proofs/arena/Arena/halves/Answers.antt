@@ -14,7 +14,8 @@ returns-clause-left g c =
     let child = left_known g.H.PairHash.pair_of nodes c.self.invariant c.args.self.now seen
     c.args.id c.requires _ (slice_get-get_or nodes c.args.id.0 (Leaf (record { 0 = [] }))
     (omega (arith, c.requires, ap (λ (ns : List Node). length ns) seen))) in
-    subst (IsNodeOf c.args.self.now) (sym (halves_or _ _ _ c.halves.ensures c.unwrap_or.ensures).0) child
+    subst (IsNodeOf c.args.self.now) (sym (halves_or _ _ _ c.halves.ensures c.unwrap_or.ensures).0)
+        child
 
 pub returns-clause-right : goal.returns-clause-right
 returns-clause-right g c =
@@ -23,7 +24,8 @@ returns-clause-right g c =
     let child = right_known g.H.PairHash.pair_of nodes c.self.invariant c.args.self.now seen
     c.args.id c.requires _ (slice_get-get_or nodes c.args.id.0 (Leaf (record { 0 = [] }))
     (omega (arith, c.requires, ap (λ (ns : List Node). length ns) seen))) in
-    subst (IsNodeOf c.args.self.now) (sym (halves_or _ _ _ c.halves.ensures c.unwrap_or.ensures).1) child
+    subst (IsNodeOf c.args.self.now) (sym (halves_or _ _ _ c.halves.ensures c.unwrap_or.ensures).1)
+        child
 
 pub returns-clause-left_tree : goal.returns-clause-left_tree
 returns-clause-left_tree g c =
@@ -32,7 +34,8 @@ returns-clause-left_tree g c =
     let child = left_tree g.H.PairHash.pair_of nodes c.self.invariant c.args.self.now seen
     c.args.id c.requires _ (slice_get-get_or nodes c.args.id.0 (Leaf (record { 0 = [] }))
     (omega (arith, c.requires, ap (λ (ns : List Node). length ns) seen))) in
-    λ a b is. ap (tree_of c.args.self.now) (halves_or _ _ _ c.halves.ensures c.unwrap_or.ensures).0 ∙ child a b is
+    λ a b is. ap (tree_of c.args.self.now) (halves_or _ _ _ c.halves.ensures c.unwrap_or.ensures).0
+        ∙ child a b is
 
 pub returns-clause-right_tree : goal.returns-clause-right_tree
 returns-clause-right_tree g c =
@@ -41,4 +44,5 @@ returns-clause-right_tree g c =
     let child = right_tree g.H.PairHash.pair_of nodes c.self.invariant c.args.self.now seen
     c.args.id c.requires _ (slice_get-get_or nodes c.args.id.0 (Leaf (record { 0 = [] }))
     (omega (arith, c.requires, ap (λ (ns : List Node). length ns) seen))) in
-    λ a b is. ap (tree_of c.args.self.now) (halves_or _ _ _ c.halves.ensures c.unwrap_or.ensures).1 ∙ child a b is
+    λ a b is. ap (tree_of c.args.self.now) (halves_or _ _ _ c.halves.ensures c.unwrap_or.ensures).1
+        ∙ child a b is
