@@ -102,12 +102,12 @@ zeros_small levels low count gone few small is less =
 -- so the digits behind so many steps
 pub lefts_digits : (levels number count gone : ℕ) → levels < 128 → 2 ^ levels ≤ number
     → number < 2 * 2 ^ levels → count ≡ count_leading_zeros 128 (number - 2 ^ levels)
-        - (128 - levels)
+    - (128 - levels)
     → gone ≤ count
     → (gone ≤ levels) × (digits levels number ≡ steps_left gone ++ digits (levels - gone) number)
 lefts_digits levels number count gone few low high is less =
     let parts = zeros_small levels (number - 2 ^ levels) count gone few (omega (arith, high, low))
-        is less in
+    is less in
     (parts.0, left_digits levels number gone low parts.0 parts.1)
 
 -- from a node so many steps to the left

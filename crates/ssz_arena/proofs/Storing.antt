@@ -722,7 +722,7 @@ has_mark n ks fs total stored few cs ls long links nodes seen i within due =
 module _ (n : ℕ) (ks fs : List ℕ) (total : ℕ) (stored : IsStored n ks fs total) (cs : List Chunk)
     (ls : List ℕ) (long : length cs ≡ n) (links : length ls ≡ total) (i : ℕ) (within : i < n)
     (few : n ≤ 2 ^ 31) (shaped : 0 < shape_of ks i) (marked : 2 ^ 31
-        ≤ get_or ls (first_link ks fs i) 0)
+    ≤ get_or ls (first_link ks fs i) 0)
     (fits : get_or ls (first_link ks fs i) 0 < 2 ^ 32) (chunk : Chunk) where
   abbrev first : ℕ
   first = first_link ks fs i
@@ -801,7 +801,7 @@ module _ (n : ℕ) (ks fs : List ℕ) (total : ℕ) (stored : IsStored n ks fs t
       (right_of shape i (link - 2 ^ 31) r)) two
       ∙ ap (λ l. pair_in chunk l (right_of shape i (link - 2 ^ 31) beyond)) left_is
       ∙ ap (pair_in chunk (left - 2 ^ 31))
-          (right_unmarked shape i link low_place beyond marked fits)
+      (right_unmarked shape i link low_place beyond marked fits)
       ∙ pair_in-kept chunk (left - 2 ^ 31) right (omega (arith, left_is, below))
 
   kept_nodes : nodes_in (set cs i chunk) ks fs unmarked ≡ set (nodes_in cs ks fs ls) i rooted

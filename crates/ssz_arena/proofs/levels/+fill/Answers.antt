@@ -144,8 +144,12 @@ fill_fork-chunk-requires-2 g t c =
 
 pub fill_fork-keep_root-requires-clause-inside : goal.fill_fork-keep_root-requires-clause-inside
 fill_fork-keep_root-requires-clause-inside g t c =
-    omega (arith, c.requires.inside, c.fill_way.ensures.fills.count,
-        c.fill_way-2.ensures.fills.count)
+    omega (
+      arith,
+      c.requires.inside,
+      c.fill_way.ensures.fills.count,
+      c.fill_way-2.ensures.fills.count,
+    )
 
 pub fill_fork-keep_root-requires-clause-due : goal.fill_fork-keep_root-requires-clause-due
 fill_fork-keep_root-requires-clause-due g t c =
@@ -154,7 +158,7 @@ fill_fork-keep_root-requires-clause-due g t c =
     c.requires.arena c.requires.found c.fill_way.new.store.nodes c.fill_way-2.new.store.nodes
     c.pair-chunk.result
     c.fill_way.ensures.fills c.fill_way.ensures.hashed c.fill_way-2.ensures.fills
-        c.fill_way-2.ensures.hashed))
+    c.fill_way-2.ensures.hashed))
 
 pub fill_fork-returns-clause-fills : goal.fill_fork-returns-clause-fills
 fill_fork-returns-clause-fills g t c =
@@ -164,12 +168,12 @@ fill_fork-returns-clause-fills g t c =
     c.requires.arena c.requires.found c.fill_way.new.store.nodes c.fill_way-2.new.store.nodes
     c.pair-chunk.result
     c.fill_way.ensures.fills c.fill_way.ensures.hashed c.fill_way-2.ensures.fills
-        c.fill_way-2.ensures.hashed) in
+    c.fill_way-2.ensures.hashed) in
     rw kept (fills g.H.PairHash.pair_of c.args.store.now.nodes c.args.id.0 c.args.left c.args.right
     c.requires.arena c.requires.found c.fill_way.new.store.nodes c.fill_way-2.new.store.nodes
     c.pair-chunk.result
     c.fill_way.ensures.fills c.fill_way.ensures.hashed c.fill_way-2.ensures.fills
-        c.fill_way-2.ensures.hashed)
+    c.fill_way-2.ensures.hashed)
 
 pub fill_fork-returns-clause-hashed : goal.fill_fork-returns-clause-hashed
 fill_fork-returns-clause-hashed g t c =
@@ -179,12 +183,12 @@ fill_fork-returns-clause-hashed g t c =
     c.requires.arena c.requires.found c.fill_way.new.store.nodes c.fill_way-2.new.store.nodes
     c.pair-chunk.result
     c.fill_way.ensures.fills c.fill_way.ensures.hashed c.fill_way-2.ensures.fills
-        c.fill_way-2.ensures.hashed) in
+    c.fill_way-2.ensures.hashed) in
     rw kept (hashed g.H.PairHash.pair_of c.args.store.now.nodes c.args.id.0 c.args.left c.args.right
     c.requires.arena c.requires.found c.fill_way.new.store.nodes c.fill_way-2.new.store.nodes
     c.pair-chunk.result
     c.fill_way.ensures.fills c.fill_way.ensures.hashed c.fill_way-2.ensures.fills
-        c.fill_way-2.ensures.hashed)
+    c.fill_way-2.ensures.hashed)
 
 pub fill_fork-returns-clause-todo : goal.fill_fork-returns-clause-todo
 fill_fork-returns-clause-todo g t c =
@@ -206,7 +210,7 @@ fill_fork-returns-clause-falls g t c =
     c.requires.arena c.requires.found c.fill_way.new.store.nodes c.fill_way-2.new.store.nodes
     c.pair-chunk.result
     c.fill_way.ensures.fills c.fill_way.ensures.hashed c.fill_way-2.ensures.fills
-        c.fill_way-2.ensures.hashed) in
+    c.fill_way-2.ensures.hashed) in
     rw kept (omega (
       arith,
       c.fill_way.ensures.falls,
@@ -215,7 +219,7 @@ fill_fork-returns-clause-falls g t c =
           c.requires.arena c.requires.found c.fill_way.new.store.nodes c.fill_way-2.new.store.nodes
           c.pair-chunk.result
           c.fill_way.ensures.fills c.fill_way.ensures.hashed c.fill_way-2.ensures.fills
-              c.fill_way-2.ensures.hashed,
+          c.fill_way-2.ensures.hashed,
     ))
 
 pub fill_fork-returns-clause-counts : goal.fill_fork-returns-clause-counts
@@ -226,7 +230,7 @@ fill_fork-returns-clause-counts g t c =
     c.requires.arena c.requires.found c.fill_way.new.store.nodes c.fill_way-2.new.store.nodes
     c.pair-chunk.result
     c.fill_way.ensures.fills c.fill_way.ensures.hashed c.fill_way-2.ensures.fills
-        c.fill_way-2.ensures.hashed) in
+    c.fill_way-2.ensures.hashed) in
     rw kept (counts_all (count_by is_unhashed c.args.store.now.nodes) (count_by is_unhashed
     c.fill_way.new.store.nodes)
     (count_by is_unhashed c.fill_way-2.new.store.nodes) _ _ _ _ _ c.fill_way.ensures.falls
@@ -235,7 +239,7 @@ fill_fork-returns-clause-counts g t c =
     c.requires.arena c.requires.found c.fill_way.new.store.nodes c.fill_way-2.new.store.nodes
     c.pair-chunk.result
     c.fill_way.ensures.fills c.fill_way.ensures.hashed c.fill_way-2.ensures.fills
-        c.fill_way-2.ensures.hashed)
+    c.fill_way-2.ensures.hashed)
     c.fill_way.ensures.counts c.fill_way-2.ensures.counts c.pair-chunk.ensures.counts)
 
 pub fill_fork-returns-clause-arena : goal.fill_fork-returns-clause-arena
@@ -246,7 +250,7 @@ fill_fork-returns-clause-arena g t c =
     c.requires.arena c.requires.found c.fill_way.new.store.nodes c.fill_way-2.new.store.nodes
     c.pair-chunk.result
     c.fill_way.ensures.fills c.fill_way.ensures.hashed c.fill_way-2.ensures.fills
-        c.fill_way-2.ensures.hashed) in
+    c.fill_way-2.ensures.hashed) in
     let p = g.H.PairHash.pair_of in
     let left_inside : c.args.left.0 < length c.fill_way-2.new.store.nodes =
     omega (
@@ -271,15 +275,15 @@ fill_fork-returns-clause-arena g t c =
     let left_root : c.chunk.result.now.0 ≡ root p (tree c.args.store.now.nodes c.args.left.0) =
     value_read p c.fill_way-2.new.store.nodes c.args.left.0 _ c.chunk.result.now
     c.fill_way-2.ensures.arena left_none
-        (slice_get-get_or c.fill_way-2.new.store.nodes c.args.left.0
+    (slice_get-get_or c.fill_way-2.new.store.nodes c.args.left.0
     (Leaf (record { 0 = [] })) left_inside) c.chunk.ensures
     ∙ ap (λ ts. root p (get_or ts c.args.left.0 (leaf [])))
     (c.fill_way-2.ensures.fills.trees ∙ c.fill_way.ensures.fills.trees) in
     let right_root : c.chunk-2.result.now.0
-        ≡ root p (tree c.fill_way.new.store.nodes c.args.right.0) =
+    ≡ root p (tree c.fill_way.new.store.nodes c.args.right.0) =
     value_read p c.fill_way-2.new.store.nodes c.args.right.0 _ c.chunk-2.result.now
     c.fill_way-2.ensures.arena c.fill_way-2.ensures.hashed
-        (slice_get-get_or c.fill_way-2.new.store.nodes
+    (slice_get-get_or c.fill_way-2.new.store.nodes
     c.args.right.0
     (Leaf (record { 0 = [] })) right_inside) c.chunk-2.ensures
     ∙ ap (λ ts. root p (get_or ts c.args.right.0 (leaf []))) c.fill_way-2.ensures.fills.trees in
@@ -288,7 +292,7 @@ fill_fork-returns-clause-arena g t c =
     c.requires.arena c.requires.found c.fill_way.new.store.nodes c.fill_way-2.new.store.nodes
     c.pair-chunk.result
     c.fill_way.ensures.fills c.fill_way.ensures.hashed c.fill_way-2.ensures.fills
-        c.fill_way-2.ensures.hashed
+    c.fill_way-2.ensures.hashed
     (c.pair-chunk.ensures.value ∙ ap (λ a. p a c.chunk-2.result.now.0) left_root
     ∙ ap (p (root p (tree c.args.store.now.nodes c.args.left.0))) right_root)
     c.fill_way-2.ensures.arena)

@@ -81,7 +81,7 @@ chosen-returns-in-Some-None t c =
     record {
       value = chosen_none_is (get_or c.args.bytes.now 0 0)
           ∙ sym (union_no_value c.args.schema.now.trees c.args.options.now c.args.bytes.now some
-              at);
+          at);
       formed = none_formed (options_over c.args.schema.now.trees c.args.options.now)
           (get_or c.args.bytes.now 0 0);
     }

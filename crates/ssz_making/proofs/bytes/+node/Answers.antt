@@ -276,7 +276,7 @@ fields_made-slice_bounds-part-count g t c =
     let within = FieldsAt-within c.args.schema.now.trees c.args.fields.now c.args.bytes.now
     c.loop-i.i c.loop-i.place c.index-fields-i.result c.range_at-from.result
     c.loop-i.invariant.fields c.loop-i-test.true c.index-fields-i.is
-        (range-is c.args.schema.now.trees c.args.fields.now
+    (range-is c.args.schema.now.trees c.args.fields.now
     c.args.bytes.now c.loop-i.i c.loop-i.place c.index-fields-i.result c.fixed_size-size.result
     c.range_at-from.result c.fixed_size-size.ensures.exact c.range_at-from.ensures) in
     omega (arith, within.0, within.1)
@@ -286,7 +286,7 @@ fields_made-slice_bounds-part-start g t c =
     let within = FieldsAt-within c.args.schema.now.trees c.args.fields.now c.args.bytes.now
     c.loop-i.i c.loop-i.place c.index-fields-i.result c.range_at-from.result
     c.loop-i.invariant.fields c.loop-i-test.true c.index-fields-i.is
-        (range-is c.args.schema.now.trees c.args.fields.now
+    (range-is c.args.schema.now.trees c.args.fields.now
     c.args.bytes.now c.loop-i.i c.loop-i.place c.index-fields-i.result c.fixed_size-size.result
     c.range_at-from.result c.fixed_size-size.ensures.exact c.range_at-from.ensures) in
     omega (arith, within.0, within.1)
@@ -296,7 +296,7 @@ fields_made-slice_bounds-part-end g t c =
     let within = FieldsAt-within c.args.schema.now.trees c.args.fields.now c.args.bytes.now
     c.loop-i.i c.loop-i.place c.index-fields-i.result c.range_at-from.result
     c.loop-i.invariant.fields c.loop-i-test.true c.index-fields-i.is
-        (range-is c.args.schema.now.trees c.args.fields.now
+    (range-is c.args.schema.now.trees c.args.fields.now
     c.args.bytes.now c.loop-i.i c.loop-i.place c.index-fields-i.result c.fixed_size-size.result
     c.range_at-from.result c.fixed_size-size.ensures.exact c.range_at-from.ensures) in
     omega (arith, within.0, within.1)
@@ -323,12 +323,12 @@ fields_made-bytes_part-out-requires g t c κs within =
     (sym (range-is c.args.schema.now.trees c.args.fields.now
     c.args.bytes.now c.loop-i.i c.loop-i.place c.index-fields-i.result c.fixed_size-size.result
     c.range_at-from.result c.fixed_size-size.ensures.exact c.range_at-from.ensures))
-        good.input.short in
+    good.input.short in
     let next = FieldsAt-next _ _ _ _ _ c.index-fields-i.result _ c.loop-i.invariant.fields
     c.loop-i-test.true c.index-fields-i.is (range-is c.args.schema.now.trees c.args.fields.now
     c.args.bytes.now c.loop-i.i c.loop-i.place c.index-fields-i.result c.fixed_size-size.result
     c.range_at-from.result c.fixed_size-size.ensures.exact c.range_at-from.ensures)
-        c.requires.faultless in
+    c.requires.faultless in
     let all = parts_from c.args.schema.now.trees c.args.fields.now 0 c.args.bytes.now in
     let many : length all ≡ length c.args.fields.now =
     length-parts_from c.args.schema.now.trees c.args.fields.now 0 c.args.bytes.now in
@@ -350,7 +350,7 @@ fields_made-push-requires g t c =
     c.loop-i-test.true c.index-fields-i.is (range-is c.args.schema.now.trees c.args.fields.now
     c.args.bytes.now c.loop-i.i c.loop-i.place c.index-fields-i.result c.fixed_size-size.result
     c.range_at-from.result c.fixed_size-size.ensures.exact c.range_at-from.ensures)
-        c.requires.faultless in
+    c.requires.faultless in
     let all = parts_from c.args.schema.now.trees c.args.fields.now 0 c.args.bytes.now in
     let many : length all ≡ length c.args.fields.now =
     length-parts_from c.args.schema.now.trees c.args.fields.now 0 c.args.bytes.now in
@@ -381,7 +381,7 @@ fields_made-loop-i-preserved g t c =
     c.loop-i-test.true c.index-fields-i.is (range-is c.args.schema.now.trees c.args.fields.now
     c.args.bytes.now c.loop-i.i c.loop-i.place c.index-fields-i.result c.fixed_size-size.result
     c.range_at-from.result c.fixed_size-size.ensures.exact c.range_at-from.ensures)
-        c.requires.faultless in
+    c.requires.faultless in
     subst (λ n. FirstFields g.M.Maker.gathered c.args.maker.now c.push.new.self c.args.depth
     c.push.new.rows c.args.schema.now.trees c.args.fields.now c.args.bytes.now (c.loop-i.i + 1)
     (c.loop-i.place + n)) head

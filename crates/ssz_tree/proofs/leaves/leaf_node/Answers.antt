@@ -11,7 +11,7 @@ returns-then-is_zero g c =
     let e = c.zero.ensures in
     let zero : c.args.chunk.now.0 ≡ zero_chunk =
     (bytes_eq-Decides c.args.chunk.now.0 zero_chunk).0 (sym c.is_zero.ensures ∙ c.if-is_zero.true)
-        in
+    in
     subst (λ bytes. MakesNode c.args.arena.now c.args.arena.now (chunk_part bytes) c.zero.result)
     (sym zero) (makes_zero c.args.arena.now c.zero.result e.node e.tree e.todo)
 

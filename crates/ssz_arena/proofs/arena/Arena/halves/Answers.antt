@@ -15,7 +15,7 @@ returns-clause-left g c =
     c.args.id c.requires _ (slice_get-get_or nodes c.args.id.0 (Leaf (record { 0 = [] }))
     (omega (arith, c.requires, ap (λ (ns : List Node). length ns) seen))) in
     subst (IsNodeOf c.args.self.now) (sym (halves_or _ _ _ c.halves.ensures c.unwrap_or.ensures).0)
-        child
+    child
 
 pub returns-clause-right : goal.returns-clause-right
 returns-clause-right g c =
@@ -25,7 +25,7 @@ returns-clause-right g c =
     c.args.id c.requires _ (slice_get-get_or nodes c.args.id.0 (Leaf (record { 0 = [] }))
     (omega (arith, c.requires, ap (λ (ns : List Node). length ns) seen))) in
     subst (IsNodeOf c.args.self.now) (sym (halves_or _ _ _ c.halves.ensures c.unwrap_or.ensures).1)
-        child
+    child
 
 pub returns-clause-left_tree : goal.returns-clause-left_tree
 returns-clause-left_tree g c =
@@ -35,7 +35,7 @@ returns-clause-left_tree g c =
     c.args.id c.requires _ (slice_get-get_or nodes c.args.id.0 (Leaf (record { 0 = [] }))
     (omega (arith, c.requires, ap (λ (ns : List Node). length ns) seen))) in
     λ a b is. ap (tree_of c.args.self.now) (halves_or _ _ _ c.halves.ensures c.unwrap_or.ensures).0
-        ∙ child a b is
+    ∙ child a b is
 
 pub returns-clause-right_tree : goal.returns-clause-right_tree
 returns-clause-right_tree g c =
@@ -45,4 +45,4 @@ returns-clause-right_tree g c =
     c.args.id c.requires _ (slice_get-get_or nodes c.args.id.0 (Leaf (record { 0 = [] }))
     (omega (arith, c.requires, ap (λ (ns : List Node). length ns) seen))) in
     λ a b is. ap (tree_of c.args.self.now) (halves_or _ _ _ c.halves.ensures c.unwrap_or.ensures).1
-        ∙ child a b is
+    ∙ child a b is

@@ -18,11 +18,11 @@ invariant_of-self c = (
       c.self.inside.firsts.items (vec_len c.self.inside.links) c.self.invariant.0
       c.begin-before.result
       c.len.result c.len-in-Leaf.result c.begin-before.new.firsts.items c.len.ensures
-          c.len-in-Leaf.ensures
+      c.len-in-Leaf.ensures
       c.begin-before.ensures.blocks c.begin-before.ensures.before 0 (4 * c.begin-before.result)
       (omega arith)
       (λ none one. absurd (omega (arith, one))) (omega arith) _ _ _
-          c.push_reserved-in-Leaf.ensures.len
+      c.push_reserved-in-Leaf.ensures.len
       c.push_reserved.ensures.items (omega arith),
   omega (
     arith,
@@ -43,13 +43,13 @@ returns-in-Leaf-clause-nodes c = nodes-as (vec_len c.self.inside.chunks) c.self.
     c.self.inside.firsts.items (vec_len c.self.inside.links) c.self.invariant.0
     c.begin-before.result
     c.len.result c.len-in-Leaf.result c.begin-before.new.firsts.items c.len.ensures
-        c.len-in-Leaf.ensures
+    c.len-in-Leaf.ensures
     c.begin-before.ensures.blocks c.begin-before.ensures.before 0 (4 * c.begin-before.result)
     (omega arith)
     (λ none one. absurd (omega (arith, one))) (omega arith) c.self.inside.chunks.items
     c.self.inside.links.items [] c.in-Leaf.chunk
     (omega (arith, c.self.inside.chunks.ok.0)) (omega (arith, c.self.inside.links.ok.0)) _ _ _
     c.push_reserved-in-Leaf.ensures.items c.push_reserved.ensures.items (sym (append-nil _))
-        c.args.node
+    c.args.node
     (sym c.in-Leaf.is) _
     (ap (λ (a : ArenaContent). a.nodes) c.self.view_is)
