@@ -4,6 +4,7 @@ ghost use Rattle.ssz_schema.specs.Types.{container, list, union, vector};
 ghost use Rattle.ssz_schema.specs.Legal.{IsLegal};
 ghost use Rattle.ssz_schema.specs.Unfolding.{type_of, fields_over, options_over, IsBelow};
 ghost use Rattle.ssz_schema.specs.Sizes.{basic_size};
+ghost use Rattle.ssz_value.specs.declared.value.Value.TheVariants.{Seq};
 ghost use Rattle.ssz_value.specs.Values.{sequence, values};
 ghost use Rattle.ssz_value.specs.Shapes.{StandAlike, StandsBehind};
 ghost use Rattle.ssz_value.specs.Standing.{Stands};
@@ -50,7 +51,10 @@ pub fn read_value<H: PairHash>(
         Ty::Vector(elem, n) => read_sequence(alloc, arena, schema, *elem, top, *n),
         Ty::List(elem, _) => read_list(alloc, arena, schema, id, *elem, node),
         Ty::Union(options) => read_chosen(alloc, arena, schema, id, options.as_slice(), node),
-        Ty::Container(fields) => read_fields(alloc, arena, schema, id, fields.as_slice(), top),
+        Ty::Container(fields) => {
+            let parts = read_fields(alloc, arena, schema, id, fields.as_slice(), top)?;
+            Ok(Value::Seq(parts))
+        }
     }
 }
 
@@ -77,8 +81,8 @@ fn put<H: PairHash>(
     if let Ty::Container(fields) = schema.ty(id) {
         let depth = schema.depth(id);
         let fields = fields.as_slice();
-        let value = read_fields(alloc, arena, schema, id, fields, Top { node, depth })?;
-        parts.push_reserved(value);
+        let fields = read_fields(alloc, arena, schema, id, fields, Top { node, depth })?;
+        parts.push_reserved(Value::Seq(fields));
         return Ok(());
     }
     put_field(alloc, arena, schema, id, node, parts)
@@ -272,7 +276,7 @@ fn read_elements<H: PairHash>(
     Ok(parts)
 }
 
-// Of these fields, whose types stand before id, in a full tree.
+// The parts of a container of these fields, whose types stand before id, in a full tree.
 #[cycle(value)]
 #[inline(always)]
 fn read_fields<H: PairHash>(
@@ -282,14 +286,14 @@ fn read_fields<H: PairHash>(
     id: TypeId,
     fields: &[(Name, TypeId)],
     top: Top,
-) -> Result<Value, AllocError>
+) -> Result<Vec<Value>, AllocError>
     requires known { id < length schema.now.trees }
     requires before { AllByRecursion (λ part. part.1 < id) fields.now }
     requires depth { top.depth < 64 }
     requires node { IsNodeOf arena.now top.node }
     ensures { let fs = fields_over schema.now.trees fields.now in
-        ForFields fs top.depth (tree_of arena.now top.node)
-        (λ vs. IfOk result (Stands (container fs) (sequence (values vs)))) }
+        ForFields fs top.depth (tree_of arena.now top.node) (λ vs. IfOk result
+        (λ parts. Stands (container fs) (sequence (values vs)) (Seq parts))) }
 {
     let mut parts = Vec::with_capacity(alloc, fields.len())?;
     let row = Row::of(arena, top);
@@ -297,7 +301,7 @@ fn read_fields<H: PairHash>(
         let part = row.place(arena, top, i);
         put_field(alloc, arena, schema, field.1, part, &mut parts)?;
     }
-    Ok(Value::Seq(parts))
+    Ok(parts)
 }
 
 // Of a union of these options, whose types stand before id.

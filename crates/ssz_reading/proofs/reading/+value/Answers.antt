@@ -8,7 +8,7 @@ use Rattle.ssz_value.specs.declared.value.Value.{Value}
 use Rattle.ssz_value.specs.Values.{sequence, values}
 use Rattle.ssz_value.specs.Standing.{Stands}
 use Rattle.ssz_value.specs.Shapes.{StandsBehind}
-use Rattle.ssz_value.specs.declared.value.Value.TheVariants.{Bits}
+use Rattle.ssz_value.specs.declared.value.Value.TheVariants.{Bits, Seq}
 use Rattle.ssz_value.proofs.PartLemmas.{Part, part_known}
 use Rattle.ssz_packing.proofs.Options.{below_at}
 use Rattle.ssz_arena.specs.Content.{tree_of}
@@ -234,18 +234,20 @@ read_value-returns-in-List g t c =
     ap (tree_over c.args.schema.now.trees) (sym c.in-List.is) ∙ c.ty.ensures.form in
     c.read_list.ensures c.in-List.field-1 (sym form)
 
-pub read_value-returns-in-Container : goal.read_value-returns-in-Container
-read_value-returns-in-Container g t c =
+pub read_value-returns-in_ok-parts-in-Container :
+    goal.read_value-returns-in_ok-parts-in-Container
+read_value-returns-in_ok-parts-in-Container g t c =
     let form : container (fields_over c.args.schema.now.trees c.as_slice-in-Container.result.now)
     ≡ type_of c.args.schema.now c.args.id =
     ap (λ fs. container (fields_over c.args.schema.now.trees fs))
     c.as_slice-in-Container.ensures.value
     ∙ ap (tree_over c.args.schema.now.trees) (sym c.in-Container.is) ∙ c.ty.ensures.form in
     subst (λ ty. ForValue ty (tree_of c.args.arena.now c.args.node)
-    (λ v. Reads ty v c.read_fields.result)) form
+    (λ v. Stands ty v (Seq c.in_ok-parts-in-Container.parts))) form
     (container_read (fields_over c.args.schema.now.trees c.as_slice-in-Container.result.now)
-    c.depth-depth.result (tree_of c.args.arena.now c.args.node) c.read_fields.result
-    (c.depth-depth.ensures.exact ∙ ap depth (sym form)) c.read_fields.ensures)
+    c.depth-depth.result (tree_of c.args.arena.now c.args.node)
+    (Ok (Seq c.in_ok-parts-in-Container.parts))
+    (c.depth-depth.ensures.exact ∙ ap depth (sym form)) c.in_ok-parts-in-Container.ensures)
 
 pub read_chosen-read_value-requires : goal.read_chosen-read_value-requires
 read_chosen-read_value-requires g t c =
@@ -311,11 +313,12 @@ put-returns-in-Container-clause-put g t c =
     ap (λ fs. container (fields_over c.args.schema.now.trees fs)) c.as_slice-fields.ensures.value
     ∙ ap (tree_over c.args.schema.now.trees) (sym c.in-Container.is) ∙ c.ty.ensures.form in
     λ v h. record {
-      value = c.in_ok-value.value;
+      value = Seq c.in_ok-fields.fields;
       items = c.push_reserved.ensures.items;
       stands = subst (λ ty. ForValue ty (tree_of c.args.arena.now c.args.node)
-          (λ w. Stands ty w c.in_ok-value.value)) form
+          (λ w. Stands ty w (Seq c.in_ok-fields.fields))) form
           (container_read (fields_over c.args.schema.now.trees c.as_slice-fields.result.now)
-          c.depth-depth.result (tree_of c.args.arena.now c.args.node) (Ok c.in_ok-value.value)
-          (c.depth-depth.ensures.exact ∙ ap depth (sym form)) c.in_ok-value.ensures) v h;
+          c.depth-depth.result (tree_of c.args.arena.now c.args.node)
+          (Ok (Seq c.in_ok-fields.fields))
+          (c.depth-depth.ensures.exact ∙ ap depth (sym form)) c.in_ok-fields.ensures) v h;
     }
