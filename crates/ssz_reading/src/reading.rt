@@ -58,37 +58,8 @@ pub fn read_value<H: PairHash>(
     }
 }
 
-// Puts the value whose tree the node has behind the others, for which there is room: of an element,
-// so that a container, too, is built in its place without a call.
-#[cycle(value)]
-#[inline(always)]
-fn put<H: PairHash>(
-    alloc: Global,
-    arena: &Arena<H>,
-    schema: &Schema,
-    id: TypeId,
-    node: NodeId,
-    parts: &mut Vec<Value>,
-) -> Result<(), AllocError>
-    requires known { id < length schema.now.trees }
-    requires node { IsNodeOf arena.now node }
-    requires room { vec_len parts.old < vec_capacity parts.old }
-    ensures put { let t = type_of schema.now id in ForValue t (tree_of arena.now node)
-        (λ v. OnOk result (StandsBehind t v parts.old.items parts.new.items)) }
-    ensures len { OnOk result (vec_len parts.new ≡ vec_len parts.old + 1) }
-    ensures capacity { OnOk result (vec_capacity parts.new ≡ vec_capacity parts.old) }
-{
-    if let Ty::Container(fields) = schema.ty(id) {
-        let depth = schema.depth(id);
-        let fields = fields.as_slice();
-        let fields = read_fields(alloc, arena, schema, id, fields, Top { node, depth })?;
-        parts.push_reserved(Value::Seq(fields));
-        return Ok(());
-    }
-    put_field(alloc, arena, schema, id, node, parts)
-}
-
-// The same of a field: numbers, booleans, vectors and lists, the commonest, without a call.
+// Puts the value whose tree the node has behind the others, for which there is room: numbers,
+// booleans, vectors and lists, the commonest, without a call.
 #[cycle(value)]
 #[inline(always)]
 fn put_field<H: PairHash>(
@@ -243,13 +214,73 @@ fn read_sequence<H: PairHash>(
             Ok(Value::Seq(parts))
         }
         None => {
-            let parts = read_elements(alloc, arena, schema, elem, top, count)?;
+            let parts = read_composite(alloc, arena, schema, elem, top, count)?;
             Ok(Value::Seq(parts))
         }
     }
 }
 
 // Of count elements of a composite type.
+#[cycle(value)]
+#[inline(always)]
+fn read_composite<H: PairHash>(
+    alloc: Global,
+    arena: &Arena<H>,
+    schema: &Schema,
+    elem: TypeId,
+    top: Top,
+    count: u64,
+) -> Result<Vec<Value>, AllocError>
+    requires known { elem < length schema.now.trees }
+    requires composite { basic_size (type_of schema.now elem) ≡ None }
+    requires depth { top.depth < 64 }
+    requires node { IsNodeOf arena.now top.node }
+    ensures { let t = type_of schema.now elem in
+        ForElements t top.depth count (tree_of arena.now top.node)
+        (λ vs. IfOk result (λ parts. StandAlike t vs parts.items)) }
+{
+    if let Ty::Container(fields) = schema.ty(elem) {
+        let fields = fields.as_slice();
+        return read_containers(alloc, arena, schema, elem, fields, top, count);
+    }
+    read_elements(alloc, arena, schema, elem, top, count)
+}
+
+// Of count containers of these fields, which are looked up once for all. Seven parameters, since
+// the fields are asked for with the type.
+#[cycle(value)]
+#[inline(never)]
+fn read_containers<H: PairHash>(
+    alloc: Global,
+    arena: &Arena<H>,
+    schema: &Schema,
+    id: TypeId,
+    fields: &[(Name, TypeId)],
+    top: Top,
+    count: u64,
+) -> Result<Vec<Value>, AllocError>
+    requires known { id < length schema.now.trees }
+    requires form { type_of schema.now id ≡ container (fields_over schema.now.trees fields.now) }
+    requires before { AllByRecursion (λ part. part.1 < id) fields.now }
+    requires composite { basic_size (type_of schema.now id) ≡ None }
+    requires depth { top.depth < 64 }
+    requires node { IsNodeOf arena.now top.node }
+    ensures { let t = type_of schema.now id in
+        ForElements t top.depth count (tree_of arena.now top.node)
+        (λ vs. IfOk result (λ parts. StandAlike t vs parts.items)) }
+{
+    let depth = schema.depth(id);
+    let mut parts = Vec::with_capacity(alloc, count as usize)?;
+    let mut places = Places::new(top);
+    for _i in 0..count {
+        let node = places.next(arena);
+        let inner = read_fields(alloc, arena, schema, id, fields, Top { node, depth })?;
+        parts.push_reserved(Value::Seq(inner));
+    }
+    Ok(parts)
+}
+
+// Of count elements that are neither basic nor containers.
 #[cycle(value)]
 fn read_elements<H: PairHash>(
     alloc: Global,
@@ -271,7 +302,7 @@ fn read_elements<H: PairHash>(
     let mut places = Places::new(top);
     for _i in 0..count {
         let part = places.next(arena);
-        put(alloc, arena, schema, elem, part, &mut parts)?;
+        put_field(alloc, arena, schema, elem, part, &mut parts)?;
     }
     Ok(parts)
 }

@@ -31,6 +31,19 @@ read_elements-loop-i-init g t c = record {
   room = c.in_ok-parts.ensures.capacity;
 }
 
+pub read_containers-loop-i-init : goal.read_containers-loop-i-init
+read_containers-loop-i-init g t c = record {
+  nodes = c.new-places.ensures.nodes c.args.arena.now c.requires.node;
+  values = λ vs are. subst (λ (parts : List Value). ElementsRead c.args.arena.now
+      (type_of c.args.schema.now c.args.id) vs 0 parts c.new-places.result)
+      (sym c.in_ok-parts.ensures.items)
+      (ElementsRead-start c.args.arena.now (type_of c.args.schema.now c.args.id) c.args.top.depth
+      c.args.count vs c.args.top.node c.new-places.result c.requires.composite are
+      (c.new-places.ensures.holds c.args.arena.now));
+  count = c.in_ok-parts.ensures.len;
+  room = c.in_ok-parts.ensures.capacity;
+}
+
 pub read_fields-loop-i-init : goal.read_fields-loop-i-init
 read_fields-loop-i-init g t c = record {
   values = λ vs are.
@@ -47,13 +60,13 @@ pub read_elements-loop-i-preserved : goal.read_elements-loop-i-preserved
 read_elements-loop-i-preserved g t c = record {
   nodes = c.next-part.ensures.nodes;
   values = λ vs are. ElementsRead-more c.args.arena.now (type_of c.args.schema.now c.args.elem) vs
-      c.loop-i._i c.loop-i.parts.items c.put.new.parts.items
+      c.loop-i._i c.loop-i.parts.items c.put_field.new.parts.items
       c.loop-i.places c.next-part.new.self c.next-part.result (c.loop-i.invariant.values vs are)
       (omega (arith, are.many, c.loop-i-test.true))
       (record { tree = c.next-part.ensures.tree; rest = c.next-part.ensures.rest })
-      c.in_ok-put.ensures.put;
-  count = omega (arith, c.in_ok-put.ensures.len, c.loop-i.invariant.count);
-  room = omega (arith, c.in_ok-put.ensures.capacity, c.loop-i.invariant.room);
+      c.in_ok-put_field.ensures.put;
+  count = omega (arith, c.in_ok-put_field.ensures.len, c.loop-i.invariant.count);
+  room = omega (arith, c.in_ok-put_field.ensures.capacity, c.loop-i.invariant.room);
 }
 
 pub read_elements-returns : goal.read_elements-returns
@@ -61,6 +74,49 @@ read_elements-returns g t c = λ vs are.
     ElementsRead-end c.args.arena.now (type_of c.args.schema.now c.args.elem) vs c.loop-i._i
     c.loop-i.parts.items c.loop-i.places (c.loop-i.invariant.values vs are)
     (omega (arith, are.many, c.loop-i-test.false))
+
+pub read_containers-loop-i-preserved : goal.read_containers-loop-i-preserved
+read_containers-loop-i-preserved g t c = record {
+  nodes = c.next-node.ensures.nodes;
+  values = λ vs are. ElementsRead-more c.args.arena.now (type_of c.args.schema.now c.args.id) vs
+      c.loop-i._i c.loop-i.parts.items c.push_reserved.new.self.items
+      c.loop-i.places c.next-node.new.self c.next-node.result (c.loop-i.invariant.values vs are)
+      (omega (arith, are.many, c.loop-i-test.true))
+      (record { tree = c.next-node.ensures.tree; rest = c.next-node.ensures.rest })
+      (λ v h. record {
+        value = Seq c.in_ok-inner.inner;
+        items = c.push_reserved.ensures.items;
+        stands = subst (λ ty. ForValue ty (tree_of c.args.arena.now c.next-node.result)
+            (λ w. Stands ty w (Seq c.in_ok-inner.inner))) (sym c.requires.form)
+            (container_read (fields_over c.args.schema.now.trees c.args.fields.now)
+            c.depth-depth.result (tree_of c.args.arena.now c.next-node.result)
+            (Ok (Seq c.in_ok-inner.inner))
+            (c.depth-depth.ensures.exact ∙ ap depth c.requires.form)
+            c.in_ok-inner.ensures) v h;
+      });
+  count = omega (arith, c.push_reserved.ensures.len, c.loop-i.invariant.count);
+  room = omega (arith, c.push_reserved.ensures.capacity, c.loop-i.invariant.room);
+}
+
+pub read_containers-returns : goal.read_containers-returns
+read_containers-returns g t c = λ vs are.
+    ElementsRead-end c.args.arena.now (type_of c.args.schema.now c.args.id) vs c.loop-i._i
+    c.loop-i.parts.items c.loop-i.places (c.loop-i.invariant.values vs are)
+    (omega (arith, are.many, c.loop-i-test.false))
+
+pub read_composite-read_containers-requires : goal.read_composite-read_containers-requires
+read_composite-read_containers-requires g t c =
+    let form : type_of c.args.schema.now c.args.elem
+    ≡ container (fields_over c.args.schema.now.trees c.as_slice-fields.result.now) =
+    sym (ap (λ fs. container (fields_over c.args.schema.now.trees fs))
+    c.as_slice-fields.ensures.value
+    ∙ ap (tree_over c.args.schema.now.trees) (sym c.in-Container.is) ∙ c.ty.ensures.form) in
+    let before : AllByRecursion (λ (part : Part). part.1 < c.args.elem)
+    c.as_slice-fields.result.now =
+    subst (AllByRecursion (λ (part : Part). part.1 < c.args.elem))
+    (sym c.as_slice-fields.ensures.value)
+    (subst (AreBelow c.args.elem) c.in-Container.is c.ty.ensures.before) in
+    search rules
 
 pub read_fields-put_field-requires : goal.read_fields-put_field-requires
 read_fields-put_field-requires g t c =
@@ -305,20 +361,3 @@ put_field-returns-in-List-clause-put g t c =
     (λ vs are. list_behind elem c.in-List.field-1 c.mixed_parts-count.result.1
     (sequence (values vs)) c.args.parts.now.items c.put_sequence-in-List.new.parts.items
     c.put_sequence-in-List.result (c.put_sequence-in-List.ensures.put vs are)))
-
-pub put-returns-in-Container-clause-put : goal.put-returns-in-Container-clause-put
-put-returns-in-Container-clause-put g t c =
-    let form : container (fields_over c.args.schema.now.trees c.as_slice-fields.result.now)
-    ≡ type_of c.args.schema.now c.args.id =
-    ap (λ fs. container (fields_over c.args.schema.now.trees fs)) c.as_slice-fields.ensures.value
-    ∙ ap (tree_over c.args.schema.now.trees) (sym c.in-Container.is) ∙ c.ty.ensures.form in
-    λ v h. record {
-      value = Seq c.in_ok-fields.fields;
-      items = c.push_reserved.ensures.items;
-      stands = subst (λ ty. ForValue ty (tree_of c.args.arena.now c.args.node)
-          (λ w. Stands ty w (Seq c.in_ok-fields.fields))) form
-          (container_read (fields_over c.args.schema.now.trees c.as_slice-fields.result.now)
-          c.depth-depth.result (tree_of c.args.arena.now c.args.node)
-          (Ok (Seq c.in_ok-fields.fields))
-          (c.depth-depth.ensures.exact ∙ ap depth (sym form)) c.in_ok-fields.ensures) v h;
-    }
