@@ -6,3 +6,4 @@ pub mod Formed
 pub mod Chunked
 pub mod Placed
 pub mod Spreading
+pub mod FewPlaces

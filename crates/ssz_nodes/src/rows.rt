@@ -30,7 +30,11 @@ impl Row {
             → IsRowOf arena.now top.depth (tree_of arena.now top.node) result.nodes }
     {
         let mut nodes = [top.node; NEAR];
-        if top.depth <= NEAR_DEPTH {
+        if top.depth == 2 {
+            four_places(arena, top.node, &mut nodes);
+        } else if top.depth == 1 {
+            two_places(arena, top.node, &mut nodes);
+        } else if top.depth <= NEAR_DEPTH {
             spread(arena, top.depth, &mut nodes);
         }
         Row { nodes }
@@ -57,6 +61,41 @@ impl Row {
         }
         top.node
     }
+}
+
+// Puts both places of a full tree of depth 1 at the front of a row. The fields of most containers
+// stand in a tree of depth 1 or 2: no loop is run for them, and no call made.
+#[inline(always)]
+fn two_places<H: PairHash>(arena: &Arena<H>, node: NodeId, row: &mut [NodeId])
+    requires room { 2 ≤ length row.old }
+    requires node { IsNodeOf arena.now node }
+    requires nodes { All (IsNodeOf arena.now) row.old }
+    ensures long { length row.new ≡ length row.old }
+    ensures nodes { All (IsNodeOf arena.now) row.new }
+    ensures places { IsRowOf arena.now 1 (tree_of arena.now node) row.new }
+{
+    let (first, second) = arena.halves(node);
+    row[0] = first;
+    row[1] = second;
+}
+
+// Puts the four places of a full tree of depth 2 there.
+#[inline(always)]
+fn four_places<H: PairHash>(arena: &Arena<H>, node: NodeId, row: &mut [NodeId])
+    requires room { 4 ≤ length row.old }
+    requires node { IsNodeOf arena.now node }
+    requires nodes { All (IsNodeOf arena.now) row.old }
+    ensures long { length row.new ≡ length row.old }
+    ensures nodes { All (IsNodeOf arena.now) row.new }
+    ensures places { IsRowOf arena.now 2 (tree_of arena.now node) row.new }
+{
+    let (left, right) = arena.halves(node);
+    let (first, second) = arena.halves(left);
+    let (third, fourth) = arena.halves(right);
+    row[0] = first;
+    row[1] = second;
+    row[2] = third;
+    row[3] = fourth;
 }
 
 // Comes down from the first node of the row to all places of its full tree of this depth, which
