@@ -4,8 +4,8 @@ use Rattle.ssz_chunk.specs.Tree.{Tree, pair, merkle_tree, place}
 use Rattle.ssz_chunk.proofs.Trees.{full-zero, full-suc}
 use Rattle.ssz_chunk.proofs.FullTrees.{place-take, place-drop}
 use Rattle.ssz_arena.specs.declared.node.NodeId.{NodeId}
-use Rattle.ssz_arena.specs.Content.{ArenaContent, tree_of}
-use Rattle.ssz_nodes.specs.Ahead.{IsRowOf, ahead_node}
+use Rattle.ssz_arena.specs.Content.{ArenaContent, row_node, tree_of}
+use Rattle.ssz_nodes.specs.Ahead.{IsRowOf}
 
 -- these are the children of the node, if it is a pair
 pub record HaveHalves (arena : ArenaContent) (node first second : NodeId) : Type 0 where
@@ -49,10 +49,10 @@ pub IsRowOf-two : (arena : ArenaContent) (node first second : NodeId) (row : Lis
     → 2 ≤ length row → HaveHalves arena node first second
     → IsRowOf arena 1 (tree_of arena node) (set (set row 0 first) 1 second)
 IsRowOf-two arena node first second row room h trees is i below =
-    ap (λ r. tree_of arena (ahead_node r i)) (two_put row first second room) ∙ each i below
+    ap (λ r. tree_of arena (row_node r i)) (two_put row first second room) ∙ each i below
   where
     each : (i : ℕ) → i < 2
-        → tree_of arena (ahead_node (first ∷ second ∷ drop 2 row) i) ≡ place trees i
+        → tree_of arena (row_node (first ∷ second ∷ drop 2 row) i) ≡ place trees i
     each zero below = first_place arena node first second h trees is
     each (suc zero) below = second_place arena node first second h trees is
     each (suc (suc i)) below = absurd (omega (arith, below))
@@ -64,7 +64,7 @@ pub IsRowOf-four : (arena : ArenaContent) (node left right first second third fo
     → IsRowOf arena 2 (tree_of arena node)
     (set (set (set (set row 0 first) 1 second) 2 third) 3 fourth)
 IsRowOf-four arena node left right first second third fourth row room both front back trees is i
-    below = ap (λ r. tree_of arena (ahead_node r i))
+    below = ap (λ r. tree_of arena (row_node r i))
     (four_put row first second third fourth room) ∙ each i below
   where
     low : tree_of arena left ≡ merkle_tree 1 (take 2 trees)
@@ -74,7 +74,7 @@ IsRowOf-four arena node left right first second third fourth row room both front
     high = second_half arena node left right both trees 1 is
 
     each : (i : ℕ) → i < 4 → tree_of arena
-        (ahead_node (first ∷ second ∷ third ∷ fourth ∷ drop 4 row) i) ≡ place trees i
+        (row_node (first ∷ second ∷ third ∷ fourth ∷ drop 4 row) i) ≡ place trees i
     each zero below = first_place arena left first second front (take 2 trees) low
         ∙ place-take 2 0 trees (omega arith)
     each (suc zero) below = second_place arena left first second front (take 2 trees) low

@@ -1,99 +1,13 @@
 -- How all places of a full tree are come down to together, level by level.
-use Rattle.std.proofs.Common.{◌≡◌, ℕ, suc, ◌+◌, ◌-◌, ◌*◌, ◌/◌, ◌%◌, ◌^◌, ◌<◌, ◌≤◌, List, length, take, drop, set, refl, sym, ap, ◌∙◌, subst, inl, inr, arith, get_or-set_same, get_or-set_other, length-set, mul_assoc, mul_comm, add-mul, one-mul, pow-suc}
-use Rattle.std.specs.List.{All}
+use Rattle.std.proofs.Common.{◌≡◌, ℕ, suc, ◌+◌, ◌-◌, ◌*◌, ◌/◌, ◌%◌, ◌^◌, ◌<◌, ◌≤◌, List, take, drop, sym, ap, ◌∙◌, subst, inl, inr, arith, mul_assoc, mul_comm, add-mul, one-mul, pow-suc}
 use Rattle.std.proofs.lemmas.Bool.{cases_lt}
 use Rattle.std.proofs.lemmas.List.{drop-drop}
-use Rattle.std.proofs.lemmas.List.Elements.{All-set}
 use Rattle.ssz_chunk.specs.Tree.{Tree, pair, merkle_tree, place}
 use Rattle.ssz_chunk.proofs.Trees.{full-zero}
 use Rattle.ssz_chunk.proofs.FullTrees.{full-Agree, place-take, place-drop}
 use Rattle.ssz_arena.specs.declared.node.NodeId.{NodeId}
-use Rattle.ssz_arena.specs.Content.{ArenaContent, IsNodeOf, tree_of}
-use Rattle.ssz_nodes.specs.Ahead.{ahead_node}
+use Rattle.ssz_arena.specs.Content.{ArenaContent, row_node, tree_of}
 use Rattle.ssz_nodes.proofs.Taking.{halves_of}
-
--- The nodes from `now` on made way for their children, and those before it are as they were.
-pub record Widened (arena : ArenaContent) (len now : ℕ) (old new : List NodeId) : Type 0 where
-  pub count : length new ≡ length old
-  pub all : All (IsNodeOf arena) new
-  pub low : (k : ℕ) → k < now → ahead_node new k ≡ ahead_node old k
-  pub left : (i : ℕ) (left right : Tree) → now ≤ i → i < len
-      → tree_of arena (ahead_node old i) ≡ pair left right
-      → tree_of arena (ahead_node new (2 * i)) ≡ left
-  pub right : (i : ℕ) (left right : Tree) → now ≤ i → i < len
-      → tree_of arena (ahead_node old i) ≡ pair left right
-      → tree_of arena (ahead_node new (2 * i + 1)) ≡ right
-
-pub Widened-start : (arena : ArenaContent) (len : ℕ) (nodes : List NodeId)
-    → All (IsNodeOf arena) nodes
-    → Widened arena len len nodes nodes
-Widened-start arena len nodes all = record {
-  count = refl;
-  all = all;
-  low = λ k below. refl;
-  left = λ i l r from below is. absurd (omega arith);
-  right = λ i l r from below is. absurd (omega arith);
-}
-
-module _ (arena : ArenaContent) (len now : ℕ) (first second : NodeId) (old nodes : List NodeId)
-    (below : now < len) (room : 2 * len ≤ length old) (h : Widened arena len (suc now) old nodes)
-    (one : IsNodeOf arena first) (two : IsNodeOf arena second)
-    (left_is : (left right : Tree) → tree_of arena (ahead_node nodes now) ≡ pair left right
-    → tree_of arena first ≡ left)
-    (right_is : (left right : Tree) → tree_of arena (ahead_node nodes now) ≡ pair left right
-    → tree_of arena second ≡ right) where
-  abbrev pub mid : List NodeId
-  mid = set nodes (2 * now) first
-
-  abbrev pub new : List NodeId
-  new = set mid (2 * now + 1) second
-
-  -- what is at other places stays
-  others : (k : ℕ) → (k ≡ 2 * now → ⊥) → (k ≡ 2 * now + 1 → ⊥)
-      → ahead_node new k ≡ ahead_node nodes k
-  others k even odd =
-      get_or-set_other mid (2 * now + 1) k second (record { 0 = 0 }) odd
-      ∙ get_or-set_other nodes (2 * now) k first (record { 0 = 0 }) even
-
-  at_first : ahead_node new (2 * now) ≡ first
-  at_first =
-      get_or-set_other mid (2 * now + 1) (2 * now) second (record { 0 = 0 }) (λ e. omega arith)
-      ∙ get_or-set_same nodes (2 * now) first (record { 0 = 0 }) (omega (arith, h.count))
-
-  at_second : ahead_node new (2 * now + 1) ≡ second
-  at_second = get_or-set_same mid (2 * now + 1) second (record { 0 = 0 })
-      (omega (arith, h.count, length-set nodes (2 * now) first))
-
-  same_node : ahead_node nodes now ≡ ahead_node old now
-  same_node = h.low now (omega arith)
-
-  pub Widened-more : Widened arena len now old new
-  Widened-more = record {
-    count = length-set mid (2 * now + 1) second ∙ length-set nodes (2 * now) first ∙ h.count;
-    all = All-set (IsNodeOf arena) mid (2 * now + 1) second two
-        (All-set (IsNodeOf arena) nodes (2 * now) first one h.all);
-    low = λ k less. others k (λ e. omega arith) (λ e. omega arith) ∙ h.low k (omega arith);
-    left = λ i l r from within is. elim (cases_lt now i) [
-      | inl above ↦ ap (tree_of arena) (others (2 * i) (λ e. omega arith) (λ e. omega arith))
-          ∙ h.left i l r (omega arith) within is
-      | inr here ↦
-          (let same : now ≡ i = omega arith in
-          subst (λ k. tree_of arena (ahead_node old k) ≡ pair l r
-          → tree_of arena (ahead_node new (2 * k)) ≡ l) same
-          (λ pair_is. ap (tree_of arena) at_first
-          ∙ left_is l r (ap (tree_of arena) same_node ∙ pair_is)) is)
-    ];
-    right = λ i l r from within is. elim (cases_lt now i) [
-      | inl above ↦ ap (tree_of arena) (others (2 * i + 1) (λ e. omega arith) (λ e. omega arith))
-          ∙ h.right i l r (omega arith) within is
-      | inr here ↦
-          (let same : now ≡ i = omega arith in
-          subst (λ k. tree_of arena (ahead_node old k) ≡ pair l r
-          → tree_of arena (ahead_node new (2 * k + 1)) ≡ r) same
-          (λ pair_is. ap (tree_of arena) at_second
-          ∙ right_is l r (ap (tree_of arena) same_node ∙ pair_is)) is)
-    ];
-  }
 
 -- The subtrees of this depth stand at the front of the row, as many as the level has.
 pub record Spread (arena : ArenaContent) (trees : List Tree) (depth level : ℕ) (row : List NodeId)
@@ -101,17 +15,17 @@ pub record Spread (arena : ArenaContent) (trees : List Tree) (depth level : ℕ)
   pub rest : ℕ
   pub levels : rest + level ≡ depth
   pub each : (p : ℕ) → p < 2 ^ level
-      → tree_of arena (ahead_node row p)
+      → tree_of arena (row_node row p)
       ≡ merkle_tree rest (take (2 ^ rest) (drop (p * 2 ^ rest) trees))
 
 pub Spread-start : (arena : ArenaContent) (trees : List Tree) (depth : ℕ) (row : List NodeId)
-    → tree_of arena (ahead_node row 0) ≡ merkle_tree depth trees → Spread arena trees depth 0 row
+    → tree_of arena (row_node row 0) ≡ merkle_tree depth trees → Spread arena trees depth 0 row
 Spread-start arena trees depth row is = record {
   rest = depth;
   levels = omega arith;
   each = λ p below.
       let first : 0 ≡ p = omega (arith, below) in
-      subst (λ k. tree_of arena (ahead_node row k)
+      subst (λ k. tree_of arena (row_node row k)
       ≡ merkle_tree depth (take (2 ^ depth) (drop (k * 2 ^ depth) trees))) first
       (is ∙ full-Agree depth (take (2 ^ depth) (drop (0 * 2 ^ depth) trees)) trees
       (λ i within. sym (place-take (2 ^ depth) i (drop (0 * 2 ^ depth) trees) within
@@ -148,23 +62,23 @@ module _ (trees : List Tree) (rest p : ℕ) where
 module _ (arena : ArenaContent) (trees : List Tree) (depth level : ℕ) (old new : List NodeId)
     (below : level < depth) (h : Spread arena trees depth level old)
     (left_is : (i : ℕ) (left right : Tree) → i < 2 ^ level
-    → tree_of arena (ahead_node old i) ≡ pair left right
-    → tree_of arena (ahead_node new (2 * i)) ≡ left)
+    → tree_of arena (row_node old i) ≡ pair left right
+    → tree_of arena (row_node new (2 * i)) ≡ left)
     (right_is : (i : ℕ) (left right : Tree) → i < 2 ^ level
-    → tree_of arena (ahead_node old i) ≡ pair left right
-    → tree_of arena (ahead_node new (2 * i + 1)) ≡ right) where
+    → tree_of arena (row_node old i) ≡ pair left right
+    → tree_of arena (row_node new (2 * i + 1)) ≡ right) where
   both : (rest i : ℕ) → h.rest ≡ suc rest → i < 2 ^ level
-      → tree_of arena (ahead_node old i)
+      → tree_of arena (row_node old i)
       ≡ pair (merkle_tree rest (take (2 ^ rest) (drop (i * 2 ^ suc rest) trees)))
       (merkle_tree rest (take (2 ^ rest) (drop (2 ^ rest) (drop (i * 2 ^ suc rest) trees))))
   both rest i is within =
-      subst (λ n. tree_of arena (ahead_node old i)
+      subst (λ n. tree_of arena (row_node old i)
       ≡ merkle_tree n (take (2 ^ n) (drop (i * 2 ^ n) trees)))
       is (h.each i within)
       ∙ halves_of rest (drop (i * 2 ^ suc rest) trees)
 
   each_half : (rest p : ℕ) → h.rest ≡ suc rest → p < 2 ^ suc level
-      → tree_of arena (ahead_node new p)
+      → tree_of arena (row_node new p)
       ≡ merkle_tree rest (take (2 ^ rest) (drop (p * 2 ^ rest) trees))
   each_half rest p is within =
       let room : 2 ^ suc level ≡ 2 ^ level * 2 = pow-suc 2 level in
@@ -172,13 +86,13 @@ module _ (arena : ArenaContent) (trees : List Tree) (depth level : ℕ) (old new
       elim (cases_lt (p % 2) 1) [
         | inl even ↦
             (let same : 2 * (p / 2) ≡ p = omega (arith, even) in
-            subst (λ k. tree_of arena (ahead_node new k)
+            subst (λ k. tree_of arena (row_node new k)
             ≡ merkle_tree rest (take (2 ^ rest) (drop (k * 2 ^ rest) trees))) same
             (left_is (p / 2) _ _ inside (both rest (p / 2) is inside)
             ∙ ap (merkle_tree rest) (first_half trees rest (p / 2))))
         | inr odd ↦
             (let same : 2 * (p / 2) + 1 ≡ p = omega (arith, odd) in
-            subst (λ k. tree_of arena (ahead_node new k)
+            subst (λ k. tree_of arena (row_node new k)
             ≡ merkle_tree rest (take (2 ^ rest) (drop (k * 2 ^ rest) trees))) same
             (right_is (p / 2) _ _ inside (both rest (p / 2) is inside)
             ∙ ap (merkle_tree rest) (second_half trees rest (p / 2))))
@@ -198,11 +112,11 @@ module _ (arena : ArenaContent) (trees : List Tree) (depth level : ℕ) (old new
 -- the whole way down, they are the trees at the places
 pub Spread-end : (arena : ArenaContent) (trees : List Tree) (depth level i : ℕ) (row : List NodeId)
     → Spread arena trees depth level row → depth ≤ level → i < 2 ^ depth
-    → tree_of arena (ahead_node row i) ≡ place trees i
+    → tree_of arena (row_node row i) ≡ place trees i
 Spread-end arena trees depth level i row h all within =
     let none : h.rest ≡ 0 = omega (arith, h.levels, all) in
     let same : depth ≡ level = omega (arith, h.levels, all) in
-    subst (λ n. tree_of arena (ahead_node row i)
+    subst (λ n. tree_of arena (row_node row i)
     ≡ merkle_tree n (take (2 ^ n) (drop (i * 2 ^ n) trees)))
     none (h.each i (subst (λ n. i < 2 ^ n) same within))
     ∙ full-zero (take (2 ^ 0) (drop (i * 2 ^ 0) trees))

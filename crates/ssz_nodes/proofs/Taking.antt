@@ -13,8 +13,8 @@ use Rattle.ssz_chunk.specs.Tree.{Tree, pair, merkle_tree, place}
 use Rattle.ssz_chunk.proofs.Trees.{full-suc}
 use Rattle.ssz_chunk.proofs.FullTrees.{place-take}
 use Rattle.ssz_arena.specs.declared.node.NodeId.{NodeId}
-use Rattle.ssz_arena.specs.Content.{ArenaContent, tree_of, IsNodeOf}
-use Rattle.ssz_nodes.specs.Ahead.{AheadHolds, Stand, tree_block, ahead_node}
+use Rattle.ssz_arena.specs.Content.{ArenaContent, row_node, tree_of, IsNodeOf}
+use Rattle.ssz_nodes.specs.Ahead.{AheadHolds, Stand, tree_block}
 use Rattle.ssz_nodes.proofs.Ending.{Ends, ends_within, whole, none-left, digit, digit-same, digit-gone, unit_ends, less-digit, none_below, low_rest, high_rest}
 
 -- Opened down to a level: the node has the first places there, the nodes of the levels from there
@@ -23,12 +23,12 @@ pub record Opened (arena : ArenaContent) (trees : List Tree) (level now : ℕ) (
     (old nodes : List NodeId) : Type 0 where
   pub first : tree_of arena node ≡ merkle_tree now (take (2 ^ now) trees)
   pub low : (k : ℕ) → now ≤ k → k < level
-      → tree_of arena (ahead_node nodes k) ≡ merkle_tree k (take (2 ^ k) (drop (2 ^ k) trees))
-  pub high : (k : ℕ) → level ≤ k → ahead_node nodes k ≡ ahead_node old k
+      → tree_of arena (row_node nodes k) ≡ merkle_tree k (take (2 ^ k) (drop (2 ^ k) trees))
+  pub high : (k : ℕ) → level ≤ k → row_node nodes k ≡ row_node old k
 
 pub Opened-start : (arena : ArenaContent) (trees : List Tree) (left level : ℕ) (nodes : List NodeId)
     → Ends left level → Stand arena trees left nodes
-    → Opened arena trees level level (ahead_node nodes level) nodes nodes
+    → Opened arena trees level level (row_node nodes level) nodes nodes
 Opened-start arena trees left level nodes is held = record {
   first = held level is.one
       ∙ ap (λ n. merkle_tree level (take (2 ^ level) (drop n trees)))
@@ -65,7 +65,7 @@ Opened-more arena trees level now node first second old nodes below room h left 
             ∙ h.low k (omega arith) within
         | inr here ↦
             (let same : k ≡ now = omega arith in
-            subst (λ j. tree_of arena (ahead_node (set nodes now second) j)
+            subst (λ j. tree_of arena (row_node (set nodes now second) j)
             ≡ merkle_tree j (take (2 ^ j) (drop (2 ^ j) trees))) (sym same)
             (ap (tree_of arena)
             (get_or-set_same nodes now second (record { 0 = 0 }) (omega arith))
@@ -100,7 +100,7 @@ module _ (arena : ArenaContent) (trees : List Tree) (left level low q : ℕ) (no
       ∙ unit_bit j k at one)
 
   from_unit : (j k : ℕ) → low + j ≡ k → j + low ≡ k → bit_at (left - 2 ^ low) k ≡ 1
-      → tree_of arena (ahead_node nodes k)
+      → tree_of arena (row_node nodes k)
       ≡ merkle_tree k (tree_block k (left - 2 ^ low) (drop (2 ^ low) trees))
   from_unit j k at same one = elim (cases_lt j (level - low)) [
     | inl below ↦ h.low k (omega arith) (omega arith)
@@ -145,10 +145,10 @@ pub Holds-next : (arena : ArenaContent) (tree : Tree) (trees : List Tree) (row n
     (from to left : ℕ) → from < to
     → AheadHolds arena (tree ∷ trees)
     (record { row = row; from = from; to = to; left = left; nodes = nodes })
-    → tree_of arena (ahead_node row from) ≡ tree
+    → tree_of arena (row_node row from) ≡ tree
 Holds-next arena tree trees row nodes from to left some held =
     let first : from + 0 ≡ from = omega arith in
-    subst (λ k. tree_of arena (ahead_node row k) ≡ tree) first (held.row 0 (omega arith))
+    subst (λ k. tree_of arena (row_node row k) ≡ tree) first (held.row 0 (omega arith))
 
 pub Holds-rest : (arena : ArenaContent) (tree : Tree) (trees : List Tree) (row nodes : List NodeId)
     (from to left : ℕ) → from < to
@@ -160,7 +160,7 @@ Holds-rest arena tree trees row nodes from to left some held = record {
   few = omega (arith, held.few);
   row = λ i below.
       let next : from + suc i ≡ from + 1 + i = omega arith in
-      subst (λ k. tree_of arena (ahead_node row k) ≡ place trees i) next
+      subst (λ k. tree_of arena (row_node row k) ≡ place trees i) next
       (held.row (suc i) (omega arith));
   nodes = subst (λ ts. Stand arena ts left nodes)
       (drop_of (to - from) (to - (from + 1)) tree trees (omega arith)) held.nodes;
@@ -172,7 +172,7 @@ pub Holds-filled : (arena : ArenaContent) (trees : List Tree) (left level low fr
     → from ≡ to
     → ((ts : List Tree) → Stand arena ts left old → Opened arena ts level low node old nodes)
     → ((ts : List Tree) → tree_of arena node ≡ merkle_tree low ts → (i : ℕ) → i < 2 ^ low
-    → tree_of arena (ahead_node filled i) ≡ place ts i)
+    → tree_of arena (row_node filled i) ≡ place ts i)
     → AheadHolds arena trees (record { row = row; from = from; to = to; left = left; nodes = old })
     → AheadHolds arena trees
     (record { row = filled; from = 0; to = 2 ^ low; left = left - 2 ^ low; nodes = nodes })
@@ -188,7 +188,7 @@ Holds-filled arena trees left level low from to node old nodes row filled is wit
       row = λ i below.
           let inside : i < 2 ^ low = omega (arith, below) in
           let at : 0 + i ≡ i = omega arith in
-          ap (λ k. tree_of arena (ahead_node filled k)) at
+          ap (λ k. tree_of arena (row_node filled k)) at
           ∙ found (take (2 ^ low) trees) start.first i inside
           ∙ place-take (2 ^ low) i trees inside;
       nodes = subst (λ n. Stand arena (drop n trees) (left - 2 ^ low) nodes) same
@@ -207,7 +207,7 @@ Holds-whole arena trees node depth row shallow few is = record {
   nodes = λ k one. ⊎_elim
       (λ (same : k ≡ depth).
       let none : 2 ^ depth % 2 ^ depth ≡ 0 = no_rest (2 ^ depth) (pow_pos depth) in
-      subst (λ (j : ℕ). tree_of arena (ahead_node (replicate 64 node) j)
+      subst (λ (j : ℕ). tree_of arena (row_node (replicate 64 node) j)
       ≡ merkle_tree j (take (2 ^ j) (drop (2 ^ depth % 2 ^ j) trees))) (sym same)
       (ap (tree_of arena) (get_or-replicate 64 depth node (record { 0 = 0 }) (omega arith))
       ∙ is ∙ ap (merkle_tree depth) (sym (take_all (2 ^ depth) trees few))
@@ -231,7 +231,7 @@ pub record Opening (arena : ArenaContent) (left level now : ℕ) (node : NodeId)
 
 pub Opening-start : (arena : ArenaContent) (left level : ℕ) (node : NodeId) (nodes : List NodeId)
     → Ends left level → left ≤ 2 ^ 63 → length nodes ≡ 64 → All (IsNodeOf arena) nodes
-    → node ≡ ahead_node nodes level → Opening arena left level level node nodes nodes
+    → node ≡ row_node nodes level → Opening arena left level level node nodes nodes
 Opening-start arena left level node nodes is few count all here = record {
   inside = subst (IsNodeOf arena) (sym here)
       (all level (record { 0 = 0 }) (omega (arith, ends_within left level few is)));

@@ -1,10 +1,10 @@
 -- The places of a full tree that are still to come.
-use Rattle.std.specs.Prelude.{◌≡◌, ℕ, ◌+◌, ◌-◌, ◌%◌, ◌^◌, ◌<◌, ◌≤◌, List, length, take, drop, slice_index_or}
+use Rattle.std.specs.Prelude.{◌≡◌, ℕ, ◌+◌, ◌-◌, ◌%◌, ◌^◌, ◌<◌, ◌≤◌, List, length, take, drop}
 use Rattle.std.specs.List.{All}
 use Rattle.std.specs.Int.{bit_at}
 use Rattle.ssz_chunk.specs.Tree.{Tree, merkle_tree, place}
 use Rattle.ssz_arena.specs.declared.node.NodeId.{NodeId}
-use Rattle.ssz_arena.specs.Content.{ArenaContent, IsNodeOf, tree_of}
+use Rattle.ssz_arena.specs.Content.{ArenaContent, IsNodeOf, row_node, tree_of}
 
 -- a row, of whose nodes those from one place up to another are next, how many places are left
 -- behind these, and a node for each level
@@ -15,14 +15,10 @@ pub record Ahead : Type 0 where
   pub left : ℕ
   pub nodes : List NodeId
 
--- the node of this number
-abbrev pub ahead_node : List NodeId → ℕ → NodeId
-ahead_node nodes k = slice_index_or nodes k (record { 0 = 0 })
-
 -- the places of a full tree of this depth stand at the front of a row
 abbrev pub IsRowOf : ArenaContent → ℕ → Tree → List NodeId → Type 0
 IsRowOf arena depth node row = (trees : List Tree) → node ≡ merkle_tree depth trees
-    → (i : ℕ) → i < 2 ^ depth → tree_of arena (ahead_node row i) ≡ place trees i
+    → (i : ℕ) → i < 2 ^ depth → tree_of arena (row_node row i) ≡ place trees i
 
 -- they are nodes of the arena
 abbrev pub AheadAreNodes : ArenaContent → Ahead → Type 0
@@ -36,7 +32,7 @@ tree_block k left trees = take (2 ^ k) (drop (left % 2 ^ k) trees)
 -- the number of places is 1, the node at k is the full tree of its 2 ^ k places
 abbrev pub Stand : ArenaContent → List Tree → ℕ → List NodeId → Type 0
 Stand arena trees left nodes = (k : ℕ) → bit_at left k ≡ 1
-    → tree_of arena (ahead_node nodes k) ≡ merkle_tree k (tree_block k left trees)
+    → tree_of arena (row_node nodes k) ≡ merkle_tree k (tree_block k left trees)
 
 -- how many nodes of the row are next
 abbrev pub waiting : Ahead → ℕ
@@ -46,7 +42,7 @@ waiting places = places.to - places.from
 pub record AheadHolds (arena : ArenaContent) (trees : List Tree) (places : Ahead) : Type 0 where
   pub few : length trees ≤ waiting places + places.left
   pub row : (i : ℕ) → i < waiting places
-      → tree_of arena (ahead_node places.row (places.from + i)) ≡ place trees i
+      → tree_of arena (row_node places.row (places.from + i)) ≡ place trees i
   pub nodes : Stand arena (drop (waiting places) trees) places.left places.nodes
 
 -- there is a next row, unless no place is left
@@ -56,4 +52,4 @@ IsFilled places = places.from ≡ places.to → places.left ≡ 0
 -- these trees, so far as there are so many, have the nodes of a row
 abbrev pub AreNext : ArenaContent → List Tree → List NodeId → Type 0
 AreNext arena trees row = (i : ℕ) → i < length row → i < length trees
-    → tree_of arena (ahead_node row i) ≡ place trees i
+    → tree_of arena (row_node row i) ≡ place trees i

@@ -9,8 +9,7 @@ use Rattle.ssz_value.specs.Encoding.{serialize}
 use Rattle.ssz_places.specs.PlaceLaws.{IsTreeOf}
 use Rattle.ssz_value.specs.Trees.{tree, element_leaves, field_trees, padded, pack, pack_bits}
 use Rattle.ssz_arena.specs.declared.node.NodeId.{NodeId}
-use Rattle.ssz_arena.specs.Content.{ArenaContent, tree_of}
-use Rattle.ssz_nodes.specs.Ahead.{ahead_node}
+use Rattle.ssz_arena.specs.Content.{ArenaContent, row_node, tree_of}
 use Rattle.ssz_nodes.specs.declared.basics.Basic.{Basic}
 use Rattle.ssz_nodes.specs.declared.basics.Basic.TheVariants.{Number, Flag}
 
@@ -81,7 +80,7 @@ chunk_from bytes j = padded (drop (32 * j) bytes)
 -- the nodes of a row have these chunks of some bytes, from chunk j on
 abbrev pub AreChunksFrom : ArenaContent → List ℕ → ℕ → List NodeId → Type 0
 AreChunksFrom arena bytes j row = (i : ℕ) → i < length row
-    → tree_of arena (ahead_node row i) ≡ leaf (chunk_from bytes (j + i))
+    → tree_of arena (row_node row i) ≡ leaf (chunk_from bytes (j + i))
 
 abbrev pub basic_type : Basic → SszType
 basic_type (Number width) = uint width

@@ -1,8 +1,8 @@
 //! Places of a full tree that are come down to together.
-ghost use Rattle.std.specs.Prelude.{ℕ, ◌≡◌, ◌+◌, ◌*◌, ◌<◌, ◌≤◌, ◌^◌, List, length, All};
-ghost use Rattle.ssz_chunk.specs.Tree.{Tree, pair, merkle_tree, place};
-ghost use Rattle.ssz_arena.specs.Content.{IsNodeOf, tree_of};
-ghost use Rattle.ssz_nodes.specs.Ahead.{IsRowOf, ahead_node};
+ghost use Rattle.std.specs.Prelude.{ℕ, ◌≡◌, ◌<◌, ◌≤◌, ◌^◌, List, length, All};
+ghost use Rattle.ssz_chunk.specs.Tree.{Tree, merkle_tree, place};
+ghost use Rattle.ssz_arena.specs.Content.{IsNodeOf, row_node, tree_of};
+ghost use Rattle.ssz_nodes.specs.Ahead.{IsRowOf};
 
 use super::places::{Top, node_of_place};
 use ssz_arena::{Arena, NodeId};
@@ -108,31 +108,10 @@ pub(crate) fn spread<H: PairHash>(arena: &Arena<H>, depth: u32, row: &mut [NodeI
     ensures long { length row.new ≡ length row.old }
     ensures nodes { All (IsNodeOf arena.now) row.new }
     ensures places { (trees : List Tree)
-        → tree_of arena.now (ahead_node row.old 0) ≡ merkle_tree depth trees
-        → (i : ℕ) → i < 2 ^ depth → tree_of arena.now (ahead_node row.new i) ≡ place trees i }
+        → tree_of arena.now (row_node row.old 0) ≡ merkle_tree depth trees
+        → (i : ℕ) → i < 2 ^ depth → tree_of arena.now (row_node row.new i) ≡ place trees i }
 {
     for level in 0..depth {
-        widen(arena, 1 << level, row);
-    }
-}
-
-// Each of the first len nodes makes way for its two children. From the last one on, since the
-// children of a node stand at its place or behind it.
-fn widen<H: PairHash>(arena: &Arena<H>, len: usize, row: &mut [NodeId])
-    requires room { 2 * len ≤ length row.old }
-    requires nodes { All (IsNodeOf arena.now) row.old }
-    ensures long { length row.new ≡ length row.old }
-    ensures nodes { All (IsNodeOf arena.now) row.new }
-    ensures left { (i : ℕ) (left right : Tree) → i < len
-        → tree_of arena.now (ahead_node row.old i) ≡ pair left right
-        → tree_of arena.now (ahead_node row.new (2 * i)) ≡ left }
-    ensures right { (i : ℕ) (left right : Tree) → i < len
-        → tree_of arena.now (ahead_node row.old i) ≡ pair left right
-        → tree_of arena.now (ahead_node row.new (2 * i + 1)) ≡ right }
-{
-    for i in (0..len).rev() {
-        let (first, second) = arena.halves(row[i]);
-        row[2 * i] = first;
-        row[2 * i + 1] = second;
+        arena.widen(1 << level, row);
     }
 }

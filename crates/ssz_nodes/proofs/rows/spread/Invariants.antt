@@ -1,8 +1,7 @@
 use Rattle.std.proofs.Common.{◌≡◌, List, length}
 use Rattle.std.specs.List.{All}
 use Rattle.ssz_chunk.specs.Tree.{Tree, merkle_tree}
-use Rattle.ssz_arena.specs.Content.{IsNodeOf, tree_of}
-use Rattle.ssz_nodes.specs.Ahead.{ahead_node}
+use Rattle.ssz_arena.specs.Content.{IsNodeOf, row_node, tree_of}
 use Rattle.ssz_nodes.proofs.Spreading.{Spread}
 use Rattle.ssz_nodes.proofs.rows.spread.Given as goal
 
@@ -11,5 +10,5 @@ invariant-loop-level g l =
     (length l.row ≡ length l.initial.row)
     × All (IsNodeOf l.arena) l.row
     × ((trees : List Tree)
-    → tree_of l.arena (ahead_node l.initial.row 0) ≡ merkle_tree l.depth trees
+    → tree_of l.arena (row_node l.initial.row 0) ≡ merkle_tree l.depth trees
     → Spread l.arena trees l.depth l.level l.row)

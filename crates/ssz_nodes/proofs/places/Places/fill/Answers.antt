@@ -2,8 +2,8 @@ use Rattle.std.proofs.Common.{ℕ, ◌≡◌, ◌≤◌, ◌<◌, ◌^◌, ◌*�
 use Rattle.std.proofs.Math.Nat.{pow-le-pow_right}
 use Rattle.std.specs.Int.{trailing_zeros, w64}
 use Rattle.ssz_arena.specs.declared.node.NodeId.{NodeId}
-use Rattle.ssz_arena.specs.Content.{tree_of}
-use Rattle.ssz_nodes.specs.Ahead.{Ahead, AheadAreNodes, AheadHolds, Stand, ahead_node}
+use Rattle.ssz_arena.specs.Content.{row_node, tree_of}
+use Rattle.ssz_nodes.specs.Ahead.{Ahead, AheadAreNodes, AheadHolds, Stand}
 use Rattle.ssz_nodes.proofs.Ending.{Ends, ends, ends_within, at_least}
 use Rattle.ssz_nodes.proofs.Taking.{Opened, Opening, Opening-start, Opening-more, Holds-filled}
 use Rattle.ssz_nodes.proofs.places.Places.fill.Goals as goal
@@ -74,7 +74,7 @@ returns-clause-holds g c = λ trees held.
     let row = places_of c.min-low.result _ within (ends_within _ _ c.self.invariant.0 is) in
     let here : c.loop-below.below ≡ c.min-low.result =
     omega (arith, c.loop-below.invariant.0, c.loop-below-test.false) in
-    let first : ahead_node (slice_set c.loop-below.self-inside.row 0 c.loop-below.node) 0
+    let first : row_node (slice_set c.loop-below.self-inside.row 0 c.loop-below.node) 0
     ≡ c.loop-below.node = get_or-set_same c.loop-below.self-inside.row 0 c.loop-below.node
     (record { 0 = 0 }) (omega (
       arith,
