@@ -18,6 +18,8 @@ pub(crate) struct Few<'a> {
     pub fields: &'a [(Name, TypeId)],
     // How many bytes of its leaf each field takes, or 0 where it may be no leaf.
     pub lens: [usize; NEAR],
+    // Whether the fixed part of each is a leaf or an offset, so that it pays to gather them.
+    pub short: bool,
 }
 
 impl<'a> Few<'a> {
@@ -30,7 +32,13 @@ impl<'a> Few<'a> {
     {
         let fields = few_fields(schema, id)?;
         let lens = leaf_lens(schema, fields);
-        Some(Few { id, fields, lens })
+        let short = are_short(schema, fields, &lens);
+        Some(Few {
+            id,
+            fields,
+            lens,
+            short,
+        })
     }
 }
 
@@ -69,6 +77,19 @@ fn leaf_lens(schema: &Schema, fields: &[(Name, TypeId)]) -> [usize; NEAR]
         lens[i] = leaf_len(schema, field.1);
     }
     lens
+}
+
+// Whether each field of fixed size is a leaf. Nothing but speed rests on the answer.
+fn are_short(schema: &Schema, fields: &[(Name, TypeId)], lens: &[usize; NEAR]) -> bool
+    requires known { AllByRecursion (λ part. part.1 < length schema.now.trees) fields.now }
+    requires few { length fields.now ≤ 8 }
+{
+    for (i, field) in fields.iter().enumerate() {
+        if lens[i] == 0 && !schema.is_variable(field.1) {
+            return false;
+        }
+    }
+    true
 }
 
 // Of a type.

@@ -14,6 +14,7 @@ mod bytes;
 mod containers;
 mod elements;
 mod fields;
+mod heads;
 mod leaves;
 mod measuring;
 mod offsets;

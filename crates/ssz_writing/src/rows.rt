@@ -13,6 +13,7 @@ ghost use Rattle.ssz_writing.specs.Leaves.{AreFewFields, AreLeafLens, IsLeafLen}
 ghost use Rattle.ssz_writing.specs.Offsets.{AddsBytes, Fills, FillsAll, KeepsUpTo, room_of, rooms};
 
 use super::fields::Rows;
+use super::heads::ROOM;
 use super::leaves::Few;
 use super::offsets::Slot;
 use super::writer::Writer;
@@ -46,9 +47,10 @@ impl<'a, H: PairHash> Writer<'a, H> {
             out.old.items out.new.items result) }
     {
         let mut rows = Rows::new(top, self.schema.depth(few.id));
+        let mut heads = [0; ROOM];
         for _i in 0..count {
             let row = rows.next(self.arena);
-            self.append_row_heads(few, &row, out)?;
+            self.append_row_heads(few, &row, &mut heads, out)?;
         }
         Ok(())
     }
@@ -77,10 +79,11 @@ impl<'a, H: PairHash> Writer<'a, H> {
             out.old.items out.new.items result) }
     {
         let mut rows = Rows::new(top, self.schema.depth(few.id));
+        let mut heads = [0; ROOM];
         let mut room = start;
         for _i in 0..count {
             let row = rows.next(self.arena);
-            self.append_row_body(few, &row, Slot { start, room }, out)?;
+            self.append_row_body(few, &row, Slot { start, room }, &mut heads, out)?;
             room = room.saturating_add(4);
         }
         Ok(())
@@ -93,6 +96,7 @@ impl<'a, H: PairHash> Writer<'a, H> {
         few: &Few<'_>,
         row: &Row,
         slot: Slot,
+        heads: &mut [u8; ROOM],
         out: &mut Vec<u8>,
     ) -> Result<(), EncodeFault>
         requires known { few.now.id < length self.now.schema.now.trees }
@@ -108,12 +112,18 @@ impl<'a, H: PairHash> Writer<'a, H> {
             result) }
     {
         self.put_end(slot, out)?;
-        self.append_row(few, row, out)
+        self.append_row(few, row, heads, out)
     }
 
     // A container by the nodes of its fields.
     #[cycle(append)]
-    fn append_row(&self, few: &Few<'_>, row: &Row, out: &mut Vec<u8>) -> Result<(), EncodeFault>
+    fn append_row(
+        &self,
+        few: &Few<'_>,
+        row: &Row,
+        heads: &mut [u8; ROOM],
+        out: &mut Vec<u8>,
+    ) -> Result<(), EncodeFault>
         requires known { few.now.id < length self.now.schema.now.trees }
         requires fields { AreFewFields self.now.schema.now few.now.id few.now.fields.now }
         requires lens { AreLeafLens self.now.schema.now few.now.fields.now few.now.lens }
@@ -126,13 +136,45 @@ impl<'a, H: PairHash> Writer<'a, H> {
         // Every type of a schema is legal.
         let _legal = self.schema.ty(few.id);
         let start = out.len();
-        self.append_row_heads(few, row, out)?;
+        self.append_row_heads(few, row, heads, out)?;
         self.append_row_bodies(few, row, start, out)
     }
 
     // Its fixed parts, with room for its offsets.
     #[cycle(append)]
     fn append_row_heads(
+        &self,
+        few: &Few<'_>,
+        row: &Row,
+        heads: &mut [u8; ROOM],
+        out: &mut Vec<u8>,
+    ) -> Result<(), EncodeFault>
+        requires known { few.now.id < length self.now.schema.now.trees }
+        requires fields { AreFewFields self.now.schema.now few.now.id few.now.fields.now }
+        requires lens { AreLeafLens self.now.schema.now few.now.fields.now few.now.lens }
+        requires row { All (IsNodeOf self.now.arena.now) row.now.nodes }
+        ensures kept { ExtendsBytes out.old.items out.new.items }
+        ensures value { let fs = fields_over self.now.schema.now.trees few.now.fields.now in
+            let d = depth (type_of self.now.schema.now few.now.id) in
+            (node : Tree) → IsRowOf self.now.arena.now d node row.now.nodes → ForFields fs d node
+            (λ vs. AddsBytes (rooms (part_sizes fs) (field_encodings fs vs)) out.old.items
+            out.new.items result) }
+    {
+        if !few.short {
+            return self.append_row_parts(few, row, out);
+        }
+        match self.gather_heads(few, row, heads) {
+            Some(len) => {
+                out.extend_from_slice(&heads[..len])?;
+                Ok(())
+            }
+            None => self.append_row_parts(few, row, out),
+        }
+    }
+
+    // The same, field by field, where a field of fixed size may be no leaf.
+    #[cycle(append)]
+    fn append_row_parts(
         &self,
         few: &Few<'_>,
         row: &Row,

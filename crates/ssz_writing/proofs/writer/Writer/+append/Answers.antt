@@ -402,16 +402,16 @@ append_part-returns-then-len-gt0-clause-value g t c =
     (tree_of c.args.self.now.arena.now c.args.node) c.args.out.now.items c.append_leaf.new.out.items
     c.if-len-gt0.true c.requires.len c.in_ok-append_leaf.ensures.bytes
 
-pub append_row_heads-loop-i-init : goal.append_row_heads-loop-i-init
-append_row_heads-loop-i-init g t c = (
+pub append_row_parts-loop-i-init : goal.append_row_parts-loop-i-init
+append_row_parts-loop-i-init g t c = (
   Extends-same c.args.out.now.items,
   λ node row vs are. FieldHeads-start c.args.self.now.schema.now.trees c.args.few.now.fields.now
       (depth (type_of c.args.self.now.schema.now c.args.few.now.id)) vs c.args.out.now.items node
       are,
 )
 
-pub append_row_heads-append_part-requires : goal.append_row_heads-append_part-requires
-append_row_heads-append_part-requires g t c =
+pub append_row_parts-append_part-requires : goal.append_row_parts-append_part-requires
+append_row_parts-append_part-requires g t c =
     let few : length c.args.few.now.fields.now ≤ 8 = c.requires.fields.few in
     let below : c.field-item.result.1 < c.args.few.now.id =
     field_before c.args.few.now.fields.now c.args.few.now.id c.loop-i.i c.field-item.result
@@ -422,8 +422,8 @@ append_row_heads-append_part-requires g t c =
     c.field-item.is in
     search rules
 
-pub append_row_heads-loop-i-preserved : goal.append_row_heads-loop-i-preserved
-append_row_heads-loop-i-preserved g t c = (
+pub append_row_parts-loop-i-preserved : goal.append_row_parts-loop-i-preserved
+append_row_parts-loop-i-preserved g t c = (
   Extends-trans c.args.out.now.items c.loop-i.out.items c.append_part.new.out.items
       c.loop-i.invariant.0 c.append_part.ensures.kept,
   λ node row vs are. FieldHeads-more c.args.self.now.schema.now.trees c.args.few.now.fields.now
@@ -440,8 +440,8 @@ append_row_heads-loop-i-preserved g t c = (
       (λ trees inside whole. row trees whole c.loop-i.i inside))),
 )
 
-pub append_row_heads-returns-clause-value : goal.append_row_heads-returns-clause-value
-append_row_heads-returns-clause-value g t c = λ node row vs are.
+pub append_row_parts-returns-clause-value : goal.append_row_parts-returns-clause-value
+append_row_parts-returns-clause-value g t c = λ node row vs are.
     FieldHeads-end c.args.self.now.schema.now.trees c.args.few.now.fields.now c.loop-i.i
     (depth (type_of c.args.self.now.schema.now c.args.few.now.id)) _ c.loop-i.out.items node
     (c.loop-i.invariant.1 node row vs are) c.loop-i-test.false
@@ -750,12 +750,12 @@ pub append_row_body-returns-in_err-put_end-clause-kept :
     goal.append_row_body-returns-in_err-put_end-clause-kept
 append_row_body-returns-in_err-put_end-clause-kept g t c = c.put_end.ensures.kept
 
-pub append_row_heads-returns-clause-kept : goal.append_row_heads-returns-clause-kept
-append_row_heads-returns-clause-kept g t c = c.loop-i.invariant.0
+pub append_row_parts-returns-clause-kept : goal.append_row_parts-returns-clause-kept
+append_row_parts-returns-clause-kept g t c = c.loop-i.invariant.0
 
-pub append_row_heads-returns-in_err-append_part-clause-kept :
-    goal.append_row_heads-returns-in_err-append_part-clause-kept
-append_row_heads-returns-in_err-append_part-clause-kept g t c =
+pub append_row_parts-returns-in_err-append_part-clause-kept :
+    goal.append_row_parts-returns-in_err-append_part-clause-kept
+append_row_parts-returns-in_err-append_part-clause-kept g t c =
     Extends-trans c.args.out.now.items c.loop-i.out.items c.append_part.new.out.items
     c.loop-i.invariant.0 c.append_part.ensures.kept
 

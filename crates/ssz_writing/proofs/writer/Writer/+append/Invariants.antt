@@ -56,6 +56,9 @@ decreases-append_row g l = 16 * l.few.now.id + 6
 abbrev pub decreases-append_row_heads : goal.decreases-append_row_heads
 decreases-append_row_heads g l = 16 * l.few.now.id + 5
 
+abbrev pub decreases-append_row_parts : goal.decreases-append_row_parts
+decreases-append_row_parts g l = 16 * l.few.now.id + 4
+
 abbrev pub decreases-append_row_bodies : goal.decreases-append_row_bodies
 decreases-append_row_bodies g l = 16 * l.few.now.id + 5
 
@@ -146,8 +149,8 @@ invariant-append_containers-loop-i g l =
     (l.initial.out.items ++ rooms (alike (type_of l.self.schema.now l.few.id) vs)
     (map (serialize (type_of l.self.schema.now l.few.id)) vs)) l.out.items l.rows)
 
-abbrev pub invariant-append_row_heads-loop-i : goal.invariant-append_row_heads-loop-i
-invariant-append_row_heads-loop-i g l =
+abbrev pub invariant-append_row_parts-loop-i : goal.invariant-append_row_parts-loop-i
+invariant-append_row_parts-loop-i g l =
     ExtendsBytes l.initial.out.items l.out.items
     × ((node : Tree) → IsRowOf l.self.arena.now (depth (type_of l.self.schema.now l.few.id)) node
     l.row.nodes
