@@ -23,15 +23,26 @@ pub fn check(schema: &Schema, id: TypeId, bytes: &[u8]) -> Option<Fault>
     requires short { length bytes.now < 2 ^ 32 }
     ensures { result ≡ first_fault (type_of schema.now id) 0 bytes.now }
 {
-    // Most bytes have none, and that is found sooner than one.
+    judged(schema, id, 0, bytes)
+}
+
+// The same of bytes that begin at start. Most have no fault, and that is found sooner than one: of
+// elements, too, so that only the first that has one is looked at for it.
+#[cycle(check)]
+#[inline(always)]
+fn judged(schema: &Schema, id: TypeId, start: u64, bytes: &[u8]) -> Option<Fault>
+    requires known { id < length schema.now.trees }
+    requires short { start + length bytes.now < 2 ^ 32 }
+    ensures { result ≡ first_fault (type_of schema.now id) start bytes.now }
+{
     if is_clean(schema, id, bytes) {
         return None;
     }
-    scope(schema, id, 0, bytes)
+    scope(schema, id, start, bytes)
 }
 
-// Of bytes that begin at start. Nothing here allocates, whatever counts and limits the bytes or the
-// schema claim, and the calls nest as the type does.
+// Of bytes of which it is not seen that they have none. Nothing here allocates, whatever counts and
+// limits the bytes or the schema claim, and the calls nest as the type does.
 #[cycle(check)]
 fn scope(schema: &Schema, id: TypeId, start: u64, bytes: &[u8]) -> Option<Fault>
     requires known { id < length schema.now.trees }
@@ -109,7 +120,7 @@ fn fixed_elements(
     for i in 0..count {
         let place = (i * size) as usize;
         let part = &bytes[place..place + size as usize];
-        if let Some(fault) = scope(schema, elem, start + place as u64, part) {
+        if let Some(fault) = judged(schema, elem, start + place as u64, part) {
             return Some(fault);
         }
     }
@@ -138,7 +149,7 @@ fn variable_elements(
     for i in 0..count {
         let from = offset_at(bytes, (4 * i) as usize) as usize;
         let part = &bytes[from..end_of_part(count, i, bytes)];
-        if let Some(fault) = scope(schema, elem, start + from as u64, part) {
+        if let Some(fault) = judged(schema, elem, start + from as u64, part) {
             return Some(fault);
         }
     }

@@ -30,18 +30,18 @@ fixed_elements-returns-in-Some t c =
     (first_fault (type_of c.args.schema.now c.args.elem)) c.args.size c.args.count
     c.args.start c.args.bytes.now c.in-Some.fault (sym c.in-Some.ensures))
 
-pub fixed_elements-returns-in-Some-scope : goal.fixed_elements-returns-in-Some-scope
-fixed_elements-returns-in-Some-scope t c =
+pub fixed_elements-returns-in-Some-judged : goal.fixed_elements-returns-in-Some-judged
+fixed_elements-returns-in-Some-judged t c =
     sym (FixedFrom-found (first_fault (type_of c.args.schema.now c.args.elem)) c.args.size
     c.args.count
-    c.args.start c.args.bytes.now c.loop-i.i c.in-Some-scope.fault
-    c.loop-i.invariant (omega arith) (sym c.in-Some-scope.ensures))
+    c.args.start c.args.bytes.now c.loop-i.i c.in-Some-judged.fault
+    c.loop-i.invariant (omega arith) (sym c.in-Some-judged.ensures))
 
 pub fixed_elements-loop-i-preserved : goal.fixed_elements-loop-i-preserved
 fixed_elements-loop-i-preserved t c =
     FixedFrom-more (first_fault (type_of c.args.schema.now c.args.elem)) c.args.size c.args.count
     c.args.start c.args.bytes.now c.loop-i.i
-    c.loop-i.invariant (omega arith) (sym c.in_default-scope.ensures)
+    c.loop-i.invariant (omega arith) (sym c.in_default-judged.ensures)
 
 pub fixed_elements-returns : goal.fixed_elements-returns
 fixed_elements-returns t c =
@@ -77,15 +77,15 @@ variable_elements-slice_bounds-part-end t c =
     omega (arith, c.end_of_part.ensures, part.inside)
 
 -- the part that was checked is the one that the definition cuts
-pub variable_elements-returns-in-Some-scope : goal.variable_elements-returns-in-Some-scope
-variable_elements-returns-in-Some-scope t c =
+pub variable_elements-returns-in-Some-judged : goal.variable_elements-returns-in-Some-judged
+variable_elements-returns-in-Some-judged t c =
     let child = first_fault (type_of c.args.schema.now c.args.elem) in
     let same = ap₂ (λ (from to : ℕ).
     child (c.args.start + from) (slice_range c.args.bytes.now from to)) c.offset_at-from.ensures
     c.end_of_part.ensures in
     sym (VariableFrom-found child c.args.count c.args.start c.args.bytes.now c.loop-i.i
-    c.in-Some-scope.fault c.loop-i.invariant (omega arith)
-    (sym same ∙ sym c.in-Some-scope.ensures))
+    c.in-Some-judged.fault c.loop-i.invariant (omega arith)
+    (sym same ∙ sym c.in-Some-judged.ensures))
 
 pub variable_elements-loop-i-preserved : goal.variable_elements-loop-i-preserved
 variable_elements-loop-i-preserved t c =
@@ -95,7 +95,7 @@ variable_elements-loop-i-preserved t c =
     c.end_of_part.ensures in
     VariableFrom-more child c.args.count c.args.start c.args.bytes.now c.loop-i.i c.loop-i.invariant
     (omega arith)
-    (sym same ∙ sym c.in_default-scope.ensures)
+    (sym same ∙ sym c.in_default-judged.ensures)
 
 pub container-loop-i-init : goal.container-loop-i-init
 container-loop-i-init t c =

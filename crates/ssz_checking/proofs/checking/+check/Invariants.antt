@@ -8,6 +8,9 @@ use Rattle.ssz_checking.proofs.checking.+check.Given as goal
 abbrev pub decreases-scope : goal.decreases-scope
 decreases-scope l = 8 * l.id + 4
 
+abbrev pub decreases-judged : goal.decreases-judged
+decreases-judged l = 8 * l.id + 5
+
 abbrev pub decreases-container : goal.decreases-container
 decreases-container l = 8 * l.id + 3
 
