@@ -1,4 +1,4 @@
-use Rattle.std.proofs.Common.{◌∙◌, ◌≡◌, ◌*◌, ◌≤◌, ◌+◌, ◌^◌, ◌<◌, ℕ, ap, sym, subst, arith, rules, length, List, Option, get_or, refl, eqb-true, Fits, w8, leb-true, slice_range, Some}
+use Rattle.std.proofs.Common.{◌∙◌, ◌≡◌, ◌*◌, ◌≤◌, ◌+◌, ◌^◌, ◌<◌, ℕ, ap, sym, subst, arith, rules, length, List, Option, refl, eqb-true, leb-true, slice_range, Some}
 use Rattle.std.proofs.lemmas.List.{take_rest}
 use Rattle.std.specs.List.{AllByRecursion}
 use Rattle.ssz_schema.specs.Types.{container, union}
@@ -7,7 +7,7 @@ use Rattle.ssz_schema.specs.Legal.{IsLegal}
 use Rattle.ssz_schema.specs.Unfolding.{type_of, type_tree_at, tree_over, AreBelow, IsBelow, fields_over, options_over}
 use Rattle.ssz_schema.proofs.SizeLemmas.{vector_few}
 use Rattle.ssz_value.specs.Faults.{first_fault, elements_fault, length_fault}
-use Rattle.ssz_value.proofs.Agree.{IsInput}
+use Rattle.ssz_value.proofs.Inputs.{input_of}
 use Rattle.ssz_value.proofs.PartLemmas.{known_weaker, part_known}
 use Rattle.ssz_parts.proofs.ElementFaults.{FixedFrom-start, FixedFrom-more, FixedFrom-end}
 use Rattle.ssz_parts.proofs.HeadLemmas.{heads_few}
@@ -17,10 +17,6 @@ use Rattle.ssz_checking.proofs.NumberLemmas.{numbers_list, bytes_list, number_cl
 use Rattle.ssz_checking.proofs.PlainLemmas.{range_length}
 use Rattle.ssz_checking.proofs.SoundLemmas.{elements_sound}
 use Rattle.ssz_checking.proofs.clean.+clean.Goals as goal
-
--- what is known of the bytes
-input_of : (b : List ℕ) → ((i : ℕ) → Fits w8 (get_or b i 0)) → length b < 2 ^ 32 → IsInput b
-input_of b fits short = record { bytes = λ i. omega (arith, fits i); short = short }
 
 pub is_clean-returns-in-Uint : goal.is_clean-returns-in-Uint
 is_clean-returns-in-Uint t c = λ holds.
