@@ -1,5 +1,5 @@
 -- Parts judged one after another, each as soon as it is known where it ends.
-use Rattle.std.proofs.Common.{ℕ, ◌+◌, ◌-◌, ◌*◌, ◌<◌, ◌≤◌, ◌≡◌, inl, inr, Bool, true, not, is_some, is_ok, Result, Ok, Err, List, [], ◌∷◌, length, replicate, drop, get_or, slice_range, Option, Some, None, refl, sym, ap, ap₂, subst, ◌∙◌, arith, le-ltb, eq-eqb}
+use Rattle.std.proofs.Common.{ℕ, ◌+◌, ◌-◌, ◌*◌, ◌<◌, ◌≤◌, ◌≡◌, inl, inr, Bool, true, not, is_some, is_ok, Result, Ok, Err, List, [], ◌∷◌, length, replicate, drop, get_or, slice_range, Option, Some, None, refl, sym, ap, subst, ◌∙◌, arith, le-ltb, eq-eqb}
 use Rattle.std.specs.Result.{result_err}
 use Rattle.std.proofs.lemmas.Bool.{cases_lt, cond-true, cond-false}
 use Rattle.std.proofs.lemmas.List.{drop_all}
@@ -11,13 +11,14 @@ use Rattle.ssz_schema.specs.Unfolding.{type_tree_at, fields_over}
 use Rattle.ssz_schema.proofs.WalkFields.{drop_at}
 use Rattle.ssz_bytes.specs.declared.fault.Fault.{Fault}
 use Rattle.ssz_value.specs.Encoding.{heads_length}
-use Rattle.ssz_value.specs.Faults.{first_fault, fields_fault, alike_fault, elements_fault, count_fault, element_count, first_offset_fault, later_fault, next_offset, offset_at, scopes}
+use Rattle.ssz_value.specs.Faults.{first_fault, fields_fault, elements_fault, count_fault, element_count, head_fault, first_offset_fault, later_fault, next_offset, offset_at, scopes}
 use Rattle.ssz_value.proofs.Agree.{IsInput, IsInput-range, no_fault, right_length}
 use Rattle.ssz_value.proofs.Cut.{passed}
 use Rattle.ssz_value.proofs.PartLemmas.{Part, sizes_of, size_at, sizes_from}
 use Rattle.ssz_parts.proofs.Faultless.{anywhere}
-use Rattle.ssz_parts.proofs.ElementFaults.{left, later-start}
-use Rattle.ssz_checking.specs.Clean.{HasNoFault, Closes}
+use Rattle.ssz_parts.proofs.ElementFaults.{left, later-start, VariableFrom-end}
+use Rattle.ssz_checking.specs.Clean.{HasNoFault, AreCleanBefore, Closes}
+use Rattle.ssz_checking.proofs.BeforeLemmas.{before_none, before_variable, variable_after}
 
 -- no fault is found
 pub none_of : (fault : Option Fault) (told : Bool) → is_some fault ≡ not told → told ≡ true
@@ -47,11 +48,11 @@ list_none t size limit count b same number none clean =
     (sym (number ∙ ap (λ z. element_count z b) same)) ∙ clean)
 
 -- no elements have no fault
-pub none_none : (child : ℕ → List ℕ → Option Fault) (count : ℕ) (b : List ℕ) → count ≡ 0
-    → length b ≡ 0 → elements_fault child None count 0 b ≡ None
-none_none child count b is e =
-    ap (λ n. elements_fault child None n 0 b) is
-    ∙ no_fault _ _ (right_length 0 0 b e) refl
+pub none_none : (child : ℕ → List ℕ → Option Fault) (count s : ℕ) (b : List ℕ) → count ≡ 0
+    → length b ≡ 0 → elements_fault child None count s b ≡ None
+none_none child count s b is e =
+    ap (λ n. elements_fault child None n s b) is
+    ∙ no_fault _ _ (right_length 0 s b e) refl
 
 -- a later offset in order
 later_step : (sizes : List (Option ℕ)) (place before s : ℕ) (b : List ℕ)
@@ -62,49 +63,40 @@ later_step sizes place before s b within up rest =
     passed _ _ _ (le-ltb (length b) (offset_at b place) within)
     (passed _ _ _ (le-ltb (offset_at b place) before up) rest)
 
--- what is left to show from element i on
-pub record ElementsLeft (child : ℕ → List ℕ → Option Fault) (count : ℕ) (b : List ℕ)
-    (i : ℕ) : Type 0 where
-  pub order : later_fault (replicate (count - (i + 1)) None) (4 * i + 4) (offset_at b (4 * i)) 0 b
-      ≡ None
-  pub clean : alike_fault child 0 (scopes (replicate (count - i) None) (4 * i) b) ≡ None
-
--- the elements before element i, which begins at from, have no fault
-pub record CleanSoFar (child : ℕ → List ℕ → Option Fault) (count : ℕ) (b : List ℕ)
-    (i from : ℕ) : Type 0 where
+-- the elements before element i, which begins at from, have no fault, nor have their offsets
+pub record CleanSoFar (t : SszType) (count : ℕ) (b : List ℕ) (i from : ℕ) : Type 0 where
   pub here : i < count → from ≡ offset_at b (4 * i)
   pub room : 4 * count ≤ length b
-  pub all : ElementsLeft child count b i → elements_fault child None count 0 b ≡ None
+  pub order : (s : ℕ) → later_fault (replicate (count - (i + 1)) None) (4 * i + 4)
+      (offset_at b (4 * i)) s b ≡ None → head_fault (replicate count None) s b ≡ None
+  pub before : AreCleanBefore t None count i b
 
-pub CleanSoFar-start : (child : ℕ → List ℕ → Option Fault) (count from : ℕ) (b : List ℕ)
+pub CleanSoFar-start : (t : SszType) (count from : ℕ) (b : List ℕ)
     → 0 < count → 4 * count ≤ length b → offset_at b 0 ≡ 4 * count → from ≡ 4 * count
-    → CleanSoFar child count b 0 from
-CleanSoFar-start child count from b some room first is =
-    let count_is : count ≡ count - 0 = omega arith in
-    record {
-      here = λ below. is ∙ sym first;
-      room = room;
-      all = λ rest. no_fault _ _
-          (sym (later-start count (offset_at b 0) 0 b some room refl first) ∙ rest.order)
-          (ap (λ n. alike_fault child 0 (scopes (replicate n None) 0 b)) count_is ∙ rest.clean);
-    }
+    → CleanSoFar t count b 0 from
+CleanSoFar-start t count from b some room first is = record {
+  here = λ below. is ∙ sym first;
+  room = room;
+  order = λ s rest. sym (later-start count (offset_at b 0) s b some room refl first) ∙ rest;
+  before = before_none t None count b;
+}
 
-order_before : (count i : ℕ) (b : List ℕ)
+order_before : (count i s : ℕ) (b : List ℕ)
     → (i + 1 < count → offset_at b (4 * i + 4) ≤ length b)
     → (i + 1 < count → offset_at b (4 * i) ≤ offset_at b (4 * i + 4))
     → later_fault (replicate (count - (i + 1 + 1)) None) (4 * (i + 1) + 4)
-    (offset_at b (4 * (i + 1))) 0 b ≡ None
-    → later_fault (replicate (count - (i + 1)) None) (4 * i + 4) (offset_at b (4 * i)) 0 b ≡ None
-order_before count i b within up rest =
+    (offset_at b (4 * (i + 1))) s b ≡ None
+    → later_fault (replicate (count - (i + 1)) None) (4 * i + 4) (offset_at b (4 * i)) s b ≡ None
+order_before count i s b within up rest =
     let place : 4 * i + 4 ≡ 4 * (i + 1) = omega arith in
     elim (cases_lt (i + 1) count) [
-      | inl more ↦ ap (λ n. later_fault (replicate n None) (4 * i + 4) (offset_at b (4 * i)) 0 b)
+      | inl more ↦ ap (λ n. later_fault (replicate n None) (4 * i + 4) (offset_at b (4 * i)) s b)
           (left count (i + 1) more)
-          ∙ later_step (replicate (count - (i + 1 + 1)) None) (4 * i + 4) (offset_at b (4 * i)) 0 b
+          ∙ later_step (replicate (count - (i + 1 + 1)) None) (4 * i + 4) (offset_at b (4 * i)) s b
           (within more) (up more)
-          (ap (λ p. later_fault (replicate (count - (i + 1 + 1)) None) (p + 4) (offset_at b p) 0 b)
+          (ap (λ p. later_fault (replicate (count - (i + 1 + 1)) None) (p + 4) (offset_at b p) s b)
           place ∙ rest)
-      | inr last ↦ ap (λ n. later_fault (replicate n None) (4 * i + 4) (offset_at b (4 * i)) 0 b)
+      | inr last ↦ ap (λ n. later_fault (replicate n None) (4 * i + 4) (offset_at b (4 * i)) s b)
           (none_left count i last)
     ]
   where
@@ -116,53 +108,42 @@ next_at : (count i : ℕ) (b : List ℕ) → i + 1 < count
 next_at count i b more =
     ap (λ n. next_offset (replicate n None) (4 * i + 4) b) (left count (i + 1) more)
 
-pub CleanSoFar-more : (child : ℕ → List ℕ → Option Fault) (count i from to : ℕ) (b : List ℕ)
-    → CleanSoFar child count b i from → i < count
+pub CleanSoFar-more : (t : SszType) (count i from to : ℕ) (b : List ℕ)
+    → CleanSoFar t count b i from → i < count
     → to ≡ next_offset (replicate (count - (i + 1)) None) (4 * i + 4) b → from ≤ to
-    → to ≤ length b → ((s : ℕ) → child s (slice_range b from to) ≡ None)
-    → CleanSoFar child count b (i + 1) to
-CleanSoFar-more child count i from to b h below is up within clean =
+    → to ≤ length b → HasNoFault t (slice_range b from to)
+    → CleanSoFar t count b (i + 1) to
+CleanSoFar-more t count i from to b h below is up within clean =
     let place : 4 * i + 4 ≡ 4 * (i + 1) = omega arith in
     let begin : from ≡ offset_at b (4 * i) = h.here below in
-    let part : child (0 + offset_at b (4 * i)) (slice_range b (offset_at b (4 * i))
-    (next_offset (replicate (count - (i + 1)) None) (4 * i + 4) b)) ≡ None =
-    ap₂ (λ (f t : ℕ). child (0 + offset_at b (4 * i)) (slice_range b f t)) (sym begin) (sym is)
-    ∙ clean (0 + offset_at b (4 * i)) in
     record {
       here = λ more. is ∙ next_at count i b more ∙ ap (offset_at b) place;
       room = h.room;
-      all = λ rest. h.all (record {
-        order = order_before count i b
-            (λ more. omega (arith, within, is, next_at count i b more))
-            (λ more. omega (arith, up, begin, is, next_at count i b more)) rest.order;
-        clean = ap (λ n. alike_fault child 0 (scopes (replicate n None) (4 * i) b))
-            (left count i below)
-            ∙ no_fault _ _ part
-            (ap (λ p. alike_fault child 0 (scopes (replicate (count - (i + 1)) None) p b)) place
-            ∙ rest.clean);
-      });
+      order = λ s rest. h.order s (order_before count i s b
+          (λ more. omega (arith, within, is, next_at count i b more))
+          (λ more. omega (arith, up, begin, is, next_at count i b more)) rest);
+      before = before_variable t count i from to b h.before below begin is clean;
     }
 
 -- the same where the element is told by its form, and has no fault at the start
 pub lifted_more : (format : Format) (t u : SszType) (count i from to : ℕ) (b : List ℕ) → t ≡ u
-    → IsLegal format t → IsInput b → CleanSoFar (first_fault t) count b i from → i < count
+    → IsLegal format t → IsInput b → CleanSoFar t count b i from → i < count
     → to ≡ next_offset (replicate (count - (i + 1)) None) (4 * i + 4) b → from ≤ to
     → to ≤ length b → first_fault u 0 (slice_range b from to) ≡ None
-    → CleanSoFar (first_fault t) count b (i + 1) to
+    → CleanSoFar t count b (i + 1) to
 lifted_more format t u count i from to b form legal input h below is up within clean =
-    CleanSoFar-more (first_fault t) count i from to b h below is up within
+    CleanSoFar-more t count i from to b h below is up within
     (lifted format t u (slice_range b from to) form legal (IsInput-range b from to input) clean)
 
-pub CleanSoFar-end : (child : ℕ → List ℕ → Option Fault) (count i from : ℕ) (b : List ℕ)
-    → CleanSoFar child count b i from → count ≤ i → elements_fault child None count 0 b ≡ None
-CleanSoFar-end child count i from b h all =
-    let none : count - i ≡ 0 = omega (arith, all) in
+pub CleanSoFar-end : (t : SszType) (count i from : ℕ) (b : List ℕ)
+    → CleanSoFar t count b i from → count ≤ i → (s : ℕ)
+    → elements_fault (first_fault t) None count s b ≡ None
+CleanSoFar-end t count i from b h all s =
     let no_more : count - (i + 1) ≡ 0 = omega (arith, all) in
-    h.all (record {
-      order = ap (λ n. later_fault (replicate n None) (4 * i + 4) (offset_at b (4 * i)) 0 b)
-          no_more;
-      clean = ap (λ n. alike_fault child 0 (scopes (replicate n None) (4 * i) b)) none;
-    })
+    let head : head_fault (replicate count None) s b ≡ None =
+    h.order s
+    (ap (λ n. later_fault (replicate n None) (4 * i + 4) (offset_at b (4 * i)) s b) no_more) in
+    VariableFrom-end (first_fault t) count s b i (variable_after t count s i b head h.before) all
 
 -- what is left to show of fields whose fixed parts begin at place, where the variable part before
 -- them begins at from

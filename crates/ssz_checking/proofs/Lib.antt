@@ -2,4 +2,5 @@ pub mod PlainLemmas
 pub mod SoundLemmas
 pub mod RangeLemmas
 pub mod NumberLemmas
+pub mod BeforeLemmas
 pub mod CleanLemmas

@@ -11,7 +11,7 @@ use Rattle.ssz_bytes.specs.Bytes.{IsBytes}
 use Rattle.ssz_schema.specs.width.Width.{Width}
 use Rattle.ssz_schema.specs.Types.{SszType, uint, list}
 use Rattle.ssz_schema.specs.Sizes.{byte_count, fixed_size, head_size}
-use Rattle.ssz_value.specs.Faults.{first_fault, count_fault, elements_fault}
+use Rattle.ssz_value.specs.Faults.{first_fault, count_fault}
 use Rattle.ssz_value.proofs.Agree.{no_fault, right_length, same_some}
 use Rattle.ssz_value.proofs.Cut.{passes, passed}
 use Rattle.ssz_value.proofs.FormLemmas.{byte_type}
@@ -69,15 +69,6 @@ numbers_list t w size limit s b is same bytes e =
     ap (λ (elem : SszType). first_fault (list elem limit) s b) is
     ∙ list_clean w limit s b bytes
     (ap (λ z. count_fault z limit s b) (sym (same ∙ ap fixed_size is)) ∙ e)
-
--- numbers that are so many have no fault
-pub numbers_clean : (t : SszType) (w : Width) (size count s : ℕ) (b : List ℕ) → t ≡ uint w
-    → fixed_size t ≡ Some size → IsBytes b → length b ≡ count * size
-    → elements_fault (first_fault t) (Some size) count s b ≡ None
-numbers_clean t w size count s b is fixed bytes long =
-    ap (λ (elem : SszType). elements_fault (first_fault elem) (Some size) count s b) is
-    ∙ elements_clean (uint w) size count s b (clean_of (uint w) refl)
-    (sym (ap fixed_size is) ∙ fixed) bytes long
 
 -- a number of the right size has no fault
 pub number_clean : (t : SszType) (w : Width) (b : List ℕ) → t ≡ uint w

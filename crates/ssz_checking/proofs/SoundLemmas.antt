@@ -1,6 +1,6 @@
 -- Elements whose booleans are 00 or 01, and whose other parts are plain, have no fault.
-use Rattle.std.proofs.Common.{ℕ, zero, suc, ◌+◌, ◌-◌, ◌*◌, ◌/◌, ◌<◌, ◌≤◌, ◌≡◌, ◌&&◌, Bool, true, false, List, ◌∷◌, length, replicate, drop, get_or, slice_range, IsSomeAnd, Option, Some, None, option_map, refl, sym, ap, ap₂, subst, ◌∙◌, arith, le-ltb, ltb, ltb-true, lt-ltb, mul-div_cancel, mul-le-mul_right, div-mul-le_self}
-use Rattle.std.proofs.lemmas.Bool.{cond-false, and_parts}
+use Rattle.std.proofs.Common.{ℕ, zero, suc, ◌+◌, ◌-◌, ◌*◌, ◌<◌, ◌≤◌, ◌≡◌, ◌&&◌, inl, inr, Bool, true, false, List, ◌∷◌, length, drop, get_or, slice_range, IsSomeAnd, Option, Some, None, option_map, refl, sym, ap, subst, ◌∙◌, arith, le-ltb, ltb, ltb-true, lt-ltb, mul-le-mul_right}
+use Rattle.std.proofs.lemmas.Bool.{cond-false, cases_lt, and_from, and_parts}
 use Rattle.std.proofs.lemmas.List.{drop_all, get_or-drop, get_or-take}
 use Rattle.ssz_schema.specs.Types.{SszType, Fields, uint, boolean, container, vector, list, bitvector, bitlist, union, no_fields, field}
 use Rattle.ssz_schema.specs.Sizes.{head_size, fixed_size, part_sizes, total_size}
@@ -8,19 +8,34 @@ use Rattle.ssz_schema.specs.Unfolding.{type_tree_at, fields_over}
 use Rattle.ssz_schema.proofs.WalkFields.{drop_at}
 use Rattle.ssz_bytes.specs.Bytes.{IsBytes}
 use Rattle.ssz_value.specs.Encoding.{heads_length}
-use Rattle.ssz_value.specs.Faults.{first_fault, first_offset_fault, fields_fault, alike_fault, elements_fault, scopes}
+use Rattle.ssz_value.specs.Faults.{first_fault, first_offset_fault, fields_fault, scopes}
 use Rattle.ssz_value.proofs.Agree.{right_length, no_fault, same_some}
 use Rattle.ssz_value.proofs.PartLemmas.{Part, sizes_of, size_at, sizes_from}
 use Rattle.ssz_checking.specs.Sound.{all_below, sound_in, is_sound, are_sound}
+use Rattle.ssz_checking.specs.Clean.{AreCleanBefore}
 use Rattle.ssz_checking.proofs.PlainLemmas.{IsClean, clean_of, range_bytes, range_length}
-use Rattle.ssz_parts.proofs.ElementFaults.{head_fault-alike, left}
+use Rattle.ssz_parts.proofs.ElementLemmas.{part_fixed_first}
 
--- from the field at i on, which stands at place, the fields are as sound as all
-pub record SoundFrom (trees : List SszType) (parts : List Part) (below : ℕ → ℕ → Bool)
-    (step start i place : ℕ) : Type 0 where
-  pub sound : are_sound below (fields_over trees (drop i parts)) place
-      ≡ are_sound below (fields_over trees parts) start
+-- the first count of all elements are sound, as far as the fields before field i tell; that field
+-- stands at place
+pub record SoundFrom (trees : List SszType) (parts : List Part) (step all : ℕ) (b : List ℕ)
+    (start i place count : ℕ) : Type 0 where
+  pub most : count ≤ all
+  pub sound : (k : ℕ) → k < all
+      → (ltb k count
+      && are_sound (sound_in step (k + 1) b) (fields_over trees (drop i parts)) place)
+      ≡ are_sound (sound_in step (k + 1) b) (fields_over trees parts) start
   pub room : IsSomeAnd (total_size (sizes_of trees (drop i parts))) (λ z. place + z ≤ step)
+
+pub SoundFrom-start : (trees : List SszType) (parts : List Part) (step all : ℕ) (b : List ℕ)
+    (start : ℕ) → IsSomeAnd (total_size (sizes_of trees parts)) (λ z. start + z ≤ step)
+    → SoundFrom trees parts step all b start 0 start all
+SoundFrom-start trees parts step all b start room = record {
+  most = omega arith;
+  sound = λ k below. ap (λ s. s && are_sound (sound_in step (k + 1) b) (fields_over trees parts)
+      start) (lt-ltb k all below);
+  room = room;
+}
 
 room_of_two : (size : Option ℕ) (sizes : List (Option ℕ)) (place step : ℕ)
     → IsSomeAnd (total_size (size ∷ sizes)) (λ z. place + z ≤ step)
@@ -35,55 +50,58 @@ room_of_two (Some y) sizes place step h = go (total_size sizes) h
     go None h = absurd h
     go (Some x) h = (omega (arith, h), omega (arith, h))
 
-pub SoundFrom-room : (trees : List SszType) (parts : List Part) (below : ℕ → ℕ → Bool)
-    (step start i place : ℕ) (part : Part) → SoundFrom trees parts below step start i place
-    → i < length parts → part ≡ get_or parts i part
+pub SoundFrom-room : (trees : List SszType) (parts : List Part) (step all : ℕ) (b : List ℕ)
+    (start i place count : ℕ) (part : Part)
+    → SoundFrom trees parts step all b start i place count → i < length parts
+    → part ≡ get_or parts i part
     → IsSomeAnd (size_at trees part) (λ z. place + z ≤ step)
     × IsSomeAnd (total_size (sizes_of trees (drop (i + 1) parts)))
     (λ z. place + head_size (size_at trees part) + z ≤ step)
-SoundFrom-room trees parts below step start i place part h here e =
+SoundFrom-room trees parts step all b start i place count part h here e =
     room_of_two (size_at trees part) (sizes_of trees (drop (i + 1) parts)) place step
     (subst (λ (sizes : List (Option ℕ)). IsSomeAnd (total_size sizes) (λ z. place + z ≤ step))
     (sizes_from trees parts i part here e) h.room)
 
-sound_next : (trees : List SszType) (parts : List Part) (below : ℕ → ℕ → Bool)
-    (step start i place : ℕ) (part : Part) → SoundFrom trees parts below step start i place
-    → i < length parts → part ≡ get_or parts i part
-    → (is_sound below (type_tree_at trees part.1) place
-    && are_sound below (fields_over trees (drop (i + 1) parts))
-    (place + head_size (size_at trees part)))
-    ≡ are_sound below (fields_over trees parts) start
-sound_next trees parts below step start i place part h here e =
-    sym (ap (λ ps. are_sound below (fields_over trees ps) place) (drop_at parts i part here e))
-    ∙ h.sound
+pub SoundFrom-more : (trees : List SszType) (parts : List Part) (step all : ℕ) (b : List ℕ)
+    (start i place count next : ℕ) (part : Part)
+    → SoundFrom trees parts step all b start i place count → i < length parts
+    → part ≡ get_or parts i part → next ≤ count
+    → ((k : ℕ) → k < count
+    → is_sound (sound_in step (k + 1) b) (type_tree_at trees part.1) place ≡ ltb k next)
+    → SoundFrom trees parts step all b start (i + 1) (place + head_size (size_at trees part)) next
+SoundFrom-more trees parts step all b start i place count next part h here e fewer exact =
+    let rest : ℕ → Bool = λ k. are_sound (sound_in step (k + 1) b)
+    (fields_over trees (drop (i + 1) parts)) (place + head_size (size_at trees part)) in
+    let these : ℕ → Bool = λ k. are_sound (sound_in step (k + 1) b)
+    (fields_over trees (drop i parts)) place in
+    let first : (k : ℕ) → these k
+    ≡ (is_sound (sound_in step (k + 1) b) (type_tree_at trees part.1) place && rest k) =
+    λ k. ap (λ ps. are_sound (sound_in step (k + 1) b) (fields_over trees ps) place)
+    (drop_at parts i part here e) in
+    record {
+      most = omega (arith, fewer, h.most);
+      sound = λ k below. elim (cases_lt k count) [
+        | inl less ↦ ap (λ s. s && rest k) (sym (exact k less)) ∙ sym (first k)
+            ∙ sym (ap (λ s. s && these k) (lt-ltb k count less)) ∙ h.sound k below
+        | inr not ↦ ap (λ s. s && rest k) (le-ltb k next (omega (arith, fewer, not)))
+            ∙ sym (ap (λ s. s && these k) (le-ltb k count not)) ∙ h.sound k below
+      ];
+      room = (SoundFrom-room trees parts step all b start i place count part h here e).1;
+    }
 
-pub SoundFrom-more : (trees : List SszType) (parts : List Part) (below : ℕ → ℕ → Bool)
-    (step start i place : ℕ) (part : Part) → SoundFrom trees parts below step start i place
-    → i < length parts → part ≡ get_or parts i part
-    → is_sound below (type_tree_at trees part.1) place ≡ true
-    → SoundFrom trees parts below step start (i + 1) (place + head_size (size_at trees part))
-SoundFrom-more trees parts below step start i place part h here e is_so = record {
-  sound = sym (ap (λ s. s && are_sound below (fields_over trees (drop (i + 1) parts))
-      (place + head_size (size_at trees part))) is_so)
-      ∙ sound_next trees parts below step start i place part h here e;
-  room = (SoundFrom-room trees parts below step start i place part h here e).1;
-}
+and_true : (x : Bool) → (x && true) ≡ x
+and_true true = refl
+and_true false = refl
 
-pub SoundFrom-found : (trees : List SszType) (parts : List Part) (below : ℕ → ℕ → Bool)
-    (step start i place : ℕ) (part : Part) → SoundFrom trees parts below step start i place
-    → i < length parts → part ≡ get_or parts i part
-    → is_sound below (type_tree_at trees part.1) place ≡ false
-    → false ≡ are_sound below (fields_over trees parts) start
-SoundFrom-found trees parts below step start i place part h here e is_not =
-    sym (ap (λ s. s && are_sound below (fields_over trees (drop (i + 1) parts))
-    (place + head_size (size_at trees part))) is_not)
-    ∙ sound_next trees parts below step start i place part h here e
-
-pub SoundFrom-end : (trees : List SszType) (parts : List Part) (below : ℕ → ℕ → Bool)
-    (step start i place : ℕ) → SoundFrom trees parts below step start i place → length parts ≤ i
-    → true ≡ are_sound below (fields_over trees parts) start
-SoundFrom-end trees parts below step start i place h all =
-    sym (ap (λ ps. are_sound below (fields_over trees ps) place) (drop_all i parts all)) ∙ h.sound
+pub SoundFrom-end : (trees : List SszType) (parts : List Part) (step all : ℕ) (b : List ℕ)
+    (start i place count : ℕ) → SoundFrom trees parts step all b start i place count
+    → length parts ≤ i → (k : ℕ) → k < all
+    → are_sound (sound_in step (k + 1) b) (fields_over trees parts) start ≡ ltb k count
+SoundFrom-end trees parts step all b start i place count h done k below =
+    sym (h.sound k below)
+    ∙ ap (λ ps. ltb k count && are_sound (sound_in step (k + 1) b) (fields_over trees ps) place)
+    (drop_all i parts done)
+    ∙ and_true (ltb k count)
 
 -- the bytes, which begin at this place, are below the bounds that are told
 abbrev pub Tells : (ℕ → ℕ → Bool) → ℕ → List ℕ → Type 0
@@ -229,21 +247,6 @@ told_at bound step place (suc n) b (suc i) e below =
     subst (λ (p : ℕ). get_or b p 0 < bound) there
     (told_at bound step (place + step) n b i (and_parts _ _ e).1 (omega arith))
 
-clean_each : (t : SszType) (z n place s : ℕ) (b : List ℕ)
-    → ((i s : ℕ) → i < n → first_fault t s (slice_range b (place + i * z) (place + i * z + z))
-    ≡ None)
-    → alike_fault (first_fault t) s (scopes (replicate n (Some z)) place b) ≡ None
-clean_each t z zero place s b clean = refl
-clean_each t z (suc n) place s b clean =
-    let same : place + 0 * z ≡ place = omega arith in
-    no_fault _ _
-    (subst (λ (p : ℕ). first_fault t (s + place) (slice_range b p (p + z)) ≡ None) same
-    (clean 0 (s + place) (omega arith)))
-    (clean_each t z n (place + z) s b (λ i s below. (
-    let there : place + suc i * z ≡ place + z + i * z = omega arith in
-    subst (λ (p : ℕ). first_fault t s (slice_range b p (p + z)) ≡ None) there
-    (clean (suc i) s (omega (arith, below))))))
-
 -- element i lies within the bytes
 element_room : (i count size : ℕ) → i < count → i * size + size ≤ count * size
 element_room i count size below =
@@ -251,87 +254,91 @@ element_room i count size below =
     let le : (i + 1) * size ≤ count * size = mul-le-mul_right size next in omega (arith, le)
 
 -- a place within an element is within the bytes
-pub place_inside : (len step count i place : ℕ) → count ≡ len / step → i < count → place < step
+pub place_inside : (len step count i place : ℕ) → count * step ≤ len → i < count → place < step
     → place + i * step < len
-place_inside len step count i place number below inside =
-    let whole : count * step ≤ len =
-    subst (λ (n : ℕ). n * step ≤ len) (sym number) (div-mul-le_self len step) in
+place_inside len step count i place whole below inside =
     omega (arith, element_room i count step below, whole, inside)
 
--- from element i on, the bytes are below the bound as all are
-abbrev pub BelowFrom : ℕ → ℕ → ℕ → ℕ → List ℕ → ℕ → Type 0
-BelowFrom bound step place count b i =
-    all_below bound step (place + i * step) (count - i) b ≡ all_below bound step place count b
+-- the bytes of the elements before element i are below the bound
+abbrev pub BelowBefore : ℕ → ℕ → ℕ → List ℕ → ℕ → Type 0
+BelowBefore bound step place b i = (j : ℕ) → j < i → get_or b (place + j * step) 0 < bound
 
-pub BelowFrom-start : (bound step place count : ℕ) (b : List ℕ)
-    → BelowFrom bound step place count b 0
-BelowFrom-start bound step place count b =
-    ap₂ (λ at n. all_below bound step at n b) (omega arith) (omega arith)
+pub BelowBefore-more : (bound step place : ℕ) (b : List ℕ) (i : ℕ)
+    → BelowBefore bound step place b i → get_or b (place + i * step) 0 < bound
+    → BelowBefore bound step place b (i + 1)
+BelowBefore-more bound step place b i h low j below = elim (cases_lt j i) [
+  | inl before ↦ h j before
+  | inr not ↦ subst (λ (k : ℕ). get_or b (place + k * step) 0 < bound)
+      (omega (arith, below, not)) low
+]
 
-below_next : (bound step place count : ℕ) (b : List ℕ) (i : ℕ)
-    → BelowFrom bound step place count b i → i < count
-    → (ltb (get_or b (place + i * step) 0) bound
-    && all_below bound step (place + i * step + step) (count - (i + 1)) b)
-    ≡ all_below bound step place count b
-below_next bound step place count b i h below =
-    sym (ap (λ n. all_below bound step (place + i * step) n b) (left count i below)) ∙ h
+below_all : (bound step place n : ℕ) (b : List ℕ) → BelowBefore bound step place b n
+    → all_below bound step place n b ≡ true
+below_all bound step place zero b h = refl
+below_all bound step place (suc n) b h =
+    let same : place + 0 * step ≡ place = omega arith in
+    let first : get_or b place 0 < bound =
+    subst (λ (p : ℕ). get_or b p 0 < bound) same (h 0 (omega arith)) in
+    and_from _ _ (lt-ltb (get_or b place 0) bound first)
+    (below_all bound step (place + step) n b (λ j below. (
+    let there : place + suc j * step ≡ place + step + j * step = omega arith in
+    subst (λ (p : ℕ). get_or b p 0 < bound) there (h (suc j) (omega (arith, below))))))
 
-pub BelowFrom-more : (bound step place count : ℕ) (b : List ℕ) (i : ℕ)
-    → BelowFrom bound step place count b i → i < count
-    → get_or b (place + i * step) 0 < bound
-    → BelowFrom bound step place count b (i + 1)
-BelowFrom-more bound step place count b i h below low =
-    ap (λ at. all_below bound step at (count - (i + 1)) b) (omega arith)
-    ∙ sym (ap (λ s. s && all_below bound step (place + i * step + step) (count - (i + 1)) b)
-    (lt-ltb (get_or b (place + i * step) 0) bound low))
-    ∙ below_next bound step place count b i h below
+-- so they are as many as were looked at before one that is not
+pub BelowBefore-found : (bound step place : ℕ) (b : List ℕ) (i : ℕ)
+    → BelowBefore bound step place b i → bound ≤ get_or b (place + i * step) 0 → (k : ℕ)
+    → all_below bound step place (k + 1) b ≡ ltb k i
+BelowBefore-found bound step place b i h high k = elim (cases_lt k i) [
+  | inl less ↦ below_all bound step place (k + 1) b (λ j below. h j (omega (arith, below, less)))
+      ∙ sym (lt-ltb k i less)
+  | inr not ↦ refuted _ (λ (e : all_below bound step place (k + 1) b ≡ true).
+      (let low : get_or b (place + i * step) 0 < bound =
+      told_at bound step place (k + 1) b i e (omega (arith, not)) in
+      absurd (omega (arith, low, high))))
+      ∙ sym (le-ltb k i not)
+]
+  where
+    refuted : (x : Bool) → (x ≡ true → x ≡ false) → x ≡ false
+    refuted true h = h refl
+    refuted false h = refl
 
-pub BelowFrom-found : (bound step place count : ℕ) (b : List ℕ) (i : ℕ)
-    → BelowFrom bound step place count b i → i < count
-    → bound ≤ get_or b (place + i * step) 0
-    → false ≡ all_below bound step place count b
-BelowFrom-found bound step place count b i h below high =
-    sym (ap (λ s. s && all_below bound step (place + i * step + step) (count - (i + 1)) b)
-    (le-ltb (get_or b (place + i * step) 0) bound high))
-    ∙ below_next bound step place count b i h below
+pub BelowBefore-end : (bound step place : ℕ) (b : List ℕ) (i : ℕ)
+    → BelowBefore bound step place b i → (k : ℕ) → k < i
+    → all_below bound step place (k + 1) b ≡ ltb k i
+BelowBefore-end bound step place b i h k less =
+    below_all bound step place (k + 1) b (λ j below. h j (omega (arith, below, less)))
+    ∙ sym (lt-ltb k i less)
 
-pub BelowFrom-end : (bound step place count : ℕ) (b : List ℕ) (i : ℕ)
-    → BelowFrom bound step place count b i → count ≤ i → true ≡ all_below bound step place count b
-BelowFrom-end bound step place count b i h all =
-    let none : count - i ≡ 0 = omega (arith, all) in
-    sym (ap (λ n. all_below bound step (place + i * step) n b) none) ∙ h
-
--- what is told of all elements is told of each
-tells_element : (size count : ℕ) (b : List ℕ) (i : ℕ) → i < count → length b ≡ count * size
-    → length b / size ≡ count
-    → Tells (sound_in size b) 0 (slice_range b (i * size) (i * size + size))
-tells_element size count b i below long number bound j inside e =
-    let room : i * size + size ≤ length b = omega (arith, long, element_room i count size below) in
+-- what is told of n elements is told of each
+tells_element : (size n : ℕ) (b : List ℕ) (i : ℕ) → i < n → i * size + size ≤ length b
+    → Tells (sound_in size n b) 0 (slice_range b (i * size) (i * size + size))
+tells_element size n b i below room bound j inside e =
     let j_below : j < size = omega (arith, inside, range_length b (i * size) size room) in
-    let all : all_below bound size (0 + j) count b ≡ true =
-    subst (λ (n : ℕ). all_below bound size (0 + j) n b ≡ true) number e in
-    let low = told_at bound size (0 + j) count b i all below in
+    let low = told_at bound size (0 + j) n b i e below in
     let there : 0 + j + i * size ≡ i * size + j = omega arith in
     subst (λ (x : ℕ). x < bound) (sym (byte_of_range b (i * size) size j j_below))
     (subst (λ (p : ℕ). get_or b p 0 < bound) there low)
 
--- so many elements of a type that is sound in each have no fault
-pub elements_sound : (t : SszType) (size count s : ℕ) (b : List ℕ) → 0 < size
-    → fixed_size t ≡ Some size → IsBytes b → length b ≡ count * size
-    → is_sound (sound_in size b) t 0 ≡ true
-    → elements_fault (first_fault t) (Some size) count s b ≡ None
-elements_sound t size count s b some fixed bytes long e =
-    let h = sound_of (sound_in size b) t 0 e in
-    let same : h.size ≡ size = same_some h.size size (sym h.fixed ∙ fixed) in
-    let number : length b / size ≡ count =
-    ap (λ n. n / size) long ∙ mul-div_cancel count some in
-    no_fault _ _ (head_fault-alike count size s b ∙ right_length (count * size) s b long)
-    (clean_each t size count 0 s b (λ i s below. (
-    let room : i * size + size ≤ length b =
-    omega (arith, long, element_room i count size below) in
-    let place : i * size ≡ 0 + i * size = omega arith in
-    subst (λ (p : ℕ). first_fault t s (slice_range b p (p + size)) ≡ None) place
-    (h.clean s (slice_range b (i * size) (i * size + size))
-    (range_bytes b (i * size) (i * size + size) bytes)
-    (range_length b (i * size) size room ∙ sym same)
-    (tells_element size count b i below long number)))))
+-- elements of which the first n are sound come after n that have no fault
+pub sound_before : (t : SszType) (size count n : ℕ) (b : List ℕ) → fixed_size t ≡ Some size
+    → IsBytes b → length b ≡ count * size → n ≤ count
+    → ((i : ℕ) → i < count → is_sound (sound_in size (i + 1) b) t 0 ≡ ltb i n)
+    → AreCleanBefore t (Some size) count n b
+sound_before t size count n b fixed bytes long few exact = (
+  few,
+  λ j below s. (
+      let last : n - 1 + 1 ≡ n = omega (arith, below) in
+      let told : is_sound (sound_in size n b) t 0 ≡ true =
+      subst (λ (m : ℕ). is_sound (sound_in size m b) t 0 ≡ true) last
+      (exact (n - 1) (omega (arith, below, few)) ∙ lt-ltb (n - 1) n (omega (arith, below))) in
+      let h = sound_of (sound_in size n b) t 0 told in
+      let same : size ≡ h.size = same_some size h.size (sym fixed ∙ h.fixed) in
+      let within : j < count = omega (arith, below, few) in
+      let room : j * size + size ≤ length b =
+      omega (arith, long, element_room j count size within) in
+      ap (first_fault t s) (part_fixed_first count size b j within)
+      ∙ h.clean s (slice_range b (j * size) (j * size + size))
+      (range_bytes b (j * size) (j * size + size) bytes)
+      (range_length b (j * size) size room ∙ same)
+      (tells_element size n b j below room)),
+)

@@ -1,5 +1,5 @@
 -- Parts that stand at one place in each of many elements, and have no fault in any of them.
-use Rattle.std.specs.Prelude.{ℕ, zero, suc, ◌+◌, ◌/◌, ◌%◌, ◌==◌, ◌&&◌, nat_lt, List, length, slice_index, Bool, true, false}
+use Rattle.std.specs.Prelude.{ℕ, zero, suc, ◌+◌, ◌%◌, ◌==◌, ◌&&◌, nat_lt, List, slice_index, Bool, true, false}
 use Rattle.ssz_schema.specs.Types.{SszType, Fields, uint, boolean, container, vector, bitvector, no_fields, field}
 use Rattle.ssz_schema.specs.Sizes.{head_size, fixed_size}
 use Rattle.ssz_checking.specs.Plain.{has_plain_encoding}
@@ -11,9 +11,9 @@ all_below bound step place zero b = true
 all_below bound step place (suc n) b =
     nat_lt (slice_index b place) bound && all_below bound step (place + step) n b
 
--- in each element of step bytes the byte at this place is below the bound
-abbrev pub sound_in : ℕ → List ℕ → ℕ → ℕ → Bool
-sound_in step b bound place = all_below bound step place (length b / step) b
+-- in each of n elements of step bytes the byte at this place is below the bound
+abbrev pub sound_in : ℕ → ℕ → List ℕ → ℕ → ℕ → Bool
+sound_in step n b bound place = all_below bound step place n b
 
 abbrev mutual
   -- no part of this type at this place has a fault, where the bytes that are told are below their

@@ -6,7 +6,7 @@ ghost use Rattle.ssz_schema.specs.Legal.{IsSize};
 ghost use Rattle.ssz_schema.specs.Unfolding.{type_of, fields_over};
 ghost use Rattle.ssz_value.specs.Faults.{first_fault, elements_fault};
 
-use super::clean::is_clean;
+use super::clean::{first_unclean_alike, first_unclean_variable, is_clean};
 use super::leaves::{bitvector, boolean};
 use ssz_basic::read_bitlist;
 use ssz_bytes::Fault;
@@ -27,16 +27,18 @@ pub fn check(schema: &Schema, id: TypeId, bytes: &[u8]) -> Option<Fault>
 }
 
 // The same of bytes that begin at start. Most have no fault, and that is found sooner than one: of
-// elements, too, so that only the first that has one is looked at for it.
+// a container it is asked here, and of elements below, where the search begins at the first that
+// may have one.
 #[cycle(check)]
-#[inline(always)]
 fn judged(schema: &Schema, id: TypeId, start: u64, bytes: &[u8]) -> Option<Fault>
     requires known { id < length schema.now.trees }
     requires short { start + length bytes.now < 2 ^ 32 }
     ensures { result ≡ first_fault (type_of schema.now id) start bytes.now }
 {
-    if is_clean(schema, id, bytes) {
-        return None;
+    if let Ty::Container(_) = schema.ty(id) {
+        if is_clean(schema, id, bytes) {
+            return None;
+        }
     }
     scope(schema, id, start, bytes)
 }
@@ -57,7 +59,7 @@ fn scope(schema: &Schema, id: TypeId, start: u64, bytes: &[u8]) -> Option<Fault>
         Ty::Vector(elem, count) => elements(schema, *elem, *count, start, bytes),
         Ty::List(elem, limit) => list(schema, *elem, *limit, start, bytes),
         Ty::Union(options) => match union_head(options.as_slice(), start, bytes) {
-            Ok(option) => scope(schema, option, start + 1, &bytes[1..]),
+            Ok(option) => judged(schema, option, start + 1, &bytes[1..]),
             Err(fault) => fault,
         },
         Ty::Container(fields) => container(schema, id, fields.as_slice(), start, bytes),
@@ -113,14 +115,13 @@ fn fixed_elements(
     if let Some(fault) = length_fault(count * size, start, bytes) {
         return Some(fault);
     }
-    // Numbers have no fault of their own.
-    if let Ty::Uint(_) = schema.ty(elem) {
+    let Some(first) = first_unclean_alike(schema, elem, size, count, bytes) else {
         return None;
-    }
-    for i in 0..count {
+    };
+    for i in first..count {
         let place = (i * size) as usize;
         let part = &bytes[place..place + size as usize];
-        if let Some(fault) = judged(schema, elem, start + place as u64, part) {
+        if let Some(fault) = scope(schema, elem, start + place as u64, part) {
             return Some(fault);
         }
     }
@@ -143,13 +144,16 @@ fn variable_elements(
     ensures { let t = type_of schema.now elem in
         result ≡ elements_fault (first_fault t) None count start bytes.now }
 {
+    let Some(first) = first_unclean_variable(schema, elem, count, bytes) else {
+        return None;
+    };
     if let Some(fault) = offsets_fault(count, start, bytes) {
         return Some(fault);
     }
-    for i in 0..count {
+    for i in first..count {
         let from = offset_at(bytes, (4 * i) as usize) as usize;
         let part = &bytes[from..end_of_part(count, i, bytes)];
-        if let Some(fault) = judged(schema, elem, start + from as u64, part) {
+        if let Some(fault) = scope(schema, elem, start + from as u64, part) {
             return Some(fault);
         }
     }

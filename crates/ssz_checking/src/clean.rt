@@ -1,6 +1,6 @@
 //! Whether bytes have no fault. To ask it takes less than to find the fault: it goes over the bytes
 //! once, and of what it passes it keeps no more than where the part before begins.
-ghost use Rattle.std.specs.Prelude.{◌≡◌, ◌*◌, ◌<◌, ◌≤◌, ◌^◌, length, Some, None, IsTrue};
+ghost use Rattle.std.specs.Prelude.{ℕ, ◌≡◌, ◌*◌, ◌<◌, ◌≤◌, ◌^◌, length, Some, None, IsNone, IfSome, IsTrue};
 ghost use Rattle.std.specs.List.{AllByRecursion};
 ghost use Rattle.std.specs.Option.{ForSome};
 ghost use Rattle.ssz_schema.specs.Types.{container, list};
@@ -9,10 +9,10 @@ ghost use Rattle.ssz_schema.specs.Legal.{IsSize};
 ghost use Rattle.ssz_schema.specs.Unfolding.{type_of, fields_over};
 ghost use Rattle.ssz_value.specs.Encoding.{heads_length};
 ghost use Rattle.ssz_value.specs.Faults.{first_fault, elements_fault, offset_at};
-ghost use Rattle.ssz_checking.specs.Clean.{HasNoFault, Closes};
+ghost use Rattle.ssz_checking.specs.Clean.{HasNoFault, AreCleanBefore, Closes};
 
 use super::leaves::{bitvector, boolean};
-use super::sound::is_sound;
+use super::sound::{Row, sound_count};
 use ssz_basic::read_bitlist;
 use ssz_parts::{
     container_heads_len, count_of, end_of_part, heads_len, length_fault, offset_at, union_head,
@@ -55,6 +55,18 @@ fn is_list_clean(schema: &Schema, elem: TypeId, limit: u64, bytes: &[u8]) -> boo
     if is_byte(schema, elem) {
         return bytes.len() as u64 <= limit;
     }
+    is_counted_clean(schema, elem, limit, bytes)
+}
+
+// The same of elements that are no bytes: their number is asked first.
+#[cycle(clean)]
+#[inline(never)]
+fn is_counted_clean(schema: &Schema, elem: TypeId, limit: u64, bytes: &[u8]) -> bool
+    requires known { elem < length schema.now.trees }
+    requires short { length bytes.now < 2 ^ 32 }
+    ensures { let t = list (type_of schema.now elem) limit in
+        IsTrue result → first_fault t 0 bytes.now ≡ None }
+{
     match count_of(schema.fixed_size(elem), limit, 0, bytes) {
         Ok(count) => {
             // Numbers have no fault of their own.
@@ -69,7 +81,6 @@ fn is_list_clean(schema: &Schema, elem: TypeId, limit: u64, bytes: &[u8]) -> boo
 
 // Of count elements.
 #[cycle(clean)]
-#[inline(never)]
 fn are_elements_clean(schema: &Schema, elem: TypeId, count: u64, bytes: &[u8]) -> bool
     requires known { elem < length schema.now.trees }
     requires few { count ≤ 2 ^ 32 }
@@ -78,89 +89,121 @@ fn are_elements_clean(schema: &Schema, elem: TypeId, count: u64, bytes: &[u8]) -
         IsTrue result → elements_fault (first_fault t) (fixed_size t) count 0 bytes.now ≡ None }
 {
     match schema.fixed_size(elem) {
-        Some(size) => are_alike_clean(schema, elem, size, count, bytes),
-        None => are_variable_clean(schema, elem, count, bytes),
+        Some(size) => first_unclean_alike(schema, elem, size, count, bytes).is_none(),
+        None => first_unclean_variable(schema, elem, count, bytes).is_none(),
     }
 }
 
-// Of count elements of this size.
+/// The first of count elements of this size that may have a fault, or None where they have none.
 #[cycle(clean)]
-fn are_alike_clean(schema: &Schema, elem: TypeId, size: u64, count: u64, bytes: &[u8]) -> bool
+pub fn first_unclean_alike(
+    schema: &Schema,
+    elem: TypeId,
+    size: u64,
+    count: u64,
+    bytes: &[u8],
+) -> Option<u64>
     requires known { elem < length schema.now.trees }
     requires size { fixed_size (type_of schema.now elem) ≡ Some size }
     requires in_range { IsSize size }
     requires few { count ≤ 2 ^ 32 }
     requires short { length bytes.now < 2 ^ 32 }
-    ensures { let t = type_of schema.now elem in
-        IsTrue result → elements_fault (first_fault t) (Some size) count 0 bytes.now ≡ None }
+    ensures none { IsNone result → (s : ℕ) →
+        elements_fault (first_fault (type_of schema.now elem)) (Some size) count s bytes.now
+        ≡ None }
+    ensures before { IfSome result
+        (λ i. AreCleanBefore (type_of schema.now elem) (Some size) count i bytes.now) }
 {
     if bytes.len() as u64 != count * size {
-        return false;
+        return Some(0);
     }
-    // Asked of two elements at least, so that the question costs no more than the bytes.
-    if count > 1 {
-        if is_sound(schema, elem, 0, size as usize, bytes) {
-            return true;
-        }
-    }
-    for i in 0..count {
+    for i in sound_before(schema, elem, size, count, bytes)..count {
         let place = (i * size) as usize;
         if !is_clean(schema, elem, &bytes[place..place + size as usize]) {
-            return false;
+            return Some(i);
         }
     }
-    true
+    None
 }
 
-// Of count elements of a variable-size type.
+// How many of count elements of this size have no fault by a look at their booleans alone.
+#[inline(always)]
+fn sound_before(schema: &Schema, elem: TypeId, size: u64, count: u64, bytes: &[u8]) -> u64
+    requires known { elem < length schema.now.trees }
+    requires size { fixed_size (type_of schema.now elem) ≡ Some size }
+    requires in_range { IsSize size }
+    requires whole { length bytes.now ≡ count * size }
+    requires short { length bytes.now < 2 ^ 32 }
+    ensures { AreCleanBefore (type_of schema.now elem) (Some size) count result bytes.now }
+{
+    // Asked of two elements at least, so that the question costs no more than the bytes.
+    if count < 2 {
+        return 0;
+    }
+    let row = Row {
+        count: count as usize,
+        step: size as usize,
+    };
+    sound_count(schema, elem, 0, row, bytes) as u64
+}
+
+/// The same of elements of a variable-size type, which may have a fault by their offsets, too.
 #[cycle(clean)]
-fn are_variable_clean(schema: &Schema, elem: TypeId, count: u64, bytes: &[u8]) -> bool
+pub fn first_unclean_variable(
+    schema: &Schema,
+    elem: TypeId,
+    count: u64,
+    bytes: &[u8],
+) -> Option<u64>
     requires known { elem < length schema.now.trees }
     requires size { fixed_size (type_of schema.now elem) ≡ None }
     requires few { count ≤ 2 ^ 32 }
     requires short { length bytes.now < 2 ^ 32 }
-    ensures { let t = type_of schema.now elem in
-        IsTrue result → elements_fault (first_fault t) None count 0 bytes.now ≡ None }
+    ensures none { IsNone result → (s : ℕ) →
+        elements_fault (first_fault (type_of schema.now elem)) None count s bytes.now ≡ None }
+    ensures before { IfSome result
+        (λ i. AreCleanBefore (type_of schema.now elem) None count i bytes.now) }
 {
     if count == 0 {
-        return bytes.is_empty();
+        return if bytes.is_empty() { None } else { Some(0) };
     }
     if (bytes.len() as u64) < 4 * count {
-        return false;
+        return Some(0);
     }
     if u64::from(offset_at(bytes, 0)) != 4 * count {
-        return false;
+        return Some(0);
     }
     if let Ty::Container(fields) = schema.ty(elem) {
-        return are_containers_clean(schema, elem, fields.as_slice(), count, bytes);
+        return first_unclean_container(schema, elem, fields.as_slice(), count, bytes);
     }
     let mut from = 4 * count as usize;
     for i in 0..count {
         let to = end_of_part(count, i, bytes);
         if to < from {
-            return false;
+            return Some(i);
         }
         if bytes.len() < to {
-            return false;
+            return Some(i);
         }
         if !is_clean(schema, elem, &bytes[from..to]) {
-            return false;
+            return Some(i);
         }
         from = to;
     }
-    true
+    None
 }
 
-// Of count containers of these fields behind their offsets, of which the first is right. How long
-// the fixed parts are is asked once for all.
+// The same of containers of these fields behind their offsets, of which the first is right. How
+// long the fixed parts are is asked once for all.
 #[cycle(clean)]
-fn are_containers_clean(
+#[inline(never)]
+fn first_unclean_container(
     schema: &Schema,
     id: TypeId,
     fields: &[(Name, TypeId)],
     count: u64,
     bytes: &[u8],
-) -> bool
+) -> Option<u64>
     requires known { id < length schema.now.trees }
     requires form { type_of schema.now id ≡ container (fields_over schema.now.trees fields.now) }
     requires before { AllByRecursion (λ part. part.1 < id) fields.now }
@@ -168,8 +211,10 @@ fn are_containers_clean(
     requires room { 4 * count ≤ length bytes.now }
     requires first { offset_at bytes.now 0 ≡ 4 * count }
     requires short { length bytes.now < 2 ^ 32 }
-    ensures { let t = type_of schema.now id in
-        IsTrue result → elements_fault (first_fault t) None count 0 bytes.now ≡ None }
+    ensures none { IsNone result → (s : ℕ) →
+        elements_fault (first_fault (type_of schema.now id)) None count s bytes.now ≡ None }
+    ensures before { IfSome result
+        (λ i. AreCleanBefore (type_of schema.now id) None count i bytes.now) }
 {
     // Every type of a schema is legal.
     let _legal = schema.ty(id);
@@ -178,17 +223,17 @@ fn are_containers_clean(
     for i in 0..count {
         let to = end_of_part(count, i, bytes);
         if to < from {
-            return false;
+            return Some(i);
         }
         if bytes.len() < to {
-            return false;
+            return Some(i);
         }
         if !are_fields_clean(schema, id, fields, heads, &bytes[from..to]) {
-            return false;
+            return Some(i);
         }
         from = to;
     }
-    true
+    None
 }
 
 // Of a container of these fields, whose types stand before id.

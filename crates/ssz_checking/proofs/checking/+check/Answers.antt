@@ -1,4 +1,4 @@
-use Rattle.std.proofs.Common.{◌∙◌, ◌≡◌, ◌*◌, ◌≤◌, ◌+◌, ◌^◌, ℕ, ap, ap₂, sym, subst, arith, rules, slice_range, length, List, ◌<◌}
+use Rattle.std.proofs.Common.{refl, ◌∙◌, ◌≡◌, ◌*◌, ◌≤◌, ◌+◌, ◌^◌, ℕ, ap, ap₂, sym, subst, arith, rules, slice_range, length, List, ◌<◌}
 use Rattle.std.proofs.lemmas.List.{take_rest}
 use Rattle.ssz_schema.specs.Types.{SszType, container, union}
 use Rattle.ssz_schema.specs.Sizes.{head_size, fixed_size}
@@ -8,8 +8,9 @@ use Rattle.ssz_schema.specs.Legal.{IsLegal}
 use Rattle.ssz_schema.proofs.SizeLemmas.{vector_few}
 use Rattle.ssz_value.specs.Faults.{first_fault}
 use Rattle.ssz_value.proofs.Agree.{length_from_fault}
-use Rattle.ssz_checking.proofs.NumberLemmas.{FieldsFrom-number, numbers_clean}
-use Rattle.ssz_parts.proofs.ElementFaults.{FixedFrom-more, FixedFrom-found, FixedFrom-end, VariableFrom-start, VariableFrom-part, VariableFrom-more, VariableFrom-found, fixed_found_head}
+use Rattle.ssz_checking.proofs.BeforeLemmas.{fixed_after, variable_after}
+use Rattle.ssz_checking.proofs.NumberLemmas.{FieldsFrom-number}
+use Rattle.ssz_parts.proofs.ElementFaults.{FixedFrom-more, FixedFrom-found, FixedFrom-end, VariableFrom-part, VariableFrom-more, VariableFrom-found, fixed_found_head}
 use Rattle.ssz_parts.proofs.FieldLemmas.{FieldsFrom, FieldsFrom-start, FieldsFrom-found, FieldsFrom-more, FieldsFrom-end}
 use Rattle.ssz_value.proofs.PartLemmas.{known_weaker, part_known}
 use Rattle.ssz_checking.proofs.RangeLemmas.{field_range, field_room}
@@ -30,18 +31,18 @@ fixed_elements-returns-in-Some t c =
     (first_fault (type_of c.args.schema.now c.args.elem)) c.args.size c.args.count
     c.args.start c.args.bytes.now c.in-Some.fault (sym c.in-Some.ensures))
 
-pub fixed_elements-returns-in-Some-judged : goal.fixed_elements-returns-in-Some-judged
-fixed_elements-returns-in-Some-judged t c =
+pub fixed_elements-returns-in-Some-scope : goal.fixed_elements-returns-in-Some-scope
+fixed_elements-returns-in-Some-scope t c =
     sym (FixedFrom-found (first_fault (type_of c.args.schema.now c.args.elem)) c.args.size
     c.args.count
-    c.args.start c.args.bytes.now c.loop-i.i c.in-Some-judged.fault
-    c.loop-i.invariant (omega arith) (sym c.in-Some-judged.ensures))
+    c.args.start c.args.bytes.now c.loop-i.i c.in-Some-scope.fault
+    c.loop-i.invariant (omega arith) (sym c.in-Some-scope.ensures))
 
 pub fixed_elements-loop-i-preserved : goal.fixed_elements-loop-i-preserved
 fixed_elements-loop-i-preserved t c =
     FixedFrom-more (first_fault (type_of c.args.schema.now c.args.elem)) c.args.size c.args.count
     c.args.start c.args.bytes.now c.loop-i.i
-    c.loop-i.invariant (omega arith) (sym c.in_default-judged.ensures)
+    c.loop-i.invariant (omega arith) (sym c.in_default-scope.ensures)
 
 pub fixed_elements-returns : goal.fixed_elements-returns
 fixed_elements-returns t c =
@@ -49,11 +50,27 @@ fixed_elements-returns t c =
     c.args.count
     c.args.start c.args.bytes.now c.loop-i.i c.loop-i.invariant (omega arith))
 
+pub fixed_elements-loop-i-init : goal.fixed_elements-loop-i-init
+fixed_elements-loop-i-init t c =
+    fixed_after (type_of c.args.schema.now c.args.elem) c.args.size c.args.count c.args.start
+    c.in-Some-first_unclean_alike.first c.args.bytes.now
+    (length_from_fault (c.args.count * c.args.size) c.args.start c.args.bytes.now
+    (sym c.in_default.ensures)) c.in-Some-first_unclean_alike.ensures.before
+
+pub
+    fixed_elements-returns-in_default-first_unclean_alike :
+    goal.fixed_elements-returns-in_default-first_unclean_alike
+fixed_elements-returns-in_default-first_unclean_alike t c =
+    sym (c.in_default-first_unclean_alike.ensures.none refl c.args.start)
+
+pub variable_elements-returns-in_default : goal.variable_elements-returns-in_default
+variable_elements-returns-in_default t c = sym (c.in_default.ensures.none refl c.args.start)
+
 pub variable_elements-loop-i-init : goal.variable_elements-loop-i-init
 variable_elements-loop-i-init t c =
-    VariableFrom-start (first_fault (type_of c.args.schema.now c.args.elem)) c.args.count
-    c.args.start
-    c.args.bytes.now (sym c.in_default.ensures)
+    variable_after (type_of c.args.schema.now c.args.elem) c.args.count c.args.start
+    c.in-Some.first c.args.bytes.now (sym c.in_default-offsets_fault.ensures)
+    c.in-Some.ensures.before
 
 pub variable_elements-slice_bounds-part-count : goal.variable_elements-slice_bounds-part-count
 variable_elements-slice_bounds-part-count t c =
@@ -77,15 +94,15 @@ variable_elements-slice_bounds-part-end t c =
     omega (arith, c.end_of_part.ensures, part.inside)
 
 -- the part that was checked is the one that the definition cuts
-pub variable_elements-returns-in-Some-judged : goal.variable_elements-returns-in-Some-judged
-variable_elements-returns-in-Some-judged t c =
+pub variable_elements-returns-in-Some-scope : goal.variable_elements-returns-in-Some-scope
+variable_elements-returns-in-Some-scope t c =
     let child = first_fault (type_of c.args.schema.now c.args.elem) in
     let same = ap₂ (λ (from to : ℕ).
     child (c.args.start + from) (slice_range c.args.bytes.now from to)) c.offset_at-from.ensures
     c.end_of_part.ensures in
     sym (VariableFrom-found child c.args.count c.args.start c.args.bytes.now c.loop-i.i
-    c.in-Some-judged.fault c.loop-i.invariant (omega arith)
-    (sym same ∙ sym c.in-Some-judged.ensures))
+    c.in-Some-scope.fault c.loop-i.invariant (omega arith)
+    (sym same ∙ sym c.in-Some-scope.ensures))
 
 pub variable_elements-loop-i-preserved : goal.variable_elements-loop-i-preserved
 variable_elements-loop-i-preserved t c =
@@ -95,7 +112,7 @@ variable_elements-loop-i-preserved t c =
     c.end_of_part.ensures in
     VariableFrom-more child c.args.count c.args.start c.args.bytes.now c.loop-i.i c.loop-i.invariant
     (omega arith)
-    (sym same ∙ sym c.in_default-judged.ensures)
+    (sym same ∙ sym c.in_default-scope.ensures)
 
 pub container-loop-i-init : goal.container-loop-i-init
 container-loop-i-init t c =
@@ -117,8 +134,8 @@ container-returns-in-Some-scope t c =
     c.loop-i.invariant c.loop-i-test.true c.index-fields-i.is c.part_range-from.ensures
     (sym c.in-Some-scope.ensures))
 
-pub scope-scope-requires : goal.scope-scope-requires
-scope-scope-requires t c =
+pub scope-judged-requires : goal.scope-judged-requires
+scope-judged-requires t c =
     let all : AllByRecursion (IsBelow c.args.id) c.in-Union.options.items =
     subst (AreBelow c.args.id) c.in-Union.is c.ty.ensures.before in
     let known : AllByRecursion (IsBelow c.args.id) c.as_slice.result.now =
@@ -237,21 +254,11 @@ scope-returns-in-Ok t c =
     ≡ type_of c.args.schema.now c.args.id =
     ap (λ os. union (options_over c.args.schema.now.trees os)) c.as_slice.ensures.value
     ∙ ap (tree_over c.args.schema.now.trees) (sym c.in-Union.is) ∙ c.ty.ensures.form in
-    c.scope.ensures
+    c.judged.ensures
     ∙ ap (first_fault (type_of c.args.schema.now c.in-Ok.option) (c.args.start + 1))
     (take_rest c.args.bytes.now 1)
     ∙ sym (c.in-Ok.ensures.ok c.args.schema.now.trees)
     ∙ ap (λ (ty : SszType). first_fault ty c.args.start c.args.bytes.now) form
-
--- numbers have no fault of their own
-pub fixed_elements-returns-in-Uint : goal.fixed_elements-returns-in-Uint
-fixed_elements-returns-in-Uint t c =
-    let whole = length_from_fault (c.args.count * c.args.size) c.args.start c.args.bytes.now
-    (sym c.in_default.ensures) in
-    sym (numbers_clean (type_of c.args.schema.now c.args.elem) c.in-Uint.field-0 c.args.size
-    c.args.count c.args.start c.args.bytes.now
-    (sym c.ty.ensures.form ∙ ap (tree_over c.args.schema.now.trees) c.in-Uint.is)
-    c.requires.size (λ i. omega (arith, c.type_inv.bytes i)) whole)
 
 pub container-fixed_size-requires : goal.container-fixed_size-requires
 container-fixed_size-requires t c =

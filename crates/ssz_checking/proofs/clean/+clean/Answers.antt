@@ -1,4 +1,4 @@
-use Rattle.std.proofs.Common.{◌∙◌, ◌≡◌, ◌*◌, ◌≤◌, ◌+◌, ◌^◌, ◌<◌, ℕ, ap, sym, subst, arith, rules, length, List, Option, refl, eqb-true, leb-true, slice_range, Some}
+use Rattle.std.proofs.Common.{◌∙◌, ◌≡◌, ◌*◌, ◌≤◌, ◌+◌, ◌^◌, ◌<◌, ℕ, ap, sym, subst, arith, rules, length, List, Option, refl, eqb-true, leb-true, not, slice_range, Some}
 use Rattle.std.proofs.lemmas.List.{take_rest}
 use Rattle.std.specs.List.{AllByRecursion}
 use Rattle.ssz_schema.specs.Types.{container, union}
@@ -9,13 +9,13 @@ use Rattle.ssz_schema.proofs.SizeLemmas.{vector_few}
 use Rattle.ssz_value.specs.Faults.{first_fault, elements_fault, length_fault}
 use Rattle.ssz_value.proofs.Inputs.{input_of}
 use Rattle.ssz_value.proofs.PartLemmas.{known_weaker, part_known}
-use Rattle.ssz_parts.proofs.ElementFaults.{FixedFrom-start, FixedFrom-more, FixedFrom-end}
+use Rattle.ssz_parts.proofs.ElementFaults.{FixedFrom-end}
 use Rattle.ssz_parts.proofs.HeadLemmas.{heads_few}
 use Rattle.ssz_checking.specs.Clean.{Closes}
 use Rattle.ssz_checking.proofs.CleanLemmas.{none_of, none_of_ok, lifted, lifted_more, list_none, none_none, CleanSoFar-start, CleanSoFar-more, CleanSoFar-end, FieldsSoFar-start, fixed_room}
 use Rattle.ssz_checking.proofs.NumberLemmas.{numbers_list, bytes_list, number_clean}
 use Rattle.ssz_checking.proofs.PlainLemmas.{range_length}
-use Rattle.ssz_checking.proofs.SoundLemmas.{elements_sound}
+use Rattle.ssz_checking.proofs.BeforeLemmas.{before_fixed, fixed_after}
 use Rattle.ssz_checking.proofs.clean.+clean.Goals as goal
 
 pub is_clean-returns-in-Uint : goal.is_clean-returns-in-Uint
@@ -103,16 +103,16 @@ is_clean-returns-in-Err t c = λ holds.
     c.ty.ensures.legal (input_of c.args.bytes.now c.type_inv.bytes c.requires.short)
     (c.in-Err.ensures.err c.args.schema.now.trees ∙ none_of _ _ c.is_none-in-Err.ensures holds)
 
-pub is_list_clean-returns-in-Uint : goal.is_list_clean-returns-in-Uint
-is_list_clean-returns-in-Uint t c = λ holds.
+pub is_counted_clean-returns-in-Uint : goal.is_counted_clean-returns-in-Uint
+is_counted_clean-returns-in-Uint t c = λ holds.
     numbers_list (type_of c.args.schema.now c.args.elem) c.in-Uint.field-0 c.fixed_size.result
     c.args.limit 0 c.args.bytes.now
     (sym c.ty.ensures.form ∙ ap (tree_over c.args.schema.now.trees) c.in-Uint.is)
     c.fixed_size.ensures.exact (λ i. omega (arith, c.type_inv.bytes i))
     (sym c.in-Ok.ensures.fault)
 
-pub is_list_clean-returns-in_default : goal.is_list_clean-returns-in_default
-is_list_clean-returns-in_default t c = λ holds.
+pub is_counted_clean-returns-in_default : goal.is_counted_clean-returns-in_default
+is_counted_clean-returns-in_default t c = λ holds.
     list_none (type_of c.args.schema.now c.args.elem) c.fixed_size.result c.args.limit
     c.in-Ok.count c.args.bytes.now c.fixed_size.ensures.exact c.in-Ok.ensures.ok
     (sym c.in-Ok.ensures.fault) (c.are_elements_clean.ensures holds)
@@ -121,67 +121,64 @@ pub are_elements_clean-returns-in-Some : goal.are_elements_clean-returns-in-Some
 are_elements_clean-returns-in-Some t c = λ holds.
     ap (λ (z : Option ℕ). elements_fault (first_fault (type_of c.args.schema.now c.args.elem)) z
     c.args.count 0 c.args.bytes.now) (sym c.in-Some.ensures.exact)
-    ∙ c.are_alike_clean.ensures holds
+    ∙ c.first_unclean_alike.ensures.none (c.is_none.ensures ∙ ap not holds) 0
 
 pub are_elements_clean-returns-in-None : goal.are_elements_clean-returns-in-None
 are_elements_clean-returns-in-None t c = λ holds.
     ap (λ (z : Option ℕ). elements_fault (first_fault (type_of c.args.schema.now c.args.elem)) z
     c.args.count 0 c.args.bytes.now) (sym c.in-None.ensures.exact)
-    ∙ c.are_variable_clean.ensures holds
+    ∙ c.first_unclean_variable.ensures.none (c.is_none-in-None.ensures ∙ ap not holds) 0
 
-pub are_alike_clean-loop-i-init : goal.are_alike_clean-loop-i-init
-are_alike_clean-loop-i-init t c =
-    FixedFrom-start (first_fault (type_of c.args.schema.now c.args.elem)) c.args.size c.args.count
-    0 c.args.bytes.now (omega arith)
+pub
+    first_unclean_alike-returns-then-not-is_clean-clause-before :
+    goal.first_unclean_alike-returns-then-not-is_clean-clause-before
+first_unclean_alike-returns-then-not-is_clean-clause-before t c = c.loop-i.invariant
 
-pub are_alike_clean-returns-then-is_sound : goal.are_alike_clean-returns-then-is_sound
-are_alike_clean-returns-then-is_sound t c = λ holds.
-    let whole : length c.args.bytes.now ≡ c.args.count * c.args.size = omega arith in
-    elements_sound (type_of c.args.schema.now c.args.elem) c.args.size c.args.count
-    0 c.args.bytes.now c.requires.in_range.some c.requires.size
-    (λ i. omega (arith, c.type_inv.bytes i)) whole (sym c.is_sound.ensures ∙ c.if-is_sound.true)
-
-pub are_alike_clean-loop-i-preserved : goal.are_alike_clean-loop-i-preserved
-are_alike_clean-loop-i-preserved t c =
-    FixedFrom-more (first_fault (type_of c.args.schema.now c.args.elem)) c.args.size c.args.count
-    0 c.args.bytes.now c.loop-i.i c.loop-i.invariant c.loop-i-test.true
-    (c.is_clean.ensures c.if-not-is_clean.false (0 + c.loop-i.i * c.args.size))
-
-pub are_alike_clean-returns : goal.are_alike_clean-returns
-are_alike_clean-returns t c = λ holds.
-    FixedFrom-end (first_fault (type_of c.args.schema.now c.args.elem)) c.args.size c.args.count
-    0 c.args.bytes.now c.loop-i.i c.loop-i.invariant (omega arith)
-
-pub are_variable_clean-returns-then-count-eq0 : goal.are_variable_clean-returns-then-count-eq0
-are_variable_clean-returns-then-count-eq0 t c = λ holds.
-    none_none (first_fault (type_of c.args.schema.now c.args.elem)) c.args.count c.args.bytes.now
-    c.if-count-eq0.true (eqb-true _ _ (sym c.is_empty.ensures ∙ holds))
-
-pub are_variable_clean-loop-i-init : goal.are_variable_clean-loop-i-init
-are_variable_clean-loop-i-init t c =
-    CleanSoFar-start (first_fault (type_of c.args.schema.now c.args.elem)) c.args.count
-    (4 * c.args.count) c.args.bytes.now (omega arith) (omega arith)
-    (omega (arith, c.offset_at.ensures)) refl
-
-pub are_variable_clean-loop-i-preserved : goal.are_variable_clean-loop-i-preserved
-are_variable_clean-loop-i-preserved t c =
-    CleanSoFar-more (first_fault (type_of c.args.schema.now c.args.elem)) c.args.count
-    c.loop-i.i c.loop-i.from c.end_of_part-to.result c.args.bytes.now c.loop-i.invariant
-    c.loop-i-test.true c.end_of_part-to.ensures (omega arith) (omega arith)
+pub first_unclean_alike-loop-i-preserved : goal.first_unclean_alike-loop-i-preserved
+first_unclean_alike-loop-i-preserved t c =
+    before_fixed (type_of c.args.schema.now c.args.elem) c.args.size c.args.count c.loop-i.i
+    c.args.bytes.now c.loop-i.invariant c.loop-i-test.true
     (c.is_clean.ensures c.if-not-is_clean.false)
 
-pub are_variable_clean-returns : goal.are_variable_clean-returns
-are_variable_clean-returns t c = λ holds.
-    CleanSoFar-end (first_fault (type_of c.args.schema.now c.args.elem)) c.args.count
-    c.loop-i.i c.loop-i.from c.args.bytes.now c.loop-i.invariant (omega arith)
+pub first_unclean_alike-returns-clause-none : goal.first_unclean_alike-returns-clause-none
+first_unclean_alike-returns-clause-none t c = λ none s.
+    let whole : length c.args.bytes.now ≡ c.args.count * c.args.size = omega arith in
+    FixedFrom-end (first_fault (type_of c.args.schema.now c.args.elem)) c.args.size c.args.count
+    s c.args.bytes.now c.loop-i.i
+    (fixed_after (type_of c.args.schema.now c.args.elem) c.args.size c.args.count s c.loop-i.i
+    c.args.bytes.now whole c.loop-i.invariant) (omega (arith, c.loop-i-test.false))
 
-pub are_containers_clean-loop-i-init : goal.are_containers_clean-loop-i-init
-are_containers_clean-loop-i-init t c =
-    CleanSoFar-start (first_fault (type_of c.args.schema.now c.args.id)) c.args.count
-    (4 * c.args.count) c.args.bytes.now c.requires.some c.requires.room c.requires.first refl
+pub
+    first_unclean_variable-returns-then-is_empty-clause-none :
+    goal.first_unclean_variable-returns-then-is_empty-clause-none
+first_unclean_variable-returns-then-is_empty-clause-none t c = λ none s.
+    none_none (first_fault (type_of c.args.schema.now c.args.elem)) c.args.count s c.args.bytes.now
+    c.if-count-eq0.true (eqb-true _ _ (sym c.is_empty.ensures ∙ c.if-is_empty.true))
 
-pub are_containers_clean-loop-i-preserved : goal.are_containers_clean-loop-i-preserved
-are_containers_clean-loop-i-preserved t c =
+pub first_unclean_variable-loop-i-init : goal.first_unclean_variable-loop-i-init
+first_unclean_variable-loop-i-init t c =
+    CleanSoFar-start (type_of c.args.schema.now c.args.elem) c.args.count (4 * c.args.count)
+    c.args.bytes.now (omega arith) (omega arith) (omega (arith, c.offset_at.ensures)) refl
+
+pub first_unclean_variable-loop-i-preserved : goal.first_unclean_variable-loop-i-preserved
+first_unclean_variable-loop-i-preserved t c =
+    CleanSoFar-more (type_of c.args.schema.now c.args.elem) c.args.count c.loop-i.i c.loop-i.from
+    c.end_of_part-to.result c.args.bytes.now c.loop-i.invariant c.loop-i-test.true
+    c.end_of_part-to.ensures (omega arith) (omega arith)
+    (c.is_clean.ensures c.if-not-is_clean.false)
+
+pub first_unclean_variable-returns-clause-none : goal.first_unclean_variable-returns-clause-none
+first_unclean_variable-returns-clause-none t c = λ none.
+    CleanSoFar-end (type_of c.args.schema.now c.args.elem) c.args.count c.loop-i.i c.loop-i.from
+    c.args.bytes.now c.loop-i.invariant (omega (arith, c.loop-i-test.false))
+
+pub first_unclean_container-loop-i-init : goal.first_unclean_container-loop-i-init
+first_unclean_container-loop-i-init t c =
+    CleanSoFar-start (type_of c.args.schema.now c.args.id) c.args.count (4 * c.args.count)
+    c.args.bytes.now c.requires.some c.requires.room c.requires.first refl
+
+pub first_unclean_container-loop-i-preserved : goal.first_unclean_container-loop-i-preserved
+first_unclean_container-loop-i-preserved t c =
     lifted_more c.args.schema.now.format (type_of c.args.schema.now c.args.id)
     (container (fields_over c.args.schema.now.trees c.args.fields.now)) c.args.count
     c.loop-i.i c.loop-i.from c.end_of_part-to.result c.args.bytes.now c.requires.form
@@ -189,22 +186,22 @@ are_containers_clean-loop-i-preserved t c =
     c.loop-i.invariant c.loop-i-test.true c.end_of_part-to.ensures (omega arith) (omega arith)
     (c.are_fields_clean.ensures c.if-not-are_fields_clean.false)
 
-pub are_containers_clean-returns : goal.are_containers_clean-returns
-are_containers_clean-returns t c = λ holds.
-    CleanSoFar-end (first_fault (type_of c.args.schema.now c.args.id)) c.args.count
-    c.loop-i.i c.loop-i.from c.args.bytes.now c.loop-i.invariant (omega arith)
+pub first_unclean_container-returns-clause-none : goal.first_unclean_container-returns-clause-none
+first_unclean_container-returns-clause-none t c = λ none.
+    CleanSoFar-end (type_of c.args.schema.now c.args.id) c.args.count c.loop-i.i c.loop-i.from
+    c.args.bytes.now c.loop-i.invariant (omega (arith, c.loop-i-test.false))
 
 pub
-    are_containers_clean-heads_len-heads-requires-clause-known :
-    goal.are_containers_clean-heads_len-heads-requires-clause-known
-are_containers_clean-heads_len-heads-requires-clause-known t c =
+    first_unclean_container-heads_len-heads-requires-clause-known :
+    goal.first_unclean_container-heads_len-heads-requires-clause-known
+first_unclean_container-heads_len-heads-requires-clause-known t c =
     known_weaker c.args.id (length c.args.schema.now.trees) c.args.fields.now c.requires.known
     c.requires.before
 
 pub
-    are_containers_clean-heads_len-heads-requires-clause-short :
-    goal.are_containers_clean-heads_len-heads-requires-clause-short
-are_containers_clean-heads_len-heads-requires-clause-short t c =
+    first_unclean_container-heads_len-heads-requires-clause-short :
+    goal.first_unclean_container-heads_len-heads-requires-clause-short
+first_unclean_container-heads_len-heads-requires-clause-short t c =
     heads_few c.args.schema.now.format
     (fields_over c.args.schema.now.trees c.args.fields.now)
     (subst (IsLegal c.args.schema.now.format) c.requires.form c.ty-legal.ensures.legal)

@@ -1,20 +1,19 @@
-use Rattle.std.proofs.Common.{rules, ◌+◌, ◌<◌, ◌≤◌, IsSomeAnd}
-use Rattle.ssz_schema.specs.Sizes.{fixed_size}
-use Rattle.ssz_schema.specs.Unfolding.{type_of}
-use Rattle.ssz_value.proofs.PartLemmas.{part_known}
-use Rattle.ssz_checking.specs.Sound.{sound_in}
-use Rattle.ssz_checking.proofs.SoundLemmas.{SoundFrom-room}
+use Rattle.std.proofs.Common.{ℕ, ◌+◌, ◌≡◌, ◌∙◌, ap, sym, subst}
+use Rattle.ssz_schema.specs.Sizes.{fixed_size, head_size}
+use Rattle.ssz_schema.specs.Unfolding.{type_tree_at}
+use Rattle.ssz_checking.proofs.SoundLemmas.{SoundFrom, SoundFrom-more}
 use Rattle.ssz_checking.proofs.sound.+sound.Goals as goal
 
-pub are_sound-is_sound-requires : goal.are_sound-is_sound-requires
-are_sound-is_sound-requires t c =
-    let below : c.field-item.result.1 < c.args.id =
-    part_known c.args.id c.args.fields.now c.loop-field.field-index c.field-item.result
-    c.loop-field-test.true c.field-item.is c.requires.before in
-    let room : IsSomeAnd (fixed_size (type_of c.args.schema.now c.field-item.result.1))
-    (λ z. c.loop-field.place + z ≤ c.args.step) =
-    (SoundFrom-room c.args.schema.now.trees c.args.fields.now
-    (sound_in c.args.step c.args.bytes.now) c.args.step c.args.place c.loop-field.field-index
-    c.loop-field.place c.field-item.result c.loop-field.invariant c.loop-field-test.true
-    c.field-item.is).0 in
-    search rules
+pub sound_fields-loop-field-preserved : goal.sound_fields-loop-field-preserved
+sound_fields-loop-field-preserved t c =
+    let size : head_size (fixed_size
+    (type_tree_at c.args.schema.now.trees c.field-item.result.1))
+    ≡ c.head_len.result = sym (c.head_len.ensures ∙ ap head_size c.fixed_size.ensures.exact) in
+    subst (λ (n : ℕ). SoundFrom c.args.schema.now.trees c.args.fields.now c.args.row.step
+    c.args.row.count c.args.bytes.now c.args.place (c.loop-field.field-index + 1)
+    (c.loop-field.place + n) c.sound_count-count.result) size
+    (SoundFrom-more c.args.schema.now.trees c.args.fields.now c.args.row.step c.args.row.count
+    c.args.bytes.now c.args.place c.loop-field.field-index c.loop-field.place
+    c.loop-field.count c.sound_count-count.result c.field-item.result c.loop-field.invariant
+    c.loop-field-test.true c.field-item.is c.sound_count-count.ensures.most
+    c.sound_count-count.ensures.exact)
