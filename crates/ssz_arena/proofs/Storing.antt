@@ -12,6 +12,7 @@ use Rattle.ssz_arena.specs.declared.node.Node.{Node}
 use Rattle.ssz_arena.specs.declared.node.Node.TheVariants.{Leaf, Pair}
 use Rattle.ssz_arena.specs.Batches.{halves_of, left_child, right_child}
 use Rattle.ssz_arena.specs.Content.{child, is_unhashed}
+use Rattle.ssz_arena.specs.Copied.{AreOrdered}
 use Rattle.ssz_arena.specs.Stored.{chunk_of, shape_of, count_of, link_count, first_link, mark_of, links_with, links_at, pair_in, node_with, no_chunk, node_in, nodes_in, IsStored, pair_shape, pair_links, blocks_for}
 
 -- ---- the node at a place
@@ -580,6 +581,19 @@ module _ (nodes : List Node) (cs : List Chunk) (ks fs ls : List ℕ) (i : ℕ)
   read_child right result seen = seen (get_or cs i no_chunk)
       ∙ ap (child right)
       (sym (get_or_from_slice_get nodes i _ _ (found nodes cs ks fs ls i is within)))
+
+  -- the second link of a pair that has two is the place of an older node
+  pub second_before : AreOrdered nodes → shape_of ks i ≡ 2
+      → get_or ls (first_link ks fs i + 1) 0 < i
+  second_before ordered wide =
+      let link : ℕ = get_or ls (first_link ks fs i) 0 in
+      let right : ℕ = get_or ls (first_link ks fs i + 1) 0 in
+      let at : Some (link, right) ≡ links_at ks fs ls i =
+      sym (ap (λ shape. links_with shape (first_link ks fs i) ls i) wide) in
+      elim (cases_lt link (2 ^ 31)) [
+        | inl low ↦ (ordered.each i _ _ _ (read_kept link right at low)).1
+        | inr marked ↦ (ordered.each i _ _ _ (read_due link right at marked)).1
+      ]
 
   pub read_chunk : (chunk : Chunk) → chunk ≡ get_or cs i chunk → get_or cs i no_chunk ≡ chunk
   read_chunk chunk read =

@@ -5,7 +5,8 @@ ghost use Rattle.ssz_arena.specs.declared.node.NodeId.{NodeId};
 ghost use Rattle.ssz_arena.specs.declared.node.Node.TheVariants.{Leaf, Pair};
 ghost use Rattle.ssz_arena.specs.Batches.{halves_of, is_due, left_child, node_of, right_child};
 ghost use Rattle.ssz_arena.specs.Content.{child};
-ghost use Rattle.ssz_arena.specs.Stored.{IsShort, IsStored, blocks_for, chunk_of, count_of, first_link, links_at, node_with, pair_in, pair_links, pair_shape};
+ghost use Rattle.ssz_arena.specs.Copied.{AreOrdered};
+ghost use Rattle.ssz_arena.specs.Stored.{IsShort, IsStored, blocks_for, chunk_of, count_of, first_link, links_at, node_with, pair_in, pair_links, pair_shape, shape_of};
 
 use super::node::{MARK, MOST_NODES, Node, NodeId};
 use ssz_chunk::Chunk;
@@ -108,25 +109,29 @@ fn child_at(
         (vec_len links.now) }
     requires inside { i < vec_len kinds.now }
     requires few { i < 2 ^ 31 }
+    requires short { shape_of kinds.now.items i ≡ 2
+        → slice_index links.now.items (first_link kinds.now.items firsts.now.items i + 1)
+        < 2 ^ 31 }
     ensures { (chunk : Chunk) → result ≡ child right
         (node_with chunk (links_at kinds.now.items firsts.now.items links.now.items i)) }
 {
     let shape = kinds[i] % 4;
-    if shape == LEAF {
-        return None;
-    }
     if right {
         if shape == RIGHT_BEFORE {
             return Some(NodeId(i as u32 - 1));
         }
-        let first = first_of(kinds, firsts, i);
-        if shape == WIDE {
-            return Some(NodeId(links[first + 1]));
+        if shape == LEAF {
+            return None;
         }
-        return Some(NodeId(links[first] % MARK));
+        // The second link of a pair that has two is its right child.
+        let at = first_of(kinds, firsts, i) + usize::from(shape == WIDE);
+        return Some(NodeId(links[at] % MARK));
     }
     if shape == LEFT_BEFORE {
         return Some(NodeId(i as u32 - 1));
+    }
+    if shape == LEAF {
+        return None;
     }
     Some(NodeId(links[first_of(kinds, firsts, i)] % MARK))
 }
@@ -366,7 +371,8 @@ impl Store {
     // The child of a pair to one side.
     #[inline(always)]
     pub(crate) fn child(&self, id: NodeId, right: bool) -> Option<NodeId>
-        requires { id.0 < length self.now.nodes }
+        requires inside { id.0 < length self.now.nodes }
+        requires ordered { AreOrdered self.now.nodes }
         ensures { result ≡ child right (node_of self.now.nodes id) }
     {
         child_at(&self.kinds, &self.firsts, &self.links, id.0 as usize, right)

@@ -1,62 +1,52 @@
-// The way down a long tree to its first places: steps to the left alone.
-ghost use Rattle.std.specs.Prelude.{◌≡◌, ◌+◌, ◌-◌, ◌*◌, ◌<◌, ◌≤◌, ◌^◌, ◌++◌, Some, length};
+// The way down a tree, a digit of an index at a time.
+ghost use Rattle.std.specs.Prelude.{◌≡◌, ◌<◌, length};
 ghost use Rattle.ssz_chunk.specs.Index.{digits};
 ghost use Rattle.ssz_arena.specs.Content.{node_at};
 ghost use Rattle.ssz_arena.specs.Copied.{AreOrdered};
-ghost use Rattle.ssz_arena.specs.Shown.{steps_left};
 
 use super::node::NodeId;
 use super::store::Store;
 
-// A way of fewer levels is gone step by step: to count its digits would take longer.
-const LONG: u32 = 32;
-
-// Goes down to the left while the digits of a generalized index are 0, and says how many steps it
-// went: none where the index has few levels, and fewer than the digits where it meets a leaf.
+// The node at the end of a way: the last binary digits of a number.
 #[inline(always)]
-pub(crate) fn lefts(store: &Store, id: NodeId, number: u128, levels: u32) -> (NodeId, u32)
-    requires ordered { AreOrdered store.now.nodes }
+pub(crate) fn follow(store: &Store, id: NodeId, number: u64, steps: u32) -> Option<NodeId>
     requires inside { id.0 < length store.now.nodes }
-    requires few { levels < 128 }
-    requires low { 2 ^ levels ≤ number }
-    requires high { number < 2 * 2 ^ levels }
-    ensures inside { result.0.0 < length store.now.nodes }
-    ensures few { result.1 ≤ levels }
-    ensures found { node_at store.now.nodes id (steps_left result.1) ≡ Some result.0 }
-    ensures digits { digits levels number
-        ≡ steps_left result.1 ++ digits (levels - result.1) number }
-{
-    if levels < LONG {
-        return (id, 0);
-    }
-    spine(store, id, number, levels)
-}
-
-// The same of any index: a call of its own, so that a short way takes none.
-#[inline(never)]
-fn spine(store: &Store, id: NodeId, number: u128, levels: u32) -> (NodeId, u32)
     requires ordered { AreOrdered store.now.nodes }
-    requires inside { id.0 < length store.now.nodes }
-    requires few { levels < 128 }
-    requires low { 2 ^ levels ≤ number }
-    requires high { number < 2 * 2 ^ levels }
-    ensures inside { result.0.0 < length store.now.nodes }
-    ensures few { result.1 ≤ levels }
-    ensures found { node_at store.now.nodes id (steps_left result.1) ≡ Some result.0 }
-    ensures digits { digits levels number
-        ≡ steps_left result.1 ++ digits (levels - result.1) number }
+    requires few { steps < 64 }
+    ensures { result ≡ node_at store.now.nodes id (digits steps number) }
 {
-    let zeros = (number - (1 << levels))
-        .leading_zeros()
-        .saturating_sub(128 - levels);
     let mut place = id;
-    let mut left = zeros;
-    'left: while left > 0 {
-        match store.child(place, false) {
-            None => return (place, zeros - left),
+    let mut left = steps;
+    // The top bit is the digit followed last, and those to follow stand behind it.
+    let mut rest = number << (63 - steps);
+    'steps: while left > 0 {
+        left -= 1;
+        rest <<= 1;
+        match store.child(place, rest >> 63 == 1) {
+            None => return None,
             Some(next) => place = next,
         }
-        left -= 1;
     }
-    (place, zeros)
+    Some(place)
+}
+
+// The same of more digits. They are so many where lists stand in lists: a call of its own, so that
+// other ways take none.
+#[inline(never)]
+pub(crate) fn follow_long(store: &Store, id: NodeId, number: u128, steps: u32) -> Option<NodeId>
+    requires inside { id.0 < length store.now.nodes }
+    requires ordered { AreOrdered store.now.nodes }
+    requires few { steps < 128 }
+    ensures { result ≡ node_at store.now.nodes id (digits steps number) }
+{
+    let mut place = id;
+    let mut left = steps;
+    'high: while left > 63 {
+        left -= 1;
+        match store.child(place, (number >> left) % 2 == 1) {
+            None => return None,
+            Some(next) => place = next,
+        }
+    }
+    follow(store, place, (number % (1 << 64)) as u64, left)
 }
