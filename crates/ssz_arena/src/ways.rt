@@ -1,11 +1,24 @@
 // The way down a tree, a digit of an index at a time.
-ghost use Rattle.std.specs.Prelude.{◌≡◌, ◌<◌, length};
+ghost use Rattle.std.specs.Prelude.{◌≡◌, ◌/◌, ◌%◌, ◌^◌, ◌<◌, ◌==◌, length};
 ghost use Rattle.ssz_chunk.specs.Index.{digits};
 ghost use Rattle.ssz_arena.specs.Content.{node_at};
 ghost use Rattle.ssz_arena.specs.Copied.{AreOrdered};
 
 use super::node::NodeId;
 use super::store::Store;
+
+// A binary digit of a number, by the half of it that has it: a shift of all its bits takes three
+// times as long.
+#[inline(always)]
+pub(crate) fn digit(number: u128, place: u32) -> bool
+    requires few { place < 128 }
+    ensures { result ≡ (number / 2 ^ place % 2 == 1) }
+{
+    if place < 64 {
+        return ((number % (1 << 64)) as u64 >> place) % 2 == 1;
+    }
+    ((number >> 64) as u64 >> (place - 64)) % 2 == 1
+}
 
 // The node at the end of a way: the last binary digits of a number.
 #[inline(always)]
@@ -43,7 +56,7 @@ pub(crate) fn follow_long(store: &Store, id: NodeId, number: u128, steps: u32) -
     let mut left = steps;
     'high: while left > 63 {
         left -= 1;
-        match store.child(place, (number >> left) % 2 == 1) {
+        match store.child(place, digit(number, left)) {
             None => return None,
             Some(next) => place = next,
         }

@@ -1,4 +1,5 @@
-use Rattle.std.proofs.Common.{◌∙◌, ◌<◌, ap, sym, refl, arith, Some, None}
+use Rattle.std.proofs.Common.{◌∙◌, ◌∷◌, ◌-◌, ◌<◌, ap, sym, refl, arith, Some, None}
+use Rattle.ssz_chunk.specs.Index.{digits}
 use Rattle.ssz_arena.specs.Content.{node_at}
 use Rattle.ssz_arena.proofs.Following.{digits-mod, digits-step, next_before, node_at-child}
 use Rattle.ssz_arena.proofs.ways.follow_long.Goals as goal
@@ -13,7 +14,8 @@ high-init c = record {
 pub returns-in-None : goal.returns-in-None
 returns-in-None c =
     let nodes = c.args.store.now.nodes in
-    let way = digits-step c.high.left c.args.number (omega (arith, c.high-test.true)) _ refl in
+    let way = digits-step c.high.left c.args.number (omega (arith, c.high-test.true)) _ refl
+    ∙ ap (λ t. t ∷ digits (c.high.left - 1) c.args.number) (sym c.digit.ensures) in
     sym (sym c.high.invariant.same
     ∙ ap (node_at nodes c.high.place) way
     ∙ node_at-child nodes c.high.place c.high.invariant.inside _ None c.in-None.ensures _)
@@ -21,7 +23,8 @@ returns-in-None c =
 pub high-preserved : goal.high-preserved
 high-preserved c =
     let nodes = c.args.store.now.nodes in
-    let way = digits-step c.high.left c.args.number (omega (arith, c.high-test.true)) _ refl in
+    let way = digits-step c.high.left c.args.number (omega (arith, c.high-test.true)) _ refl
+    ∙ ap (λ t. t ∷ digits (c.high.left - 1) c.args.number) (sym c.digit.ensures) in
     record {
       inside = omega (
         arith,
