@@ -8,7 +8,7 @@
 set -eu
 cd "$(dirname "$0")/.."
 exec env PYTHONPATH=bench python3 - "$@" <<'PY'
-import json, os, random, re, subprocess, tempfile
+import json, os, random, re, subprocess, sys, tempfile
 from measure import BENCH, DENEB, KEEP_MORE, TYPES as KINDS, numbers, print_load, run
 from states import TYPES, drawn
 
@@ -52,28 +52,30 @@ def definitions(count):
     return ('{"ssz":1,"types":[%s]}' % ",".join('["T%07d",{"container":[["first","uint64"],["second","boolean"],["third",'
             '{"list":["uint64",1024]}]]}]' % i for i in range(count))).encode()
 
-def count(words):
+def count(words, status=0):
     command = ["valgrind", "--tool=callgrind", "--callgrind-out-file=/dev/null", BENCH, *map(str, words)]
-    told = subprocess.run(command, check=True, capture_output=True, text=True, env=KEEP_MORE).stderr
-    return int(re.search(r"Collected : (\d+)", told)[1])
+    ended = subprocess.run(command, capture_output=True, text=True, env=KEEP_MORE)
+    if ended.returncode != status:
+        sys.exit(f"{words}: status {ended.returncode}")
+    return int(re.search(r"Collected : (\d+)", ended.stderr)[1])
 
-def user(words):
-    return run(BENCH, *words, env=KEEP_MORE).user
+def user(words, status=0):
+    return run(BENCH, *words, env=KEEP_MORE, status=status).user
 
 # A row of the table: what a run with the greater number does more than one with the lesser, for each of so many
 # units; the number for a time is as great as takes about half a second.
-def row(what, unit, size, words, few=2, many=3, less=None):
+def row(what, unit, size, words, few=2, many=3, less=None, status=0):
     less = less or words
     command = lambda some, of: [str(some) if word == "TIMES" else word for word in map(str, of)]
-    taken = (count(command(many, words)) - count(command(few, less))) / (many - few) / size
+    taken = (count(command(many, words), status) - count(command(few, less), status)) / (many - few) / size
     if not rounds:
         print("%-52s %12.3f" % (what, taken), flush=True)
         return
     times = many
-    while (more := user(command(few + times, words)) - user(command(few, less))) < 0.5 and times < 1 << 24:
+    while (more := user(command(few + times, words), status) - user(command(few, less), status)) < 0.5 and times < 1 << 24:
         times = times * 2 if more < 0.05 else int(times * 0.6 / more) + 1
-    seconds = min(user(command(few + times, words)) for _ in range(rounds))
-    seconds = (seconds - min(user(command(few, less)) for _ in range(rounds))) / times / size
+    seconds = min(user(command(few + times, words), status) for _ in range(rounds))
+    seconds = (seconds - min(user(command(few, less), status) for _ in range(rounds))) / times / size
     if unit == "byte":
         print("%-52s %12.3f %10.0f MB/s" % (what, taken, 1 / seconds / 1e6), flush=True)
     else:
@@ -92,6 +94,13 @@ with tempfile.TemporaryDirectory() as room:
     print("%-52s %12s %15s" % ("what", "instructions", "time"))
     for name in ("Fixeds", "Variables"):
         row(f"check {name}", "byte", sizes[name], ["codec", "check", "schema.json", name, name, "TIMES"])
+    # of the last container a boolean of 2, or a list that begins a byte too late
+    for name, from_end, byte in (("Fixeds", 33, 2), ("Variables", 24, 13)):
+        with open(name, "rb") as file:
+            data = bytearray(file.read())
+        data[-from_end] = byte
+        put("faulty", data)
+        row(f"fault of {name}", "byte", sizes[name], ["codec", "check", "schema.json", name, "faulty", "TIMES"], status=1)
     for program, work in (("codec", "decode"), ("reading", "read"), ("codec", "encode"), ("reading", "write")):
         for name, size in sizes.items():
             row(f"{work} {name}", "byte", size, [program, work, "schema.json", name, name, "TIMES"])
