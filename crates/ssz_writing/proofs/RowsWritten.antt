@@ -1,5 +1,5 @@
 -- Containers that are written by rows of their fields.
-use Rattle.std.proofs.Common.{ℕ, zero, suc, get_or, ◌+◌, ◌-◌, ◌^◌, min, ◌<◌, ◌≤◌, ◌≡◌, true, false, List, [], ◌∷◌, ◌++◌, length, map, take, Option, Some, None, is_none, refl, sym, ap, ◌∙◌, subst, arith}
+use Rattle.std.proofs.Common.{ℕ, zero, suc, get_or, ◌+◌, ◌-◌, ◌^◌, min, ◌<◌, ◌≤◌, ◌≡◌, true, false, List, [], ◌∷◌, ◌++◌, length, map, take, Option, Some, None, is_none, refl, sym, ap, ◌∙◌, subst, arith, append_assoc}
 use Rattle.std.specs.List.{AllByRecursion}
 use Rattle.ssz_chunk.specs.Tree.{Tree, leaf, merkle_tree}
 use Rattle.ssz_schema.specs.Types.{SszType, Fields, container}
@@ -8,7 +8,7 @@ use Rattle.ssz_schema.specs.Unfolding.{fields_over}
 use Rattle.ssz_value.specs.Values.{SszValue, Fits, items}
 use Rattle.ssz_value.proofs.PartLemmas.{Part}
 use Rattle.ssz_nodes.proofs.Formed.{IsContainer, container_fields}
-use Rattle.std.proofs.lemmas.List.{append-nil, drop_all}
+use Rattle.std.proofs.lemmas.List.{append-nil, drop_all, get_or_default}
 use Rattle.ssz_value.specs.Encoding.{serialize, heads, bodies, joined, field_encodings}
 use Rattle.ssz_value.specs.Trees.{tree}
 use Rattle.ssz_arena.specs.declared.node.NodeId.{NodeId}
@@ -20,7 +20,7 @@ use Rattle.ssz_nodes.specs.Ahead.{IsRowOf}
 use Rattle.ssz_writing.specs.Leaves.{IsLeafLen, LeafOf}
 use Rattle.ssz_nodes.specs.Shown.{ForValue, AreElements, AreFieldsIn}
 use Rattle.ssz_writing.specs.Offsets.{room_of, rooms}
-use Rattle.ssz_writing.proofs.Rooms.{Filled, Filled-start, Filled-more, rooms_step}
+use Rattle.ssz_writing.proofs.Rooms.{Filled, Filled-start, Filled-more, fixed_room, rooms_step}
 use Rattle.ssz_nodes.proofs.Walked.{AreElements-trees, composite}
 use Rattle.ssz_writing.proofs.Written.{alike, variable_parts}
 use Rattle.ssz_writing.proofs.FieldsWritten.{FieldHeads, fixed_fields_add}
@@ -55,6 +55,14 @@ field_before (p ∷ ps) id zero part all inside at =
     subst (λ (q : Part). q.1 < id) (sym at) all.0
 field_before (p ∷ ps) id (suc i) part all inside at =
     field_before ps id i part all.1 (omega (arith, inside)) at
+
+-- the field of a place
+abbrev pub field_at : List Part → ℕ → Part
+field_at fields i = get_or fields i ([], 0)
+
+pub field_at-is : (fields : List Part) (i : ℕ) → i < length fields
+    → field_at fields i ≡ get_or fields i (field_at fields i)
+field_at-is fields i inside = get_or_default fields i ([], 0) (field_at fields i) inside
 
 -- where all fields were gone over, nothing more is to be written
 pub FieldHeads-end : (trees : List SszType) (fields : List Part) (i depth : ℕ) (all out : List ℕ)
@@ -133,6 +141,40 @@ RowsSoFar-more arena t depth vs i all out written old new row h below row_is res
           (map (serialize t) others) out written
           all is (head (tree t v) (row_is _ _ holds) v (record { fits = fit.0; is = refl }));
     }
+
+-- where all were gone over, nothing more is to be written
+pub RowsSoFar-end : (arena : ArenaContent) (t : SszType) (vs : List SszValue) (i : ℕ)
+    (all out : List ℕ) (ahead : RowsAhead) → RowsSoFar arena t vs i all out ahead → length vs ≤ i
+    → out ≡ all
+RowsSoFar-end arena t vs i all out ahead h done = go h.rest h.count h.is
+  where
+    go : (rest : List SszValue) → i + length rest ≡ length vs
+        → out ++ rooms (alike t rest) (map (serialize t) rest) ≡ all → out ≡ all
+    go [] count is = sym (append-nil out) ∙ is
+    go (v ∷ others) count is = absurd (omega (arith, count, done))
+
+-- one more was gathered behind those that were, some of which were appended before
+pub RowsSoFar-gathered : (arena : ArenaContent) (t : SszType) (fs : Fields) (vs : List SszValue)
+    (i : ℕ) (all out before gathered more : List ℕ) (old new : RowsAhead) (row : List NodeId)
+    → t ≡ container fs → is_none (fixed_size t) ≡ false
+    → RowsSoFar arena t vs i all before old → i < length vs → out ++ gathered ≡ before
+    → ((first : Tree) (trees : List Tree) → HoldsRows arena (first ∷ trees) old
+    → IsRowOf arena (depth t) first row)
+    → ((first : Tree) (trees : List Tree) → HoldsRows arena (first ∷ trees) old
+    → HoldsRows arena trees new)
+    → ((node : Tree) → IsRowOf arena (depth t) node row → (vs : List SszValue)
+    → AreFieldsIn fs (depth t) vs node
+    → more ≡ gathered ++ rooms (part_sizes fs) (field_encodings fs vs))
+    → RowsSoFar arena t vs (i + 1) all (out ++ more) new
+RowsSoFar-gathered arena t fs vs i all out before gathered more old new row form fixed h below same
+    row_is rest_is heads_are =
+    RowsSoFar-more arena t (depth t) vs i all before (out ++ more) old new row h below row_is
+    rest_is
+    (λ node is v value.
+    ap (λ xs. out ++ xs)
+    (row_value t fs node gathered more form fixed (heads_are node is) v value)
+    ∙ sym (append_assoc out gathered (serialize t v)) ∙ ap (λ xs. xs ++ serialize t v) same
+    ∙ ap (λ xs. before ++ xs) (fixed_room (fixed_size t) (serialize t v) fixed))
 
 -- containers of variable size whose offsets and variable parts are still to be written
 pub record RowBodiesSoFar (arena : ArenaContent) (t : SszType) (vs : List SszValue)

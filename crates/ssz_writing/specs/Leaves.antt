@@ -1,5 +1,5 @@
 -- Values that are one leaf, and containers of few fields.
-use Rattle.std.specs.Prelude.{ℕ, ◌≡◌, ◌<◌, ◌≤◌, List, length, take, Some, slice_index_or}
+use Rattle.std.specs.Prelude.{ℕ, ◌≡◌, ◌<◌, ◌≤◌, List, length, take, None, Some, slice_index_or}
 use Rattle.std.specs.List.{AllByRecursion}
 use Rattle.ssz_chunk.specs.Tree.{Tree, leaf}
 use Rattle.ssz_schema.specs.Types.{SszType, container}
@@ -32,3 +32,9 @@ abbrev pub AreLeafLens : Types → List (List ℕ × ℕ) → List ℕ → Type 
 AreLeafLens schema fields lens = (i : ℕ) (part : List ℕ × ℕ) → i < length fields
     → part ≡ slice_index_or fields i part
     → IsLeafLen (type_tree_at schema.trees part.1) (slice_index_or lens i 0)
+
+-- where no such number is told, a field has no fixed size
+abbrev pub AreShort : Types → List (List ℕ × ℕ) → List ℕ → Type 0
+AreShort schema fields lens = (i : ℕ) (part : List ℕ × ℕ) → i < length fields
+    → part ≡ slice_index_or fields i part → slice_index_or lens i 0 ≡ 0
+    → fixed_size (type_tree_at schema.trees part.1) ≡ None

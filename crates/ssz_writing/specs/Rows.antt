@@ -1,9 +1,9 @@
 -- Rows of the fields of containers that are still to come.
-use Rattle.std.specs.Prelude.{◌≡◌, ℕ, ◌+◌, ◌-◌, ◌^◌, ◌<◌, ◌≤◌, List, [], length, drop, slice_index_or}
+use Rattle.std.specs.Prelude.{ℕ, ◌+◌, ◌-◌, ◌<◌, ◌≤◌, List, [], length, drop, slice_index_or}
 use Rattle.std.specs.List.{All}
 use Rattle.ssz_chunk.specs.Tree.{Tree, place}
 use Rattle.ssz_arena.specs.declared.node.NodeId.{NodeId}
-use Rattle.ssz_arena.specs.Content.{ArenaContent, IsNodeOf, tree_of}
+use Rattle.ssz_arena.specs.Content.{ArenaContent, IsNodeOf}
 use Rattle.ssz_nodes.specs.Ahead.{Ahead, AheadAreNodes, AheadHolds, IsRowOf}
 use Rattle.ssz_nodes.specs.declared.rows.Row.{Row}
 

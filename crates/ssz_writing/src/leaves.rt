@@ -1,12 +1,12 @@
 //! Which types have values that are one leaf each, and which containers have few fields: what is
 //! asked of the schema once, for many values.
-ghost use Rattle.std.specs.Prelude.{ℕ, ◌≡◌, ◌<◌, ◌≤◌, length};
+ghost use Rattle.std.specs.Prelude.{ℕ, ◌≡◌, ◌<◌, ◌≤◌, length, true};
 ghost use Rattle.std.specs.List.{AllByRecursion};
 ghost use Rattle.std.specs.Option.{ForSome};
 ghost use Rattle.ssz_schema.specs.Types.{vector};
 ghost use Rattle.ssz_schema.specs.Sizes.{depth as depth_of_type};
 ghost use Rattle.ssz_schema.specs.Unfolding.{type_of};
-ghost use Rattle.ssz_writing.specs.Leaves.{AreFewFields, AreLeafLens, IsLeafLen};
+ghost use Rattle.ssz_writing.specs.Leaves.{AreFewFields, AreLeafLens, AreShort, IsLeafLen};
 
 use ssz_nodes::{Basic, NEAR, NEAR_DEPTH};
 use ssz_schema::{Name, Schema, Ty, TypeId};
@@ -29,15 +29,16 @@ impl<'a> Few<'a> {
         ensures same { ForSome result (λ few. few.id ≡ id) }
         ensures fields { ForSome result (λ few. AreFewFields schema.now few.id few.fields.now) }
         ensures lens { ForSome result (λ few. AreLeafLens schema.now few.fields.now few.lens) }
+        ensures short { ForSome result (λ few. few.short ≡ true
+            → AreShort schema.now few.fields.now few.lens) }
     {
         let fields = few_fields(schema, id)?;
         let lens = leaf_lens(schema, fields);
-        let short = are_short(schema, fields, &lens);
         Some(Few {
             id,
             fields,
             lens,
-            short,
+            short: are_short(schema, fields, &lens),
         })
     }
 }
@@ -79,10 +80,11 @@ fn leaf_lens(schema: &Schema, fields: &[(Name, TypeId)]) -> [usize; NEAR]
     lens
 }
 
-// Whether each field of fixed size is a leaf. Nothing but speed rests on the answer.
+// Whether each field of fixed size is told to be a leaf.
 fn are_short(schema: &Schema, fields: &[(Name, TypeId)], lens: &[usize; NEAR]) -> bool
     requires known { AllByRecursion (λ part. part.1 < length schema.now.trees) fields.now }
     requires few { length fields.now ≤ 8 }
+    ensures { result ≡ true → AreShort schema.now fields.now lens.now }
 {
     for (i, field) in fields.iter().enumerate() {
         if lens[i] == 0 && !schema.is_variable(field.1) {

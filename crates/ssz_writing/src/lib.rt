@@ -4,7 +4,8 @@
 //! fixed parts, and the offset is written there when its part is about to be appended. Elements are
 //! taken one after another from the places of their tree (`elements`), or, where they are
 //! containers of few fields, by rows of the nodes of these (`rows`): the fields of up to 32
-//! containers are come down to together.
+//! containers are come down to together. The fixed parts of a container whose fields are
+//! leaves or have offsets are gathered before they are appended (`heads`).
 //!
 //! `write_encoding` alone takes memory. Neither call asks anything of the tree of the node that it
 //! is handed: what it answers is said of a node that has the tree of a value.

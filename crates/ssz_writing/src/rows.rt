@@ -1,5 +1,5 @@
 //! Containers of few fields that stand beside one another, by rows of the nodes of their fields.
-ghost use Rattle.std.specs.Prelude.{◌≡◌, ◌<◌, ◌≤◌, false, length, map, replicate, All, None, OnOk, Option};
+ghost use Rattle.std.specs.Prelude.{◌≡◌, ◌<◌, ◌≤◌, false, true, length, map, replicate, All, None, OnOk, Option};
 ghost use Rattle.ssz_chunk.specs.Tree.{Tree};
 ghost use Rattle.ssz_schema.specs.format.Format.{Format};
 ghost use Rattle.ssz_schema.specs.Sizes.{depth, fixed_size, is_variable, part_sizes};
@@ -9,7 +9,7 @@ ghost use Rattle.ssz_value.specs.Encoding.{serialize, field_encodings};
 ghost use Rattle.ssz_arena.specs.Content.{IsNodeOf, tree_of};
 ghost use Rattle.ssz_nodes.specs.Ahead.{IsRowOf};
 ghost use Rattle.ssz_nodes.specs.Shown.{ForValue, ForElements, ForFields, ExtendsBytes};
-ghost use Rattle.ssz_writing.specs.Leaves.{AreFewFields, AreLeafLens, IsLeafLen};
+ghost use Rattle.ssz_writing.specs.Leaves.{AreFewFields, AreLeafLens, AreShort, IsLeafLen};
 ghost use Rattle.ssz_writing.specs.Offsets.{AddsBytes, Fills, FillsAll, KeepsUpTo, room_of, rooms};
 
 use super::fields::Rows;
@@ -37,6 +37,8 @@ impl<'a, H: PairHash> Writer<'a, H> {
         requires known { few.now.id < length self.now.schema.now.trees }
         requires fields { AreFewFields self.now.schema.now few.now.id few.now.fields.now }
         requires lens { AreLeafLens self.now.schema.now few.now.fields.now few.now.lens }
+        requires short { few.now.short ≡ true
+            → AreShort self.now.schema.now few.now.fields.now few.now.lens }
         requires fixed { is_variable (type_of self.now.schema.now few.now.id) ≡ false }
         requires depth { top.depth < 64 }
         requires node { IsNodeOf self.now.arena.now top.node }
@@ -46,11 +48,13 @@ impl<'a, H: PairHash> Writer<'a, H> {
             (λ vs. AddsBytes (rooms (replicate (length vs) (fixed_size t)) (map (serialize t) vs))
             out.old.items out.new.items result) }
     {
+        if few.short {
+            return self.append_gathered(few, top, count, out);
+        }
         let mut rows = Rows::new(top, self.schema.depth(few.id));
-        let mut heads = [0; ROOM];
         for _i in 0..count {
             let row = rows.next(self.arena);
-            self.append_row_heads(few, &row, &mut heads, out)?;
+            self.append_row_parts(few, &row, out)?;
         }
         Ok(())
     }
@@ -69,6 +73,8 @@ impl<'a, H: PairHash> Writer<'a, H> {
         requires known { few.now.id < length self.now.schema.now.trees }
         requires fields { AreFewFields self.now.schema.now few.now.id few.now.fields.now }
         requires lens { AreLeafLens self.now.schema.now few.now.fields.now few.now.lens }
+        requires short { few.now.short ≡ true
+            → AreShort self.now.schema.now few.now.fields.now few.now.lens }
         requires variable { fixed_size (type_of self.now.schema.now few.now.id) ≡ None }
         requires depth { top.depth < 64 }
         requires node { IsNodeOf self.now.arena.now top.node }
@@ -102,6 +108,8 @@ impl<'a, H: PairHash> Writer<'a, H> {
         requires known { few.now.id < length self.now.schema.now.trees }
         requires fields { AreFewFields self.now.schema.now few.now.id few.now.fields.now }
         requires lens { AreLeafLens self.now.schema.now few.now.fields.now few.now.lens }
+        requires short { few.now.short ≡ true
+            → AreShort self.now.schema.now few.now.fields.now few.now.lens }
         requires row { All (IsNodeOf self.now.arena.now) row.now.nodes }
         requires behind { slot.start ≤ slot.room }
         ensures kept { KeepsUpTo slot.start out.old.items out.new.items }
@@ -127,6 +135,8 @@ impl<'a, H: PairHash> Writer<'a, H> {
         requires known { few.now.id < length self.now.schema.now.trees }
         requires fields { AreFewFields self.now.schema.now few.now.id few.now.fields.now }
         requires lens { AreLeafLens self.now.schema.now few.now.fields.now few.now.lens }
+        requires short { few.now.short ≡ true
+            → AreShort self.now.schema.now few.now.fields.now few.now.lens }
         requires row { All (IsNodeOf self.now.arena.now) row.now.nodes }
         ensures kept { ExtendsBytes out.old.items out.new.items }
         ensures value { let t = type_of self.now.schema.now few.now.id in
@@ -152,6 +162,8 @@ impl<'a, H: PairHash> Writer<'a, H> {
         requires known { few.now.id < length self.now.schema.now.trees }
         requires fields { AreFewFields self.now.schema.now few.now.id few.now.fields.now }
         requires lens { AreLeafLens self.now.schema.now few.now.fields.now few.now.lens }
+        requires short { few.now.short ≡ true
+            → AreShort self.now.schema.now few.now.fields.now few.now.lens }
         requires row { All (IsNodeOf self.now.arena.now) row.now.nodes }
         ensures kept { ExtendsBytes out.old.items out.new.items }
         ensures value { let fs = fields_over self.now.schema.now.trees few.now.fields.now in
@@ -163,13 +175,9 @@ impl<'a, H: PairHash> Writer<'a, H> {
         if !few.short {
             return self.append_row_parts(few, row, out);
         }
-        match self.gather_heads(few, row, heads) {
-            Some(len) => {
-                out.extend_from_slice(&heads[..len])?;
-                Ok(())
-            }
-            None => self.append_row_parts(few, row, out),
-        }
+        let end = self.gather_heads(few, row, 0, heads);
+        out.extend_from_slice(&heads[..end])?;
+        Ok(())
     }
 
     // The same, field by field, where a field of fixed size may be no leaf.

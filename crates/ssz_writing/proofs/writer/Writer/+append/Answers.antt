@@ -450,13 +450,13 @@ pub append_containers-loop-i-preserved : goal.append_containers-loop-i-preserved
 append_containers-loop-i-preserved g t c = (
   c.next-row.ensures.rows,
   c.next-row.ensures.depth ∙ c.loop-i.invariant.1,
-  Extends-trans c.args.out.now.items c.loop-i.out.items c.append_row_heads.new.out.items
-      c.loop-i.invariant.2 c.append_row_heads.ensures.kept,
+  Extends-trans c.args.out.now.items c.loop-i.out.items c.append_row_parts.new.out.items
+      c.loop-i.invariant.2 c.append_row_parts.ensures.kept,
   λ vs are. RowsSoFar-more c.args.self.now.arena.now
       (type_of c.args.self.now.schema.now c.args.few.now.id)
       (depth (type_of c.args.self.now.schema.now c.args.few.now.id)) vs c.loop-i._i _
       c.loop-i.out.items
-      c.append_row_heads.new.out.items c.loop-i.rows c.next-row.new.self c.next-row.result.nodes
+      c.append_row_parts.new.out.items c.loop-i.rows c.next-row.new.self c.next-row.result.nodes
       (c.loop-i.invariant.3 vs are) (omega (arith, are.many, c.loop-i-test.true))
       (λ first trees held. subst (λ n. IsRowOf c.args.self.now.arena.now n first
       c.next-row.result.nodes)
@@ -465,8 +465,8 @@ append_containers-loop-i-preserved g t c = (
       (λ node row v h. row_value (type_of c.args.self.now.schema.now c.args.few.now.id)
       (fields_over c.args.self.now.schema.now.trees c.args.few.now.fields.now) node
       c.loop-i.out.items
-      c.append_row_heads.new.out.items c.requires.fields.form c.requires.fixed
-      (c.in_ok-append_row_heads.ensures.value node row) v h
+      c.append_row_parts.new.out.items c.requires.fields.form c.requires.fixed
+      (c.in_ok-append_row_parts.ensures.value node row) v h
       ∙ ap (λ xs. c.loop-i.out.items ++ xs)
       (fixed_room (fixed_size (type_of c.args.self.now.schema.now c.args.few.now.id))
       (serialize (type_of c.args.self.now.schema.now c.args.few.now.id) v) c.requires.fixed)),
@@ -639,11 +639,11 @@ append_chosen-returns-in_err-append_byte-clause-kept g t c = c.append_byte.ensur
 pub append_containers-returns-clause-kept : goal.append_containers-returns-clause-kept
 append_containers-returns-clause-kept g t c = c.loop-i.invariant.2
 
-pub append_containers-returns-in_err-append_row_heads-clause-kept :
-    goal.append_containers-returns-in_err-append_row_heads-clause-kept
-append_containers-returns-in_err-append_row_heads-clause-kept g t c =
-    Extends-trans c.args.out.now.items c.loop-i.out.items c.append_row_heads.new.out.items
-    c.loop-i.invariant.2 c.append_row_heads.ensures.kept
+pub append_containers-returns-in_err-append_row_parts-clause-kept :
+    goal.append_containers-returns-in_err-append_row_parts-clause-kept
+append_containers-returns-in_err-append_row_parts-clause-kept g t c =
+    Extends-trans c.args.out.now.items c.loop-i.out.items c.append_row_parts.new.out.items
+    c.loop-i.invariant.2 c.append_row_parts.ensures.kept
 
 pub append_field_bodies-returns-clause-kept : goal.append_field_bodies-returns-clause-kept
 append_field_bodies-returns-clause-kept g t c = c.loop-i.invariant.1
@@ -887,6 +887,7 @@ append_heads-append_containers-requires g t c =
     let fixed : is_variable (type_of types few.id) ≡ false =
     ap (λ id. is_variable (type_of types id)) same ∙ sym c.is_variable.ensures
     ∙ c.if-is_variable.false in
+    let short = c.of.ensures.short few c.in-Some.is in
     search rules
 
 pub append_heads-returns-in-Some-clause-value : goal.append_heads-returns-in-Some-clause-value
@@ -910,6 +911,7 @@ append_bodies-append_rows-requires g t c =
     let variable : fixed_size (type_of types few.id) ≡ None =
     ap (λ id. fixed_size (type_of types id)) same ∙ sym c.fixed_size.ensures.exact
     ∙ c.in_default.is in
+    let short = c.of.ensures.short few c.in-Some-of.is in
     search rules
 
 pub append_bodies-returns-in-Some-of-clause-value

@@ -1,4 +1,4 @@
-use Rattle.std.proofs.Common.{◌≡◌, ◌*◌, ◌≤◌, List, length, take}
+use Rattle.std.proofs.Common.{◌≡◌, ◌+◌, ◌*◌, ◌≤◌, ◌++◌, List, length, take}
 use Rattle.ssz_chunk.specs.Tree.{Tree}
 use Rattle.ssz_schema.specs.Sizes.{depth, part_sizes}
 use Rattle.ssz_schema.specs.Unfolding.{type_of, fields_over}
@@ -12,8 +12,8 @@ use Rattle.ssz_writing.proofs.writer.Writer.gather_heads.Given as goal
 
 abbrev pub invariant-loop-i : goal.invariant-loop-i
 invariant-loop-i g l = record {
-  long : length l.heads ≡ 256;
-  within : l.len ≤ 32 * l.i;
+  long : length l.heads ≡ length l.initial.heads;
+  within : l.end ≤ l.at + 32 * l.i;
   value : (node : Tree)
       → IsRowOf l.self.arena.now (depth (type_of l.self.schema.now l.few.id)) node l.row.nodes
       → (vs : List SszValue)
@@ -21,7 +21,8 @@ invariant-loop-i g l = record {
       (depth (type_of l.self.schema.now l.few.id)) vs node
       → FieldHeads l.self.schema.now.trees l.few.fields.now l.i
       (depth (type_of l.self.schema.now l.few.id))
-      (rooms (part_sizes (fields_over l.self.schema.now.trees l.few.fields.now))
+      (take l.at l.initial.heads
+      ++ rooms (part_sizes (fields_over l.self.schema.now.trees l.few.fields.now))
       (field_encodings (fields_over l.self.schema.now.trees l.few.fields.now) vs))
-      (take l.len l.heads) node;
+      (take l.end l.heads) node;
 }

@@ -1,11 +1,8 @@
-use Rattle.std.proofs.Common.{ℕ, ◌≡◌, ◌+◌, ◌≤◌, ◌++◌, List, length, take, Option, None, sym, ap, ◌∙◌, arith}
+use Rattle.std.proofs.Common.{ℕ, ◌≡◌, ◌+◌, ◌≤◌, ◌++◌, List, length, take, Option, None, refl, sym, ap, ◌∙◌, arith}
 use Rattle.std.proofs.lemmas.List.{length-take-le, take-append-le}
 use Rattle.std.proofs.Math.Seq.{take-append-add}
 use Rattle.ssz_schema.specs.Sizes.{fixed_size}
-use Rattle.ssz_schema.specs.Unfolding.{type_of}
 use Rattle.ssz_value.specs.Encoding.{serialize}
-use Rattle.ssz_arena.specs.Content.{tree_of}
-use Rattle.ssz_writing.specs.Leaves.{LeafOf}
 use Rattle.ssz_writing.specs.Offsets.{room_of}
 use Rattle.ssz_writing.proofs.writer.Writer.put_head.Goals as goal
 
@@ -21,19 +18,15 @@ put_behind at len x heads part back inside is few =
     ∙ ap (λ xs. take at heads ++ xs) (take-append-le len part back few)
 
 pub returns-then-len-gt0-clause-value : goal.returns-then-len-gt0-clause-value
-returns-then-len-gt0-clause-value g c = λ v h x e.
-    let t = type_of c.args.self.now.schema.now c.args.id in
-    let is : x ≡ c.args.at + c.args.len = cc in
-    let leaf_is : LeafOf c.args.len (serialize t v) (tree_of c.args.self.now.arena.now c.args.node) =
-    c.requires.len.leaf c.if-len-gt0.true _ v h in
-    let part = c.copy_from_slice.ensures.after in
+returns-then-len-gt0-clause-value g c = λ t leaf none v h.
+    let here = leaf.leaf c.if-len-gt0.true _ v h in
     let wide : length c.copy_from_slice.new.self ≡ 32 =
     omega (arith, c.copy_from_slice.ensures.len, c.requires.room) in
-    put_behind c.args.at c.args.len x c.args.heads.now c.copy_from_slice.new.self _
-    (omega (arith, c.requires.room)) is (omega (arith, wide, c.requires.len.few))
+    put_behind c.args.at c.args.len _ c.args.heads.now c.copy_from_slice.new.self _
+    (omega (arith, c.requires.room)) refl (omega (arith, wide, c.requires.len))
     ∙ ap (λ xs. take c.args.at c.args.heads.now ++ xs)
-    (ap (take c.args.len) (part ∙ c.chunk_of.ensures leaf_is.chunk leaf_is.is) ∙ leaf_is.same
-    ∙ ap (λ size. room_of size (serialize t v)) (sym (c.requires.len.size c.if-len-gt0.true)))
+    (ap (take c.args.len) (c.copy_from_slice.ensures.after ∙ c.chunk_of.ensures here.chunk here.is)
+    ∙ here.same ∙ ap (λ size. room_of size (serialize t v)) (sym (leaf.size c.if-len-gt0.true)))
 
 -- a type of no fixed size
 none_of : (o : Option ℕ) → o ≡ None → (bytes : List ℕ)
@@ -41,13 +34,12 @@ none_of : (o : Option ℕ) → o ≡ None → (bytes : List ℕ)
 none_of o e bytes = ap (λ size. room_of size bytes) (sym e)
 
 pub returns-clause-value : goal.returns-clause-value
-returns-clause-value g c = λ v h x e.
-    let t = type_of c.args.self.now.schema.now c.args.id in
-    let is : x ≡ c.args.at + 4 = cc in
-    let none : fixed_size t ≡ None = sym c.fixed_size.ensures.exact ∙ c.in_default.is in
+returns-clause-value g c = λ t leaf none v h.
+    let no_len : c.args.len ≡ 0 = omega (arith, c.if-len-gt0.false) in
     let wide : length c.copy_from_slice-2.new.self ≡ 4 =
     omega (arith, c.copy_from_slice-2.ensures.len, c.requires.room) in
-    put_behind c.args.at 4 x c.args.heads.now c.copy_from_slice-2.new.self _
-    (omega (arith, c.requires.room)) is (omega (arith, wide))
+    put_behind c.args.at 4 _ c.args.heads.now c.copy_from_slice-2.new.self _
+    (omega (arith, c.requires.room)) refl (omega (arith, wide))
     ∙ ap (λ xs. take c.args.at c.args.heads.now ++ xs)
-    (ap (take 4) c.copy_from_slice-2.ensures.after ∙ none_of (fixed_size t) none (serialize t v))
+    (ap (take 4) c.copy_from_slice-2.ensures.after
+    ∙ none_of (fixed_size t) (none no_len) (serialize t v))
