@@ -29,7 +29,7 @@ no_leaf t = record {
   leaf = λ some. absurd (omega (arith, some));
 }
 
-basic_fixed_size : (t : SszType) (z : ℕ) → basic_size t ≡ Some z → fixed_size t ≡ Some z
+pub basic_fixed_size : (t : SszType) (z : ℕ) → basic_size t ≡ Some z → fixed_size t ≡ Some z
 basic_fixed_size (uint w) z e = e
 basic_fixed_size boolean z e = e
 basic_fixed_size _ z e = absurd (none-some z e)
@@ -79,25 +79,31 @@ vector_leaf elem z n d len e deep flat few is = record {
       };
 }
 
+-- a field of one place
+same_part : (fields : List Part) (i k : ℕ) (part field : Part) → i ≡ k
+    → field ≡ get_or fields k field → part ≡ get_or fields i part → k < length fields
+    → field ≡ part
+same_part fields i k part field same here at inside =
+    let first : get_or fields i part ≡ get_or fields k field =
+    ap (λ n. get_or fields n part) same ∙ get_or_default fields k part field inside in
+    here ∙ sym first ∙ sym at
+
 -- the numbers so far, with one more
-pub more_lens : (trees : List SszType) (fields : List Part) (lens : List ℕ) (k len : ℕ)
-    (field : Part) → k < length lens
+pub more_numbers : (P : SszType → ℕ → Type 0) (trees : List SszType) (fields : List Part)
+    (numbers : List ℕ) (k number : ℕ) (field : Part) → k < length numbers
     → ((i : ℕ) (part : Part) → i < k → part ≡ get_or fields i part
-    → IsLeafLen (type_tree_at trees part.1) (get_or lens i 0))
-    → field ≡ get_or fields k field → k < length fields → IsLeafLen (type_tree_at trees field.1) len
+    → P (type_tree_at trees part.1) (get_or numbers i 0))
+    → field ≡ get_or fields k field → k < length fields → P (type_tree_at trees field.1) number
     → (i : ℕ) (part : Part) → i < k + 1 → part ≡ get_or fields i part
-    → IsLeafLen (type_tree_at trees part.1) (get_or (set lens k len) i 0)
-more_lens trees fields lens k len field room all here inside one i part below at =
+    → P (type_tree_at trees part.1) (get_or (set numbers k number) i 0)
+more_numbers P trees fields numbers k number field room all here inside one i part below at =
     elim (cases_lt i k) [
-      | inl before ↦ subst (IsLeafLen (type_tree_at trees part.1))
-          (sym (get_or-set_other lens k i len 0 (λ e. omega arith))) (all i part before at)
+      | inl before ↦ subst (P (type_tree_at trees part.1))
+          (sym (get_or-set_other numbers k i number 0 (λ e. omega arith))) (all i part before at)
       | inr from ↦
           (let same : i ≡ k = omega arith in
-          let first : get_or fields i part ≡ get_or fields k field =
-          ap (λ n. get_or fields n part) same ∙ get_or_default fields k part field inside in
-          let field_is : field ≡ part = here ∙ sym first ∙ sym at in
-          subst (λ n. IsLeafLen (type_tree_at trees part.1) (get_or (set lens k len) n 0))
-          (sym same)
-          (subst (IsLeafLen (type_tree_at trees part.1)) (sym (get_or-set_same lens k len 0 room))
-          (subst (λ (p : Part). IsLeafLen (type_tree_at trees p.1) len) field_is one)))
+          subst (λ n. P (type_tree_at trees part.1) (get_or (set numbers k number) n 0)) (sym same)
+          (subst (P (type_tree_at trees part.1)) (sym (get_or-set_same numbers k number 0 room))
+          (subst (λ (p : Part). P (type_tree_at trees p.1) number)
+          (same_part fields i k part field same here at inside) one)))
     ]

@@ -5,4 +5,5 @@ pub mod Gathering
 pub mod Leafed
 pub mod Written
 pub mod FieldsWritten
+pub mod Listed
 pub mod RowsWritten

@@ -2,8 +2,8 @@
 use Rattle.std.specs.Prelude.{ℕ, ◌≡◌, ◌<◌, ◌≤◌, List, length, take, None, Some, slice_index_or}
 use Rattle.std.specs.List.{AllByRecursion}
 use Rattle.ssz_chunk.specs.Tree.{Tree, leaf}
-use Rattle.ssz_schema.specs.Types.{SszType, container}
-use Rattle.ssz_schema.specs.Sizes.{depth, fixed_size}
+use Rattle.ssz_schema.specs.Types.{SszType, container, list}
+use Rattle.ssz_schema.specs.Sizes.{basic_size, depth, fixed_size}
 use Rattle.ssz_schema.specs.Unfolding.{Types, type_of, type_tree_at, fields_over}
 use Rattle.ssz_value.specs.Encoding.{serialize}
 use Rattle.ssz_nodes.specs.Shown.{ForValue}
@@ -38,3 +38,20 @@ abbrev pub AreShort : Types → List (List ℕ × ℕ) → List ℕ → Type 0
 AreShort schema fields lens = (i : ℕ) (part : List ℕ × ℕ) → i < length fields
     → part ≡ slice_index_or fields i part → slice_index_or lens i 0 ≡ 0
     → fixed_size (type_tree_at schema.trees part.1) ≡ None
+
+-- a list of basic elements of so many bytes each
+pub record IsListOf (t : SszType) (size : ℕ) : Type 0 where
+  pub elem : SszType
+  pub most : ℕ
+  pub is : t ≡ list elem most
+  pub basic : basic_size elem ≡ Some size
+
+-- 0, or the type is such a list
+abbrev pub IsItemSize : SszType → ℕ → Type 0
+IsItemSize t size = 0 < size → IsListOf t size
+
+-- of each field such a number
+abbrev pub AreItemSizes : Types → List (List ℕ × ℕ) → List ℕ → Type 0
+AreItemSizes schema fields sizes = (i : ℕ) (part : List ℕ × ℕ) → i < length fields
+    → part ≡ slice_index_or fields i part
+    → IsItemSize (type_tree_at schema.trees part.1) (slice_index_or sizes i 0)

@@ -1,14 +1,17 @@
 //! Numbers, flags and bits, whose bytes lie in leaves.
 ghost use Rattle.std.specs.Prelude.{ℕ, ◌≡◌, ◌+◌, ◌<◌, ◌++◌, ◌∷◌, [], Bool, List, length, OnOk};
+ghost use Rattle.ssz_schema.specs.Unfolding.{type_of};
 ghost use Rattle.ssz_value.specs.Encoding.{serialize};
 ghost use Rattle.ssz_arena.specs.Content.{IsNodeOf, tree_of};
 ghost use Rattle.ssz_nodes.specs.Shown.{ForValue, ArePacked, ExtendsBytes, basic_type};
-ghost use Rattle.ssz_writing.specs.Offsets.{AreCountedBits, delimited_bytes};
+ghost use Rattle.ssz_writing.specs.Leaves.{IsListOf};
+ghost use Rattle.ssz_writing.specs.Offsets.{AddsBytes, AreCountedBits, delimited_bytes};
 
 use super::writer::Writer;
 use ssz_arena::NodeId;
 use ssz_chunk::PairHash;
-use ssz_nodes::{Basic, Top, append_chunks, chunk_of};
+use ssz_nodes::{Basic, Top, append_chunks, chunk_of, few_bytes};
+use ssz_schema::TypeId;
 use ssz_value::EncodeFault;
 use ssz_walk::mixed_parts;
 use std::alloc::AllocError;
@@ -62,6 +65,40 @@ impl<'a, H: PairHash> Writer<'a, H> {
     {
         self.make_room(len, out)?;
         append_chunks(self.arena, top, len, out)?;
+        Ok(())
+    }
+
+    /// A list of basic elements of this size. Where one chunk has all bytes, nothing is tested
+    /// before they are appended: so few do not make writing go on far behind `end`.
+    #[inline(always)]
+    pub(crate) fn append_items(
+        &self,
+        id: TypeId,
+        size: usize,
+        node: NodeId,
+        out: &mut Vec<u8>,
+    ) -> Result<(), EncodeFault>
+        requires known { id < length self.now.schema.now.trees }
+        requires node { IsNodeOf self.now.arena.now node }
+        requires size { IsListOf (type_of self.now.schema.now id) size }
+        ensures kept { ExtendsBytes out.old.items out.new.items }
+        ensures value { let t = type_of self.now.schema.now id in
+            ForValue t (tree_of self.now.arena.now node)
+            (λ v. AddsBytes (serialize t v) out.old.items out.new.items result) }
+    {
+        // Every type of a schema is legal.
+        let _legal = self.schema.ty(id);
+        let depth = self.schema.depth(id);
+        let (content, count) = mixed_parts(self.arena, node);
+        let top = Top {
+            node: content,
+            depth,
+        };
+        let len = u128::from(count) * size as u128;
+        if len > 32 {
+            return self.append_packed(top, len, out);
+        }
+        out.extend_from_slice(few_bytes(self.arena, top, len as usize))?;
         Ok(())
     }
 

@@ -6,7 +6,7 @@ ghost use Rattle.std.specs.Option.{ForSome};
 ghost use Rattle.ssz_schema.specs.Types.{vector};
 ghost use Rattle.ssz_schema.specs.Sizes.{depth as depth_of_type};
 ghost use Rattle.ssz_schema.specs.Unfolding.{type_of};
-ghost use Rattle.ssz_writing.specs.Leaves.{AreFewFields, AreLeafLens, AreShort, IsLeafLen};
+ghost use Rattle.ssz_writing.specs.Leaves.{AreFewFields, AreItemSizes, AreLeafLens, AreShort, IsItemSize, IsLeafLen};
 
 use ssz_nodes::{Basic, NEAR, NEAR_DEPTH};
 use ssz_schema::{Name, Schema, Ty, TypeId};
@@ -18,6 +18,8 @@ pub(crate) struct Few<'a> {
     pub fields: &'a [(Name, TypeId)],
     // How many bytes of its leaf each field takes, or 0 where it may be no leaf.
     pub lens: [usize; NEAR],
+    // How many bytes an element of each field takes that is a list of a basic type, or 0.
+    pub sizes: [usize; NEAR],
     // Whether the fixed part of each is a leaf or an offset, so that it pays to gather them.
     pub short: bool,
 }
@@ -29,6 +31,7 @@ impl<'a> Few<'a> {
         ensures same { ForSome result (λ few. few.id ≡ id) }
         ensures fields { ForSome result (λ few. AreFewFields schema.now few.id few.fields.now) }
         ensures lens { ForSome result (λ few. AreLeafLens schema.now few.fields.now few.lens) }
+        ensures sizes { ForSome result (λ few. AreItemSizes schema.now few.fields.now few.sizes) }
         ensures short { ForSome result (λ few. few.short ≡ true
             → AreShort schema.now few.fields.now few.lens) }
     {
@@ -38,6 +41,7 @@ impl<'a> Few<'a> {
             id,
             fields,
             lens,
+            sizes: item_sizes(schema, fields),
             short: are_short(schema, fields, &lens),
         })
     }
@@ -78,6 +82,33 @@ fn leaf_lens(schema: &Schema, fields: &[(Name, TypeId)]) -> [usize; NEAR]
         lens[i] = leaf_len(schema, field.1);
     }
     lens
+}
+
+// How many bytes an element of each field takes that is a list of a basic type, or 0.
+fn item_sizes(schema: &Schema, fields: &[(Name, TypeId)]) -> [usize; NEAR]
+    requires known { AllByRecursion (λ part. part.1 < length schema.now.trees) fields.now }
+    requires few { length fields.now ≤ 8 }
+    ensures { AreItemSizes schema.now fields.now result }
+{
+    let mut sizes = [0usize; NEAR];
+    for (i, field) in fields.iter().enumerate() {
+        sizes[i] = item_size(schema, field.1);
+    }
+    sizes
+}
+
+// Of a type.
+fn item_size(schema: &Schema, id: TypeId) -> usize
+    requires { id < length schema.now.trees }
+    ensures { IsItemSize (type_of schema.now id) result }
+{
+    match schema.ty(id) {
+        Ty::List(elem, _) => match Basic::of(schema, *elem) {
+            Some(basic) => basic.size(),
+            None => 0,
+        },
+        _ => 0,
+    }
 }
 
 // Whether each field of fixed size is told to be a leaf.

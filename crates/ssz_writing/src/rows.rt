@@ -9,7 +9,7 @@ ghost use Rattle.ssz_value.specs.Encoding.{serialize, field_encodings};
 ghost use Rattle.ssz_arena.specs.Content.{IsNodeOf, tree_of};
 ghost use Rattle.ssz_nodes.specs.Ahead.{IsRowOf};
 ghost use Rattle.ssz_nodes.specs.Shown.{ForValue, ForElements, ForFields, ExtendsBytes};
-ghost use Rattle.ssz_writing.specs.Leaves.{AreFewFields, AreLeafLens, AreShort, IsLeafLen};
+ghost use Rattle.ssz_writing.specs.Leaves.{AreFewFields, AreItemSizes, AreLeafLens, AreShort, IsItemSize, IsLeafLen};
 ghost use Rattle.ssz_writing.specs.Offsets.{AddsBytes, Fills, FillsAll, KeepsUpTo, room_of, rooms};
 
 use super::fields::Rows;
@@ -73,6 +73,7 @@ impl<'a, H: PairHash> Writer<'a, H> {
         requires known { few.now.id < length self.now.schema.now.trees }
         requires fields { AreFewFields self.now.schema.now few.now.id few.now.fields.now }
         requires lens { AreLeafLens self.now.schema.now few.now.fields.now few.now.lens }
+        requires sizes { AreItemSizes self.now.schema.now few.now.fields.now few.now.sizes }
         requires short { few.now.short ≡ true
             → AreShort self.now.schema.now few.now.fields.now few.now.lens }
         requires variable { fixed_size (type_of self.now.schema.now few.now.id) ≡ None }
@@ -108,6 +109,7 @@ impl<'a, H: PairHash> Writer<'a, H> {
         requires known { few.now.id < length self.now.schema.now.trees }
         requires fields { AreFewFields self.now.schema.now few.now.id few.now.fields.now }
         requires lens { AreLeafLens self.now.schema.now few.now.fields.now few.now.lens }
+        requires sizes { AreItemSizes self.now.schema.now few.now.fields.now few.now.sizes }
         requires short { few.now.short ≡ true
             → AreShort self.now.schema.now few.now.fields.now few.now.lens }
         requires row { All (IsNodeOf self.now.arena.now) row.now.nodes }
@@ -135,6 +137,7 @@ impl<'a, H: PairHash> Writer<'a, H> {
         requires known { few.now.id < length self.now.schema.now.trees }
         requires fields { AreFewFields self.now.schema.now few.now.id few.now.fields.now }
         requires lens { AreLeafLens self.now.schema.now few.now.fields.now few.now.lens }
+        requires sizes { AreItemSizes self.now.schema.now few.now.fields.now few.now.sizes }
         requires short { few.now.short ≡ true
             → AreShort self.now.schema.now few.now.fields.now few.now.lens }
         requires row { All (IsNodeOf self.now.arena.now) row.now.nodes }
@@ -217,6 +220,7 @@ impl<'a, H: PairHash> Writer<'a, H> {
     ) -> Result<(), EncodeFault>
         requires known { few.now.id < length self.now.schema.now.trees }
         requires fields { AreFewFields self.now.schema.now few.now.id few.now.fields.now }
+        requires sizes { AreItemSizes self.now.schema.now few.now.fields.now few.now.sizes }
         requires row { All (IsNodeOf self.now.arena.now) row.now.nodes }
         ensures kept { KeepsUpTo start out.old.items out.new.items }
         ensures value { let fs = fields_over self.now.schema.now.trees few.now.fields.now in
@@ -229,7 +233,8 @@ impl<'a, H: PairHash> Writer<'a, H> {
     {
         let mut room = start;
         for (i, field) in few.fields.iter().enumerate() {
-            self.append_part_body(field.1, row.nodes[i], Slot { start, room }, out)?;
+            let slot = Slot { start, room };
+            self.append_part_body(field.1, few.sizes[i], row.nodes[i], slot, out)?;
             room = room.saturating_add(head_len(self.schema.fixed_size(field.1)) as usize);
         }
         Ok(())
@@ -272,12 +277,14 @@ impl<'a, H: PairHash> Writer<'a, H> {
     fn append_part_body(
         &self,
         id: TypeId,
+        size: usize,
         node: NodeId,
         slot: Slot,
         out: &mut Vec<u8>,
     ) -> Result<(), EncodeFault>
         requires known { id < length self.now.schema.now.trees }
         requires node { IsNodeOf self.now.arena.now node }
+        requires size { IsItemSize (type_of self.now.schema.now id) size }
         requires behind { slot.start ≤ slot.room }
         ensures kept { KeepsUpTo slot.start out.old.items out.new.items }
         ensures value { let t = type_of self.now.schema.now id in
@@ -288,7 +295,33 @@ impl<'a, H: PairHash> Writer<'a, H> {
     {
         match self.schema.fixed_size(id) {
             Some(_) => Ok(()),
-            None => self.append_body(id, node, slot, out),
+            None => {
+                self.put_end(slot, out)?;
+                self.append_variable(id, size, node, out)
+            }
         }
+    }
+
+    // A value, by the chunks of its items where it is told to be a list of such of this size.
+    #[cycle(append)]
+    fn append_variable(
+        &self,
+        id: TypeId,
+        size: usize,
+        node: NodeId,
+        out: &mut Vec<u8>,
+    ) -> Result<(), EncodeFault>
+        requires known { id < length self.now.schema.now.trees }
+        requires node { IsNodeOf self.now.arena.now node }
+        requires size { IsItemSize (type_of self.now.schema.now id) size }
+        ensures kept { ExtendsBytes out.old.items out.new.items }
+        ensures value { let t = type_of self.now.schema.now id in
+            ForValue t (tree_of self.now.arena.now node)
+            (λ v. AddsBytes (serialize t v) out.old.items out.new.items result) }
+    {
+        if size > 0 {
+            return self.append_items(id, size, node, out);
+        }
+        self.append_value(id, node, out)
     }
 }

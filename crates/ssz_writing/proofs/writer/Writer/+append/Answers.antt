@@ -510,6 +510,7 @@ append_row_bodies-append_part_body-requires g t c =
     c.requires.fields.before c.loop-i-test.true c.field-item.is in
     let node = c.requires.row c.loop-i.i (record { 0 = 0 })
     (omega (arith, c.loop-i-test.true, few)) in
+    let size = c.requires.sizes c.loop-i.i c.field-item.result c.loop-i-test.true c.field-item.is in
     search rules
 
 pub append_row_bodies-loop-i-preserved : goal.append_row_bodies-loop-i-preserved
@@ -715,9 +716,15 @@ pub append_part-returns-then-len-gt0-clause-kept :
     goal.append_part-returns-then-len-gt0-clause-kept
 append_part-returns-then-len-gt0-clause-kept g t c = c.append_leaf.ensures.kept
 
-pub append_part_body-returns-in-None-clause-kept :
-    goal.append_part_body-returns-in-None-clause-kept
-append_part_body-returns-in-None-clause-kept g t c = c.append_body.ensures.kept
+pub append_part_body-returns-in_ok-put_end-in-None-clause-kept :
+    goal.append_part_body-returns-in_ok-put_end-in-None-clause-kept
+append_part_body-returns-in_ok-put_end-in-None-clause-kept g t c =
+    λ front within kept. Extends-trans front c.put_end.new.out.items c.append_variable.new.out.items
+    (c.put_end.ensures.kept front within kept) c.append_variable.ensures.kept
+
+pub append_part_body-returns-in_err-put_end-in-None-clause-kept :
+    goal.append_part_body-returns-in_err-put_end-in-None-clause-kept
+append_part_body-returns-in_err-put_end-in-None-clause-kept g t c = c.put_end.ensures.kept
 
 pub append_part_body-returns-in-Some-clause-kept :
     goal.append_part_body-returns-in-Some-clause-kept
@@ -911,6 +918,7 @@ append_bodies-append_rows-requires g t c =
     let variable : fixed_size (type_of types few.id) ≡ None =
     ap (λ id. fixed_size (type_of types id)) same ∙ sym c.fixed_size.ensures.exact
     ∙ c.in_default.is in
+    let sizes = c.of.ensures.sizes few c.in-Some-of.is in
     let short = c.of.ensures.short few c.in-Some-of.is in
     search rules
 

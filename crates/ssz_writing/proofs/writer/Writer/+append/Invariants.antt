@@ -68,6 +68,9 @@ decreases-append_row_body g l = 16 * l.few.now.id + 7
 abbrev pub decreases-append_part_body : goal.decreases-append_part_body
 decreases-append_part_body g l = 16 * l.id + 6
 
+abbrev pub decreases-append_variable : goal.decreases-append_variable
+decreases-append_variable g l = 16 * l.id + 5
+
 abbrev pub decreases-append_rows : goal.decreases-append_rows
 decreases-append_rows g l = 16 * l.few.now.id + 8
 
