@@ -6,4 +6,5 @@ pub mod Formed
 pub mod Chunked
 pub mod Placed
 pub mod Spreading
+pub mod Beside
 pub mod FewPlaces

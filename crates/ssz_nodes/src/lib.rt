@@ -11,12 +11,14 @@
 
 mod basics;
 mod chunks;
+mod fields;
 mod nodes;
 mod places;
 mod rows;
 
 pub use basics::{Basic, bit_of, number_of};
 pub use chunks::{append_chunks, append_leaf, few_bytes};
+pub use fields::FieldRows;
 pub use nodes::chunk_of;
 pub use places::{Places, Top, node_of_place};
 pub use rows::{NEAR, NEAR_DEPTH, Row};

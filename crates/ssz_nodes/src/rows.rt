@@ -1,5 +1,5 @@
 //! Places of a full tree that are come down to together.
-ghost use Rattle.std.specs.Prelude.{ℕ, ◌≡◌, ◌<◌, ◌≤◌, ◌^◌, List, length, All};
+ghost use Rattle.std.specs.Prelude.{ℕ, ◌≡◌, ◌<◌, ◌≤◌, ◌^◌, ◌+◌, ◌*◌, List, length, All};
 ghost use Rattle.ssz_chunk.specs.Tree.{Tree, merkle_tree, place};
 ghost use Rattle.ssz_arena.specs.Content.{IsNodeOf, row_node, tree_of};
 ghost use Rattle.ssz_nodes.specs.Ahead.{IsRowOf};
@@ -99,8 +99,7 @@ fn four_places<H: PairHash>(arena: &Arena<H>, node: NodeId, row: &mut [NodeId])
 }
 
 // Comes down from the first node of the row to all places of its full tree of this depth, which
-// stand at the front of the row then. It goes level by level, since no node of a level waits for
-// another: the memory of all of them is asked for at once.
+// stand at the front of the row then.
 pub(crate) fn spread<H: PairHash>(arena: &Arena<H>, depth: u32, row: &mut [NodeId])
     requires depth { depth < 64 }
     requires room { 2 ^ depth ≤ length row.old }
@@ -111,7 +110,31 @@ pub(crate) fn spread<H: PairHash>(arena: &Arena<H>, depth: u32, row: &mut [NodeI
         → tree_of arena.now (row_node row.old 0) ≡ merkle_tree depth trees
         → (i : ℕ) → i < 2 ^ depth → tree_of arena.now (row_node row.new i) ≡ place trees i }
 {
+    spread_each(arena, 1, depth, row);
+}
+
+// Comes down from each of the first count nodes of the row to all places of its full tree of this
+// depth: those of each stand behind those of the one before it then. It goes level by level, since
+// no node of a level waits for another: the memory of all of them is asked for at once.
+#[inline(always)]
+pub(crate) fn spread_each<H: PairHash>(
+    arena: &Arena<H>,
+    count: usize,
+    depth: u32,
+    row: &mut [NodeId],
+)
+    requires depth { depth < 64 }
+    requires few { count * 2 ^ depth ≤ 2 ^ 63 }
+    requires room { count * 2 ^ depth ≤ length row.old }
+    requires nodes { All (IsNodeOf arena.now) row.old }
+    ensures long { length row.new ≡ length row.old }
+    ensures nodes { All (IsNodeOf arena.now) row.new }
+    ensures places { (k : ℕ) (trees : List Tree) → k < count
+        → tree_of arena.now (row_node row.old k) ≡ merkle_tree depth trees
+        → (i : ℕ) → i < 2 ^ depth
+        → tree_of arena.now (row_node row.new (k * 2 ^ depth + i)) ≡ place trees i }
+{
     for level in 0..depth {
-        arena.widen(1 << level, row);
+        arena.widen(count << level, row);
     }
 }
