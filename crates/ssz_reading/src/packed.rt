@@ -81,6 +81,27 @@ pub fn put_bytes<H: PairHash>(
         parts.push_reserved(Value::Bytes(ByteRun::copy_of(alloc, bytes)?));
         return Ok(());
     }
+    put_more(alloc, arena, top, count, parts)
+}
+
+// The same of any number. A call of its own, so that nothing is made ready for it before.
+#[inline(never)]
+fn put_more<H: PairHash>(
+    alloc: Global,
+    arena: &Arena<H>,
+    top: Top,
+    count: u64,
+    parts: &mut Vec<Value>,
+) -> Result<(), AllocError>
+    requires depth { top.depth < 64 }
+    requires node { IsNodeOf arena.now top.node }
+    requires room { vec_len parts.old < vec_capacity parts.old }
+    ensures put { ForElements (uint W8) top.depth count (tree_of arena.now top.node)
+        (λ vs. OnOk result (StandsBehind (vector (uint W8) count) (sequence (values vs))
+        parts.old.items parts.new.items)) }
+    ensures len { OnOk result (vec_len parts.new ≡ vec_len parts.old + 1) }
+    ensures capacity { OnOk result (vec_capacity parts.new ≡ vec_capacity parts.old) }
+{
     let bytes = read_more(alloc, arena, top, count)?;
     parts.push_reserved(Value::Bytes(bytes));
     Ok(())

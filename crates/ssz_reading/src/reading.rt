@@ -1,20 +1,22 @@
-ghost use Rattle.std.specs.Prelude.{ℕ, ◌≡◌, ◌+◌, ◌<◌, ◌≤◌, ◌^◌, length, IfOk, OnOk, None, Option, vec_len, vec_capacity};
+ghost use Rattle.std.specs.Prelude.{ℕ, ◌≡◌, ◌+◌, ◌<◌, ◌≤◌, ◌^◌, length, All, IfOk, OnOk, None, Option, vec_len, vec_capacity};
 ghost use Rattle.std.specs.List.{AllByRecursion};
 ghost use Rattle.ssz_schema.specs.Types.{container, list, union, vector};
 ghost use Rattle.ssz_schema.specs.Legal.{IsLegal};
 ghost use Rattle.ssz_schema.specs.Unfolding.{type_of, fields_over, options_over, IsBelow};
-ghost use Rattle.ssz_schema.specs.Sizes.{basic_size};
+ghost use Rattle.ssz_schema.specs.Sizes.{basic_size, depth};
 ghost use Rattle.ssz_value.specs.declared.value.Value.TheVariants.{Seq};
 ghost use Rattle.ssz_value.specs.Values.{sequence, values};
 ghost use Rattle.ssz_value.specs.Shapes.{StandAlike, StandsBehind};
 ghost use Rattle.ssz_value.specs.Standing.{Stands};
+ghost use Rattle.ssz_chunk.specs.Tree.{Tree};
 ghost use Rattle.ssz_arena.specs.Content.{IsNodeOf, tree_of};
+ghost use Rattle.ssz_nodes.specs.Ahead.{IsRowOf};
 ghost use Rattle.ssz_nodes.specs.Shown.{ForValue, ForElements, ForFields};
 
 use super::packed::{put_bytes, put_number, read_bits, read_bytes, read_packed};
 use ssz_arena::{Arena, NodeId};
 use ssz_chunk::PairHash;
-use ssz_nodes::{Basic, Places, Row, Top, chunk_of};
+use ssz_nodes::{Basic, FieldRows, NEAR_DEPTH, Places, Row, Top, chunk_of};
 use ssz_schema::{Name, Schema, Ty, TypeId};
 use ssz_value::{Value, is_byte, option_at};
 use ssz_walk::mixed_parts;
@@ -130,6 +132,31 @@ fn put_sequence<H: PairHash>(
     if is_byte(schema, elem) {
         return put_bytes(alloc, arena, top, count, parts);
     }
+    put_rest(alloc, arena, schema, elem, top, count, parts)
+}
+
+// The same of elements that are no bytes. Seven parameters, as there.
+#[cycle(value)]
+#[inline(never)]
+fn put_rest<H: PairHash>(
+    alloc: Global,
+    arena: &Arena<H>,
+    schema: &Schema,
+    elem: TypeId,
+    top: Top,
+    count: u64,
+    parts: &mut Vec<Value>,
+) -> Result<(), AllocError>
+    requires known { elem < length schema.now.trees }
+    requires depth { top.depth < 64 }
+    requires node { IsNodeOf arena.now top.node }
+    requires room { vec_len parts.old < vec_capacity parts.old }
+    ensures put { let t = type_of schema.now elem in
+        ForElements t top.depth count (tree_of arena.now top.node) (λ vs. OnOk result
+        (StandsBehind (vector t count) (sequence (values vs)) parts.old.items parts.new.items)) }
+    ensures len { OnOk result (vec_len parts.new ≡ vec_len parts.old + 1) }
+    ensures capacity { OnOk result (vec_capacity parts.new ≡ vec_capacity parts.old) }
+{
     let value = read_sequence(alloc, arena, schema, elem, top, count)?;
     parts.push_reserved(value);
     Ok(())
@@ -239,6 +266,9 @@ fn read_composite<H: PairHash>(
         ForElements t top.depth count (tree_of arena.now top.node)
         (λ vs. IfOk result (λ parts. StandAlike t vs parts.items)) }
 {
+    if schema.depth(elem) > NEAR_DEPTH {
+        return read_elements(alloc, arena, schema, elem, top, count);
+    }
     if let Ty::Container(fields) = schema.ty(elem) {
         let fields = fields.as_slice();
         return read_containers(alloc, arena, schema, elem, fields, top, count);
@@ -246,8 +276,8 @@ fn read_composite<H: PairHash>(
     read_elements(alloc, arena, schema, elem, top, count)
 }
 
-// Of count containers of these fields, which are looked up once for all. Seven parameters, since
-// the fields are asked for with the type.
+// Of count containers of these few fields, which are looked up once for all. Seven parameters,
+// since the fields are asked for with the type.
 #[cycle(value)]
 #[inline(never)]
 fn read_containers<H: PairHash>(
@@ -262,6 +292,7 @@ fn read_containers<H: PairHash>(
     requires known { id < length schema.now.trees }
     requires form { type_of schema.now id ≡ container (fields_over schema.now.trees fields.now) }
     requires before { AllByRecursion (λ part. part.1 < id) fields.now }
+    requires few { depth (type_of schema.now id) ≤ 3 }
     requires composite { basic_size (type_of schema.now id) ≡ None }
     requires depth { top.depth < 64 }
     requires node { IsNodeOf arena.now top.node }
@@ -269,18 +300,50 @@ fn read_containers<H: PairHash>(
         ForElements t top.depth count (tree_of arena.now top.node)
         (λ vs. IfOk result (λ parts. StandAlike t vs parts.items)) }
 {
-    let depth = schema.depth(id);
     let mut parts = Vec::with_capacity(alloc, count as usize)?;
-    let mut places = Places::new(top);
+    let mut rows = FieldRows::new(top, schema.depth(id));
     for _i in 0..count {
-        let node = places.next(arena);
-        let inner = read_fields(alloc, arena, schema, id, fields, Top { node, depth })?;
-        parts.push_reserved(Value::Seq(inner));
+        rows.refill(arena);
+        put_container(alloc, arena, schema, id, fields, rows.row(), &mut parts)?;
+        rows.pass();
     }
     Ok(parts)
 }
 
-// Of count elements that are neither basic nor containers.
+// Puts a container of these fields, whose nodes stand in a row, behind the others, for which there
+// is room. Seven parameters, since the fields are asked for with the type.
+#[cycle(value)]
+#[inline(always)]
+fn put_container<H: PairHash>(
+    alloc: Global,
+    arena: &Arena<H>,
+    schema: &Schema,
+    id: TypeId,
+    fields: &[(Name, TypeId)],
+    row: &[NodeId],
+    parts: &mut Vec<Value>,
+) -> Result<(), AllocError>
+    requires known { id < length schema.now.trees }
+    requires form { type_of schema.now id ≡ container (fields_over schema.now.trees fields.now) }
+    requires before { AllByRecursion (λ part. part.1 < id) fields.now }
+    requires long { length row.now ≡ 2 ^ depth (type_of schema.now id) }
+    requires nodes { All (IsNodeOf arena.now) row.now }
+    requires room { vec_len parts.old < vec_capacity parts.old }
+    ensures put { let t = type_of schema.now id in
+        (node : Tree) → IsRowOf arena.now (depth t) node row.now → ForValue t node
+        (λ v. OnOk result (StandsBehind t v parts.old.items parts.new.items)) }
+    ensures len { OnOk result (vec_len parts.new ≡ vec_len parts.old + 1) }
+    ensures capacity { OnOk result (vec_capacity parts.new ≡ vec_capacity parts.old) }
+{
+    let mut inner = Vec::with_capacity(alloc, fields.len())?;
+    for (i, field) in fields.iter().enumerate() {
+        put_field(alloc, arena, schema, field.1, row[i], &mut inner)?;
+    }
+    parts.push_reserved(Value::Seq(inner));
+    Ok(())
+}
+
+// Of count elements that are neither basic nor containers of few fields.
 #[cycle(value)]
 fn read_elements<H: PairHash>(
     alloc: Global,

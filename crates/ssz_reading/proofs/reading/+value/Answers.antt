@@ -1,4 +1,4 @@
-use Rattle.std.proofs.Common.{OnOk, ◌%◌, ◌<◌, ◌≤◌, ◌≡◌, length, slice_get, List, Some, None, Ok, refl, sym, ap, ◌∙◌, subst, arith, rules}
+use Rattle.std.proofs.Common.{OnOk, ◌%◌, ◌<◌, ◌≤◌, ◌≡◌, ◌∷◌, length, slice_get, List, Some, None, Ok, refl, sym, ap, ◌∙◌, subst, arith, rules}
 use Rattle.std.specs.List.{AllByRecursion}
 use Rattle.ssz_schema.specs.Types.{SszType, container, vector, list, bitvector, bitlist, union, uint}
 use Rattle.ssz_schema.specs.Sizes.{depth, byte_count}
@@ -11,11 +11,13 @@ use Rattle.ssz_value.specs.Shapes.{StandsBehind}
 use Rattle.ssz_value.specs.declared.value.Value.TheVariants.{Bits, Seq}
 use Rattle.ssz_value.proofs.PartLemmas.{Part, part_known}
 use Rattle.ssz_packing.proofs.Options.{below_at}
-use Rattle.ssz_arena.specs.Content.{tree_of}
+use Rattle.ssz_arena.specs.Content.{IsNodeOf, row_node, tree_of}
 use Rattle.ssz_nodes.specs.Shown.{ForValue, basic_type}
+use Rattle.ssz_nodes.specs.Ahead.{IsRowOf}
 use Rattle.ssz_nodes.proofs.Formed.{union_few}
 use Rattle.ssz_nodes.proofs.Walked.{at_place}
 use Rattle.ssz_reading.proofs.Parts.{Reads, ElementsRead, ElementsRead-start, ElementsRead-more, ElementsRead-end, FieldsRead, FieldsRead-start, FieldsRead-more, FieldsRead-end, vector_read, list_read, vector_each, list_each, list_behind, container_read, bitvector_read, bitlist_read, basic_read, packed_read, basic_formed, option_read, none_read}
+use Rattle.ssz_reading.proofs.RowsRead.{RowsRead, RowsRead-start, RowsRead-more, RowsRead-end, field_inside}
 use Rattle.ssz_reading.proofs.reading.+value.Goals as goal
 
 pub read_elements-loop-i-init : goal.read_elements-loop-i-init
@@ -33,15 +35,28 @@ read_elements-loop-i-init g t c = record {
 
 pub read_containers-loop-i-init : goal.read_containers-loop-i-init
 read_containers-loop-i-init g t c = record {
-  nodes = c.new-places.ensures.nodes c.args.arena.now c.requires.node;
-  values = λ vs are. subst (λ (parts : List Value). ElementsRead c.args.arena.now
-      (type_of c.args.schema.now c.args.id) vs 0 parts c.new-places.result)
+  depth = c.new-rows.ensures.depth ∙ c.depth.ensures.exact;
+  nodes = c.new-rows.ensures.nodes c.args.arena.now c.requires.node;
+  values = λ vs are. subst (λ (parts : List Value). RowsRead c.args.arena.now
+      (type_of c.args.schema.now c.args.id) vs 0 parts c.new-rows.result)
       (sym c.in_ok-parts.ensures.items)
-      (ElementsRead-start c.args.arena.now (type_of c.args.schema.now c.args.id) c.args.top.depth
-      c.args.count vs c.args.top.node c.new-places.result c.requires.composite are
-      (c.new-places.ensures.holds c.args.arena.now));
+      (RowsRead-start c.args.arena.now (type_of c.args.schema.now c.args.id) c.args.top.depth
+      c.args.count vs c.args.top.node c.new-rows.result c.requires.composite are
+      (c.new-rows.ensures.holds c.args.arena.now));
   count = c.in_ok-parts.ensures.len;
   room = c.in_ok-parts.ensures.capacity;
+}
+
+pub put_container-loop-i-init : goal.put_container-loop-i-init
+put_container-loop-i-init g t c = record {
+  values = λ node vs are is.
+      subst (λ (parts : List Value). FieldsRead c.args.schema.now.trees c.args.fields.now vs 0
+      (depth (type_of c.args.schema.now c.args.id)) parts node)
+      (sym c.in_ok-inner.ensures.items)
+      (FieldsRead-start c.args.schema.now.trees c.args.fields.now
+      (depth (type_of c.args.schema.now c.args.id)) vs node are);
+  count = c.in_ok-inner.ensures.len;
+  room = c.in_ok-inner.ensures.capacity;
 }
 
 pub read_fields-loop-i-init : goal.read_fields-loop-i-init
@@ -77,32 +92,86 @@ read_elements-returns g t c = λ vs are.
 
 pub read_containers-loop-i-preserved : goal.read_containers-loop-i-preserved
 read_containers-loop-i-preserved g t c = record {
-  nodes = c.next-node.ensures.nodes;
-  values = λ vs are. ElementsRead-more c.args.arena.now (type_of c.args.schema.now c.args.id) vs
-      c.loop-i._i c.loop-i.parts.items c.push_reserved.new.self.items
-      c.loop-i.places c.next-node.new.self c.next-node.result (c.loop-i.invariant.values vs are)
-      (omega (arith, are.many, c.loop-i-test.true))
-      (record { tree = c.next-node.ensures.tree; rest = c.next-node.ensures.rest })
-      (λ v h. record {
-        value = Seq c.in_ok-inner.inner;
-        items = c.push_reserved.ensures.items;
-        stands = subst (λ ty. ForValue ty (tree_of c.args.arena.now c.next-node.result)
-            (λ w. Stands ty w (Seq c.in_ok-inner.inner))) (sym c.requires.form)
-            (container_read (fields_over c.args.schema.now.trees c.args.fields.now)
-            c.depth-depth.result (tree_of c.args.arena.now c.next-node.result)
-            (Ok (Seq c.in_ok-inner.inner))
-            (c.depth-depth.ensures.exact ∙ ap depth c.requires.form)
-            c.in_ok-inner.ensures) v h;
-      });
-  count = omega (arith, c.push_reserved.ensures.len, c.loop-i.invariant.count);
-  room = omega (arith, c.push_reserved.ensures.capacity, c.loop-i.invariant.room);
+  depth = c.pass.ensures.depth ∙ c.refill.ensures.depth ∙ c.loop-i.invariant.depth;
+  nodes = c.pass.ensures.nodes c.args.arena.now c.refill.ensures.nodes;
+  values = λ vs are. RowsRead-more c.args.arena.now (type_of c.args.schema.now c.args.id) vs
+      c.loop-i._i (depth (type_of c.args.schema.now c.args.id)) c.loop-i.parts.items
+      c.put_container.new.parts.items c.loop-i.rows c.pass.new.self c.row.result.now
+      (c.loop-i.invariant.values vs are) (omega (arith, are.many, c.loop-i-test.true))
+      (record {
+        first = λ tree trees held.
+            subst (λ n. IsRowOf c.args.arena.now n tree c.row.result.now)
+            (c.refill.ensures.depth ∙ c.loop-i.invariant.depth)
+            (c.row.ensures.fields c.args.arena.now tree trees
+            (c.refill.ensures.holds (tree ∷ trees) held));
+        rest = λ tree trees held. c.pass.ensures.rest c.args.arena.now tree trees
+            (c.refill.ensures.holds (tree ∷ trees) held);
+      })
+      c.in_ok-put_container.ensures.put;
+  count = omega (arith, c.in_ok-put_container.ensures.len, c.loop-i.invariant.count);
+  room = omega (arith, c.in_ok-put_container.ensures.capacity, c.loop-i.invariant.room);
 }
 
 pub read_containers-returns : goal.read_containers-returns
 read_containers-returns g t c = λ vs are.
-    ElementsRead-end c.args.arena.now (type_of c.args.schema.now c.args.id) vs c.loop-i._i
-    c.loop-i.parts.items c.loop-i.places (c.loop-i.invariant.values vs are)
+    RowsRead-end c.args.arena.now (type_of c.args.schema.now c.args.id) vs c.loop-i._i
+    c.loop-i.parts.items c.loop-i.rows (c.loop-i.invariant.values vs are)
     (omega (arith, are.many, c.loop-i-test.false))
+
+pub put_container-bounds-row-i : goal.put_container-bounds-row-i
+put_container-bounds-row-i g t c = omega (
+  arith,
+  c.requires.long,
+  field_inside c.args.schema.now.trees c.args.fields.now (type_of c.args.schema.now c.args.id)
+      c.loop-i.i c.requires.form c.loop-i-test.true,
+)
+
+pub put_container-loop-i-preserved : goal.put_container-loop-i-preserved
+put_container-loop-i-preserved g t c = record {
+  values = λ node vs are is.
+      FieldsRead-more c.args.schema.now.trees c.args.fields.now vs c.loop-i.i
+      (depth (type_of c.args.schema.now c.args.id)) c.index-fields-i.result
+      c.loop-i.inner.items c.put_field.new.parts.items node
+      (c.loop-i.invariant.values node vs are is) c.loop-i-test.true c.index-fields-i.is
+      (λ v h. c.in_ok-put_field.ensures.put v
+      (at_place (type_of c.args.schema.now c.index-fields-i.result.1)
+      (depth (type_of c.args.schema.now c.args.id)) c.loop-i.i v node
+      (tree_of c.args.arena.now (row_node c.args.row.now c.loop-i.i)) h
+      (λ trees within whole. is trees whole c.loop-i.i within)));
+  count = omega (arith, c.in_ok-put_field.ensures.len, c.loop-i.invariant.count);
+  room = omega (arith, c.in_ok-put_field.ensures.capacity, c.loop-i.invariant.room);
+}
+
+pub put_container-returns-clause-put : goal.put_container-returns-clause-put
+put_container-returns-clause-put g t c = λ node is v h. record {
+  value = Seq c.loop-i.inner;
+  items = c.push_reserved.ensures.items;
+  stands = subst (λ ty. ForValue ty node (λ w. Stands ty w (Seq c.loop-i.inner)))
+      (sym c.requires.form)
+      (container_read (fields_over c.args.schema.now.trees c.args.fields.now)
+      (depth (type_of c.args.schema.now c.args.id)) node (Ok (Seq c.loop-i.inner))
+      (ap depth c.requires.form)
+      (λ vs are. FieldsRead-end c.args.schema.now.trees c.args.fields.now vs c.loop-i.i
+      (depth (type_of c.args.schema.now c.args.id)) c.loop-i.inner node
+      (c.loop-i.invariant.values node vs are is) c.loop-i-test.false)) v h;
+}
+
+pub put_container-put_field-requires : goal.put_container-put_field-requires
+put_container-put_field-requires g t c =
+    let below : c.index-fields-i.result.1 < c.args.id =
+    part_known c.args.id c.args.fields.now c.loop-i.i c.index-fields-i.result c.loop-i-test.true
+    c.index-fields-i.is c.requires.before in
+    let known : c.index-fields-i.result.1 < length c.args.schema.now.trees =
+    omega (arith, below, c.requires.known) in
+    let inside : c.loop-i.i < length c.args.row.now = omega (
+      arith,
+      c.requires.long,
+      field_inside c.args.schema.now.trees c.args.fields.now (type_of c.args.schema.now c.args.id)
+          c.loop-i.i c.requires.form c.loop-i-test.true,
+    ) in
+    let node : IsNodeOf c.args.arena.now (row_node c.args.row.now c.loop-i.i) =
+    c.requires.nodes c.loop-i.i (record { 0 = 0 }) inside in
+    search rules
 
 pub read_composite-read_containers-requires : goal.read_composite-read_containers-requires
 read_composite-read_containers-requires g t c =
