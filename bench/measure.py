@@ -33,7 +33,9 @@ def run(*words, env=None, status=0):
     small: that of a child of this process would be at least what this process holds. Its lines go to a file."""
     with tempfile.TemporaryFile() as out, tempfile.NamedTemporaryFile("r") as peak:
         time = ["/usr/bin/time", "-q", "-f", "%M", "-o", peak.name]
-        child = subprocess.Popen([*time, *map(str, words)], stdout=out, env=env)
+        # what is said of a fault that is wanted is not looked at
+        err = subprocess.DEVNULL if status else None
+        child = subprocess.Popen([*time, *map(str, words)], stdout=out, stderr=err, env=env)
         _, ended, used = os.wait4(child.pid, 0)
         child.returncode = os.waitstatus_to_exitcode(ended)
         if child.returncode != status:
