@@ -342,20 +342,6 @@ impl Store {
         self.links[first_of(&self.kinds, &self.firsts, i)] >= MARK
     }
 
-    // The children of a pair that has no root yet.
-    #[inline(always)]
-    pub(crate) fn due_children(&self, id: NodeId) -> Option<(NodeId, NodeId)>
-        requires { id.0 < length self.now.nodes }
-        ensures some { IfSome result (λ kids.
-            slice_get self.now.nodes id.0 ≡ Some (Pair kids.0 kids.1 None)) }
-        ensures none { IfNone result (is_due self.now.nodes id ≡ false) }
-    {
-        if self.is_due(id) {
-            return self.halves(id);
-        }
-        None
-    }
-
     // The children of a pair, with its root or without. No branch is taken for the mark.
     #[inline(always)]
     pub(crate) fn halves(&self, id: NodeId) -> Option<(NodeId, NodeId)>

@@ -1,4 +1,4 @@
-use Rattle.std.proofs.Common.{◌∙◌, [], get_or, ◌<◌, ◌≡◌, ◌+◌, ◌-◌, ◌*◌, take, drop, length, ap, subst, arith, length-take}
+use Rattle.std.proofs.Common.{◌∙◌, [], get_or, ◌<◌, ◌≡◌, ◌+◌, ◌-◌, ◌*◌, take, drop, length, ap, subst, sym, arith, length-take}
 use Rattle.std.proofs.lemmas.List.Sums.{sum_by-take-drop}
 use Rattle.std.proofs.lemmas.Option.{get_or_from_slice_get, slice_get-get_or}
 use Rattle.ssz_chunk.specs.Tree.{leaf, root}
@@ -14,13 +14,15 @@ use Rattle.ssz_arena.proofs.Together.{KidsParts, due_below, due_hashed, due_pass
 use Rattle.ssz_arena.proofs.Forks.{due_now, due_then, fills_wider, left_low, one_below, one_hashed, one_sum, right_low, todo-two, two_below}
 use Rattle.ssz_arena.proofs.levels.+fill.Goals as goal
 
-pub fill_way-returns-in_default-clause-hashed : goal.fill_way-returns-in_default-clause-hashed
-fill_way-returns-in_default-clause-hashed g t c =
+pub fill_way-returns-then-not-is_due-clause-hashed :
+    goal.fill_way-returns-then-not-is_due-clause-hashed
+fill_way-returns-then-not-is_due-clause-hashed g t c =
     none_due c.args.store.now.nodes c.args.id.0 _
-    (slice_get-get_or _ _ _ c.requires.inside) c.in_default.ensures.none
+    (slice_get-get_or _ _ _ c.requires.inside) (sym c.is_due.ensures ∙ c.if-not-is_due.true)
 
-pub fill_way-returns-in_default-clause-counts : goal.fill_way-returns-in_default-clause-counts
-fill_way-returns-in_default-clause-counts g t c =
+pub fill_way-returns-then-not-is_due-clause-counts :
+    goal.fill_way-returns-then-not-is_due-clause-counts
+fill_way-returns-then-not-is_due-clause-counts g t c =
     counts_none (count_by is_unhashed c.args.store.now.nodes) _
 
 pub fill_fork-is_due-requires : goal.fill_fork-is_due-requires
