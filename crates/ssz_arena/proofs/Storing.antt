@@ -497,6 +497,20 @@ pair_made chunk ls left right n total long short = elim (cases_eq (right + 1) n)
 abbrev both : ℕ → ℕ → Option (NodeId × NodeId)
 both left right = Some (record { 0 = left }, record { 0 = right })
 
+-- the left child of a pair just behind it, whatever the mark
+behind_in : (chunk : Chunk) (x : ℕ) {i : ℕ} → i ≤ 2 ^ 31
+    → child false (pair_in chunk (i - 1 + mark_of x) (x - mark_of x)) ≡ Some (record { 0 = i - 1 })
+behind_in chunk x {i} few = elim (cases_lt x (2 ^ 31)) [
+  | inl low ↦
+      let same : i - 1 + mark_of x ≡ i - 1 = omega (arith, mark_of-low x low) in
+      ap (child false) (pair_in-kept chunk _ _ (omega (arith, few, mark_of-low x low)))
+      ∙ ap (λ j. Some (record { 0 = j })) same
+  | inr marked ↦
+      let same : i - 1 + mark_of x - 2 ^ 31 ≡ i - 1 = omega (arith, mark_of-marked x marked) in
+      ap (child false) (pair_in-due chunk _ _ (omega (arith, mark_of-marked x marked)))
+      ∙ ap (λ j. Some (record { 0 = j })) same
+]
+
 -- what is read as the children of a node are its halves, or the first node where it has none
 pub halves_or : (node : Node) (found : Option (NodeId × NodeId)) (read : NodeId × NodeId)
     → found ≡ halves_of node → read ≡ unwrap_or found (record { 0 = 0 }, record { 0 = 0 })
@@ -581,6 +595,15 @@ module _ (nodes : List Node) (cs : List Chunk) (ks fs ls : List ℕ) (i : ℕ)
   read_child right result seen = seen (get_or cs i no_chunk)
       ∙ ap (child right)
       (sym (get_or_from_slice_get nodes i _ _ (found nodes cs ks fs ls i is within)))
+
+  -- the left child that stands just before its pair
+  pub read_behind : shape_of ks i ≡ 3 → i ≤ 2 ^ 31
+      → Some (record { 0 = i - 1 }) ≡ child false (get_or nodes i (Leaf (record { 0 = [] })))
+  read_behind three few = read_child false (Some (record { 0 = i - 1 })) (λ chunk.
+      let x : ℕ = get_or ls (first_link ks fs i) 0 in
+      sym (ap (λ shape. child false (node_with chunk
+      (links_with shape (first_link ks fs i) ls i))) three
+      ∙ behind_in chunk x few))
 
   -- the second link of a pair that has two is the place of an older node
   pub second_before : AreOrdered nodes → shape_of ks i ≡ 2

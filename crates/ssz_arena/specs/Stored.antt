@@ -22,6 +22,10 @@ chunk_of (Pair left right cached) = cached
 abbrev pub shape_of : List ℕ → ℕ → ℕ
 shape_of kinds i = slice_index kinds i % 4
 
+-- so many nodes, the last of them at a place, are pairs whose left child stands just before them
+abbrev pub AreBehindLefts : List ℕ → ℕ → ℕ → Type 0
+AreBehindLefts kinds i n = (n ≤ i) × ((k : ℕ) → k < n → shape_of kinds (i - k) ≡ 3)
+
 -- how many links it has: one for each child, but for one that stands just before it
 abbrev pub count_of : ℕ → ℕ
 count_of shape = if shape == 3 then 1 else shape

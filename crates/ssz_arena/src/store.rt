@@ -1,17 +1,19 @@
 // Where nodes are kept, in some 35 bytes each.
-ghost use Rattle.std.specs.Prelude.{◌≡◌, ℕ, ◌+◌, ◌-◌, ◌*◌, ◌/◌, ◌%◌, ◌<◌, ◌≤◌, ◌^◌, max, List, [], ◌∷◌, ◌++◌, true, false, Some, None, IfNone, IfSome, IfOk, IsOk, OnOk, OnErr, length, vec_len, vec_capacity, slice_get, slice_index, slice_set};
+ghost use Rattle.std.specs.Prelude.{◌≡◌, ℕ, ◌+◌, ◌-◌, ◌*◌, ◌/◌, ◌%◌, ◌<◌, ◌≤◌, ◌^◌, max, List, [], ◌∷◌, ◌++◌, true, false, Some, None, IfNone, IfSome, IfOk, IsOk, IsTrue, OnOk, OnErr, length, vec_len, vec_capacity, slice_get, slice_index, slice_set};
 ghost use Rattle.ssz_chunk.specs.declared.Chunk.{Chunk};
 ghost use Rattle.ssz_arena.specs.declared.node.NodeId.{NodeId};
 ghost use Rattle.ssz_arena.specs.declared.node.Node.TheVariants.{Leaf, Pair};
 ghost use Rattle.ssz_arena.specs.Batches.{halves_of, is_due, left_child, node_of, right_child};
-ghost use Rattle.ssz_arena.specs.Content.{child};
+ghost use Rattle.ssz_arena.specs.Content.{child, node_at};
 ghost use Rattle.ssz_arena.specs.Copied.{AreOrdered};
-ghost use Rattle.ssz_arena.specs.Stored.{IsShort, IsStored, blocks_for, chunk_of, count_of, first_link, links_at, node_with, pair_in, pair_links, pair_shape, shape_of};
+ghost use Rattle.ssz_arena.specs.Shown.{steps_left};
+ghost use Rattle.ssz_arena.specs.Stored.{AreBehindLefts, IsShort, IsStored, blocks_for, chunk_of, count_of, first_link, links_at, node_with, pair_in, pair_links, pair_shape, shape_of};
 
 use super::node::{MARK, MOST_NODES, Node, NodeId};
 use ssz_chunk::Chunk;
 use std::alloc::{AllocError, Global};
 use std::marker::Model;
+use std::simd::prelude::*;
 
 // So many nodes have one entry that says where their links begin.
 const BLOCK: usize = 32;
@@ -134,6 +136,23 @@ fn child_at(
         return None;
     }
     Some(NodeId(links[first_of(kinds, firsts, i)] % MARK))
+}
+
+// Whether eight nodes, the last of them at this place, are pairs that stand just behind their left
+// children, as most pairs at the head of a long list.
+#[inline(always)]
+fn eight_behind(kinds: &Vec<u8>, i: usize) -> bool
+    requires inside { i < vec_len kinds.now }
+    ensures { IsTrue result → AreBehindLefts kinds.now.items i 8 }
+{
+    if i < 8 {
+        return false;
+    }
+    let row = u8x8::from_slice(&kinds[i - 7..]);
+    (row & u8x8::splat(3))
+        .simd_ne(u8x8::splat(LEFT_BEFORE))
+        .to_bitmask()
+        == 0
 }
 
 // Begins a block where the next node does, and says how many links those before it in its block
@@ -362,6 +381,33 @@ impl Store {
         ensures { result ≡ child right (node_of self.now.nodes id) }
     {
         child_at(&self.kinds, &self.firsts, &self.links, id.0 as usize, right)
+    }
+
+    // Goes down to the left, so many steps at most, and says how many it went: fewer where it meets
+    // a leaf. At the head of a long list eight steps are gone at once.
+    #[inline(always)]
+    pub(crate) fn lefts(&self, id: NodeId, most: u32) -> (NodeId, u32)
+        requires inside { id.0 < length self.now.nodes }
+        requires ordered { AreOrdered self.now.nodes }
+        ensures inside { result.0.0 < length self.now.nodes }
+        ensures few { result.1 ≤ most }
+        ensures found { node_at self.now.nodes id (steps_left result.1) ≡ Some result.0 }
+    {
+        let mut place = id;
+        let mut left = most;
+        'left: while left > 0 {
+            if left >= 8 && eight_behind(&self.kinds, place.0 as usize) {
+                place = NodeId(place.0 - 8);
+                left -= 8;
+            } else {
+                match self.child(place, false) {
+                    None => return (place, most - left),
+                    Some(next) => place = next,
+                }
+                left -= 1;
+            }
+        }
+        (place, most)
     }
 
     // The chunk of a leaf, or the root of a pair that has one.

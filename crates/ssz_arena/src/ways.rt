@@ -43,8 +43,9 @@ pub(crate) fn follow(store: &Store, id: NodeId, number: u64, steps: u32) -> Opti
     Some(place)
 }
 
-// The same of more digits. They are so many where lists stand in lists: a call of its own, so that
-// other ways take none.
+// The same of more digits, as to the elements of a long list: to the first of them the way begins
+// with steps to the left, which are gone with no look at a digit. A call of its own, so that other
+// ways take none. More than 63 digits are seldom: where lists stand in lists.
 #[inline(never)]
 pub(crate) fn follow_long(store: &Store, id: NodeId, number: u128, steps: u32) -> Option<NodeId>
     requires inside { id.0 < length store.now.nodes }
@@ -61,5 +62,10 @@ pub(crate) fn follow_long(store: &Store, id: NodeId, number: u128, steps: u32) -
             Some(next) => place = next,
         }
     }
-    follow(store, place, (number % (1 << 64)) as u64, left)
+    let low = (number % (1 << 64)) as u64;
+    let zeros = (low % (1 << left))
+        .leading_zeros()
+        .saturating_sub(64 - left);
+    let (start, gone) = store.lefts(place, zeros);
+    follow(store, start, low, left - gone)
 }

@@ -1,7 +1,11 @@
-use Rattle.std.proofs.Common.{◌∙◌, ◌∷◌, ◌-◌, ◌<◌, ap, sym, refl, arith, Some, None}
+use Rattle.std.proofs.Common.{ℕ, ◌%◌, ◌^◌, ◌∙◌, ◌∷◌, ◌-◌, ◌<◌, ap, sym, refl, arith, Some, None}
+use Rattle.std.proofs.lemmas.Nat.{one_shl}
+use lib.Count.{count_leading_zeros}
 use Rattle.ssz_chunk.specs.Index.{digits}
 use Rattle.ssz_arena.specs.Content.{node_at}
-use Rattle.ssz_arena.proofs.Following.{digits-mod, digits-step, next_before, node_at-child}
+use Rattle.ssz_arena.specs.Shown.{steps_left}
+use Rattle.ssz_arena.proofs.Lefts.{lefts_digits}
+use Rattle.ssz_arena.proofs.Following.{digits-mod, digits-step, next_before, node_at-append, node_at-child}
 use Rattle.ssz_arena.proofs.ways.follow_long.Goals as goal
 
 pub high-init : goal.high-init
@@ -41,7 +45,16 @@ high-preserved c =
 
 pub returns : goal.returns
 returns c =
+    let nodes = c.args.store.now.nodes in
     let few : c.high.left < 64 = omega (arith, c.high-test.false) in
+    let low : ℕ = c.args.number % 2 ^ 64 in
+    let gone = c.lefts-gone.result.1 in
+    let way = lefts_digits c.high.left low _ c.saturating_sub-zeros.result gone few refl
+    (c.saturating_sub-zeros.ensures
+    ∙ ap (λ k. count_leading_zeros 64 (low % k) - (64 - c.high.left)) (one_shl c.high.left 64 few))
+    c.lefts-gone.ensures.few in
     c.follow.ensures
-    ∙ ap (node_at c.args.store.now.nodes c.high.place) (digits-mod c.high.left c.args.number few)
+    ∙ sym (node_at-append nodes c.high.place c.lefts-gone.result.0 (steps_left gone)
+    (digits (c.high.left - gone) low) c.lefts-gone.ensures.found)
+    ∙ ap (node_at nodes c.high.place) (sym way.1 ∙ digits-mod c.high.left c.args.number few)
     ∙ c.high.invariant.same
