@@ -27,7 +27,8 @@ Spread-start arena trees depth k row is = record {
       let first : 0 ≡ p = omega (arith, below) in
       subst (λ j. tree_of arena (row_node row (k * 1 + j))
       ≡ merkle_tree depth (take (2 ^ depth) (drop (j * 2 ^ depth) trees))) first
-      (ap (λ j. tree_of arena (row_node row j)) (whole k) ∙ is ∙ full-Agree depth (take (2 ^ depth) (drop (0 * 2 ^ depth) trees)) trees
+      (ap (λ j. tree_of arena (row_node row j)) (whole k) ∙ is
+      ∙ full-Agree depth (take (2 ^ depth) (drop (0 * 2 ^ depth) trees)) trees
       (λ i within. sym (place-take (2 ^ depth) i (drop (0 * 2 ^ depth) trees) within
       ∙ place-drop (0 * 2 ^ depth) i trees
       ∙ ap (place trees) (none (2 ^ depth) i))));
@@ -131,7 +132,8 @@ module _ (arena : ArenaContent) (trees : List Tree) (depth level k count : ℕ)
         levels = omega (arith, h.levels);
         each = λ p within.
             subst (λ n. tree_of arena (row_node new (k * 2 ^ n + p))
-            ≡ merkle_tree (h.rest - 1) (take (2 ^ (h.rest - 1)) (drop (p * 2 ^ (h.rest - 1)) trees)))
+            ≡ merkle_tree (h.rest - 1)
+            (take (2 ^ (h.rest - 1)) (drop (p * 2 ^ (h.rest - 1)) trees)))
             next (each_half (h.rest - 1) p is (subst (λ n. p < 2 ^ n) (sym next) within));
       }
 

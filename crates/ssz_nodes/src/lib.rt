@@ -3,8 +3,8 @@
 //!
 //! A `Places` goes over the places of a full tree: it comes down to up to 128 of them together, and
 //! keeps the subtrees behind these, one for each level at most. A `Row` has all places where they
-//! are at most eight, a `FieldRows` those of the fields of containers that stand beside one another,
-//! and `node_of_place` comes down to one place from the top.
+//! are at most eight, a `FieldRows` those of the fields of containers that stand beside one
+//! another, and `node_of_place` comes down to one place from the top.
 //!
 //! No call asks anything of the tree of the node that it is handed: what it answers is said of a
 //! node that has the tree of a value.

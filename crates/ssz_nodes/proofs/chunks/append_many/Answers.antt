@@ -9,7 +9,13 @@ loop-left-preserved g c =
     let few : 32 * c.min-chunks.result ≤ c.loop-left.left =
     omega (arith, c.min-chunks.ensures, c.min-most.ensures) in
     let some : 0 < c.min-chunks.result =
-    omega (arith, c.min-chunks.ensures, c.min-most.ensures, c.loop-left-test.true, c.row-row.ensures.some) in
+    omega (
+      arith,
+      c.min-chunks.ensures,
+      c.min-most.ensures,
+      c.loop-left-test.true,
+      c.row-row.ensures.some,
+    ) in
     let within : c.min-chunks.result ≤ length c.row-row.result.now =
     omega (arith, c.min-chunks.ensures) in
     let many : length (take c.min-chunks.result c.row-row.result.now) ≡ c.min-chunks.result =

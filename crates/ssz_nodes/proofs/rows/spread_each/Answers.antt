@@ -44,7 +44,8 @@ loop-level-preserved g c =
     let len = nodes_of c.args.count c.loop-level.level c.args.depth c.loop-level-test.true
     c.requires.few in
     let all : (i : ℕ) → i < c.args.count * 2 ^ c.loop-level.level
-    → i < c.args.count * 2 ^ c.loop-level.level % 2 ^ 64 = λ i within. omega (arith, within, len) in (
+    → i < c.args.count * 2 ^ c.loop-level.level % 2 ^ 64 =
+    λ i within. omega (arith, within, len) in (
       omega (arith, c.widen.ensures.long, c.loop-level.invariant.0),
       c.widen.ensures.nodes,
       λ k trees here is. Spread-more c.args.arena.now trees c.args.depth c.loop-level.level k
