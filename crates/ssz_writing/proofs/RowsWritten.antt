@@ -3,8 +3,10 @@ use Rattle.std.proofs.Common.{ℕ, zero, suc, get_or, ◌+◌, ◌-◌, ◌^◌,
 use Rattle.std.specs.List.{AllByRecursion}
 use Rattle.ssz_chunk.specs.Tree.{Tree, leaf, merkle_tree}
 use Rattle.ssz_schema.specs.Types.{SszType, Fields, container}
-use Rattle.ssz_schema.specs.Sizes.{basic_size, depth, fixed_size, head_size, part_sizes}
+use Rattle.ssz_schema.specs.Sizes.{basic_size, depth, field_count, fixed_size, head_size, part_sizes}
 use Rattle.ssz_schema.specs.Unfolding.{fields_over}
+use Rattle.ssz_schema.proofs.DepthLemmas.{depth_of-holds}
+use Rattle.ssz_schema.proofs.SumLemmas.{field_count-over}
 use Rattle.ssz_value.specs.Values.{SszValue, Fits, items}
 use Rattle.ssz_value.proofs.PartLemmas.{Part}
 use Rattle.ssz_nodes.proofs.Formed.{IsContainer, container_fields}
@@ -15,8 +17,8 @@ use Rattle.ssz_arena.specs.declared.node.NodeId.{NodeId}
 use Rattle.ssz_arena.specs.Content.{ArenaContent, tree_of}
 use Rattle.ssz_parts.specs.Encoded.{head_of, body_of}
 use Rattle.ssz_value.specs.Written.{capped}
-use Rattle.ssz_writing.specs.Rows.{RowsAhead, HoldsRows}
 use Rattle.ssz_nodes.specs.Ahead.{IsRowOf}
+use Rattle.ssz_nodes.specs.Beside.{FieldsAhead, FieldsHold}
 use Rattle.ssz_writing.specs.Leaves.{IsLeafLen, LeafOf}
 use Rattle.ssz_nodes.specs.Shown.{ForValue, AreElements, AreFieldsIn}
 use Rattle.ssz_writing.specs.Offsets.{room_of, rooms}
@@ -64,6 +66,18 @@ pub field_at-is : (fields : List Part) (i : ℕ) → i < length fields
     → field_at fields i ≡ get_or fields i (field_at fields i)
 field_at-is fields i inside = get_or_default fields i ([], 0) (field_at fields i) inside
 
+-- a field of a container stands in the row of its fields
+pub field_inside : (trees : List SszType) (fields : List Part) (t : SszType) (i long : ℕ)
+    → t ≡ container (fields_over trees fields) → i < length fields → long ≡ 2 ^ depth t → i < long
+field_inside trees fields t i long form below is = omega (
+  arith,
+  below,
+  is,
+  subst (λ n. n ≤ 2 ^ depth t) (field_count-over trees fields)
+      (subst (λ (s : SszType). field_count (fields_over trees fields) ≤ 2 ^ depth s) (sym form)
+      (depth_of-holds (field_count (fields_over trees fields)))),
+)
+
 -- where all fields were gone over, nothing more is to be written
 pub FieldHeads-end : (trees : List SszType) (fields : List Part) (i depth : ℕ) (all out : List ℕ)
     (node : Tree) → FieldHeads trees fields i depth all out node → length fields ≤ i → out ≡ all
@@ -91,18 +105,18 @@ row_value t fs node old new form fixed adds = subst
 
 -- containers whose fixed parts are still to be written
 pub record RowsSoFar (arena : ArenaContent) (t : SszType) (vs : List SszValue) (i : ℕ)
-    (all out : List ℕ) (ahead : RowsAhead) : Type 0 where
+    (all out : List ℕ) (ahead : FieldsAhead) : Type 0 where
   pub rest : List SszValue
   pub fit : AllByRecursion (Fits t) rest
-  pub holds : HoldsRows arena (map (tree t) rest) ahead
+  pub holds : FieldsHold arena (map (tree t) rest) ahead
   pub count : i + length rest ≡ length vs
   pub is : out ++ rooms (alike t rest) (map (serialize t) rest) ≡ all
 
 pub RowsSoFar-start : (arena : ArenaContent) (t : SszType) (depth count : ℕ) (vs : List SszValue)
-    (out : List ℕ) (node : NodeId) (ahead : RowsAhead) → basic_size t ≡ None
+    (out : List ℕ) (node : NodeId) (ahead : FieldsAhead) → basic_size t ≡ None
     → AreElements t depth count vs (tree_of arena node)
     → ((trees : List Tree) → length trees ≤ 2 ^ depth → tree_of arena node ≡ merkle_tree depth trees
-    → HoldsRows arena trees ahead)
+    → FieldsHold arena trees ahead)
     → RowsSoFar arena t vs 0 (out ++ rooms (alike t vs) (map (serialize t) vs)) out ahead
 RowsSoFar-start arena t depth count vs out node ahead none are holds =
     let trees = AreElements-trees t depth count vs (tree_of arena node) none are in
@@ -115,12 +129,12 @@ RowsSoFar-start arena t depth count vs out node ahead none are holds =
     }
 
 pub RowsSoFar-more : (arena : ArenaContent) (t : SszType) (depth : ℕ) (vs : List SszValue) (i : ℕ)
-    (all out written : List ℕ) (old new : RowsAhead) (row : List NodeId)
+    (all out written : List ℕ) (old new : FieldsAhead) (row : List NodeId)
     → RowsSoFar arena t vs i all out old → i < length vs
-    → ((first : Tree) (trees : List Tree) → HoldsRows arena (first ∷ trees) old
+    → ((first : Tree) (trees : List Tree) → FieldsHold arena (first ∷ trees) old
     → IsRowOf arena depth first row)
-    → ((first : Tree) (trees : List Tree) → HoldsRows arena (first ∷ trees) old
-    → HoldsRows arena trees new)
+    → ((first : Tree) (trees : List Tree) → FieldsHold arena (first ∷ trees) old
+    → FieldsHold arena trees new)
     → ((node : Tree) → IsRowOf arena depth node row
     → ForValue t node (λ v. written ≡ out ++ room_of (fixed_size t) (serialize t v)))
     → RowsSoFar arena t vs (i + 1) all written new
@@ -128,7 +142,7 @@ RowsSoFar-more arena t depth vs i all out written old new row h below row_is res
     go h.rest h.fit h.holds h.count h.is
   where
     go : (rest : List SszValue) → AllByRecursion (Fits t) rest
-        → HoldsRows arena (map (tree t) rest) old → i + length rest ≡ length vs
+        → FieldsHold arena (map (tree t) rest) old → i + length rest ≡ length vs
         → out ++ rooms (alike t rest) (map (serialize t) rest) ≡ all
         → RowsSoFar arena t vs (i + 1) all written new
     go [] fit holds count is = absurd (omega (arith, count, below))
@@ -144,7 +158,7 @@ RowsSoFar-more arena t depth vs i all out written old new row h below row_is res
 
 -- where all were gone over, nothing more is to be written
 pub RowsSoFar-end : (arena : ArenaContent) (t : SszType) (vs : List SszValue) (i : ℕ)
-    (all out : List ℕ) (ahead : RowsAhead) → RowsSoFar arena t vs i all out ahead → length vs ≤ i
+    (all out : List ℕ) (ahead : FieldsAhead) → RowsSoFar arena t vs i all out ahead → length vs ≤ i
     → out ≡ all
 RowsSoFar-end arena t vs i all out ahead h done = go h.rest h.count h.is
   where
@@ -155,13 +169,13 @@ RowsSoFar-end arena t vs i all out ahead h done = go h.rest h.count h.is
 
 -- one more was gathered behind those that were, some of which were appended before
 pub RowsSoFar-gathered : (arena : ArenaContent) (t : SszType) (fs : Fields) (vs : List SszValue)
-    (i : ℕ) (all out before gathered more : List ℕ) (old new : RowsAhead) (row : List NodeId)
+    (i : ℕ) (all out before gathered more : List ℕ) (old new : FieldsAhead) (row : List NodeId)
     → t ≡ container fs → is_none (fixed_size t) ≡ false
     → RowsSoFar arena t vs i all before old → i < length vs → out ++ gathered ≡ before
-    → ((first : Tree) (trees : List Tree) → HoldsRows arena (first ∷ trees) old
+    → ((first : Tree) (trees : List Tree) → FieldsHold arena (first ∷ trees) old
     → IsRowOf arena (depth t) first row)
-    → ((first : Tree) (trees : List Tree) → HoldsRows arena (first ∷ trees) old
-    → HoldsRows arena trees new)
+    → ((first : Tree) (trees : List Tree) → FieldsHold arena (first ∷ trees) old
+    → FieldsHold arena trees new)
     → ((node : Tree) → IsRowOf arena (depth t) node row → (vs : List SszValue)
     → AreFieldsIn fs (depth t) vs node
     → more ≡ gathered ++ rooms (part_sizes fs) (field_encodings fs vs))
@@ -178,18 +192,18 @@ RowsSoFar-gathered arena t fs vs i all out before gathered more old new row form
 
 -- containers of variable size whose offsets and variable parts are still to be written
 pub record RowBodiesSoFar (arena : ArenaContent) (t : SszType) (vs : List SszValue)
-    (i start room : ℕ) (all out : List ℕ) (ahead : RowsAhead) : Type 0 where
+    (i start room : ℕ) (all out : List ℕ) (ahead : FieldsAhead) : Type 0 where
   pub rest : List SszValue
   pub fit : AllByRecursion (Fits t) rest
-  pub holds : HoldsRows arena (map (tree t) rest) ahead
+  pub holds : FieldsHold arena (map (tree t) rest) ahead
   pub count : i + length rest ≡ length vs
   pub filled : Filled (alike t rest) (map (serialize t) rest) start room all out
 
 pub RowBodiesSoFar-start : (arena : ArenaContent) (t : SszType) (depth count start : ℕ)
-    (vs : List SszValue) (front out : List ℕ) (node : NodeId) (ahead : RowsAhead)
+    (vs : List SszValue) (front out : List ℕ) (node : NodeId) (ahead : FieldsAhead)
     → fixed_size t ≡ None → AreElements t depth count vs (tree_of arena node)
     → ((trees : List Tree) → length trees ≤ 2 ^ depth → tree_of arena node ≡ merkle_tree depth trees
-    → HoldsRows arena trees ahead)
+    → FieldsHold arena trees ahead)
     → start < 2 ^ 64 → length front ≡ start
     → out ≡ front ++ rooms (alike t vs) (map (serialize t) vs)
     → RowBodiesSoFar arena t vs 0 start start
@@ -207,13 +221,13 @@ RowBodiesSoFar-start arena t depth count start vs front out node ahead none are 
     }
 
 pub RowBodiesSoFar-more : (arena : ArenaContent) (t : SszType) (depth : ℕ) (vs : List SszValue)
-    (i start room next : ℕ) (all out written : List ℕ) (old new : RowsAhead)
+    (i start room next : ℕ) (all out written : List ℕ) (old new : FieldsAhead)
     (row : List NodeId) → RowBodiesSoFar arena t vs i start room all out old → i < length vs
     → fixed_size t ≡ None
-    → ((first : Tree) (trees : List Tree) → HoldsRows arena (first ∷ trees) old
+    → ((first : Tree) (trees : List Tree) → FieldsHold arena (first ∷ trees) old
     → IsRowOf arena depth first row)
-    → ((first : Tree) (trees : List Tree) → HoldsRows arena (first ∷ trees) old
-    → HoldsRows arena trees new)
+    → ((first : Tree) (trees : List Tree) → FieldsHold arena (first ∷ trees) old
+    → FieldsHold arena trees new)
     → next ≡ min (room + 4) (2 ^ 64 - 1)
     → ((node : Tree) → IsRowOf arena depth node row
     → ForValue t node (λ v. (front back : List ℕ) → room ≡ capped (length front)
@@ -225,7 +239,7 @@ RowBodiesSoFar-more arena t depth vs i start room next all out written old new r
     row_is rest_is next_is body = go h.rest h.fit h.holds h.count h.filled
   where
     go : (rest : List SszValue) → AllByRecursion (Fits t) rest
-        → HoldsRows arena (map (tree t) rest) old → i + length rest ≡ length vs
+        → FieldsHold arena (map (tree t) rest) old → i + length rest ≡ length vs
         → Filled (alike t rest) (map (serialize t) rest) start room all out
         → RowBodiesSoFar arena t vs (i + 1) start next all written new
     go [] fit holds count filled = absurd (omega (arith, count, below))

@@ -1,5 +1,5 @@
 //! The fixed parts of a container of few fields, gathered beside one another.
-ghost use Rattle.std.specs.Prelude.{◌≡◌, ◌+◌, ◌<◌, ◌≤◌, ◌++◌, false, length, map, replicate, take, All, IfOk, None, OnOk};
+ghost use Rattle.std.specs.Prelude.{◌≡◌, ◌+◌, ◌<◌, ◌≤◌, ◌^◌, ◌++◌, false, length, map, replicate, take, All, IfOk, None, OnOk};
 ghost use Rattle.ssz_chunk.specs.Tree.{Tree};
 ghost use Rattle.ssz_schema.specs.Types.{SszType};
 ghost use Rattle.ssz_schema.specs.Sizes.{depth, fixed_size, is_variable, part_sizes};
@@ -11,12 +11,11 @@ ghost use Rattle.ssz_nodes.specs.Shown.{ForValue, ForElements, ForFields, Extend
 ghost use Rattle.ssz_writing.specs.Leaves.{AreFewFields, AreLeafLens, AreShort, IsLeafLen};
 ghost use Rattle.ssz_writing.specs.Offsets.{AddsBytes, room_of, rooms};
 
-use super::fields::Rows;
 use super::leaves::Few;
 use super::writer::Writer;
 use ssz_arena::NodeId;
 use ssz_chunk::PairHash;
-use ssz_nodes::{NEAR, Row, Top, chunk_of};
+use ssz_nodes::{FieldRows, NEAR, Top, chunk_of};
 use ssz_value::EncodeFault;
 use std::alloc::AllocError;
 
@@ -51,13 +50,14 @@ impl<'a, H: PairHash> Writer<'a, H> {
             (λ vs. AddsBytes (rooms (replicate (length vs) (fixed_size t)) (map (serialize t) vs))
             out.old.items out.new.items result) }
     {
-        let mut rows = Rows::new(top, self.schema.depth(few.id));
+        let mut rows = FieldRows::new(top, self.schema.depth(few.id));
         let mut heads = [0; ROOMS];
         let mut len = 0;
         for _i in 0..count {
             len = append_full(&heads, len, out)?;
-            let row = rows.next(self.arena);
-            len = self.gather_heads(few, &row, len, &mut heads);
+            rows.refill(self.arena);
+            len = self.gather_heads(few, rows.row(), len, &mut heads);
+            rows.pass();
         }
         out.extend_from_slice(&heads[..len])?;
         Ok(())
@@ -69,26 +69,27 @@ impl<'a, H: PairHash> Writer<'a, H> {
     pub(crate) fn gather_heads(
         &self,
         few: &Few<'_>,
-        row: &Row,
+        row: &[NodeId],
         at: usize,
         heads: &mut [u8],
     ) -> usize
         requires fields { AreFewFields self.now.schema.now few.now.id few.now.fields.now }
         requires lens { AreLeafLens self.now.schema.now few.now.fields.now few.now.lens }
         requires short { AreShort self.now.schema.now few.now.fields.now few.now.lens }
-        requires row { All (IsNodeOf self.now.arena.now) row.now.nodes }
+        requires long { length row.now ≡ 2 ^ depth (type_of self.now.schema.now few.now.id) }
+        requires row { All (IsNodeOf self.now.arena.now) row.now }
         requires room { at + 256 ≤ length heads.old }
         ensures long { length heads.new ≡ length heads.old }
         ensures within { result ≤ at + 256 }
         ensures value { let fs = fields_over self.now.schema.now.trees few.now.fields.now in
             let d = depth (type_of self.now.schema.now few.now.id) in
-            (node : Tree) → IsRowOf self.now.arena.now d node row.now.nodes → ForFields fs d node
+            (node : Tree) → IsRowOf self.now.arena.now d node row.now → ForFields fs d node
             (λ vs. take result heads.new
             ≡ take at heads.old ++ rooms (part_sizes fs) (field_encodings fs vs)) }
     {
         let mut end = at;
         for i in 0..few.fields.len() {
-            end = self.put_head(few.lens[i], row.nodes[i], end, heads);
+            end = self.put_head(few.lens[i], row[i], end, heads);
         }
         end
     }

@@ -1,5 +1,5 @@
 //! Containers of few fields that stand beside one another, by rows of the nodes of their fields.
-ghost use Rattle.std.specs.Prelude.{◌≡◌, ◌<◌, ◌≤◌, false, true, length, map, replicate, All, None, OnOk, Option};
+ghost use Rattle.std.specs.Prelude.{◌≡◌, ◌<◌, ◌≤◌, ◌^◌, false, true, length, map, replicate, All, None, OnOk, Option};
 ghost use Rattle.ssz_chunk.specs.Tree.{Tree};
 ghost use Rattle.ssz_schema.specs.format.Format.{Format};
 ghost use Rattle.ssz_schema.specs.Sizes.{depth, fixed_size, is_variable, part_sizes};
@@ -12,14 +12,13 @@ ghost use Rattle.ssz_nodes.specs.Shown.{ForValue, ForElements, ForFields, Extend
 ghost use Rattle.ssz_writing.specs.Leaves.{AreFewFields, AreItemSizes, AreLeafLens, AreShort, IsItemSize, IsLeafLen};
 ghost use Rattle.ssz_writing.specs.Offsets.{AddsBytes, Fills, FillsAll, KeepsUpTo, room_of, rooms};
 
-use super::fields::Rows;
 use super::heads::ROOM;
 use super::leaves::Few;
 use super::offsets::Slot;
 use super::writer::Writer;
 use ssz_arena::NodeId;
 use ssz_chunk::PairHash;
-use ssz_nodes::{Row, Top, append_leaf};
+use ssz_nodes::{FieldRows, Top, append_leaf};
 use ssz_parts::head_len;
 use ssz_schema::TypeId;
 use ssz_value::EncodeFault;
@@ -51,10 +50,11 @@ impl<'a, H: PairHash> Writer<'a, H> {
         if few.short {
             return self.append_gathered(few, top, count, out);
         }
-        let mut rows = Rows::new(top, self.schema.depth(few.id));
+        let mut rows = FieldRows::new(top, self.schema.depth(few.id));
         for _i in 0..count {
-            let row = rows.next(self.arena);
-            self.append_row_parts(few, &row, out)?;
+            rows.refill(self.arena);
+            self.append_row_parts(few, rows.row(), out)?;
+            rows.pass();
         }
         Ok(())
     }
@@ -85,12 +85,13 @@ impl<'a, H: PairHash> Writer<'a, H> {
             (λ vs. FillsAll (replicate (length vs) (fixed_size t)) (map (serialize t) vs) start
             out.old.items out.new.items result) }
     {
-        let mut rows = Rows::new(top, self.schema.depth(few.id));
+        let mut rows = FieldRows::new(top, self.schema.depth(few.id));
         let mut heads = [0; ROOM];
         let mut room = start;
         for _i in 0..count {
-            let row = rows.next(self.arena);
-            self.append_row_body(few, &row, Slot { start, room }, &mut heads, out)?;
+            rows.refill(self.arena);
+            self.append_row_body(few, rows.row(), Slot { start, room }, &mut heads, out)?;
+            rows.pass();
             room = room.saturating_add(4);
         }
         Ok(())
@@ -101,7 +102,7 @@ impl<'a, H: PairHash> Writer<'a, H> {
     fn append_row_body(
         &self,
         few: &Few<'_>,
-        row: &Row,
+        row: &[NodeId],
         slot: Slot,
         heads: &mut [u8; ROOM],
         out: &mut Vec<u8>,
@@ -112,11 +113,12 @@ impl<'a, H: PairHash> Writer<'a, H> {
         requires sizes { AreItemSizes self.now.schema.now few.now.fields.now few.now.sizes }
         requires short { few.now.short ≡ true
             → AreShort self.now.schema.now few.now.fields.now few.now.lens }
-        requires row { All (IsNodeOf self.now.arena.now) row.now.nodes }
+        requires long { length row.now ≡ 2 ^ depth (type_of self.now.schema.now few.now.id) }
+        requires row { All (IsNodeOf self.now.arena.now) row.now }
         requires behind { slot.start ≤ slot.room }
         ensures kept { KeepsUpTo slot.start out.old.items out.new.items }
         ensures value { let t = type_of self.now.schema.now few.now.id in
-            (node : Tree) → IsRowOf self.now.arena.now (depth t) node row.now.nodes
+            (node : Tree) → IsRowOf self.now.arena.now (depth t) node row.now
             → ForValue t node
             (λ v. Fills None (serialize t v) slot.start slot.room out.old.items out.new.items
             result) }
@@ -130,7 +132,7 @@ impl<'a, H: PairHash> Writer<'a, H> {
     fn append_row(
         &self,
         few: &Few<'_>,
-        row: &Row,
+        row: &[NodeId],
         heads: &mut [u8; ROOM],
         out: &mut Vec<u8>,
     ) -> Result<(), EncodeFault>
@@ -140,10 +142,11 @@ impl<'a, H: PairHash> Writer<'a, H> {
         requires sizes { AreItemSizes self.now.schema.now few.now.fields.now few.now.sizes }
         requires short { few.now.short ≡ true
             → AreShort self.now.schema.now few.now.fields.now few.now.lens }
-        requires row { All (IsNodeOf self.now.arena.now) row.now.nodes }
+        requires long { length row.now ≡ 2 ^ depth (type_of self.now.schema.now few.now.id) }
+        requires row { All (IsNodeOf self.now.arena.now) row.now }
         ensures kept { ExtendsBytes out.old.items out.new.items }
         ensures value { let t = type_of self.now.schema.now few.now.id in
-            (node : Tree) → IsRowOf self.now.arena.now (depth t) node row.now.nodes
+            (node : Tree) → IsRowOf self.now.arena.now (depth t) node row.now
             → ForValue t node (λ v. AddsBytes (serialize t v) out.old.items out.new.items result) }
     {
         // Every type of a schema is legal.
@@ -158,7 +161,7 @@ impl<'a, H: PairHash> Writer<'a, H> {
     fn append_row_heads(
         &self,
         few: &Few<'_>,
-        row: &Row,
+        row: &[NodeId],
         heads: &mut [u8; ROOM],
         out: &mut Vec<u8>,
     ) -> Result<(), EncodeFault>
@@ -167,11 +170,12 @@ impl<'a, H: PairHash> Writer<'a, H> {
         requires lens { AreLeafLens self.now.schema.now few.now.fields.now few.now.lens }
         requires short { few.now.short ≡ true
             → AreShort self.now.schema.now few.now.fields.now few.now.lens }
-        requires row { All (IsNodeOf self.now.arena.now) row.now.nodes }
+        requires long { length row.now ≡ 2 ^ depth (type_of self.now.schema.now few.now.id) }
+        requires row { All (IsNodeOf self.now.arena.now) row.now }
         ensures kept { ExtendsBytes out.old.items out.new.items }
         ensures value { let fs = fields_over self.now.schema.now.trees few.now.fields.now in
             let d = depth (type_of self.now.schema.now few.now.id) in
-            (node : Tree) → IsRowOf self.now.arena.now d node row.now.nodes → ForFields fs d node
+            (node : Tree) → IsRowOf self.now.arena.now d node row.now → ForFields fs d node
             (λ vs. AddsBytes (rooms (part_sizes fs) (field_encodings fs vs)) out.old.items
             out.new.items result) }
     {
@@ -188,22 +192,23 @@ impl<'a, H: PairHash> Writer<'a, H> {
     fn append_row_parts(
         &self,
         few: &Few<'_>,
-        row: &Row,
+        row: &[NodeId],
         out: &mut Vec<u8>,
     ) -> Result<(), EncodeFault>
         requires known { few.now.id < length self.now.schema.now.trees }
         requires fields { AreFewFields self.now.schema.now few.now.id few.now.fields.now }
         requires lens { AreLeafLens self.now.schema.now few.now.fields.now few.now.lens }
-        requires row { All (IsNodeOf self.now.arena.now) row.now.nodes }
+        requires long { length row.now ≡ 2 ^ depth (type_of self.now.schema.now few.now.id) }
+        requires row { All (IsNodeOf self.now.arena.now) row.now }
         ensures kept { ExtendsBytes out.old.items out.new.items }
         ensures value { let fs = fields_over self.now.schema.now.trees few.now.fields.now in
             let d = depth (type_of self.now.schema.now few.now.id) in
-            (node : Tree) → IsRowOf self.now.arena.now d node row.now.nodes → ForFields fs d node
+            (node : Tree) → IsRowOf self.now.arena.now d node row.now → ForFields fs d node
             (λ vs. AddsBytes (rooms (part_sizes fs) (field_encodings fs vs)) out.old.items
             out.new.items result) }
     {
         for (i, field) in few.fields.iter().enumerate() {
-            self.append_part(field.1, few.lens[i], row.nodes[i], out)?;
+            self.append_part(field.1, few.lens[i], row[i], out)?;
         }
         Ok(())
     }
@@ -214,19 +219,20 @@ impl<'a, H: PairHash> Writer<'a, H> {
     fn append_row_bodies(
         &self,
         few: &Few<'_>,
-        row: &Row,
+        row: &[NodeId],
         start: usize,
         out: &mut Vec<u8>,
     ) -> Result<(), EncodeFault>
         requires known { few.now.id < length self.now.schema.now.trees }
         requires fields { AreFewFields self.now.schema.now few.now.id few.now.fields.now }
         requires sizes { AreItemSizes self.now.schema.now few.now.fields.now few.now.sizes }
-        requires row { All (IsNodeOf self.now.arena.now) row.now.nodes }
+        requires long { length row.now ≡ 2 ^ depth (type_of self.now.schema.now few.now.id) }
+        requires row { All (IsNodeOf self.now.arena.now) row.now }
         ensures kept { KeepsUpTo start out.old.items out.new.items }
         ensures value { let fs = fields_over self.now.schema.now.trees few.now.fields.now in
             let d = depth (type_of self.now.schema.now few.now.id) in
             (format : Format) → AreLegalFields format fs
-            → (node : Tree) → IsRowOf self.now.arena.now d node row.now.nodes
+            → (node : Tree) → IsRowOf self.now.arena.now d node row.now
             → ForFields fs d node
             (λ vs. FillsAll (part_sizes fs) (field_encodings fs vs) start out.old.items
             out.new.items result) }
@@ -234,7 +240,7 @@ impl<'a, H: PairHash> Writer<'a, H> {
         let mut room = start;
         for (i, field) in few.fields.iter().enumerate() {
             let slot = Slot { start, room };
-            self.append_part_body(field.1, few.sizes[i], row.nodes[i], slot, out)?;
+            self.append_part_body(field.1, few.sizes[i], row[i], slot, out)?;
             room = room.saturating_add(head_len(self.schema.fixed_size(field.1)) as usize);
         }
         Ok(())

@@ -1,4 +1,4 @@
-use Rattle.std.proofs.Common.{◌+◌, ◌-◌, ◌*◌, ◌^◌, ◌%◌, ◌/◌, ◌<◌, ◌≤◌, ◌≡◌, ◌++◌, min, length, map, slice_get, Some, None, false, sym, ap, ◌∙◌, subst, arith, rules}
+use Rattle.std.proofs.Common.{◌+◌, ◌-◌, ◌*◌, ◌^◌, ◌%◌, ◌/◌, ◌<◌, ◌≤◌, ◌≡◌, ◌++◌, ◌∷◌, min, length, map, slice_get, Some, None, false, sym, ap, ◌∙◌, subst, arith, rules}
 use Rattle.std.specs.List.{AllByRecursion}
 use Rattle.ssz_schema.specs.Types.{container, vector, list, bitvector, bitlist, union}
 use Rattle.ssz_schema.specs.Sizes.{basic_size, depth, fixed_size, head_size, is_variable, part_sizes}
@@ -15,7 +15,7 @@ use Rattle.ssz_nodes.proofs.Chunked.{Extends-same, Extends-trans, on_ok}
 use Rattle.ssz_nodes.proofs.Walked.{at_place}
 use Rattle.ssz_writing.proofs.Written.{alike, element_rooms, HeadsSoFar-start, HeadsSoFar-more, BodiesSoFar-start, BodiesSoFar-more, elements_adds, packed_adds}
 use Rattle.ssz_nodes.specs.Ahead.{IsRowOf}
-use Rattle.ssz_writing.proofs.RowsWritten.{RowsSoFar-start, leaf_adds, row_value, field_before, FieldHeads-end, RowsSoFar-more, RowBodiesSoFar-start, RowBodiesSoFar-more}
+use Rattle.ssz_writing.proofs.RowsWritten.{RowsSoFar-start, leaf_adds, row_value, field_before, field_inside, FieldHeads-end, RowsSoFar-more, RowBodiesSoFar-start, RowBodiesSoFar-more}
 use Rattle.ssz_writing.proofs.Rooms.{fixed_filled, fixed_room, no_size}
 use Rattle.ssz_writing.proofs.FieldsWritten.{FieldHeads-start, FieldHeads-more, FieldBodies-start, FieldBodies-more, FieldBodies-end, fixed_fields_add, fields_adds, vector_adds, list_adds, container_adds, bitvector_adds, bitlist_adds, option_adds, none_adds}
 use Rattle.ssz_writing.proofs.writer.Writer.+append.Goals as goal
@@ -410,14 +410,21 @@ append_row_parts-loop-i-init g t c = (
       are,
 )
 
+pub append_row_parts-bounds-row-i : goal.append_row_parts-bounds-row-i
+append_row_parts-bounds-row-i g t c =
+    field_inside c.args.self.now.schema.now.trees c.args.few.now.fields.now
+    (type_of c.args.self.now.schema.now c.args.few.now.id) c.loop-i.i (length c.args.row.now)
+    c.requires.fields.form c.loop-i-test.true c.requires.long
+
 pub append_row_parts-append_part-requires : goal.append_row_parts-append_part-requires
 append_row_parts-append_part-requires g t c =
-    let few : length c.args.few.now.fields.now ≤ 8 = c.requires.fields.few in
     let below : c.field-item.result.1 < c.args.few.now.id =
     field_before c.args.few.now.fields.now c.args.few.now.id c.loop-i.i c.field-item.result
     c.requires.fields.before c.loop-i-test.true c.field-item.is in
     let node = c.requires.row c.loop-i.i (record { 0 = 0 })
-    (omega (arith, c.loop-i-test.true, few)) in
+    (field_inside c.args.self.now.schema.now.trees c.args.few.now.fields.now
+    (type_of c.args.self.now.schema.now c.args.few.now.id) c.loop-i.i (length c.args.row.now)
+    c.requires.fields.form c.loop-i-test.true c.requires.long) in
     let len = c.requires.lens c.loop-i.i c.field-item.result c.loop-i-test.true
     c.field-item.is in
     search rules
@@ -448,20 +455,22 @@ append_row_parts-returns-clause-value g t c = λ node row vs are.
 
 pub append_containers-loop-i-preserved : goal.append_containers-loop-i-preserved
 append_containers-loop-i-preserved g t c = (
-  c.next-row.ensures.rows,
-  c.next-row.ensures.depth ∙ c.loop-i.invariant.1,
+  c.pass.ensures.nodes c.args.self.now.arena.now c.refill.ensures.nodes,
+  c.pass.ensures.depth ∙ c.refill.ensures.depth ∙ c.loop-i.invariant.1,
   Extends-trans c.args.out.now.items c.loop-i.out.items c.append_row_parts.new.out.items
       c.loop-i.invariant.2 c.append_row_parts.ensures.kept,
   λ vs are. RowsSoFar-more c.args.self.now.arena.now
       (type_of c.args.self.now.schema.now c.args.few.now.id)
       (depth (type_of c.args.self.now.schema.now c.args.few.now.id)) vs c.loop-i._i _
       c.loop-i.out.items
-      c.append_row_parts.new.out.items c.loop-i.rows c.next-row.new.self c.next-row.result.nodes
+      c.append_row_parts.new.out.items c.loop-i.rows c.pass.new.self c.row.result.now
       (c.loop-i.invariant.3 vs are) (omega (arith, are.many, c.loop-i-test.true))
       (λ first trees held. subst (λ n. IsRowOf c.args.self.now.arena.now n first
-      c.next-row.result.nodes)
-      c.loop-i.invariant.1 (c.next-row.ensures.fields first trees held))
-      c.next-row.ensures.rest
+      c.row.result.now) (c.refill.ensures.depth ∙ c.loop-i.invariant.1)
+      (c.row.ensures.fields c.args.self.now.arena.now first trees
+      (c.refill.ensures.holds (first ∷ trees) held)))
+      (λ first trees held. c.pass.ensures.rest c.args.self.now.arena.now first trees
+      (c.refill.ensures.holds (first ∷ trees) held))
       (λ node row v h. row_value (type_of c.args.self.now.schema.now c.args.few.now.id)
       (fields_over c.args.self.now.schema.now.trees c.args.few.now.fields.now) node
       c.loop-i.out.items
@@ -502,14 +511,21 @@ append_row_bodies-loop-i-init g t c = (
       c.args.out.now.items node legal are (omega arith) at is,
 )
 
+pub append_row_bodies-bounds-row-i : goal.append_row_bodies-bounds-row-i
+append_row_bodies-bounds-row-i g t c =
+    field_inside c.args.self.now.schema.now.trees c.args.few.now.fields.now
+    (type_of c.args.self.now.schema.now c.args.few.now.id) c.loop-i.i (length c.args.row.now)
+    c.requires.fields.form c.loop-i-test.true c.requires.long
+
 pub append_row_bodies-append_part_body-requires : goal.append_row_bodies-append_part_body-requires
 append_row_bodies-append_part_body-requires g t c =
-    let few : length c.args.few.now.fields.now ≤ 8 = c.requires.fields.few in
     let below : c.field-item.result.1 < c.args.few.now.id =
     field_before c.args.few.now.fields.now c.args.few.now.id c.loop-i.i c.field-item.result
     c.requires.fields.before c.loop-i-test.true c.field-item.is in
     let node = c.requires.row c.loop-i.i (record { 0 = 0 })
-    (omega (arith, c.loop-i-test.true, few)) in
+    (field_inside c.args.self.now.schema.now.trees c.args.few.now.fields.now
+    (type_of c.args.self.now.schema.now c.args.few.now.id) c.loop-i.i (length c.args.row.now)
+    c.requires.fields.form c.loop-i-test.true c.requires.long) in
     let size = c.requires.sizes c.loop-i.i c.field-item.result c.loop-i-test.true c.field-item.is in
     search rules
 
@@ -571,8 +587,8 @@ append_rows-loop-i-init g t c = (
 
 pub append_rows-loop-i-preserved : goal.append_rows-loop-i-preserved
 append_rows-loop-i-preserved g t c = (
-  c.next-row.ensures.rows,
-  c.next-row.ensures.depth ∙ c.loop-i.invariant.1,
+  c.pass.ensures.nodes c.args.self.now.arena.now c.refill.ensures.nodes,
+  c.pass.ensures.depth ∙ c.refill.ensures.depth ∙ c.loop-i.invariant.1,
   omega (arith, c.loop-i.invariant.2),
   λ front within kept. c.append_row_body.ensures.kept front within
       (c.loop-i.invariant.3 front within kept),
@@ -585,13 +601,15 @@ append_rows-loop-i-preserved g t c = (
       (length c.args.out.now.items - c.args.start)
       ++ bodies (alike (type_of c.args.self.now.schema.now c.args.few.now.id) vs)
       (map (serialize (type_of c.args.self.now.schema.now c.args.few.now.id)) vs))
-      c.loop-i.out.items c.append_row_body.new.out.items c.loop-i.rows c.next-row.new.self
-      c.next-row.result.nodes (c.loop-i.invariant.4 vs are front at is)
+      c.loop-i.out.items c.append_row_body.new.out.items c.loop-i.rows c.pass.new.self
+      c.row.result.now (c.loop-i.invariant.4 vs are front at is)
       (omega (arith, are.many, c.loop-i-test.true)) c.requires.variable
       (λ first trees held. subst (λ n. IsRowOf c.args.self.now.arena.now n first
-      c.next-row.result.nodes)
-      c.loop-i.invariant.1 (c.next-row.ensures.fields first trees held))
-      c.next-row.ensures.rest c.saturating_add-room.ensures
+      c.row.result.now) (c.refill.ensures.depth ∙ c.loop-i.invariant.1)
+      (c.row.ensures.fields c.args.self.now.arena.now first trees
+      (c.refill.ensures.holds (first ∷ trees) held)))
+      (λ first trees held. c.pass.ensures.rest c.args.self.now.arena.now first trees
+      (c.refill.ensures.holds (first ∷ trees) held)) c.saturating_add-room.ensures
       c.in_ok-append_row_body.ensures.value,
 )
 

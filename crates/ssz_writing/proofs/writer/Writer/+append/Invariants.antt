@@ -9,7 +9,7 @@ use Rattle.ssz_value.specs.Encoding.{serialize, heads, bodies, field_encodings}
 use Rattle.ssz_arena.specs.Content.{tree_of}
 use Rattle.ssz_nodes.specs.Ahead.{AheadAreNodes}
 use Rattle.ssz_nodes.specs.Ahead.{IsRowOf}
-use Rattle.ssz_writing.specs.Rows.{AreRows}
+use Rattle.ssz_nodes.specs.Beside.{FieldsAreNodes}
 use Rattle.ssz_nodes.specs.Shown.{AreElements, AreFieldsIn, ExtendsBytes}
 use Rattle.ssz_writing.specs.Offsets.{KeepsUpTo, rooms}
 use Rattle.ssz_writing.proofs.Written.{alike, HeadsSoFar, BodiesSoFar}
@@ -142,7 +142,7 @@ invariant-append_field_bodies-loop-i g l =
 
 abbrev pub invariant-append_containers-loop-i : goal.invariant-append_containers-loop-i
 invariant-append_containers-loop-i g l =
-    AreRows l.self.arena.now l.rows
+    FieldsAreNodes l.self.arena.now l.rows
     × (l.rows.depth ≡ depth (type_of l.self.schema.now l.few.id))
     × ExtendsBytes l.initial.out.items l.out.items
     × ((vs : List SszValue)
@@ -156,7 +156,7 @@ abbrev pub invariant-append_row_parts-loop-i : goal.invariant-append_row_parts-l
 invariant-append_row_parts-loop-i g l =
     ExtendsBytes l.initial.out.items l.out.items
     × ((node : Tree) → IsRowOf l.self.arena.now (depth (type_of l.self.schema.now l.few.id)) node
-    l.row.nodes
+    l.row
     → (vs : List SszValue)
     → AreFieldsIn (fields_over l.self.schema.now.trees l.few.fields.now)
     (depth (type_of l.self.schema.now l.few.id)) vs node
@@ -173,7 +173,7 @@ invariant-append_row_bodies-loop-i g l =
     × ((format : Format) → AreLegalFields format (fields_over l.self.schema.now.trees
     l.few.fields.now)
     → (node : Tree) → IsRowOf l.self.arena.now (depth (type_of l.self.schema.now l.few.id)) node
-    l.row.nodes
+    l.row
     → (vs : List SszValue)
     → AreFieldsIn (fields_over l.self.schema.now.trees l.few.fields.now)
     (depth (type_of l.self.schema.now l.few.id)) vs node
@@ -191,7 +191,7 @@ invariant-append_row_bodies-loop-i g l =
 
 abbrev pub invariant-append_rows-loop-i : goal.invariant-append_rows-loop-i
 invariant-append_rows-loop-i g l =
-    AreRows l.self.arena.now l.rows
+    FieldsAreNodes l.self.arena.now l.rows
     × (l.rows.depth ≡ depth (type_of l.self.schema.now l.few.id))
     × (l.start ≤ l.room)
     × KeepsUpTo l.start l.initial.out.items l.out.items

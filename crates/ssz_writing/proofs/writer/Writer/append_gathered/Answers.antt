@@ -1,4 +1,4 @@
-use Rattle.std.proofs.Common.{◌++◌, map, take, sym, ap, ◌∙◌, refl, subst, arith}
+use Rattle.std.proofs.Common.{◌++◌, ◌∷◌, map, take, sym, ap, ◌∙◌, refl, subst, arith}
 use Rattle.std.proofs.lemmas.List.{append-nil}
 use Rattle.ssz_schema.specs.Sizes.{basic_size}
 use Rattle.ssz_schema.specs.Unfolding.{type_of, fields_over}
@@ -12,7 +12,7 @@ use Rattle.ssz_writing.proofs.writer.Writer.append_gathered.Goals as goal
 
 pub loop-i-init : goal.loop-i-init
 loop-i-init g c = record {
-  rows = c.new-rows.ensures.nodes c.args.self.now.arena.now c.requires.node;
+  nodes = c.new-rows.ensures.nodes c.args.self.now.arena.now c.requires.node;
   depth = c.new-rows.ensures.depth ∙ c.depth.ensures.exact;
   kept = Extends-same c.args.out.now.items;
   long = refl;
@@ -35,8 +35,8 @@ loop-i-preserved g c =
     let types = c.args.self.now.schema.now in
     let fs = fields_over types.trees c.args.few.now.fields.now in
     record {
-      rows = c.next-row.ensures.rows;
-      depth = c.next-row.ensures.depth ∙ c.loop-i.invariant.depth;
+      nodes = c.pass.ensures.nodes c.args.self.now.arena.now c.refill.ensures.nodes;
+      depth = c.pass.ensures.depth ∙ c.refill.ensures.depth ∙ c.loop-i.invariant.depth;
       kept = Extends-trans c.args.out.now.items c.loop-i.out.items c.append_full.new.out.items
           c.loop-i.invariant.kept c.append_full.ensures.kept;
       long = c.gather_heads-len.ensures.long ∙ c.loop-i.invariant.long;
@@ -46,13 +46,16 @@ loop-i-preserved g c =
           (c.loop-i.out.items ++ take c.loop-i.len c.loop-i.heads)
           (take c.in_ok-len.len c.loop-i.heads)
           (take c.gather_heads-len.result c.gather_heads-len.new.heads) c.loop-i.rows
-          c.next-row.new.self c.next-row.result.nodes c.requires.fields.form c.requires.fixed
+          c.pass.new.self c.row.result.now c.requires.fields.form c.requires.fixed
           (c.loop-i.invariant.value vs are) (omega (arith, are.many, c.loop-i-test.true))
           c.in_ok-len.ensures.bytes
           (λ first trees held. subst (λ n. IsRowOf c.args.self.now.arena.now n first
-          c.next-row.result.nodes)
-          c.loop-i.invariant.depth (c.next-row.ensures.fields first trees held))
-          c.next-row.ensures.rest c.gather_heads-len.ensures.value;
+          c.row.result.now) (c.refill.ensures.depth ∙ c.loop-i.invariant.depth)
+          (c.row.ensures.fields c.args.self.now.arena.now first trees
+          (c.refill.ensures.holds (first ∷ trees) held)))
+          (λ first trees held. c.pass.ensures.rest c.args.self.now.arena.now first trees
+          (c.refill.ensures.holds (first ∷ trees) held))
+          c.gather_heads-len.ensures.value;
     }
 
 pub returns-clause-value : goal.returns-clause-value

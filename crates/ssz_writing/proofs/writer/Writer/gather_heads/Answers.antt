@@ -5,7 +5,7 @@ use Rattle.ssz_value.specs.Encoding.{field_encodings}
 use Rattle.ssz_nodes.proofs.Walked.{at_place}
 use Rattle.ssz_writing.specs.Offsets.{rooms}
 use Rattle.ssz_writing.proofs.FieldsWritten.{FieldHeads-start, FieldHeads-more}
-use Rattle.ssz_writing.proofs.RowsWritten.{FieldHeads-end, field_at, field_at-is}
+use Rattle.ssz_writing.proofs.RowsWritten.{FieldHeads-end, field_at, field_at-is, field_inside}
 use Rattle.ssz_writing.proofs.writer.Writer.gather_heads.Goals as goal
 
 pub loop-i-init : goal.loop-i-init
@@ -17,12 +17,20 @@ loop-i-init g c = record {
       (take c.args.at c.args.heads.now) node are;
 }
 
+pub bounds-row-i : goal.bounds-row-i
+bounds-row-i g c = field_inside c.args.self.now.schema.now.trees c.args.few.now.fields.now
+    (type_of c.args.self.now.schema.now c.args.few.now.id) c.loop-i.i (length c.args.row.now)
+    c.requires.fields.form (omega (arith, c.loop-i-test.true)) c.requires.long
+
 pub put_head-end-requires : goal.put_head-end-requires
 put_head-end-requires g c =
     let few : length c.args.few.now.fields.now ≤ 8 = c.requires.fields.few in
     let inside : c.loop-i.i < length c.args.few.now.fields.now = omega (arith, c.loop-i-test.true)
     in
-    let node = c.requires.row c.loop-i.i (record { 0 = 0 }) (omega (arith, inside, few)) in
+    let node = c.requires.row c.loop-i.i (record { 0 = 0 })
+    (field_inside c.args.self.now.schema.now.trees c.args.few.now.fields.now
+    (type_of c.args.self.now.schema.now c.args.few.now.id) c.loop-i.i (length c.args.row.now)
+    c.requires.fields.form inside c.requires.long) in
     let leaf = c.requires.lens c.loop-i.i (field_at c.args.few.now.fields.now c.loop-i.i) inside
     (field_at-is c.args.few.now.fields.now c.loop-i.i inside) in
     let len = leaf.few in

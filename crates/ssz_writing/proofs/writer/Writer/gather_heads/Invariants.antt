@@ -15,7 +15,7 @@ invariant-loop-i g l = record {
   long : length l.heads ≡ length l.initial.heads;
   within : l.end ≤ l.at + 32 * l.i;
   value : (node : Tree)
-      → IsRowOf l.self.arena.now (depth (type_of l.self.schema.now l.few.id)) node l.row.nodes
+      → IsRowOf l.self.arena.now (depth (type_of l.self.schema.now l.few.id)) node l.row
       → (vs : List SszValue)
       → AreFieldsIn (fields_over l.self.schema.now.trees l.few.fields.now)
       (depth (type_of l.self.schema.now l.few.id)) vs node
