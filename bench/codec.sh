@@ -6,8 +6,8 @@
 set -eu
 cd "$(dirname "$0")/.."
 exec env PYTHONPATH=bench python3 - "$@" <<'PY'
-import os, re, shutil, subprocess, tempfile
-from measure import BENCH, KEEP_MORE, least_of, numbers
+import os, shutil, tempfile
+from measure import BENCH, KEEP_MORE, counted, least_of, numbers
 
 rounds, = numbers(3)
 
@@ -44,9 +44,7 @@ def one_more(work, name):
 def instructions(work, name):
     counts = []
     for times in (1, 2):
-        words = ["valgrind", "--tool=callgrind", "--callgrind-out-file=/dev/null", *command(work, name, times)]
-        told = subprocess.run(words, check=True, capture_output=True, text=True, env=KEEP_MORE).stderr
-        counts.append(int(re.search(r"Collected : (\d+)", told).group(1)))
+        counts.append(counted(*command(work, name, times), env=KEEP_MORE)[0])
     return counts[1] - counts[0]
 
 KINDS = [("Numbers", numbers, 8), ("Fixeds", fixeds, 41), ("Variables", variables, 36)]

@@ -7,17 +7,16 @@
 set -eu
 cd "$(dirname "$0")/.."
 exec env PYTHONPATH=bench python3 - "$@" <<'PY'
-import os, re, subprocess, sys, tempfile
-from measure import BENCH, FAR, SSZ, numbers
+import os, sys, tempfile
+from measure import BENCH, FAR, SSZ, counted, numbers
 
 edits, = numbers(1000)
 depths = [int(word) for word in sys.argv[2:]] or [10, 14, 18]
 
 def count(*words):
     """The instructions of a run, and the numbers of its last line."""
-    command = ["valgrind", "--tool=callgrind", "--callgrind-out-file=/dev/null", *map(str, words)]
-    ran = subprocess.run(command, stdout=subprocess.PIPE, stderr=subprocess.PIPE, text=True, check=True)
-    return int(re.search(r"Collected : (\d+)", ran.stderr)[1]), ran.stdout.split("\n")[-2].split()
+    taken, lines = counted(*words)
+    return taken, lines[-1].split()
 
 def rise(*words):
     """The instructions of so many edits, the nodes that they make and the pairs that they hash."""

@@ -7,8 +7,8 @@
 set -eu
 cd "$(dirname "$0")/.."
 exec env PYTHONPATH=bench python3 - "$@" <<'PY'
-import os, random, re, subprocess, sys, tempfile
-from measure import BENCH, DENEB
+import os, random, sys, tempfile
+from measure import BENCH, DENEB, counted
 from states import TYPES, drawn, ssz
 
 BUILDS = {"default": BENCH}
@@ -18,9 +18,8 @@ COUNT = int(sys.argv[2]) if len(sys.argv) > 2 else 1 << 12
 
 def count(*words):
     """The instructions of a run, and the numbers that it prints last."""
-    command = ["valgrind", "--tool=callgrind", "--callgrind-out-file=/dev/null", *map(str, words)]
-    ran = subprocess.run(command, stdout=subprocess.PIPE, stderr=subprocess.PIPE, text=True, check=True)
-    return int(re.search(r"Collected : (\d+)", ran.stderr)[1]), ran.stdout.split("\n")[-2].split()
+    taken, lines = counted(*words)
+    return taken, lines[-1].split()
 
 def a_pair(few, many, words, pairs):
     """The instructions a pair of what more is done in one run than in another, and how many pairs that hashes."""

@@ -16,8 +16,8 @@ kit=$(dirname "$(rt doc)")
 library=${BUILD:-crates/ssz_c/out}/libssz_c.a
 cc -std=gnu11 -O2 -Iinclude -o "$out/sessions" bench/sessions.c "$library" "$kit/c/liblibc_c.a"
 exec env PYTHONPATH=bench python3 - "$out" "$@" <<'PY'
-import os, re, subprocess, sys
-from measure import BENCH, DENEB, SSZ, KEEP, least_of, print_load
+import os, sys
+from measure import BENCH, DENEB, SSZ, KEEP, counted, least_of, print_load
 import states
 
 out, how, validators, rounds = (sys.argv[1:] + ["work", "100000", "5"][len(sys.argv) - 2:])[:4]
@@ -26,9 +26,7 @@ os.chdir(out)
 
 def work(*words):
     """The instructions of a run."""
-    command = ["valgrind", "--tool=callgrind", "--callgrind-out-file=/dev/null", *map(str, words)]
-    ran = subprocess.run(command, stdout=subprocess.DEVNULL, stderr=subprocess.PIPE, text=True, check=True)
-    return int(re.search(r"Collected : (\d+)", ran.stderr)[1])
+    return counted(*words)[0]
 
 def seconds(*words):
     """The least processor time of some runs."""

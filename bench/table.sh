@@ -8,8 +8,8 @@
 set -eu
 cd "$(dirname "$0")/.."
 exec env PYTHONPATH=bench python3 - "$@" <<'PY'
-import json, os, random, re, subprocess, sys, tempfile
-from measure import BENCH, DENEB, KEEP_MORE, TYPES as KINDS, numbers, print_load, run
+import json, os, random, tempfile
+from measure import BENCH, DENEB, KEEP_MORE, TYPES as KINDS, counted, numbers, print_load, run
 from states import TYPES, drawn
 
 rounds, validators = numbers(7, 1 << 17)
@@ -53,11 +53,7 @@ def definitions(count):
             '{"list":["uint64",1024]}]]}]' % i for i in range(count))).encode()
 
 def count(words, status=0):
-    command = ["valgrind", "--tool=callgrind", "--callgrind-out-file=/dev/null", BENCH, *map(str, words)]
-    ended = subprocess.run(command, capture_output=True, text=True, env=KEEP_MORE)
-    if ended.returncode != status:
-        sys.exit(f"{words}: status {ended.returncode}")
-    return int(re.search(r"Collected : (\d+)", ended.stderr)[1])
+    return counted(BENCH, *words, env=KEEP_MORE, status=status)[0]
 
 def user(words, status=0):
     return run(BENCH, *words, env=KEEP_MORE, status=status).user

@@ -9,8 +9,8 @@
 set -eu
 cd "$(dirname "$0")/.."
 exec env PYTHONPATH=bench python3 - "$@" <<'PY'
-import os, re, subprocess, sys, tempfile
-from measure import BENCH, DENEB, numbers, print_load, run
+import os, tempfile
+from measure import BENCH, DENEB, counted, numbers, print_load, run
 from states import TYPES, drawn
 
 rounds, times, validators = numbers(5, 2000000, 1000)
@@ -24,10 +24,7 @@ PATHS = [
 ]
 
 def instructions(path, some):
-    command = ["valgrind", "--tool=callgrind", "--callgrind-out-file=/dev/null", BENCH,
-               "find", DENEB, "BeaconState", "state", path, str(some)]
-    ran = subprocess.run(command, stdout=subprocess.PIPE, stderr=subprocess.PIPE, text=True, check=True)
-    return int(re.search(r"Collected : (\d+)", ran.stderr)[1])
+    return counted(BENCH, "find", DENEB, "BeaconState", "state", path, some)[0]
 
 def user(path, some):
     return min(run(BENCH, "find", DENEB, "BeaconState", "state", path, some).user for _ in range(rounds))
