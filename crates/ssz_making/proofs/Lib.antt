@@ -9,4 +9,3 @@ pub mod ValueForms
 mod Saturating
 mod Tallying
 mod Summing
-mod Eight

@@ -18,7 +18,7 @@ use super::maker::Maker;
 use super::repeats::repeats;
 use ssz_basic::bitlist_len;
 use ssz_chunk::Chunk;
-use ssz_merkle::chunk_at;
+use ssz_merkle::{chunk_at, chunk_of_eight};
 use ssz_packing::number_chunk;
 use ssz_parts::{element_at, element_count, head_len, part_range};
 use ssz_schema::{Name, Schema, Ty, TypeId};
@@ -78,19 +78,6 @@ fn leaf_made<M: Maker>(maker: &mut M, bytes: &[u8]) -> M::Out
         return maker.leaf(&chunk_of_eight(bytes));
     }
     maker.leaf(&chunk_at(bytes, 0))
-}
-
-// Eight bytes, as of most numbers, and zeros behind them: made in a register where it is needed.
-#[inline(always)]
-fn chunk_of_eight(bytes: &[u8]) -> Chunk
-    requires { length bytes.now ≡ 8 }
-    ensures { result.0 ≡ padded bytes.now }
-{
-    let made = u8x32::from_array([
-        bytes[0], bytes[1], bytes[2], bytes[3], bytes[4], bytes[5], bytes[6], bytes[7], 0, 0, 0, 0,
-        0, 0, 0, 0, 0, 0, 0, 0, 0, 0, 0, 0, 0, 0, 0, 0, 0, 0, 0, 0,
-    ]);
-    Chunk(made.to_array())
 }
 
 // A part with its length to its right.

@@ -15,5 +15,5 @@ mod rows;
 
 pub use accumulator::Accumulator;
 pub use laws::counts_add_up;
-pub use packing::chunk_at;
+pub use packing::{chunk_at, chunk_of_eight};
 pub use rows::row_root;
