@@ -1,5 +1,5 @@
 -- What the tree of a value is made of, by the form of its type.
-use Rattle.std.proofs.Common.{ℕ, zero, suc, ◌+◌, ◌*◌, ◌/◌, ◌^◌, ◌<◌, ◌≤◌, ◌≡◌, ◌⊎◌, inl, inr, Bool, List, [], ◌∷◌, length, slice_get, Option, Some, None, refl, ap, ◌∙◌, arith}
+use Rattle.std.proofs.Common.{ℕ, zero, suc, ◌+◌, ◌*◌, ◌/◌, ◌^◌, ◌<◌, ◌≤◌, ◌≡◌, ◌⊎◌, inl, inr, Bool, List, [], ◌∷◌, length, slice_get, Option, Some, None, refl, sym, ap, ◌∙◌, subst, arith}
 use Rattle.std.proofs.Math.Nat.{mul-le-mul_right}
 use Rattle.ssz_chunk.specs.Chunk.{zero_chunk}
 use Rattle.ssz_chunk.specs.Tree.{Tree, leaf}
@@ -7,14 +7,16 @@ use Rattle.ssz_schema.specs.format.Format.{Format}
 use Rattle.ssz_schema.specs.format.Format.TheVariants.{One, Two}
 use Rattle.ssz_schema.specs.Types.{SszType, Fields, container, vector, list, bitvector, bitlist, union, no_fields, field}
 use Rattle.ssz_schema.specs.Sizes.{basic_size, element_chunks, depth, field_count, option_count}
-use Rattle.ssz_schema.specs.Unfolding.{type_tree_at, options_over}
+use Rattle.ssz_schema.specs.Unfolding.{type_tree_at, fields_over, options_over}
 use Rattle.ssz_schema.specs.Legal.{IsLegal, greatest_limit}
 use Rattle.ssz_bytes.specs.Bytes.{le_bytes, number_of_bits}
 use Rattle.ssz_schema.proofs.DepthLemmas.{depth_of-holds}
+use Rattle.ssz_schema.proofs.SumLemmas.{field_count-over}
 use Rattle.ssz_bytes.proofs.Numbers.{length-le_bytes}
 use Rattle.ssz_value.specs.Values.{SszValue, Values, sequence, bits, chosen, chosen_none, items, Fits, FitFields, FitsOption, IsNoneOption}
 use Rattle.ssz_value.specs.Trees.{tree, option_tree, mixed_in, pack_bits}
 use Rattle.ssz_value.proofs.ChunkLaw.{length-chunks}
+use Rattle.ssz_value.proofs.PartLemmas.{Part}
 use Rattle.ssz_places.specs.PlaceLaws.{IsTreeOf}
 use Rattle.ssz_nodes.specs.Shown.{AreElements, AreFieldsIn, AreBits}
 
@@ -106,6 +108,18 @@ container_fields fs (sequence vs) node h = record {
   };
 }
 container_fields fs _ node h = absurd h.fits
+
+-- a field of a container stands in the row of its fields
+pub field_inside : (trees : List SszType) (fields : List Part) (t : SszType) (i long : ℕ)
+    → t ≡ container (fields_over trees fields) → i < length fields → long ≡ 2 ^ depth t → i < long
+field_inside trees fields t i long form below is = omega (
+  arith,
+  below,
+  is,
+  subst (λ n. n ≤ 2 ^ depth t) (field_count-over trees fields)
+      (subst (λ (s : SszType). field_count (fields_over trees fields) ≤ 2 ^ depth s) (sym form)
+      (depth_of-holds (field_count (fields_over trees fields)))),
+)
 
 length-pack_bits : (bs : List Bool) → length (pack_bits bs) ≡ (length bs + 255) / 256
 length-pack_bits bs =

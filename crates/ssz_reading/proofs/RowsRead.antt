@@ -3,17 +3,13 @@ use Rattle.std.proofs.Common.{ℕ, ◌+◌, ◌^◌, ◌<◌, ◌≤◌, ◌≡�
 use Rattle.std.specs.List.{AllByRecursion}
 use Rattle.std.proofs.lemmas.List.{append-nil, map-append}
 use Rattle.ssz_chunk.specs.Tree.{Tree, merkle_tree}
-use Rattle.ssz_schema.specs.Types.{SszType, container}
-use Rattle.ssz_schema.specs.Sizes.{basic_size, depth, field_count}
-use Rattle.ssz_schema.specs.Unfolding.{fields_over}
-use Rattle.ssz_schema.proofs.DepthLemmas.{depth_of-holds}
-use Rattle.ssz_schema.proofs.SumLemmas.{field_count-over}
+use Rattle.ssz_schema.specs.Types.{SszType}
+use Rattle.ssz_schema.specs.Sizes.{basic_size}
 use Rattle.ssz_value.specs.declared.value.Value.{Value}
 use Rattle.ssz_value.specs.Values.{SszValue, Fits}
 use Rattle.ssz_value.specs.Standing.{value_of, IsFormed}
 use Rattle.ssz_value.specs.Shapes.{StandAlike, StandsBehind}
 use Rattle.ssz_value.specs.Trees.{tree}
-use Rattle.ssz_value.proofs.PartLemmas.{Part}
 use Rattle.ssz_value.proofs.FormLemmas.{formed_push}
 use Rattle.ssz_arena.specs.declared.node.NodeId.{NodeId}
 use Rattle.ssz_arena.specs.Content.{ArenaContent, tree_of}
@@ -97,14 +93,3 @@ RowsRead-end arena t vs i parts rows h all =
         → map value_of parts ++ rest ≡ vs → map value_of parts ≡ vs
     whole [] count same = sym (append-nil (map value_of parts)) ∙ same
     whole (v ∷ rest) count same = absurd (omega (arith, count))
-
--- a field of a container stands in the row of its fields
-pub field_inside : (trees : List SszType) (fields : List Part) (t : SszType) (i : ℕ)
-    → t ≡ container (fields_over trees fields) → i < length fields → i < 2 ^ depth t
-field_inside trees fields t i form below = omega (
-  arith,
-  below,
-  subst (λ n. n ≤ 2 ^ depth t) (field_count-over trees fields)
-      (subst (λ (s : SszType). field_count (fields_over trees fields) ≤ 2 ^ depth s) (sym form)
-      (depth_of-holds (field_count (fields_over trees fields)))),
-)

@@ -3,10 +3,8 @@ use Rattle.std.proofs.Common.{ℕ, zero, suc, get_or, ◌+◌, ◌-◌, ◌^◌,
 use Rattle.std.specs.List.{AllByRecursion}
 use Rattle.ssz_chunk.specs.Tree.{Tree, leaf, merkle_tree}
 use Rattle.ssz_schema.specs.Types.{SszType, Fields, container}
-use Rattle.ssz_schema.specs.Sizes.{basic_size, depth, field_count, fixed_size, head_size, part_sizes}
+use Rattle.ssz_schema.specs.Sizes.{basic_size, depth, fixed_size, head_size, part_sizes}
 use Rattle.ssz_schema.specs.Unfolding.{fields_over}
-use Rattle.ssz_schema.proofs.DepthLemmas.{depth_of-holds}
-use Rattle.ssz_schema.proofs.SumLemmas.{field_count-over}
 use Rattle.ssz_value.specs.Values.{SszValue, Fits, items}
 use Rattle.ssz_value.proofs.PartLemmas.{Part}
 use Rattle.ssz_nodes.proofs.Formed.{IsContainer, container_fields}
@@ -65,18 +63,6 @@ field_at fields i = get_or fields i ([], 0)
 pub field_at-is : (fields : List Part) (i : ℕ) → i < length fields
     → field_at fields i ≡ get_or fields i (field_at fields i)
 field_at-is fields i inside = get_or_default fields i ([], 0) (field_at fields i) inside
-
--- a field of a container stands in the row of its fields
-pub field_inside : (trees : List SszType) (fields : List Part) (t : SszType) (i long : ℕ)
-    → t ≡ container (fields_over trees fields) → i < length fields → long ≡ 2 ^ depth t → i < long
-field_inside trees fields t i long form below is = omega (
-  arith,
-  below,
-  is,
-  subst (λ n. n ≤ 2 ^ depth t) (field_count-over trees fields)
-      (subst (λ (s : SszType). field_count (fields_over trees fields) ≤ 2 ^ depth s) (sym form)
-      (depth_of-holds (field_count (fields_over trees fields)))),
-)
 
 -- where all fields were gone over, nothing more is to be written
 pub FieldHeads-end : (trees : List SszType) (fields : List Part) (i depth : ℕ) (all out : List ℕ)

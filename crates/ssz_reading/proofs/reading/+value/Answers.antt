@@ -14,10 +14,10 @@ use Rattle.ssz_packing.proofs.Options.{below_at}
 use Rattle.ssz_arena.specs.Content.{IsNodeOf, row_node, tree_of}
 use Rattle.ssz_nodes.specs.Shown.{ForValue, basic_type}
 use Rattle.ssz_nodes.specs.Ahead.{IsRowOf}
-use Rattle.ssz_nodes.proofs.Formed.{union_few}
+use Rattle.ssz_nodes.proofs.Formed.{union_few, field_inside}
 use Rattle.ssz_nodes.proofs.Walked.{at_place}
 use Rattle.ssz_reading.proofs.Parts.{Reads, ElementsRead, ElementsRead-start, ElementsRead-more, ElementsRead-end, FieldsRead, FieldsRead-start, FieldsRead-more, FieldsRead-end, vector_read, list_read, vector_each, list_each, list_behind, container_read, bitvector_read, bitlist_read, basic_read, packed_read, basic_formed, option_read, none_read}
-use Rattle.ssz_reading.proofs.RowsRead.{RowsRead, RowsRead-start, RowsRead-more, RowsRead-end, field_inside}
+use Rattle.ssz_reading.proofs.RowsRead.{RowsRead, RowsRead-start, RowsRead-more, RowsRead-end}
 use Rattle.ssz_reading.proofs.reading.+value.Goals as goal
 
 pub read_elements-loop-i-init : goal.read_elements-loop-i-init
@@ -119,12 +119,9 @@ read_containers-returns g t c = λ vs are.
     (omega (arith, are.many, c.loop-i-test.false))
 
 pub put_container-bounds-row-i : goal.put_container-bounds-row-i
-put_container-bounds-row-i g t c = omega (
-  arith,
-  c.requires.long,
-  field_inside c.args.schema.now.trees c.args.fields.now (type_of c.args.schema.now c.args.id)
-      c.loop-i.i c.requires.form c.loop-i-test.true,
-)
+put_container-bounds-row-i g t c =
+    field_inside c.args.schema.now.trees c.args.fields.now (type_of c.args.schema.now c.args.id)
+    c.loop-i.i (length c.args.row.now) c.requires.form c.loop-i-test.true c.requires.long
 
 pub put_container-loop-i-preserved : goal.put_container-loop-i-preserved
 put_container-loop-i-preserved g t c = record {
@@ -163,12 +160,9 @@ put_container-put_field-requires g t c =
     c.index-fields-i.is c.requires.before in
     let known : c.index-fields-i.result.1 < length c.args.schema.now.trees =
     omega (arith, below, c.requires.known) in
-    let inside : c.loop-i.i < length c.args.row.now = omega (
-      arith,
-      c.requires.long,
-      field_inside c.args.schema.now.trees c.args.fields.now (type_of c.args.schema.now c.args.id)
-          c.loop-i.i c.requires.form c.loop-i-test.true,
-    ) in
+    let inside : c.loop-i.i < length c.args.row.now =
+    field_inside c.args.schema.now.trees c.args.fields.now (type_of c.args.schema.now c.args.id)
+    c.loop-i.i (length c.args.row.now) c.requires.form c.loop-i-test.true c.requires.long in
     let node : IsNodeOf c.args.arena.now (row_node c.args.row.now c.loop-i.i) =
     c.requires.nodes c.loop-i.i (record { 0 = 0 }) inside in
     search rules

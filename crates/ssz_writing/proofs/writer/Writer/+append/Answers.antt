@@ -10,12 +10,12 @@ use Rattle.ssz_packing.proofs.Options.{below_at}
 use Rattle.ssz_arena.specs.Content.{tree_of}
 use Rattle.ssz_nodes.specs.Shown.{ExtendsBytes, ForElements, ForValue}
 use Rattle.ssz_writing.specs.Offsets.{AddsBytes, Fills, FillsAll, room_of, rooms}
-use Rattle.ssz_nodes.proofs.Formed.{union_few}
+use Rattle.ssz_nodes.proofs.Formed.{union_few, field_inside}
 use Rattle.ssz_nodes.proofs.Chunked.{Extends-same, Extends-trans, on_ok}
 use Rattle.ssz_nodes.proofs.Walked.{at_place}
 use Rattle.ssz_writing.proofs.Written.{alike, element_rooms, HeadsSoFar-start, HeadsSoFar-more, BodiesSoFar-start, BodiesSoFar-more, elements_adds, packed_adds}
 use Rattle.ssz_nodes.specs.Ahead.{IsRowOf}
-use Rattle.ssz_writing.proofs.RowsWritten.{RowsSoFar-start, leaf_adds, row_value, field_before, field_inside, FieldHeads-end, RowsSoFar-more, RowBodiesSoFar-start, RowBodiesSoFar-more}
+use Rattle.ssz_writing.proofs.RowsWritten.{RowsSoFar-start, leaf_adds, row_value, field_before, FieldHeads-end, RowsSoFar-more, RowBodiesSoFar-start, RowBodiesSoFar-more}
 use Rattle.ssz_writing.proofs.Rooms.{fixed_filled, fixed_room, no_size}
 use Rattle.ssz_writing.proofs.FieldsWritten.{FieldHeads-start, FieldHeads-more, FieldBodies-start, FieldBodies-more, FieldBodies-end, fixed_fields_add, fields_adds, vector_adds, list_adds, container_adds, bitvector_adds, bitlist_adds, option_adds, none_adds}
 use Rattle.ssz_writing.proofs.writer.Writer.+append.Goals as goal

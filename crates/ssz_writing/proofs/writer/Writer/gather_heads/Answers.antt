@@ -5,7 +5,8 @@ use Rattle.ssz_value.specs.Encoding.{field_encodings}
 use Rattle.ssz_nodes.proofs.Walked.{at_place}
 use Rattle.ssz_writing.specs.Offsets.{rooms}
 use Rattle.ssz_writing.proofs.FieldsWritten.{FieldHeads-start, FieldHeads-more}
-use Rattle.ssz_writing.proofs.RowsWritten.{FieldHeads-end, field_at, field_at-is, field_inside}
+use Rattle.ssz_nodes.proofs.Formed.{field_inside}
+use Rattle.ssz_writing.proofs.RowsWritten.{FieldHeads-end, field_at, field_at-is}
 use Rattle.ssz_writing.proofs.writer.Writer.gather_heads.Goals as goal
 
 pub loop-i-init : goal.loop-i-init
