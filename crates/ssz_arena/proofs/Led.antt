@@ -15,7 +15,8 @@ use Rattle.ssz_arena.proofs.Indexed.{at-digits, digits-way}
 use Rattle.ssz_arena.proofs.Seen.{no_step, steps_to}
 
 -- a way leads to a node and its tree
-pub record LedTo (arena : ArenaContent) (id : NodeId) (way : List Bool) (found : NodeId) : Type 0 where
+pub record LedTo (arena : ArenaContent) (id : NodeId) (way : List Bool)
+    (found : NodeId) : Type 0 where
   pub node : IsNodeOf arena found
   pub tree : at_way (tree_of arena id) way ≡ Some (tree_of arena found)
   pub todo : todo arena found ≤ todo arena id

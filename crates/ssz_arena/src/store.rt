@@ -1,5 +1,5 @@
 // Where nodes are kept, in some 35 bytes each.
-ghost use Rattle.std.specs.Prelude.{◌≡◌, ℕ, ◌+◌, ◌-◌, ◌*◌, ◌/◌, ◌%◌, ◌<◌, ◌≤◌, ◌^◌, max, List, [], ◌∷◌, ◌++◌, true, false, Some, None, IfNone, IfSome, IfOk, IsOk, IsTrue, OnOk, OnErr, length, vec_len, vec_capacity, slice_get, slice_index, slice_set};
+ghost use Rattle.std.specs.Prelude.{◌≡◌, ℕ, ◌+◌, ◌-◌, ◌*◌, ◌/◌, ◌%◌, ◌<◌, ◌≤◌, ◌^◌, max, List, [], ◌∷◌, ◌++◌, true, false, Some, None, IfOk, IsOk, IsTrue, OnOk, OnErr, length, vec_len, vec_capacity, slice_get, slice_index, slice_set};
 ghost use Rattle.ssz_chunk.specs.declared.Chunk.{Chunk};
 ghost use Rattle.ssz_arena.specs.declared.node.NodeId.{NodeId};
 ghost use Rattle.ssz_arena.specs.declared.node.Node.TheVariants.{Leaf, Pair};

@@ -1,7 +1,6 @@
 -- A part is set, and the root is asked for: what that hashes.
 use Rattle.std.proofs.Common.{◌≡◌, ◌≤◌, ◌+◌, ◌∙◌, ℕ, Bool, true, false, List, Option, Some, Ok, Err, IsSome, is_none, refl, sym, ap, subst, arith}
 use Rattle.std.specs.Option.{option_map_or}
-use Rattle.std.proofs.lemmas.Bool.{false≢true}
 use Rattle.ssz_schema.specs.Types.{SszType}
 use Rattle.ssz_schema.specs.Sizes.{basic_size}
 use Rattle.ssz_schema.specs.Paths.{Path, path_type}

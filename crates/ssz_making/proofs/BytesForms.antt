@@ -30,7 +30,6 @@ use Rattle.ssz_parts.proofs.ElementValues.{elements_written, length-element_valu
 use Rattle.ssz_parts.proofs.UnionValues.{option_in-some, option_in-none}
 use Rattle.ssz_packing.proofs.Options.{option_tree-some}
 use Rattle.ssz_making.specs.Parts.{MadePart, whole_of, joined_leaf, part_of_value, chunk_part, elements_part, chosen_part}
-use Rattle.ssz_making.specs.Nodes.{new_nodes}
 use Rattle.ssz_making.proofs.NodeCounts.{nodes-basic, nodes-option}
 use Rattle.ssz_making.proofs.Placing.{IsAt, IsAt-map}
 use Rattle.ssz_making.proofs.Forms.{part, parts_equal, whole-chunks, elements-packed, vector-part, list-part}

@@ -1,6 +1,6 @@
 -- The values of fields, one after another.
 use Rattle.ssz_schema.specs.format.Format.{Format}
-use Rattle.std.proofs.Common.{◌≡◌, ℕ, zero, suc, ◌+◌, ◌^◌, ◌<◌, ◌≤◌, List, [], ◌∷◌, length, take, drop, get_or, slice_range, Option, Some, None, refl, sym, ap, subst, ◌∙◌, arith}
+use Rattle.std.proofs.Common.{◌≡◌, ℕ, zero, suc, ◌+◌, ◌<◌, ◌≤◌, List, [], ◌∷◌, length, take, drop, get_or, slice_range, Option, Some, None, refl, sym, ap, subst, ◌∙◌, arith}
 use Rattle.ssz_schema.specs.Types.{SszType, Fields, no_fields, field, container}
 use Rattle.ssz_schema.specs.Sizes.{head_size, depth}
 use Rattle.ssz_schema.specs.Unfolding.{type_tree_at, fields_over}

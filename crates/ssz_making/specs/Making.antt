@@ -1,6 +1,6 @@
 -- What a maker is asked for: a part that it made is joined with a leaf, or pushed behind those that
 -- were pushed before it, and it has room for what comes.
-use Rattle.std.specs.Prelude.{ℕ, suc, ◌+◌, ◌^◌, ◌≤◌, List, ◌∷◌, ◌++◌, length}
+use Rattle.std.specs.Prelude.{ℕ, ◌+◌, ◌^◌, ◌≤◌, List, ◌∷◌, ◌++◌, length}
 use Rattle.ssz_making.specs.Parts.{MadePart, whole_of}
 
 -- a leaf is put beside a part that was made

@@ -24,7 +24,8 @@ abbrev pub FieldsAreNodes : ArenaContent → FieldsAhead → Type 0
 FieldsAreNodes arena ahead = All (IsNodeOf arena) ahead.nodes × AheadAreNodes arena ahead.places
 
 -- these are the next trees: of the first of them the nodes are those of their places
-pub record FieldsHold (arena : ArenaContent) (trees : List Tree) (ahead : FieldsAhead) : Type 0 where
+pub record FieldsHold (arena : ArenaContent) (trees : List Tree)
+    (ahead : FieldsAhead) : Type 0 where
   pub rows : (i : ℕ) → i < ahead.to - ahead.from → i < length trees
       → IsRowOf arena ahead.depth (place trees i)
       (fields_at ahead.depth ahead.nodes (ahead.from + i))

@@ -4,7 +4,6 @@ use Rattle.ssz_schema.specs.Unfolding.{type_of}
 use Rattle.ssz_schema.proofs.SmallLemmas.{legal_within}
 use Rattle.ssz_value.specs.Values.{SszValue, Fits}
 use Rattle.ssz_value.specs.Encoding.{serialize}
-use Rattle.ssz_value.specs.Written.{Appends}
 use Rattle.ssz_value.proofs.SizeLaw.{default_fits, defaults_have_length}
 use Rattle.ssz_draws.proofs.turns.default_bytes.Goals as goal
 
