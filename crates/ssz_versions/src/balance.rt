@@ -1,5 +1,4 @@
 ghost use Rattle.std.specs.Prelude.{◌≡◌, ◌∷◌, ◌++◌};
-ghost use Rattle.ssz_versions.specs.Branches.{in_branch};
 
 use super::tree::{Branch, Cell, Entry, Tree};
 

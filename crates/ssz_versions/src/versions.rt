@@ -166,12 +166,8 @@ impl Versions {
     pub fn names(&self, alloc: Global, writer: Writer) -> Result<Names, AllocError>
         ensures { IfOk result (λ names. names ≡ entry_names self.now.entries writer.0) }
     {
-        let mut own = Vec::new(alloc);
-        self.held.relabelled(writer.0, writer.0, &mut own)?;
         let mut names = Vec::new(alloc);
-        for entry in &own {
-            names.push(Name::copy_of(alloc, entry.0.name())?)?;
-        }
+        self.held.names(alloc, writer.0, &mut names)?;
         Ok(Names::from_vec(names))
     }
 

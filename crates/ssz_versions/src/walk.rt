@@ -6,7 +6,8 @@ ghost use Rattle.ssz_versions.specs.Lists.{entries_moved, relabelled};
 use super::balance::fork;
 use super::tree::{Branch, Cell, Entry, Top, Tree};
 use ssz_arena::NodeId;
-use std::alloc::AllocError;
+use ssz_schema::Name;
+use std::alloc::{AllocError, Global};
 use std::cmp::Ordering;
 
 impl Tree {
@@ -35,6 +36,35 @@ impl Tree {
                 fork.right.relabelled(from, to, own)
             }
             Ordering::Greater => fork.left.relabelled(from, to, own),
+        }
+    }
+
+    /// Appends the names that a writer holds, in order. It goes where entries of the writer can be,
+    /// and nowhere else.
+    pub(crate) fn names(
+        &self,
+        alloc: Global,
+        writer: u8,
+        names: &mut Vec<Name>,
+    ) -> Result<(), AllocError>
+        requires { T (is_sorted key_cmp self.now) }
+        ensures { OnOk result (names.new.items ≡ names.old.items
+            ++ map (λ entry. entry.0.1) (relabelled writer writer self.now)) }
+    {
+        let Top::Held(cell) = &self.top else {
+            return Ok(());
+        };
+        let Cell::Full(fork) = &**cell else {
+            return Ok(());
+        };
+        match fork.entry.0.writer().cmp(&writer) {
+            Ordering::Less => fork.right.names(alloc, writer, names),
+            Ordering::Equal => {
+                fork.left.names(alloc, writer, names)?;
+                names.push(Name::copy_of(alloc, fork.entry.0.name())?)?;
+                fork.right.names(alloc, writer, names)
+            }
+            Ordering::Greater => fork.left.names(alloc, writer, names),
         }
     }
 
