@@ -51,9 +51,9 @@ module _ {pair_of : PairOf} {place : Place} where
   }
 
   -- there is no memory for these events
-  pub runs_memory : {events : List Event} {was : Bool} {here : Scene}
-      → Runs pair_of place events (Err status.Memory) was was here here
-  runs_memory {events} {was} {here} = record {
+  pub runs_memory : {events : List Event} {was now : Bool} {here : Scene}
+      → Runs pair_of place events (Err status.Memory) was now here here
+  runs_memory {events} {was} {now} {here} = record {
     goes = λ course left comes. no_memory pair_of place course (events ++ left) was here here comes
         refl refl (passes_none here);
     keeps = record { types = refl; most = refl; base = refl };
@@ -115,6 +115,13 @@ module _ {pair_of : PairOf} {place : Place} where
   runs_of {these} {those} {result} {was} {now} {before} {after} same runs =
       subst (λ (events : List Event). Runs pair_of place events result was now before after)
       (sym same) runs
+
+  -- the same answers before it
+  pub runs_from : {events : List Event} {result : Result (Unit {0}) Status} {first was now : Bool}
+      {before after : Scene} → was ≡ first → Runs pair_of place events result was now before after
+      → Runs pair_of place events result first now before after
+  runs_from {events} {result} {first} {was} {now} {before} {after} same runs =
+      subst (λ (b : Bool). Runs pair_of place events result b now before after) same runs
 
   pub runs_exit : {events : List Event} {result : Result (Unit {0}) Status} {ended fault : Status}
       {was now : Bool} {before after : Scene} → result ≡ Err ended → ended ≡ fault

@@ -12,7 +12,8 @@ use Rattle.ssz_engine.specs.Steps.{is_refusal}
 use Rattle.ssz_decisions.specs.Content.{KeepsEngine}
 use Rattle.ssz_engine.specs.Scripts.{Scene, point_of}
 use Rattle.ssz_engine.specs.Points.{Course, RunReaches, AnyRunContinues, CountsFaults, Runs}
-use Rattle.ssz_engine.specs.Lines.{TurnDoes, DoesLine, PrintsLine, ended_by, CountsPrint, Tries}
+use Rattle.ssz_outside.specs.Printed.{CountsPrint, IsStop, PrintsLine}
+use Rattle.ssz_engine.specs.Lines.{TurnDoes, DoesLine, ended_by, Tries}
 use Rattle.ssz_decisions.specs.declared.outcome.Outcome.{Outcome}
 use Rattle.ssz_decisions.specs.declared.fault.EngineFault.{EngineFault}
 use Rattle.ssz_decisions.specs.declared.fault.EngineFault.TheVariants.{Read, Write, Memory}
@@ -121,15 +122,27 @@ module _ (pair_of : PairOf) (place : Place) (writer : ℕ) (line : Line) (was : 
   print-counts (Err status.SchemaFault) made tries prints sinks = absurd prints
   print-counts (Err status.ReadFault) made tries prints sinks = absurd prints
 
+  -- what stops a print ends the run
+  print-stops : (printed : Result (Unit {0}) Status) → IfErr printed IsStop
+      → IfErr printed (λ ended. ¬ IsFinished ended)
+  print-stops (Ok x) stops = stops
+  print-stops (Err status.WriteFault) stops = λ finished. finished
+  print-stops (Err status.Memory) stops = λ finished. finished
+  print-stops (Err status.Accepted) stops = absurd stops
+  print-stops (Err status.Refused) stops = absurd stops
+  print-stops (Err status.Usage) stops = absurd stops
+  print-stops (Err status.SchemaFault) stops = absurd stops
+  print-stops (Err status.ReadFault) stops = absurd stops
+
   -- a line that was not done, as a part of a run
-  pub stop_runs : (fault : EngineFault)
+  pub stop_runs : {now : Bool} (fault : EngineFault)
       → Tries {T = Outcome} (line ∷ []) (Err fault) (point_of before) (point_of after)
       → DoesLine pair_of place writer line (Err fault) (point_of before) (point_of after) text more
       → after.pieces ≡ before.pieces → after.sink_faults ≡ before.sink_faults
       → after.hashed ≤ before.hashed + unhashed before.engine.arena
       → StaysFor before.engine after.engine
-      → Runs pair_of place (says writer line ∷ []) (Err (ended_by fault)) was was before after
-  stop_runs fault tries does pieces sinks most stays = record {
+      → Runs pair_of place (says writer line ∷ []) (Err (ended_by fault)) was now before after
+  stop_runs {now} fault tries does pieces sinks most stays = record {
     goes = stop_goes fault does pieces
         (record { rises = tries.rises; most = most; stays = stays });
     keeps = tries.keeps;
@@ -147,7 +160,7 @@ module _ (pair_of : PairOf) (place : Place) (writer : ℕ) (line : Line) (was : 
       → DoesLine pair_of place writer line (Ok made) (point_of before) (point_of after) text more
       → text ≡ line_prefix place writer → PrintsLine printed more before.pieces after.pieces
       → CountsPrint printed before.sink_faults after.sink_faults
-      → IfErr printed (λ ended. ¬ IsFinished ended)
+      → IfErr printed IsStop
       → (printed ≡ Err status.Memory → before.ample ≡ false) → after.ample ≡ before.ample
       → Runs pair_of place (says writer line ∷ []) printed was (is_refusal made || was) before
       after
@@ -158,7 +171,7 @@ module _ (pair_of : PairOf) (place : Place) (writer : ℕ) (line : Line) (was : 
     rises = tries.rises;
     readable = tries.readable;
     counts = print-counts printed made tries prints sinks;
-    stops = stops;
+    stops = print-stops printed stops;
     fails = λ all same. subst (λ (r : Result (Unit {0}) Status).
         PrintsLine r more before.pieces after.pieces) same prints;
   }

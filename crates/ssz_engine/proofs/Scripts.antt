@@ -22,7 +22,8 @@ use Rattle.ssz_machine.proofs.Endings.{ends_done}
 use Rattle.ssz_decisions.specs.Content.{rules_of}
 use Rattle.ssz_decisions.specs.Standing.{StandsFor}
 use Rattle.ssz_engine.specs.Scripts.{EndsRun, EndsScript, Scene}
-use Rattle.ssz_engine.specs.Points.{RunReaches, Course, AnyRunContinues, IsCutShort, PaysSteps, finished_status, turns_of}
+use Rattle.ssz_outside.specs.Printed.{finished_status}
+use Rattle.ssz_engine.specs.Points.{RunReaches, Course, AnyRunContinues, IsCutShort, PaysSteps, turns_of}
 use Rattle.ssz_engine.proofs.Paying.{pays_counts, pays_total}
 use Rattle.ssz_engine.proofs.Reaching.{same_files}
 

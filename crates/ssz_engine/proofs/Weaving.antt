@@ -17,7 +17,8 @@ use Rattle.ssz_machine.proofs.Numbering.{same_run}
 use Rattle.ssz_decisions.specs.Content.{rules_of}
 use Rattle.ssz_decisions.specs.Standing.{StandsFor}
 use Rattle.ssz_engine.specs.Scripts.{EndsRun, Scene}
-use Rattle.ssz_engine.specs.Points.{AnyRunContinues, finished_status}
+use Rattle.ssz_outside.specs.Printed.{finished_status}
+use Rattle.ssz_engine.specs.Points.{AnyRunContinues}
 use Rattle.ssz_engine.specs.Weaves.{EndsWeave, EndsWeaveFrom}
 use Rattle.ssz_engine.proofs.Scripts.{course, run_done, run_stopped, start}
 

@@ -16,7 +16,8 @@ use Rattle.ssz_machine.specs.Drawing.{worked}
 use Rattle.ssz_machine.specs.Work.{Worked, turn_done, work_of}
 use Rattle.ssz_script.specs.declared.statement.Statement.TheVariants.{Root}
 use Rattle.ssz_decisions.specs.Content.{rules_of}
-use Rattle.ssz_engine.specs.Lines.{PrintsLine, ended_by}
+use Rattle.ssz_outside.specs.Printed.{PrintsLine}
+use Rattle.ssz_engine.specs.Lines.{ended_by}
 use Rattle.ssz_decisions.specs.Outside.{CountsWrites}
 use Rattle.ssz_engine.specs.Scripts.{Point, Scene, point_of}
 use Rattle.ssz_decisions.specs.Roots.{RisesBy}

@@ -1,8 +1,6 @@
 -- What a line of a script does, as the plain machine does it.
-use Rattle.std.specs.Prelude.{◌≡◌, ◌≢◌, ℕ, ◌-◌, true, false, List, [], ◌∷◌, ◌++◌, take, Option, Some, None, Result, Ok, Err, ◌≤◌}
+use Rattle.std.specs.Prelude.{◌≡◌, ◌≢◌, ℕ, ◌-◌, true, false, List, ◌++◌, Option, Some, None, Result, Ok, Err, ◌≤◌}
 use Rattle.ssz_arena.specs.Content.{unhashed, KeepsNodes}
-use Rattle.ssz_outside.specs.Outcome.{RoseOnce}
-use Rattle.ssz_outside.specs.Pieces.{Told, told_append}
 use Rattle.ssz_outside.specs.declared.status.Status.{Status}
 use Rattle.ssz_outside.specs.declared.status.Status.TheVariants as status
 use Rattle.ssz_proof.specs.Calculation.{PairOf}
@@ -95,21 +93,3 @@ abbrev pub ended_by : EngineFault → Status
 ended_by Read = status.ReadFault
 ended_by Write = status.WriteFault
 ended_by Memory = status.Memory
-
--- what a sink has after a line was printed: the line, or a part of it, or nothing of it
-abbrev pub PrintsLine : {T : Type 0} → Result T Status → List ℕ → Told → Told → Type 0
-PrintsLine (Ok done) piece old new = new ≡ told_append old (piece ∷ [])
-PrintsLine (Err status.WriteFault) piece old new =
-    (count : ℕ) × (new ≡ told_append old (take count piece ∷ []))
-PrintsLine (Err status.Memory) piece old new = new ≡ old
-PrintsLine (Err status.Accepted) piece old new = ⊥
-PrintsLine (Err status.Refused) piece old new = ⊥
-PrintsLine (Err status.Usage) piece old new = ⊥
-PrintsLine (Err status.SchemaFault) piece old new = ⊥
-PrintsLine (Err status.ReadFault) piece old new = ⊥
-
--- a failed print is counted once
-abbrev pub CountsPrint : {T : Type 0} → Result T Status → ℕ → ℕ → Type 0
-CountsPrint (Ok done) before now = now ≡ before
-CountsPrint (Err status.WriteFault) before now = RoseOnce before now
-CountsPrint (Err other) before now = now ≡ before

@@ -1,5 +1,5 @@
 -- Points of a run, and what leads from one to another.
-use Rattle.std.specs.Prelude.{◌≡◌, ◌≢◌, ◌≤◌, ℕ, ◌+◌, ◌-◌, Bool, false, if◌then◌else◌, List, [], ◌∷◌, ◌++◌, Some, Result, Ok, Err, IfErr}
+use Rattle.std.specs.Prelude.{◌≡◌, ◌≢◌, ◌≤◌, ℕ, ◌+◌, ◌-◌, Bool, false, List, [], ◌∷◌, ◌++◌, Some, Result, Ok, Err, IfErr}
 use Rattle.std.specs.List.{AllByRecursion, list_any}
 use Rattle.ssz_arena.specs.Content.{unhashed, KeepsNodes}
 use Rattle.ssz_outside.specs.Job.{CountsRun, CountsNone, Ends, IsFinished}
@@ -117,10 +117,6 @@ AnyRunContinues pair_of place these result was refused before after =
     (course : Course) (left : List Event)
     → RunReaches pair_of place course (these ++ left) was before
     → RunContinues pair_of place course left result refused before after
-
--- the status of a run that no fault ended
-abbrev pub finished_status : Bool → Status
-finished_status refused = if refused then status.Refused else status.Accepted
 
 -- no fault was counted but the one that ended it
 abbrev pub CountsFaults : Result (Unit {0}) Status → Scene → Scene → Type 0

@@ -1,5 +1,5 @@
 // Scripts that run alone, line after line.
-ghost use Rattle.std.specs.Prelude.{◌≡◌, ◌≢◌, ◌≤◌, ℕ, List};
+ghost use Rattle.std.specs.Prelude.{◌≢◌, ◌≤◌, ℕ, List};
 ghost use Rattle.std.specs.List.{AllByRecursion};
 ghost use Rattle.ssz_arena.specs.Content.{KeepsNodes};
 ghost use Rattle.ssz_outside.specs.Job.{CountsRun};
@@ -7,7 +7,7 @@ ghost use Rattle.ssz_script.specs.Lines.{statements_in};
 ghost use Rattle.ssz_machine.specs.Plays.{all_of};
 ghost use Rattle.ssz_engine.specs.Compacting.{NoneCompacts};
 ghost use Rattle.ssz_engine.specs.Lines.{LeavesOthers};
-ghost use Rattle.ssz_engine.specs.Points.{Runs, finished_status};
+ghost use Rattle.ssz_engine.specs.Points.{Runs};
 ghost use Rattle.ssz_engine.specs.Scripts.{EndsScript, files_named, scene};
 ghost use Rattle.ssz_decisions.specs.Content.{KeepsEngine};
 
@@ -15,7 +15,7 @@ use super::engine::Engine;
 use super::script_line::run_line;
 use ssz_chunk::PairHash;
 use ssz_machine::Place;
-use ssz_outside::{Files, Sink, Status};
+use ssz_outside::{Files, Replies, Sink, Status};
 use ssz_script::Statements;
 use ssz_versions::Writer;
 
@@ -29,9 +29,10 @@ pub(crate) fn run_lines<F: Files, S: Sink, H: PairHash>(
     files: &mut F,
     out: &mut S,
     hasher: &mut H,
-    refused: &mut bool,
+    replies: &mut Replies,
 ) -> Result<(), Status>
-    ensures runs { Runs H.pair_of place (all_of writer.0 lines.old) result refused.old refused.new
+    ensures runs { Runs H.pair_of place (all_of writer.0 lines.old) result replies.old.refused
+        replies.new.refused
         (scene F.Files S.Sink H.PairHash engine.old files.old out.old hasher.old)
         (scene F.Files S.Sink H.PairHash engine.new files.new out.new hasher.new) }
     ensures others { LeavesOthers writer.0 engine.old.entries engine.new.entries }
@@ -41,22 +42,11 @@ pub(crate) fn run_lines<F: Files, S: Sink, H: PairHash>(
             Err(_) => return Err(Status::Memory),
             Ok(None) => return Ok(()),
             Ok(Some(line)) => {
-                let ran = run_line(engine, place, writer, &line, files, out, hasher, refused);
+                let ran = run_line(engine, place, writer, &line, files, out, hasher, replies);
                 drop(line);
                 ran?;
             }
         }
-    }
-}
-
-/// The status of a run that no fault ended.
-pub(crate) fn status_after(refused: bool) -> Status
-    ensures { result ≡ finished_status refused }
-{
-    if refused {
-        Status::Refused
-    } else {
-        Status::Accepted
     }
 }
 
@@ -101,7 +91,7 @@ impl<H: PairHash> Engine<H> {
             (files_named (statements_in script.now)) → result ≢ Status.ReadFault }
     {
         let mut lines = Statements::new(script);
-        let mut refused = false;
+        let mut replies = Replies::new(self.store.alloc);
         match run_lines(
             self,
             Place::Run,
@@ -110,9 +100,9 @@ impl<H: PairHash> Engine<H> {
             files,
             out,
             hasher,
-            &mut refused,
+            &mut replies,
         ) {
-            Ok(()) => status_after(refused),
+            Ok(()) => replies.status(),
             Err(ended) => ended,
         }
     }

@@ -1,9 +1,9 @@
 // One line of a script.
-ghost use Rattle.std.specs.Prelude.{◌≡◌, ◌≤◌, ◌+◌, ◌∷◌, [], false, Err, IfOk, IfErr, IfSome, OnOk, OnErr};
+ghost use Rattle.std.specs.Prelude.{◌≡◌, ◌≤◌, ◌+◌, ◌∷◌, [], false, Err, IfOk, IfSome, OnOk, OnErr};
 ghost use Rattle.ssz_arena.specs.Content.{unhashed};
 ghost use Rattle.ssz_outside.specs.Job.{IsFinished};
 ghost use Rattle.ssz_machine.specs.Plays.{says};
-ghost use Rattle.ssz_engine.specs.Lines.{CountsPrint, DoesLine, LeavesOthers, PrintsLine, ended_by, Tries};
+ghost use Rattle.ssz_engine.specs.Lines.{DoesLine, LeavesOthers, ended_by, Tries};
 ghost use Rattle.ssz_decisions.specs.Standing.{StaysFor};
 ghost use Rattle.ssz_engine.specs.Steps.{WhereAccepted, is_refusal};
 ghost use Rattle.ssz_decisions.specs.Roots.{LeavesHashed, HashesSome};
@@ -15,7 +15,7 @@ use super::engine::Engine;
 use ssz_chunk::PairHash;
 use ssz_decisions::{EngineFault, Outcome, push_front, say};
 use ssz_machine::Place;
-use ssz_outside::{Files, PutFault, Sink, Status};
+use ssz_outside::{Files, Replies, Sink, Status, print_line};
 use ssz_script::{Reply, ScriptStatement};
 use ssz_versions::Writer;
 
@@ -71,21 +71,6 @@ pub(crate) fn status_of(fault: EngineFault) -> Status
     }
 }
 
-/// Prints a line in one piece.
-pub(crate) fn print<S: Sink>(line: &[u8], out: &mut S) -> Result<(), Status>
-    ensures pieces { PrintsLine result line.now (S.pieces out.old) (S.pieces out.new) }
-    ensures counts { CountsPrint result (S.faults out.old) (S.faults out.new) }
-    ensures memory { result ≡ Err Status.Memory → S.ample out.old ≡ false }
-    ensures ample { S.ample out.new ≡ S.ample out.old }
-    ensures stops { IfErr result (λ ended. ¬ IsFinished ended) }
-{
-    match out.put(line) {
-        Ok(()) => Ok(()),
-        Err(PutFault::Failed) => Err(Status::WriteFault),
-        Err(PutFault::Memory) => Err(Status::Memory),
-    }
-}
-
 // Whether a line was refused.
 fn is_refusal(made: Outcome) -> bool
     ensures { result ≡ is_refusal made }
@@ -96,7 +81,7 @@ fn is_refusal(made: Outcome) -> bool
     }
 }
 
-/// Does a line of a writer and prints its reply. `refused` becomes true where the line is refused.
+/// Does a line of a writer and prints its reply, which tells whether the line was refused.
 ///
 /// Eight parameters: who says which line where, and what is lent, each by its owner.
 pub(crate) fn run_line<F: Files, S: Sink, H: PairHash>(
@@ -107,22 +92,23 @@ pub(crate) fn run_line<F: Files, S: Sink, H: PairHash>(
     files: &mut F,
     out: &mut S,
     hasher: &mut H,
-    refused: &mut bool,
+    replies: &mut Replies,
 ) -> Result<(), Status>
     ensures runs { Runs H.pair_of place (says writer.0 (line.now.line, line.now.statement) ∷ [])
-        result refused.old refused.new
+        result replies.old.refused replies.new.refused
         (scene F.Files S.Sink H.PairHash engine.old files.old out.old hasher.old)
         (scene F.Files S.Sink H.PairHash engine.new files.new out.new hasher.new) }
     ensures others { LeavesOthers writer.0 engine.old.entries engine.new.entries }
 {
-    let mut text = Vec::new(engine.store.alloc);
-    if push_front(place, writer, &mut text).is_err() {
+    replies.begin();
+    let text = &mut replies.text;
+    if push_front(place, writer, text).is_err() {
         return Err(Status::Memory);
     }
-    match reply_to(engine, place, writer, line, files, hasher, &mut text) {
+    match reply_to(engine, place, writer, line, files, hasher, text) {
         Ok(made) => {
-            *refused = is_refusal(made) | *refused;
-            print(text.as_slice(), out)
+            replies.refused = is_refusal(made) | replies.refused;
+            print_line(replies.text.as_slice(), out)
         }
         Err(fault) => Err(status_of(fault)),
     }

@@ -10,7 +10,7 @@ use super::run::run_lines;
 use super::script_line::run_line;
 use ssz_chunk::PairHash;
 use ssz_machine::Place;
-use ssz_outside::{Files, Sink, Status};
+use ssz_outside::{Files, Replies, Sink, Status};
 use ssz_script::Statements;
 use ssz_versions::Writer;
 
@@ -23,9 +23,10 @@ fn run_next<F: Files, S: Sink, H: PairHash>(
     files: &mut F,
     out: &mut S,
     hasher: &mut H,
-    refused: &mut bool,
+    replies: &mut Replies,
 ) -> Result<(), Status>
-    ensures runs { Runs H.pair_of Weave (next_of writer.0 lines.old) result refused.old refused.new
+    ensures runs { Runs H.pair_of Weave (next_of writer.0 lines.old) result replies.old.refused
+        replies.new.refused
         (scene F.Files S.Sink H.PairHash engine.old files.old out.old hasher.old)
         (scene F.Files S.Sink H.PairHash engine.new files.new out.new hasher.new) }
     ensures left { OnOk result (lines.new ≡ drop 1 lines.old) }
@@ -35,7 +36,7 @@ fn run_next<F: Files, S: Sink, H: PairHash>(
         Ok(None) => Ok(()),
         Ok(Some(line)) => {
             let weave = Place::Weave;
-            let ran = run_line(engine, weave, writer, &line, files, out, hasher, refused);
+            let ran = run_line(engine, weave, writer, &line, files, out, hasher, replies);
             drop(line);
             ran
         }
@@ -52,11 +53,11 @@ pub(crate) fn run_turns<F: Files, S: Sink, H: PairHash>(
     files: &mut F,
     out: &mut S,
     hasher: &mut H,
-    refused: &mut bool,
+    replies: &mut Replies,
 ) -> Result<(), Status>
     requires { All (λ writer. writer < vec_len scripts.old) order.now }
     ensures runs { RunsUpTo H.pair_of Weave (woven order.now scripts.old.items)
-        (rest_from 0 scripts.new.items) result refused.old refused.new
+        (rest_from 0 scripts.new.items) result replies.old.refused replies.new.refused
         (scene F.Files S.Sink H.PairHash engine.old files.old out.old hasher.old)
         (scene F.Files S.Sink H.PairHash engine.new files.new out.new hasher.new) }
     ensures count { vec_len scripts.new ≡ vec_len scripts.old }
@@ -64,7 +65,7 @@ pub(crate) fn run_turns<F: Files, S: Sink, H: PairHash>(
     for number in order {
         let writer = Writer(*number);
         let lines = &mut scripts[usize::from(*number)];
-        run_next(engine, writer, lines, files, out, hasher, refused)?;
+        run_next(engine, writer, lines, files, out, hasher, replies)?;
     }
     Ok(())
 }
@@ -76,10 +77,11 @@ pub(crate) fn run_rest<F: Files, S: Sink, H: PairHash>(
     files: &mut F,
     out: &mut S,
     hasher: &mut H,
-    refused: &mut bool,
+    replies: &mut Replies,
 ) -> Result<(), Status>
     requires { vec_len scripts.old ≤ base_writer }
-    ensures { Runs H.pair_of Weave (rest_from 0 scripts.old.items) result refused.old refused.new
+    ensures { Runs H.pair_of Weave (rest_from 0 scripts.old.items) result replies.old.refused
+        replies.new.refused
         (scene F.Files S.Sink H.PairHash engine.old files.old out.old hasher.old)
         (scene F.Files S.Sink H.PairHash engine.new files.new out.new hasher.new) }
 {
@@ -88,7 +90,7 @@ pub(crate) fn run_rest<F: Files, S: Sink, H: PairHash>(
         let writer = Writer(number);
         let lines = &mut scripts[usize::from(number)];
         let weave = Place::Weave;
-        run_lines(engine, weave, writer, lines, files, out, hasher, refused)?;
+        run_lines(engine, weave, writer, lines, files, out, hasher, replies)?;
         number += 1;
     }
     Ok(())

@@ -15,13 +15,13 @@ ghost use Rattle.ssz_engine.specs.Weaves.{EndsWeave, IsolatesWriters};
 ghost use Rattle.ssz_decisions.specs.Standing.{HoldsNone};
 
 use super::engine::Engine;
-use super::run::{run_lines, status_after};
+use super::run::run_lines;
 use super::turns::{run_rest, run_turns};
 use ssz_bytes::ByteRun;
 use ssz_chunk::PairHash;
 use ssz_decisions::{BASE, adopt_all};
 use ssz_machine::Place;
-use ssz_outside::{Files, Sink, Status};
+use ssz_outside::{Files, Replies, Sink, Status};
 use ssz_script::Statements;
 use std::alloc::{AllocError, Global};
 
@@ -48,19 +48,19 @@ fn run_base<F: Files, S: Sink, H: PairHash>(
     files: &mut F,
     out: &mut S,
     hasher: &mut H,
-    refused: &mut bool,
+    replies: &mut Replies,
 ) -> Result<(), Status>
     requires few { count ≤ base_writer }
     requires none { (writer : ℕ) → writer < count → HoldsNone engine.old.entries writer }
     ensures { (scripts : List (List Line)) → length scripts ≡ count
         → Runs H.pair_of Weave (all_of base_writer (statements_in base.now) ++ adoptions 0 scripts)
-        result refused.old refused.new
+        result replies.old.refused replies.new.refused
         (scene F.Files S.Sink H.PairHash engine.old files.old out.old hasher.old)
         (scene F.Files S.Sink H.PairHash engine.new files.new out.new hasher.new) }
 {
     let mut lines = Statements::new(base);
     let weave = Place::Weave;
-    run_lines(engine, weave, BASE, &mut lines, files, out, hasher, refused)?;
+    run_lines(engine, weave, BASE, &mut lines, files, out, hasher, replies)?;
     match adopt_all(&mut engine.store, count) {
         Ok(()) => {}
         Err(_) => return Err(Status::Memory),
@@ -78,7 +78,7 @@ fn run_weave<F: Files, S: Sink, H: PairHash>(
     files: &mut F,
     out: &mut S,
     hasher: &mut H,
-    refused: &mut bool,
+    replies: &mut Replies,
 ) -> Result<(), Status>
     requires few { length scripts.now ≤ base_writer }
     requires known { All (λ writer. writer < length scripts.now) order.now }
@@ -86,16 +86,16 @@ fn run_weave<F: Files, S: Sink, H: PairHash>(
         → HoldsNone engine.old.entries writer }
     ensures { Runs H.pair_of Weave
         (weaving (statements_in base.now) order.now (map statements_in scripts.now)) result
-        refused.old refused.new
+        replies.old.refused replies.new.refused
         (scene F.Files S.Sink H.PairHash engine.old files.old out.old hasher.old)
         (scene F.Files S.Sink H.PairHash engine.new files.new out.new hasher.new) }
 {
     let Ok(mut lines) = statements_of(engine.store.alloc, scripts) else {
         return Err(Status::Memory);
     };
-    run_base(engine, base, lines.len(), files, out, hasher, refused)?;
-    run_turns(engine, order, &mut lines, files, out, hasher, refused)?;
-    run_rest(engine, &mut lines, files, out, hasher, refused)
+    run_base(engine, base, lines.len(), files, out, hasher, replies)?;
+    run_turns(engine, order, &mut lines, files, out, hasher, replies)?;
+    run_rest(engine, &mut lines, files, out, hasher, replies)
 }
 
 impl<H: PairHash> Engine<H> {
@@ -158,9 +158,9 @@ impl<H: PairHash> Engine<H> {
         ensures fails { AllByRecursion (AreNamedReadable (F.readable files.old))
             (map statements_in (base.now ∷ scripts.now)) → result ≢ Status.ReadFault }
     {
-        let mut refused = false;
-        match run_weave(self, base, order, scripts, files, out, hasher, &mut refused) {
-            Ok(()) => status_after(refused),
+        let mut replies = Replies::new(self.store.alloc);
+        match run_weave(self, base, order, scripts, files, out, hasher, &mut replies) {
+            Ok(()) => replies.status(),
             Err(ended) => ended,
         }
     }

@@ -9,10 +9,10 @@ ghost use Rattle.ssz_decisions.specs.Content.{KeepsEngine};
 ghost use Rattle.ssz_engine.specs.Works.{EndsWork, two_lines_job};
 
 use super::engine::Engine;
-use super::script_line::{print, status_of};
+use super::script_line::status_of;
 use super::work_steps::work_through;
 use ssz_chunk::PairHash;
-use ssz_outside::{Files, Sink, Status};
+use ssz_outside::{Files, Sink, Status, print_line};
 use ssz_script::Identifier;
 use std::alloc::{AllocError, Global};
 
@@ -36,11 +36,11 @@ fn print_work<S: Sink>(alloc: Global, count: u32, edits: u32, root: &[u8], out: 
     let Ok(first) = work_line(alloc, count, edits) else {
         return Status::Memory;
     };
-    match print(first.as_bytes(), out) {
+    match print_line(first.as_bytes(), out) {
         Ok(()) => {}
         Err(ended) => return ended,
     }
-    match print(root, out) {
+    match print_line(root, out) {
         Ok(()) => Status::Accepted,
         Err(ended) => ended,
     }

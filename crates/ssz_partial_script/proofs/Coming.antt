@@ -15,7 +15,8 @@ use Rattle.ssz_schema.specs.Types.{SszType}
 use Rattle.ssz_proof.specs.Calculation.{PairOf}
 use Rattle.ssz_proof.specs.Multiproof.{Multiproof}
 use Rattle.ssz_partial_script.specs.Plays.{PartialScriptLine, PartialTurn, partial_step, partial_play, partial_shown, known_after, known_last, is_partial_refused, partial_charge_of, partial_charges, partial_job_of}
-use Rattle.ssz_partial_script.specs.Runs.{PartialScene, MakesPartialTurn, Breaks, DoesPartialTurns, RunsAll, PartialRunReaches, partial_finished}
+use Rattle.ssz_outside.specs.Printed.{finished_status}
+use Rattle.ssz_partial_script.specs.Runs.{PartialScene, MakesPartialTurn, Breaks, DoesPartialTurns, RunsAll, PartialRunReaches}
 use Rattle.ssz_partial_script.proofs.Ending.{ends_done, ends_torn, ends_without_memory}
 
 swap : (a b c : Bool) → (a || (b || c)) ≡ ((b || (a || false)) || c)
@@ -150,10 +151,10 @@ module _ (pair_of : PairOf) (t : SszType) (lines : List PartialScriptLine) where
 pub runs_to_end : (turns : List PartialTurn) (before after : PartialScene) (held : Content)
     (ample : Bool)
     → before.refused ≡ false → RunsAll turns (Ok tt) before after
-    → Ends ample (partial_finished after.refused)
+    → Ends ample (finished_status after.refused)
     (partial_job_of held turns) before.pieces after.pieces (Some held)
 runs_to_end turns before after held ample none does =
-    subst (λ (r : Bool). Ends ample (partial_finished r)
+    subst (λ (r : Bool). Ends ample (finished_status r)
     (partial_job_of held turns) before.pieces after.pieces
     (Some held)) (sym (does.answer ∙ ap (λ b. list_any is_partial_refused turns || b) none
     ∙ or_none (list_any is_partial_refused turns)))

@@ -8,7 +8,7 @@ use Rattle.ssz_outside.specs.Job.{Job, Ends, Finishes, JobStandsAt}
 use Rattle.ssz_outside.specs.Pieces.{Told, told_append}
 use Rattle.ssz_outside.specs.declared.status.Status.TheVariants as status
 use Rattle.ssz_partial_script.specs.Plays.{PartialTurn, partial_shown, is_partial_refused, partial_job_of}
-use Rattle.ssz_partial_script.specs.Runs.{partial_finished}
+use Rattle.ssz_outside.specs.Printed.{finished_status}
 
 module _ (held : Content) (done rest : List PartialTurn) where
   abbrev whole : Job
@@ -80,7 +80,7 @@ module _ (held : Content) (done : List PartialTurn) (turn : PartialTurn)
 -- all steps were made
 module _ (held : Content) (turns : List PartialTurn) where
   pub ends_done : (ample : Bool) (old new : Told) → new ≡ told_append old (map partial_shown turns)
-      → Ends ample (partial_finished (list_any is_partial_refused turns))
+      → Ends ample (finished_status (list_any is_partial_refused turns))
       (partial_job_of held turns) old new (Some held)
   ends_done ample old new printed = by (list_any is_partial_refused turns) (record {
     status = refl;

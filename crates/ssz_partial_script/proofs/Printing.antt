@@ -1,6 +1,7 @@
 -- The line of a step, printed.
-use Rattle.std.proofs.Common.{ℕ, ◌≡◌, false, take, Option, Some, None, refl, ap, ◌∙◌, subst}
+use Rattle.std.proofs.Common.{ℕ, ◌≡◌, false, List, take, Option, Some, None, refl, ap, ◌∙◌, subst, inr}
 use Rattle.std.specs.Prelude.{◌||◌, Result, Ok, Err}
+use Rattle.ssz_outside.specs.Pieces.{Told}
 use Rattle.ssz_outside.specs.declared.status.Status.{Status}
 use Rattle.ssz_outside.specs.declared.status.Status.TheVariants as status
 use Rattle.ssz_bytes.specs.declared.fault.Fault.{Fault}
@@ -19,7 +20,8 @@ use Rattle.ssz_script.specs.declared.reply.Reply.TheVariants.{Bytes}
 use Rattle.ssz_script.specs.Texts.{reply_line}
 use Rattle.ssz_partial_script.specs.Statements.{coded, blind, bad_bytes, PartialRow, ◌>>=◌, ◌>>◌, covered, partial_faultless, becomes, partial_row_said, partial_says}
 use Rattle.ssz_partial_script.specs.Plays.{PartialScriptLine, PartialTurn, partial_step, partial_reply_in, partial_reply_of, known_after, is_partial_refused, is_partial_refused_row}
-use Rattle.ssz_partial_script.specs.Runs.{PartialScene, PrintsPiece, RunsTurn, is_partial_refusal}
+use Rattle.ssz_outside.specs.Printed.{CountsPrint, PrintsLine}
+use Rattle.ssz_partial_script.specs.Runs.{CountsPartialFaults, PartialScene, RunsTurn, is_partial_refusal}
 
 -- no reply to an accepted statement is a refusal
 abbrev IsNoRefusal : PartialRow → Type 0
@@ -71,18 +73,18 @@ pub printed_turn : (pair_of : PairOf) (t : SszType) (line : PartialScriptLine)
     → reply ≡ partial_reply_of (partial_step pair_of t before.known line)
     → after.known ≡ known_after (partial_step pair_of t before.known line)
     → after.refused ≡ (is_partial_refusal reply || before.refused)
-    → PrintsPiece result (reply_line reply) before.pieces after.pieces
+    → PrintsLine result (reply_line reply) before.pieces after.pieces
     → RunsTurn (partial_step pair_of t before.known line) result before after
 printed_turn pair_of t line before after reply result said known answer prints =
     by result
-    (subst (λ (r : Reply). PrintsPiece result (reply_line r) before.pieces after.pieces) said
+    (subst (λ (r : Reply). PrintsLine result (reply_line r) before.pieces after.pieces) said
     prints)
   where
     turn : PartialTurn
     turn = partial_step pair_of t before.known line
 
     by : (result : Result (Unit {0}) Status)
-        → PrintsPiece result (reply_line (partial_reply_of turn)) before.pieces after.pieces
+        → PrintsLine result (reply_line (partial_reply_of turn)) before.pieces after.pieces
         → RunsTurn turn result before after
     by (Ok done) printed = record {
       known = known;
@@ -97,3 +99,18 @@ printed_turn pair_of t line before after reply result said known answer prints =
     by (Err status.Usage) printed = absurd printed
     by (Err status.SchemaFault) printed = absurd printed
     by (Err status.ReadFault) printed = absurd printed
+
+-- the fault that ended a print was counted, and no other
+pub printed_counts : (result : Result (Unit {0}) Status) (line : List ℕ) (old new : Told)
+    (before now : ℕ) → PrintsLine result line old new → CountsPrint result before now
+    → CountsPartialFaults result before now
+printed_counts (Ok done) line old new before now prints sinks = sinks
+printed_counts (Err status.WriteFault) line old new before now prints sinks = λ gets puts.
+    (refl, inr (refl, sinks))
+printed_counts (Err status.Memory) line old new before now prints sinks = λ gets puts.
+    (refl, refl, sinks)
+printed_counts (Err status.Accepted) line old new before now prints sinks = absurd prints
+printed_counts (Err status.Refused) line old new before now prints sinks = absurd prints
+printed_counts (Err status.Usage) line old new before now prints sinks = absurd prints
+printed_counts (Err status.SchemaFault) line old new before now prints sinks = absurd prints
+printed_counts (Err status.ReadFault) line old new before now prints sinks = absurd prints

@@ -1,5 +1,5 @@
 -- How a script runs, line after line.
-use Rattle.std.specs.Prelude.{ℕ, ◌≡◌, ◌≤◌, ◌+◌, ◌||◌, Bool, true, false, if◌then◌else◌, List, [], ◌∷◌, ◌++◌, map, take, Option, Some, None, Result, Ok, Err, ⊤}
+use Rattle.std.specs.Prelude.{ℕ, ◌≡◌, ◌≤◌, ◌+◌, ◌||◌, Bool, true, false, List, [], ◌∷◌, ◌++◌, map, take, Option, Some, None, Result, Ok, Err}
 use Rattle.std.specs.List.{list_any}
 use Rattle.ssz_outside.specs.Content.{Content}
 use Rattle.ssz_outside.specs.Job.{CountsRun, Ends}
@@ -58,20 +58,6 @@ abbrev pub RunsTurn : PartialTurn → Result (Unit {0}) Status → PartialScene 
 RunsTurn turn (Ok x) before after = MakesPartialTurn turn before after
 RunsTurn turn (Err ended) before after = Breaks turn ended before.pieces after.pieces
 
--- a fault of the sink, or want of memory
-abbrev pub IsStop : Status → Type 0
-IsStop status.WriteFault = ⊤
-IsStop status.Memory = ⊤
-IsStop other = ⊥
-
--- A piece was printed: whole, or in part where that failed, or not at all where memory was wanting.
-abbrev pub PrintsPiece : Result (Unit {0}) Status → List ℕ → Told → Told → Type 0
-PrintsPiece (Ok x) line old new = new ≡ told_append old (line ∷ [])
-PrintsPiece (Err status.WriteFault) line old new =
-    (count : ℕ) × (new ≡ told_append old (take count line ∷ []))
-PrintsPiece (Err status.Memory) line old new = new ≡ old
-PrintsPiece (Err other) line old new = ⊥
-
 -- the sink's count of faults, and no other
 abbrev pub CountsPartialFaults : Result (Unit {0}) Status → ℕ → ℕ → Type 0
 CountsPartialFaults (Ok x) old new = new ≡ old
@@ -104,7 +90,3 @@ pub record PartialRunReaches (pair_of : PairOf) (t : SszType) (lines left : List
   pub printed : after.pieces ≡ told_append before.pieces (map partial_shown done)
   pub answer : after.refused ≡ list_any is_partial_refused done || before.refused
   pub paid : after.hashed ≤ before.hashed + partial_charges done
-
--- the status of a run that no fault ended
-abbrev pub partial_finished : Bool → Status
-partial_finished refused = if refused then status.Refused else status.Accepted

@@ -1,5 +1,5 @@
 // The lines of a script, one by one.
-ghost use Rattle.std.specs.Prelude.{IfOk, OnErr, ◌≡◌};
+ghost use Rattle.std.specs.Prelude.{IfOk};
 ghost use Rattle.ssz_script.specs.Grammar.{partial_statements};
 ghost use Rattle.ssz_script.specs.Lines.{lines_said};
 ghost use Rattle.ssz_partial_script.specs.Runs.{IsNextPartialLine};

@@ -2,45 +2,33 @@
 ghost use Rattle.std.specs.Prelude.{◌≡◌, ◌≢◌, ◌<◌, ◌≤◌, ◌+◌, ℕ, length, Some, IfErr};
 ghost use Rattle.ssz_outside.specs.Content.{Content};
 ghost use Rattle.ssz_outside.specs.Job.{CountsRun, Ends, IsFinished};
+ghost use Rattle.ssz_outside.specs.Printed.{CountsPrint, IsStop, PrintsLine};
 ghost use Rattle.ssz_schema.specs.Unfolding.{type_of};
 ghost use Rattle.ssz_script.specs.Grammar.{partial_statements};
 ghost use Rattle.ssz_script.specs.Lines.{lines_said};
 ghost use Rattle.ssz_script.specs.Texts.{reply_line};
 ghost use Rattle.ssz_partial_script.specs.Plays.{partial_charge_of, partial_charges, known_last, partial_play, partial_script_job, partial_turns_of_script};
-ghost use Rattle.ssz_partial_script.specs.Runs.{CountsPartialFaults, IsStop, PrintsPiece, RunsAll, RunsTurn, partial_finished, is_partial_refusal, partial_turn_at};
+ghost use Rattle.ssz_partial_script.specs.Runs.{CountsPartialFaults, RunsAll, RunsTurn, is_partial_refusal, partial_turn_at};
 
 use super::line::{PartialLine, next_line};
 use super::reply::reply_to;
 use ssz_chunk::PairHash;
-use ssz_outside::{PutFault, Sink, Status};
+use ssz_outside::{Replies, Sink, Status, print_line};
 use ssz_partial::Partial;
 use ssz_schema::Schema;
 use ssz_script::{Lines, Reply, reply_text};
 use std::alloc::Global;
 
-// Prints a line in one piece.
-fn print<S: Sink>(line: &[u8], out: &mut S) -> Result<(), Status>
-    ensures prints { PrintsPiece result line.now (S.pieces out.old) (S.pieces out.new) }
-    ensures counts { CountsPartialFaults result (S.faults out.old) (S.faults out.new) }
+// Makes the line of a reply and prints it.
+fn print_reply<S: Sink>(reply: &Reply, replies: &mut Replies, out: &mut S) -> Result<(), Status>
+    ensures prints { PrintsLine result (reply_line reply.now) (S.pieces out.old) (S.pieces out.new) }
+    ensures counts { CountsPrint result (S.faults out.old) (S.faults out.new) }
     ensures stops { IfErr result IsStop }
+    ensures refused { replies.new.refused ≡ replies.old.refused }
 {
-    match out.put(line) {
-        Ok(()) => Ok(()),
-        Err(PutFault::Failed) => Err(Status::WriteFault),
-        Err(PutFault::Memory) => Err(Status::Memory),
-    }
-}
-
-// Prints a reply.
-fn print_reply<S: Sink>(alloc: Global, reply: &Reply, out: &mut S) -> Result<(), Status>
-    ensures prints { PrintsPiece result (reply_line reply.now) (S.pieces out.old)
-        (S.pieces out.new) }
-    ensures counts { CountsPartialFaults result (S.faults out.old) (S.faults out.new) }
-    ensures stops { IfErr result IsStop }
-{
-    let mut text = Vec::new(alloc);
-    match reply_text(reply, &mut text) {
-        Ok(()) => print(text.as_slice(), out),
+    replies.begin();
+    match reply_text(reply, &mut replies.text) {
+        Ok(()) => print_line(replies.text.as_slice(), out),
         Err(_) => Err(Status::Memory),
     }
 }
@@ -55,7 +43,7 @@ fn is_refusal(reply: &Reply) -> bool
     }
 }
 
-// Does a line and prints its reply. `refused` becomes true where the line is refused.
+// Does a line and prints its reply, which tells whether the line was refused.
 // Seven parameters: the line, and what is lent, each by its owner.
 fn run_line<S: Sink, H: PairHash>(
     alloc: Global,
@@ -64,7 +52,7 @@ fn run_line<S: Sink, H: PairHash>(
     line: &PartialLine,
     out: &mut S,
     hasher: &mut H,
-    refused: &mut bool,
+    replies: &mut Replies,
 ) -> Result<(), Status>
     requires { partial.old.id < length schema.now.trees }
     ensures runs { RunsTurn
@@ -74,13 +62,13 @@ fn run_line<S: Sink, H: PairHash>(
           known = partial.old.proof;
           hashed = H.pairs hasher.old;
           pieces = S.pieces out.old;
-          refused = refused.old;
+          refused = replies.old.refused;
         })
         (record {
           known = partial.new.proof;
           hashed = H.pairs hasher.new;
           pieces = S.pieces out.new;
-          refused = refused.new;
+          refused = replies.new.refused;
         }) }
     ensures same { partial.new.id ≡ partial.old.id }
     ensures counts { CountsPartialFaults result (S.faults out.old) (S.faults out.new) }
@@ -91,8 +79,8 @@ fn run_line<S: Sink, H: PairHash>(
 {
     match reply_to(alloc, schema, partial, line, hasher) {
         Ok(reply) => {
-            *refused = is_refusal(&reply) | *refused;
-            print_reply(alloc, &reply, out)
+            replies.refused = is_refusal(&reply) | replies.refused;
+            print_reply(&reply, replies, out)
         }
         Err(_) => Err(Status::Memory),
     }
@@ -107,7 +95,7 @@ fn run_lines<S: Sink, H: PairHash>(
     lines: &mut Lines<'_>,
     out: &mut S,
     hasher: &mut H,
-    refused: &mut bool,
+    replies: &mut Replies,
 ) -> Result<(), Status>
     requires { partial.old.id < length schema.now.trees }
     ensures runs { RunsAll
@@ -117,13 +105,13 @@ fn run_lines<S: Sink, H: PairHash>(
           known = partial.old.proof;
           hashed = H.pairs hasher.old;
           pieces = S.pieces out.old;
-          refused = refused.old;
+          refused = replies.old.refused;
         })
         (record {
           known = partial.new.proof;
           hashed = H.pairs hasher.new;
           pieces = S.pieces out.new;
-          refused = refused.new;
+          refused = replies.new.refused;
         }) }
     ensures same { partial.new.id ≡ partial.old.id }
     ensures counts { CountsPartialFaults result (S.faults out.old) (S.faults out.new) }
@@ -138,22 +126,11 @@ fn run_lines<S: Sink, H: PairHash>(
             Err(_) => return Err(Status::Memory),
             Ok(None) => return Ok(()),
             Ok(Some(line)) => {
-                let ran = run_line(alloc, schema, partial, &line, out, hasher, refused);
+                let ran = run_line(alloc, schema, partial, &line, out, hasher, replies);
                 drop(line);
                 ran?;
             }
         }
-    }
-}
-
-// The status of a run that no fault ended.
-fn status_after(refused: bool) -> Status
-    ensures { result ≡ partial_finished refused }
-{
-    if refused {
-        Status::Refused
-    } else {
-        Status::Accepted
     }
 }
 
@@ -200,7 +177,7 @@ pub fn run_partial<S: Sink, H: PairHash>(
     ensures reads { result ≢ Status.ReadFault }
 {
     let mut lines = Lines::new(script);
-    let mut refused = false;
+    let mut replies = Replies::new(alloc);
     match run_lines(
         alloc,
         schema,
@@ -208,9 +185,9 @@ pub fn run_partial<S: Sink, H: PairHash>(
         &mut lines,
         out,
         hasher,
-        &mut refused,
+        &mut replies,
     ) {
-        Ok(()) => status_after(refused),
+        Ok(()) => replies.status(),
         Err(ended) => ended,
     }
 }

@@ -9,7 +9,7 @@ use Rattle.ssz_engine.proofs.run.run_lines.Given as goal
 abbrev pub invariant-loop-line : goal.invariant-loop-line
 invariant-loop-line g l = record {
   runs : RunsSome g.H.PairHash.pair_of l.fn.place (all_of l.fn.writer.0 l.fn.lines)
-      (all_of l.fn.writer.0 l.lines) l.fn.refused l.refused
+      (all_of l.fn.writer.0 l.lines) l.fn.replies.refused l.replies.refused
       (scene g.F.Files g.S.Sink g.H.PairHash l.fn.engine l.fn.files l.fn.out l.fn.hasher)
       (scene g.F.Files g.S.Sink g.H.PairHash l.engine l.files l.out l.hasher);
   others : LeavesOthers l.fn.writer.0 l.fn.engine.entries l.engine.entries;

@@ -11,7 +11,7 @@ invariant-loop-writer g l = record {
   few : vec_len l.scripts ≤ base_writer;
   within : l.number ≤ vec_len l.scripts;
   runs : RunsSome g.H.PairHash.pair_of Weave (rest_from 0 l.fn.scripts.items)
-      (rest_from l.number (drop l.number l.scripts.items)) l.fn.refused l.refused
+      (rest_from l.number (drop l.number l.scripts.items)) l.fn.replies.refused l.replies.refused
       (scene g.F.Files g.S.Sink g.H.PairHash l.fn.engine l.fn.files l.fn.out l.fn.hasher)
       (scene g.F.Files g.S.Sink g.H.PairHash l.engine l.files l.out l.hasher);
 }

@@ -9,7 +9,7 @@ use Rattle.ssz_engine.proofs.turns.run_turns.Given as goal
 abbrev pub invariant-loop-number : goal.invariant-loop-number
 invariant-loop-number g l = record {
   runs : RunsSome g.H.PairHash.pair_of Weave (woven l.order l.fn.scripts.items)
-      (woven (drop l.number-index l.order) l.scripts.items) l.fn.refused l.refused
+      (woven (drop l.number-index l.order) l.scripts.items) l.fn.replies.refused l.replies.refused
       (scene g.F.Files g.S.Sink g.H.PairHash l.fn.engine l.fn.files l.fn.out l.fn.hasher)
       (scene g.F.Files g.S.Sink g.H.PairHash l.engine l.files l.out l.hasher);
   count : vec_len l.scripts ≡ vec_len l.fn.scripts;

@@ -29,11 +29,11 @@ returns g c = λ scripts count.
     let mid : Scene = scene g.F.Files g.S.Sink g.H.PairHash was c.run_lines.new.files
     c.run_lines.new.out c.run_lines.new.hasher in
     let begun : Runs g.H.PairHash.pair_of Weave
-    (all_of base_writer (statements_in c.args.base.now)) (Ok tt) c.args.refused.now
-    c.run_lines.new.refused before mid =
+    (all_of base_writer (statements_in c.args.base.now)) (Ok tt) c.args.replies.now.refused
+    c.run_lines.new.replies.refused before mid =
     subst (λ (engine : EngineContent). Runs g.H.PairHash.pair_of Weave
-    (all_of base_writer (statements_in c.args.base.now)) (Ok tt) c.args.refused.now
-    c.run_lines.new.refused before (record mid { engine = engine })) (sym c.engine.view_is)
+    (all_of base_writer (statements_in c.args.base.now)) (Ok tt) c.args.replies.now.refused
+    c.run_lines.new.replies.refused before (record mid { engine = engine })) (sym c.engine.view_is)
     (runs_of (ap (λ (lines : List Line). all_of base_writer lines) (sym c.new-lines.ensures))
     c.in_ok-run_lines.ensures.runs) in
     runs_then begun
@@ -50,11 +50,11 @@ returns-in-Err g c = λ scripts count.
     let mid : Scene = scene g.F.Files g.S.Sink g.H.PairHash was c.run_lines.new.files
     c.run_lines.new.out c.run_lines.new.hasher in
     let begun : Runs g.H.PairHash.pair_of Weave
-    (all_of base_writer (statements_in c.args.base.now)) (Ok tt) c.args.refused.now
-    c.run_lines.new.refused before mid =
+    (all_of base_writer (statements_in c.args.base.now)) (Ok tt) c.args.replies.now.refused
+    c.run_lines.new.replies.refused before mid =
     subst (λ (engine : EngineContent). Runs g.H.PairHash.pair_of Weave
-    (all_of base_writer (statements_in c.args.base.now)) (Ok tt) c.args.refused.now
-    c.run_lines.new.refused before (record mid { engine = engine })) (sym c.engine.view_is)
+    (all_of base_writer (statements_in c.args.base.now)) (Ok tt) c.args.replies.now.refused
+    c.run_lines.new.replies.refused before (record mid { engine = engine })) (sym c.engine.view_is)
     (runs_of (ap (λ (lines : List Line). all_of base_writer lines) (sym c.new-lines.ensures))
     c.in_ok-run_lines.ensures.runs) in
     runs_then begun

@@ -1,9 +1,10 @@
-use Rattle.std.proofs.Common.{ap}
+use Rattle.std.proofs.Common.{ap, ◌∙◌}
 use Rattle.std.specs.Prelude.{◌||◌}
 use Rattle.ssz_schema.specs.Unfolding.{type_of}
+use Rattle.ssz_script.specs.Texts.{reply_line}
 use Rattle.ssz_partial.specs.Partial.{Knowledge}
 use Rattle.ssz_partial_script.specs.Runs.{PartialScene}
-use Rattle.ssz_partial_script.proofs.Printing.{printed_turn}
+use Rattle.ssz_partial_script.proofs.Printing.{printed_counts, printed_turn}
 use Rattle.ssz_partial_script.proofs.run.run_line.Goals as goal
 
 pub returns-in-Ok-clause-runs : goal.returns-in-Ok-clause-runs
@@ -12,16 +13,24 @@ returns-in-Ok-clause-runs g c =
       known = c.args.partial.now.proof;
       hashed = g.H.PairHash.pairs c.args.hasher.now;
       pieces = g.S.Sink.pieces c.args.out.now;
-      refused = c.args.refused.now;
+      refused = c.args.replies.now.refused;
     } in
     let after : PartialScene = record {
       known = c.reply_to.new.partial.proof;
       hashed = g.H.PairHash.pairs c.reply_to.new.hasher;
       pieces = g.S.Sink.pieces c.print_reply.new.out;
-      refused = c.is_refusal.result || c.args.refused.now;
+      refused = c.print_reply.new.replies.refused;
     } in
     printed_turn g.H.PairHash.pair_of (type_of c.args.schema.now c.args.partial.now.id)
     (c.args.line.now.number, c.args.line.now.statement) before after c.in-Ok.reply
     c.print_reply.result c.in-Ok.ensures.reply
     (ap (λ (k : Knowledge). k.proof) c.in-Ok.ensures.known)
-    (ap (λ b. b || c.args.refused.now) c.is_refusal.ensures) c.print_reply.ensures.prints
+    (c.print_reply.ensures.refused
+    ∙ ap (λ b. b || c.args.replies.now.refused) c.is_refusal.ensures) c.print_reply.ensures.prints
+
+pub returns-in-Ok-clause-counts : goal.returns-in-Ok-clause-counts
+returns-in-Ok-clause-counts g c =
+    printed_counts c.print_reply.result (reply_line c.in-Ok.reply)
+    (g.S.Sink.pieces c.args.out.now) (g.S.Sink.pieces c.print_reply.new.out)
+    (g.S.Sink.faults c.args.out.now) (g.S.Sink.faults c.print_reply.new.out)
+    c.print_reply.ensures.prints c.print_reply.ensures.counts

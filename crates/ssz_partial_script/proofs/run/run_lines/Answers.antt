@@ -27,19 +27,19 @@ loop-line-preserved g c =
       known = c.args.partial.now.proof;
       hashed = g.H.PairHash.pairs c.args.hasher.now;
       pieces = g.S.Sink.pieces c.args.out.now;
-      refused = c.args.refused.now;
+      refused = c.args.replies.now.refused;
     } in
     let mid : PartialScene = record {
       known = c.loop-line.partial.proof;
       hashed = g.H.PairHash.pairs c.loop-line.hasher;
       pieces = g.S.Sink.pieces c.loop-line.out;
-      refused = c.loop-line.refused;
+      refused = c.loop-line.replies.refused;
     } in
     let after : PartialScene = record {
       known = c.run_line-ran.new.partial.proof;
       hashed = g.H.PairHash.pairs c.run_line-ran.new.hasher;
       pieces = g.S.Sink.pieces c.run_line-ran.new.out;
-      refused = c.run_line-ran.new.refused;
+      refused = c.run_line-ran.new.replies.refused;
     } in
     let line : PartialScriptLine = (c.in-Ok-Some.line.number, c.in-Ok-Some.line.statement) in
     let more = lines_said partial_statements c.next_line.new.lines in
@@ -70,19 +70,19 @@ returns-in_err-ran-in-Ok-Some-clause-runs g c =
       known = c.args.partial.now.proof;
       hashed = g.H.PairHash.pairs c.args.hasher.now;
       pieces = g.S.Sink.pieces c.args.out.now;
-      refused = c.args.refused.now;
+      refused = c.args.replies.now.refused;
     } in
     let mid : PartialScene = record {
       known = c.loop-line.partial.proof;
       hashed = g.H.PairHash.pairs c.loop-line.hasher;
       pieces = g.S.Sink.pieces c.loop-line.out;
-      refused = c.loop-line.refused;
+      refused = c.loop-line.replies.refused;
     } in
     let after : PartialScene = record {
       known = c.run_line-ran.new.partial.proof;
       hashed = g.H.PairHash.pairs c.run_line-ran.new.hasher;
       pieces = g.S.Sink.pieces c.run_line-ran.new.out;
-      refused = c.run_line-ran.new.refused;
+      refused = c.run_line-ran.new.replies.refused;
     } in
     let line : PartialScriptLine = (c.in-Ok-Some.line.number, c.in-Ok-Some.line.statement) in
     let more = lines_said partial_statements c.next_line.new.lines in

@@ -14,13 +14,13 @@ invariant-loop-line g l = record {
         known = l.fn.partial.proof;
         hashed = g.H.PairHash.pairs l.fn.hasher;
         pieces = g.S.Sink.pieces l.fn.out;
-        refused = l.fn.refused;
+        refused = l.fn.replies.refused;
       })
       (record {
         known = l.partial.proof;
         hashed = g.H.PairHash.pairs l.hasher;
         pieces = g.S.Sink.pieces l.out;
-        refused = l.refused;
+        refused = l.replies.refused;
       });
   same : l.partial.id ≡ l.fn.partial.id;
   rises : g.H.PairHash.pairs l.fn.hasher ≤ g.H.PairHash.pairs l.hasher;
