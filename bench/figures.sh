@@ -9,7 +9,7 @@ mkdir -p "$1"
 to=$(cd "$1" && pwd)
 shift
 here=$(cd "$(dirname "$0")" && pwd)
-[ $# -gt 0 ] || set -- table codec reading views json tree prove slices edit_work edit_time scripts work compact partial versions weave \
+[ $# -gt 0 ] || set -- table codec reading views json tree prove slices edit_work edit_time scripts statements work compact partial versions weave \
     proofs schema arena scale calls "sessions work 2000 1" "sessions time 100000 3"
 failed=0 done=0
 for job; do
