@@ -9,7 +9,9 @@ exec env PYTHONPATH=bench python3 - "$@" <<'PY'
 import os, tempfile
 from measure import BENCH, FAR, SSZ, TYPES, least, numbers, print_load, run
 
-rounds, = numbers(8)
+rounds, = numbers(60)
+# so few that the rounds are short
+EDITS = 2000
 
 def statement(how, i, length):
     if how == "pop":
@@ -40,11 +42,11 @@ with tempfile.TemporaryDirectory() as room:
     os.chdir(room)
     with open("s", "w") as file:
         file.write('{"ssz":1,"types":[["L",{"list":["uint64",1099511627776]}]]}')
-    for depth, edits in (10, 10000), (14, 10000), (20, 20000), (22, 20000):
+    for depth in 10, 14, 18:
         with open("v", "wb") as file:
             file.write(b"\1" * (8 << depth))
         for how in "set", "append", "pop":
-            if how != "pop" or edits <= 1 << depth:
-                row(how, 1 << depth, edits)
+            if how != "pop" or EDITS <= 1 << depth:
+                row(how, 1 << depth, EDITS)
 print_load()
 PY
