@@ -61,6 +61,7 @@ _CALLS = {
     "ssz_root": _HANDLE + _NUMBER + _BYTES + _CHUNK + _FAULT,
     "ssz_gindex": _HANDLE + _NUMBER + _BYTES + [ctypes.POINTER(Index)] + _FAULT,
     "ssz_part": _HANDLE + _NUMBER + _BYTES * 2 + _ROOM + _FAULT,
+    "ssz_place": _HANDLE + _NUMBER + _BYTES * 2 + [ctypes.POINTER(Stretch)] + _FAULT,
     "ssz_limit": _HANDLE + _NUMBER + _LENGTH + _FAULT,
     "ssz_names": _HANDLE + _ROOM + _FAULT,
     "ssz_type_name": _HANDLE + _NUMBER + _ROOM + _FAULT,
@@ -69,6 +70,7 @@ _CALLS = {
     "ssz_slice_part": _HANDLE + _BYTES + _ROOM + _FAULT,
     "ssz_slice_place": _HANDLE + _BYTES + [ctypes.POINTER(Stretch)] + _FAULT,
     "ssz_slice_close": _HANDLE,
+    "ssz_verify": [ctypes.c_char_p] + _BYTES,
     "ssz_verify_all": [ctypes.c_char_p] + _ENTRIES * 2,
     "ssz_session_start": _HANDLE + _BYTES + _FAULT,
     "ssz_session_start_on": _HANDLE * 2 + _FAULT,
@@ -87,6 +89,8 @@ _CALLS = {
     "ssz_session_upgrade": _HANDLE + _BYTES * 3 + _FAULT,
     "ssz_session_drop": _HANDLE + _BYTES + _FAULT,
     "ssz_session_root": _HANDLE + _BYTES + _CHUNK + _FAULT,
+    "ssz_session_gindex": _HANDLE + _BYTES * 2 + [ctypes.POINTER(Index)] + _FAULT,
+    "ssz_session_prove": _HANDLE + _BYTES * 2 + _ROOM + _FAULT,
     "ssz_session_prove_all": _HANDLE + _BYTES + _INDICES + _ENTRIES + _LENGTH * 2 + _FAULT,
     "ssz_session_compact": _HANDLE + _FAULT,
     "ssz_session_nodes": _HANDLE + _LENGTH + _FAULT,
@@ -116,7 +120,7 @@ def _places() -> list[str]:
 
 
 @functools.lru_cache(maxsize=None)
-def library() -> ctypes.CDLL:
+def _loaded() -> ctypes.CDLL:
     """The library, loaded once."""
     places = _places()
     for place in places:
@@ -135,3 +139,35 @@ def library() -> ctypes.CDLL:
         call.argtypes = words
         call.restype = ctypes.c_uint32
     return calls
+
+
+class _Process:
+    """Whether this process is the forked child of one that had loaded the library. In the child other threads are gone in the midst of
+    calls, with what they had locked.
+    """
+
+    is_forked = False
+
+    @classmethod
+    def forked(cls) -> None:
+        """Is called in a child, after the fork."""
+        cls.is_forked = cls.is_forked or _loaded.cache_info().currsize > 0
+
+
+if hasattr(os, "register_at_fork"):
+    os.register_at_fork(after_in_child=_Process.forked)
+
+
+def is_forked() -> bool:
+    """Whether this process may make no call."""
+    return _Process.is_forked
+
+
+def library() -> ctypes.CDLL:
+    """The library. Raises RuntimeError in the forked child of a process that had loaded it."""
+    if _Process.is_forked:
+        raise RuntimeError(
+            "this process was forked from one that had loaded the library of ssz, and may not call it. Start processes by spawn: "
+            'multiprocessing.get_context("spawn"), or subprocess.'
+        )
+    return _loaded()

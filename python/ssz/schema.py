@@ -4,14 +4,16 @@ from __future__ import annotations
 
 import ctypes
 import json
+from collections.abc import Mapping
 from pathlib import Path
 from typing import Any, Iterator
 
-from . import values
-from ._library import Index, Stretch
+from . import given, values
+from ._library import Fault, Index, Stretch
 from .errors import NoSuchPart, NoSuchType, Status, SszError, error_of
-from .forms import BUILT_IN, Form, form_at, forms_of, like, place_of
-from .session import Held, Session, _data, _word
+from .forms import BUILT_IN, Form, form_at, forms_of, like
+from .places import place_of
+from .session import Held, Session, _data, _name, _word
 
 
 class Type:
@@ -33,10 +35,15 @@ class Type:
         """The names of a container's fields."""
         return list(getattr(self.form, "fields", ()))
 
-    def _call(self, name: str, data: bytes, *words: Any, path: str = "") -> None:
-        status, fault = self.schema._status(name, self._number, data, len(data), *words)
+    def _status(self, name: str, data: bytes, *words: Any) -> tuple[int, Fault]:
+        """Makes a call on bytes, and returns how it ended."""
+        return self.schema._status(name, self._number, data, len(data), *words)
+
+    def _call(self, name: str, data: bytes, *words: Any) -> None:
+        taken = given.bytes_of(data)
+        status, fault = self._status(name, taken, *words)
         if status:
-            raise self.error(status, fault.code, fault.position, data, path)
+            raise self.error(status, fault.code, fault.position, taken)
 
     def error(self, status: int, code: int, position: int, data: bytes, path: str = "") -> SszError:
         """The error of a call on bytes, with the part that they are at fault in."""
@@ -66,9 +73,21 @@ class Type:
 
     def part(self, data: bytes, path: str) -> bytes:
         """The encoding of a part of the value that the bytes encode, all of which are checked; for many parts see `open`."""
-        room, count = ctypes.create_string_buffer(max(8, len(data))), ctypes.c_uint64()
-        self._call("ssz_part", data, *_word(path), room, len(room), ctypes.byref(count), path=path)
-        return ctypes.string_at(room, count.value)
+        data, words, place = given.bytes_of(data), _word(path), Stretch()
+        status, fault = self._status("ssz_place", data, *words, ctypes.byref(place))
+        if status == Status.NO_PLACE:
+            return self._small(data, path)
+        if status:
+            raise self.error(status, fault.code, fault.position, data, path)
+        return data[place.start : place.start + place.len]
+
+    def _small(self, data: bytes, path: str) -> bytes:
+        """The byte of a bit, or the eight of a length."""
+        room, count = ctypes.create_string_buffer(8), ctypes.c_uint64()
+        status, fault = self._status("ssz_part", data, *_word(path), room, len(room), ctypes.byref(count))
+        if status:
+            raise self.error(status, fault.code, fault.position, data, path)
+        return room.raw[: count.value]
 
     def open(self, data: bytes) -> Slice:
         """The bytes, checked once, to ask for many parts. Raises InvalidBytes with the first fault."""
@@ -93,7 +112,7 @@ class Type:
 
     def decode_bytes(self, data: bytes) -> Any:
         """The plain Python object that the bytes encode: numbers, bytes, lists and dicts."""
-        data = bytes(data)
+        data = given.bytes_of(data)
         self.check(data)
         return self.form.decode(data)
 
@@ -125,9 +144,9 @@ class Slice(Held):
     _end = "ssz_slice_close"
 
     def __init__(self, type: Type, data: bytes) -> None:
+        data = given.bytes_of(data)
         self.type = type
         super().__init__()
-        data = bytes(data)
         status, fault = self._status_on(type.schema, "ssz_slice_open", type._number, *_data(data))
         if status:
             raise type.error(status, fault.code, fault.position, data)
@@ -152,9 +171,9 @@ class Schema(Held):
     _end = "ssz_schema_free"
 
     def __init__(self, text: bytes | str | dict[str, Any]) -> None:
-        if isinstance(text, dict):
-            text = json.dumps(text)
-        self.text = text.encode() if isinstance(text, str) else bytes(text)
+        if isinstance(text, Mapping):
+            text = json.dumps(dict(text))
+        self.text = given.word_of(text, "a schema") if isinstance(text, str) else given.bytes_of(text, "a schema's text")
         super().__init__()
         self._call("ssz_schema_read", *_data(self.text))
         self._of_forms(forms_of(json.loads(self.text)["types"]))
@@ -203,14 +222,22 @@ class Schema(Held):
 
     def type(self, name: str) -> Type:
         """The type of a name."""
-        if name not in self._types:
-            number = ctypes.c_uint64()
-            form = self._forms.get(name) or BUILT_IN.get(name)
-            if form is None:
-                raise NoSuchType("the schema has no such type", like(name, self.names), status=Status.NO_TYPE, type=name)
-            self._call("ssz_type", *_word(name), ctypes.byref(number), type=name)
-            self._types[name] = Type(self, name, form, number.value)
-        return self._types[name]
+        with self.lock:
+            if name not in self._types:
+                self._types[name] = self._type(name)
+            return self._types[name]
+
+    def _type(self, name: str) -> Type:
+        """The type of a name that was not asked for before."""
+        number, form = ctypes.c_uint64(), self._forms.get(name) or BUILT_IN.get(name)
+        if form is None:
+            raise NoSuchType("the schema has no such type", like(str(name), self.names), status=Status.NO_TYPE, type=str(name))
+        self._call("ssz_type", *_name(name), ctypes.byref(number), type=name)
+        return Type(self, name, form, number.value)
+
+    def compact(self) -> None:
+        """Gives up the nodes that no value needs. That happens from time to time by itself, as values are made and edited."""
+        self._values.compact()
 
     def session(self) -> Session:
         """A session over this schema, with no version. It has a copy of the schema."""

@@ -5,13 +5,31 @@ from __future__ import annotations
 import collections
 import ctypes
 import threading
-from typing import Any
+from typing import Any, NoReturn
 
-from ._library import Entry, Fault, Handle, Index, library
+from . import given
+from ._library import Entry, Fault, Handle, Index, is_forked, library
 from .errors import Status, error_of
 from .proof import Proof
 
 _ROOM = 4096
+#: The code of the refusal that a part is of another kind. The library tells it only of a part that is there.
+_NOT_THAT = 7
+_BAD_SELECTOR = 10
+
+
+class Lock:
+    """A lock that a thread may take again, and that no forked child waits for."""
+
+    def __init__(self) -> None:
+        self._lock = threading.RLock()
+
+    def __enter__(self) -> None:
+        library()
+        self._lock.acquire()
+
+    def __exit__(self, *_: object) -> None:
+        self._lock.release()
 
 
 class Held:
@@ -20,20 +38,20 @@ class Held:
     _end = ""
 
     def __init__(self) -> None:
-        self._lock = threading.RLock()
+        self.lock = Lock()
         self._handle = Handle(0, None)
         self._library = library()
 
     def _status_on(self, lent: Held, name: str, *words: Any) -> tuple[int, Fault]:
         """Makes a call that asks what another handle holds, too."""
-        with lent._lock:
+        with lent.lock:
             return self._status(name, ctypes.byref(lent._handle), *words)
 
     def _status(self, name: str, *words: Any) -> tuple[int, Fault]:
         """Makes a call, and returns how it ended."""
-        fault = Fault()
-        with self._lock:
-            return getattr(self._library, name)(ctypes.byref(self._handle), *words, ctypes.byref(fault)), fault
+        call, fault = getattr(library(), name), Fault()
+        with self.lock:
+            return call(ctypes.byref(self._handle), *words, ctypes.byref(fault)), fault
 
     def _call(self, name: str, *words: Any, type: str = "", path: str = "") -> None:
         """Makes a call. The type and the path are what an error tells."""
@@ -42,21 +60,21 @@ class Held:
             raise error_of(status, fault.code, fault.position, type=type, path=path)
 
     def _filled(self, name: str, *words: Any, room: int = _ROOM, type: str = "", path: str = "") -> bytes:
-        """Makes a call that copies bytes, with more room where they need more."""
-        count = ctypes.c_uint64()
-        space = ctypes.create_string_buffer(room)
-        status, fault = self._status(name, *words, space, room, ctypes.byref(count))
-        if status == Status.NO_ROOM:
-            space = ctypes.create_string_buffer(count.value)
-            status, fault = self._status(name, *words, space, count.value, ctypes.byref(count))
+        """Makes a call that copies bytes, with more room where they need more. No other thread changes them in between."""
+        with self.lock:
+            count, status = ctypes.c_uint64(max(1, room)), int(Status.NO_ROOM)
+            while status == Status.NO_ROOM:
+                space = ctypes.create_string_buffer(count.value)
+                status, fault = self._status(name, *words, space, len(space), ctypes.byref(count))
         if status:
             raise error_of(status, fault.code, fault.position, type=type, path=path)
         return ctypes.string_at(space, count.value)
 
     def close(self) -> None:
         """Frees what is held. A later call raises SszError, with the name NO_HANDLE."""
-        with self._lock:
-            getattr(self._library, self._end)(ctypes.byref(self._handle))
+        if not is_forked():
+            with self.lock:
+                getattr(self._library, self._end)(ctypes.byref(self._handle))
 
     def __del__(self) -> None:
         if hasattr(self, "_library"):
@@ -68,22 +86,31 @@ class Held:
     def __exit__(self, *_: object) -> None:
         self.close()
 
+    def __reduce__(self) -> NoReturn:
+        raise TypeError(f"a {type(self).__name__} is held by the library of this process, and can't be copied or pickled")
 
-def _word(text: str) -> tuple[bytes, int]:
+
+def _word(text: str, what: str = "a path") -> tuple[bytes, int]:
     """A text and its length, as calls take them."""
-    word = text.encode("utf-8", "surrogateescape")
+    word = given.word_of(text, what)
     return word, len(word)
 
 
-def _data(data: bytes) -> tuple[bytes, int]:
+def _name(text: str) -> tuple[bytes, int]:
+    """A name, as calls take it."""
+    return _word(text, "a name")
+
+
+def _data(data: Any) -> tuple[bytes, int]:
     """Bytes, as calls take them."""
-    return bytes(data), len(data)
+    taken = given.bytes_of(data)
+    return taken, len(taken)
 
 
 class Session(Held):
     """Versions of values under names. What is refused raises an error, and no version has changed.
 
-    Any thread may use it: calls wait for one another.
+    Any thread may use it: calls wait for one another, and `with session.lock:` keeps others out of several calls.
     """
 
     _end = "ssz_session_end"
@@ -92,6 +119,8 @@ class Session(Held):
         """A session over a schema, or over the one that the bytes of a schema file define, with no version."""
         self._gone: collections.deque[str] = collections.deque()
         self._types: dict[str, str] = {}
+        #: How many versions were given up so far.
+        self.dropped = 0
         super().__init__()
         if isinstance(schema, Held):
             status, fault = self._status_on(schema, "ssz_session_start_on")
@@ -108,13 +137,21 @@ class Session(Held):
         """Gives a version up before the next call; also from a finalizer, which may run in the midst of one."""
         self._gone.append(name)
 
+    def _drop_those(self) -> None:
+        """Gives up what was to be dropped; a version that could not be for lack of memory is kept for the next time."""
+        for _ in range(len(self._gone)):
+            name = self._gone.popleft()
+            status, _fault = super()._status("ssz_session_drop", *_name(name))
+            if status == Status.NO_MEMORY:
+                self._gone.append(name)
+                return
+            self._types.pop(name, None)
+            self.dropped += 1
+
     def _status(self, call: str, *words: Any) -> tuple[int, Fault]:
         """Makes a call, after those that give up what was dropped."""
-        with self._lock:
-            while self._gone:
-                name = self._gone.popleft()
-                self._types.pop(name, None)
-                super()._status("ssz_session_drop", *_word(name))
+        with self.lock:
+            self._drop_those()
             return super()._status(call, *words)
 
     def _do(self, call: str, *words: Any, type: str = "", path: str = "") -> None:
@@ -123,76 +160,109 @@ class Session(Held):
 
     def run(self, line: str) -> str:
         """Does the statement that a line says (docs/formats.md), and returns the reply that `ssz run` prints."""
-        return self._run(line, path=line if len(line) < 80 else line[:77] + "...", is_own=False)
+        with self.lock:
+            reply = self._run(line)
+            self._follow(line.split())
+        return reply
 
-    def _run(self, line: str, type: str = "", path: str = "", is_own: bool = True) -> str:
-        """Does a statement. The type and the path are what an error tells; of a line of the caller's own it tells the line."""
-        count = ctypes.c_uint64()
-        with self._lock:
-            status, fault = self._status("ssz_session_run", *_word(line), ctypes.byref(count))
-            if status == Status.REFUSED:
-                words = self._filled("ssz_session_reply", room=count.value).decode().split()
-                if len(words) == 6 and words[3] == "BadLiteral":
-                    raise error_of(Status.INVALID, int(words[4][1:]), int(words[5]), type=type, path=path)
-                is_path = is_own and words[3] == "Syntax"
-                raise error_of(Status.SYNTAX if is_path else status, int(words[2]), int(words[1]), type=type, path=path)
-            if status:
-                raise error_of(status, fault.code, fault.position, type=type, path=path)
-            return self._filled("ssz_session_reply", room=max(1, count.value)).decode().rstrip("\n")
+    def _run(self, line: str) -> str:
+        """Does a statement, of which errors tell the line."""
+        count, path = ctypes.c_uint64(), line if len(line) < 80 else line[:77] + "..."
+        status, fault = self._status("ssz_session_run", *_word(line, "a line"), ctypes.byref(count))
+        if status == Status.REFUSED:
+            words = self._filled("ssz_session_reply", room=count.value).decode().split()
+            if len(words) == 6 and words[3] == "BadLiteral":
+                raise error_of(Status.INVALID, int(words[4][1:]), int(words[5]), path=path)
+            raise error_of(status, int(words[2]), int(words[1]), path=path)
+        if status:
+            raise error_of(status, fault.code, fault.position, path=path)
+        return self._filled("ssz_session_reply", room=count.value).decode().rstrip("\n")
+
+    def _follow(self, words: list[str]) -> None:
+        """Keeps the types of versions after a line that the library has done."""
+        kind = words[0] if words else ""
+        if kind in ("new", "lit"):
+            self._types[words[1]] = words[2]
+        elif kind == "fork":
+            self._types[words[2]] = self._of(words[1])
+        elif kind == "upgrade":
+            self._types[words[2]] = words[3]
+        elif kind == "drop":
+            self._types.pop(words[1], None)
+            self.dropped += 1
 
     def new(self, name: str, type: str) -> None:
         """Makes a version: the default of a type."""
-        self._do("new", *_word(name), *_word(type), type=type)
-        self._types[name] = type
+        with self.lock:
+            self._do("new", *_name(name), *_name(type), type=type)
+            self._types[name] = type
 
     def load(self, name: str, type: str, data: bytes) -> None:
         """Makes a version: the value that the bytes encode."""
-        self._do("load", *_word(name), *_word(type), *_data(data), type=type)
-        self._types[name] = type
+        words = _data(data)
+        with self.lock:
+            self._do("load", *_name(name), *_name(type), *words, type=type)
+            self._types[name] = type
 
-    def get(self, name: str, path: str = "/") -> bytes:
-        """The encoding of the part at a path."""
-        return self._filled("ssz_session_bytes", *_word(name), *_word(path), type=self._of(name), path=path)
+    def get(self, name: str, path: str = "/", room: int = _ROOM) -> bytes:
+        """The encoding of the part at a path. `room` is how long it is, where that is known."""
+        return self._filled("ssz_session_bytes", *_name(name), *_word(path), room=room, type=self._of(name), path=path)
 
     def set(self, name: str, path: str, data: bytes) -> None:
         """Makes the part at a path the value that the bytes encode."""
-        self._do("set", *_word(name), *_word(path), *_data(data), type=self._of(name), path=path)
+        self._do("set", *_name(name), *_word(path), *_data(data), type=self._of(name), path=path)
 
     def append(self, name: str, path: str, data: bytes) -> None:
-        """Puts an element behind the list's last one."""
-        self._do("append", *_word(name), *_word(path), *_data(data), type=self._of(name), path=path)
+        """Puts an element after the list's last one."""
+        self._do("append", *_name(name), *_word(path), *_data(data), type=self._of(name), path=path)
 
     def pop(self, name: str, path: str) -> None:
         """Takes the list's last element away."""
-        self._do("pop", *_word(name), *_word(path), type=self._of(name), path=path)
+        self._do("pop", *_name(name), *_word(path), type=self._of(name), path=path)
 
     def choose(self, name: str, path: str, selector: int, data: bytes) -> None:
         """Gives the union at a path another option, with the value that the bytes encode."""
-        self._do("choose", *_word(name), *_word(path), selector, *_data(data), type=self._of(name), path=path)
+        number = given.number_of(selector)
+        if number is None or isinstance(selector, str):
+            raise TypeError(f"a selector is a whole number, and {selector!r} was given.")
+        if not 0 <= number < 256:
+            raise error_of(Status.REFUSED, _BAD_SELECTOR, 0, type=self._of(name), path=path)
+        self._do("choose", *_name(name), *_word(path), number, *_data(data), type=self._of(name), path=path)
 
     def length(self, name: str, path: str) -> int:
         """How many elements or bits the part has."""
         count = ctypes.c_uint64()
-        self._do("len", *_word(name), *_word(path), ctypes.byref(count), type=self._of(name), path=path)
+        self._do("len", *_name(name), *_word(path), ctypes.byref(count), type=self._of(name), path=path)
         return count.value
+
+    def see(self, name: str, path: str) -> None:
+        """Raises NoSuchPart where the path fits the type, and the value has no such part."""
+        count = ctypes.c_uint64()
+        status, fault = self._status("ssz_session_len", *_name(name), *_word(path), ctypes.byref(count))
+        if status and not (status == Status.REFUSED and fault.code == _NOT_THAT):
+            raise error_of(status, fault.code, fault.position, type=self._of(name), path=path)
 
     def fork(self, name: str, other: str) -> None:
         """Gives another name the value of a version: the same nodes, at no cost."""
-        self._do("fork", *_word(name), *_word(other))
-        self._types[other] = self._of(name)
+        with self.lock:
+            self._do("fork", *_name(name), *_name(other))
+            self._types[other] = self._of(name)
 
     def upgrade(self, name: str, other: str, type: str) -> None:
         """Gives another name a value of a container, with the fields that a version has too and the defaults of the others."""
-        self._do("upgrade", *_word(name), *_word(other), *_word(type), type=type)
-        self._types[other] = type
+        with self.lock:
+            self._do("upgrade", *_name(name), *_name(other), *_name(type), type=type)
+            self._types[other] = type
 
     def drop(self, name: str) -> None:
-        """Gives a version up."""
-        self._do("drop", *_word(name))
-        self._types.pop(name, None)
+        """Gives a version up. Its nodes stay until `compact`."""
+        with self.lock:
+            self._do("drop", *_name(name))
+            self._types.pop(name, None)
+            self.dropped += 1
 
     def compact(self) -> None:
-        """Gives the memory up that no version needs."""
+        """Gives up the nodes that no version needs. Those that are needed are in memory twice while it runs."""
         self._do("compact")
 
     def nodes(self) -> int:
@@ -204,28 +274,48 @@ class Session(Held):
     def root(self, name: str) -> bytes:
         """The hash_tree_root of a version."""
         root = ctypes.create_string_buffer(32)
-        self._do("root", *_word(name), root)
+        self._do("root", *_name(name), root)
         return root.raw
+
+    def node(self, name: str, path: str) -> bytes:
+        """The chunk at the generalized index of a part that is there: of all but numbers, booleans and bits its hash_tree_root."""
+        with self.lock:
+            self.see(name, path)
+            return self._filled("ssz_session_prove", *_name(name), *_word(path), type=self._of(name), path=path)[:32]
 
     def prove(self, name: str, *paths: str | int) -> Proof:
         """The multiproof of the parts at these paths or generalized indices."""
-        if paths and all(isinstance(path, int) and 0 <= path < 1 << 128 for path in paths):
-            return self._prove_at(name, [int(path) for path in paths])
-        words = " ".join(map(str, paths))
-        return Proof.parse(self._run(f"prove {name} {words}", type=self._of(name), path=words))
+        with self.lock:
+            return self._prove_at(name, [self._index(name, path) for path in paths], " ".join(map(str, paths)))
 
-    def _prove_at(self, name: str, indices: list[int]) -> Proof:
+    def _index(self, name: str, path: str | int) -> int:
+        """The generalized index that a path, a number or its digits say."""
+        index = given.number_of(path)
+        if index is None and isinstance(path, str):
+            return self._gindex(name, path)
+        if index is None or not 0 <= index < 1 << 128:
+            raise error_of(Status.SYNTAX, 0, 0, type=self._of(name), path=str(path))
+        return index
+
+    def _gindex(self, name: str, path: str) -> int:
+        """The generalized index of a path in a version."""
+        type, index = self._of(name), Index()
+        if not type:
+            self.see(name, "/")
+        self._do("gindex", *_name(type), *_word(path), ctypes.byref(index), type=type, path=path)
+        return index.low | index.high << 64
+
+    def _prove_at(self, name: str, indices: list[int], path: str) -> Proof:
         """The multiproof of the nodes at these generalized indices, of which the library tells how many entries it has."""
         asked = (Index * len(indices))(*(Index(index & (1 << 64) - 1, index >> 64) for index in indices))
-        leaves, count = ctypes.c_uint64(), ctypes.c_uint64(128 * len(indices))
+        leaves, count = ctypes.c_uint64(), ctypes.c_uint64(128 * max(1, len(indices)))
         status, fault = int(Status.NO_ROOM), Fault()
-        with self._lock:
-            while status == Status.NO_ROOM:
-                room = (Entry * count.value)()
-                status, fault = self._status("ssz_session_prove_all", *_word(name), asked, len(asked), room, len(room),
-                                             ctypes.byref(leaves), ctypes.byref(count))
+        while status == Status.NO_ROOM:
+            room = (Entry * count.value)()
+            status, fault = self._status("ssz_session_prove_all", *_name(name), asked, len(asked), room, len(room),
+                                         ctypes.byref(leaves), ctypes.byref(count))
         if status:
-            raise error_of(status, fault.code, fault.position, type=self._of(name), path=" ".join(map(str, indices)))
+            raise error_of(status, fault.code, fault.position, type=self._of(name), path=path)
         return Proof.of_entries(room[: leaves.value], room[leaves.value : count.value])
 
     def names(self) -> list[str]:

@@ -2,10 +2,10 @@
 
 from __future__ import annotations
 
-import functools
 from pathlib import Path
 
 from ..schema import Schema
+from ..session import Lock
 
 FORKS = ("phase0", "altair", "bellatrix", "capella", "deneb", "electra", "fulu")
 
@@ -18,10 +18,16 @@ def folder() -> Path:
     return next((each for each in _FOLDERS if each.is_dir()), _FOLDERS[0])
 
 
-@functools.lru_cache(maxsize=None)
+_lock = Lock()
+_schemas: dict[str, Schema] = {}
+
+
 def fork(name: str) -> Schema:
-    """The schema of a fork: "deneb", or "minimal/deneb"."""
-    return Schema.read(folder() / f"{name}.json")
+    """The schema of a fork: "deneb", or "minimal/deneb". It is read once, so that all threads have the same classes."""
+    with _lock:
+        if name not in _schemas:
+            _schemas[name] = Schema.read(folder() / f"{name}.json")
+        return _schemas[name]
 
 
 def __getattr__(name: str) -> Schema:
