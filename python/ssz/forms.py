@@ -8,13 +8,20 @@ from __future__ import annotations
 
 import functools
 import itertools
+import sys
 from array import array
+from collections.abc import Mapping
 from typing import Any, Iterator, NamedTuple, Optional, Sequence, Union as Either
 
+from . import given
 from .errors import BadValue
 
-_ARRAYS = {1: "B", 2: "H", 4: "I", 8: "Q"}
-_LITTLE = memoryview(array("H", [1])).cast("B")[0] == 1
+_ARRAYS = {1: "B", 2: "H", 4: "I", 8: "Q"} if sys.byteorder == "little" else {}
+_DIGITS, _BITS = bytes.maketrans(b"\0\1", b"01"), bytes.maketrans(b"01", b"\0\1")
+
+
+#: The encodings of elements: side by side where each has the same length.
+Elements = Either[bytes, "list[bytes]"]
 
 
 class Part(NamedTuple):
@@ -24,6 +31,17 @@ class Part(NamedTuple):
     form: Form
     start: int
     end: int
+
+
+class Shaped:
+    """A value of a type, whose encoding the library knows."""
+
+    __slots__ = ()
+    _form: Form
+
+    def encode_bytes(self) -> bytes:
+        """The encoding."""
+        raise NotImplementedError
 
 
 class Form:
@@ -42,12 +60,15 @@ class Form:
 
     def encode(self, value: Any, path: str = "") -> bytes:
         """The bytes of an object. Raises BadValue, with the path of what is wrong."""
-        if hasattr(value, "encode_bytes"):
-            given = value._form
-            if given.shape != self.shape:
-                raise BadValue(f"a {given.name} was given where a {self.name} is wanted", path=path, type=self.name)
-            return value.encode_bytes()
-        return self._encoded(value, path)
+        data = self._of_view(value, path) if isinstance(value, Shaped) else self._encoded(value, path)
+        if self.size is not None and len(data) != self.size:
+            raise self.wrong(value, f"a value of {self.size} bytes, and not of {len(data)}", path)
+        return data
+
+    def _of_view(self, value: Shaped, path: str) -> bytes:
+        if value._form.shape != self.shape:
+            raise BadValue(f"a {value._form.name} was given where a {self.name} is wanted", path=path, type=self.name)
+        return value.encode_bytes()
 
     def _encoded(self, value: Any, path: str) -> bytes:
         raise NotImplementedError
@@ -70,9 +91,13 @@ class Form:
 
     def wrong(self, value: Any, wanted: str, path: str) -> BadValue:
         """The error of an object of another kind."""
-        said = repr(value)
-        said = said if len(said) <= 40 else said[:37] + "..."
-        return BadValue(f"{said} is no {self.name}", f"Give {wanted}.", path=path)
+        return BadValue(f"{said_of(value)} is no {self.name}", f"Give {wanted}.", path=path)
+
+    def counted(self, count: int, wanted: str, path: str) -> None:
+        """Sees that there are as many elements or bits as may be, of a vector or of a list."""
+        length, is_list = self.length, self.is_list  # type: ignore[attr-defined]
+        if count > length or not is_list and count < length:
+            raise BadValue(f"there are {count} {wanted}", f"Give {'at most ' if is_list else ''}{length} {wanted} to a {self.name}.", path=path)
 
 
 class Uint(Form):
@@ -84,10 +109,10 @@ class Uint(Form):
         self.name = "byte" if is_byte else f"uint{8 * size}"
 
     def _encoded(self, value: Any, path: str) -> bytes:
-        number = int(value) if isinstance(value, str) and value.isascii() and value.isdigit() else value
-        if isinstance(number, bool) or not hasattr(number, "__index__") or not 0 <= number < 1 << 8 * self.size:
+        number = given.number_of(value)
+        if number is None or not 0 <= number < 1 << 8 * self.size:
             raise self.wrong(value, f"a whole number from 0 to {(1 << 8 * self.size) - 1}", path)
-        return int(number).to_bytes(self.size, "little")
+        return number.to_bytes(self.size, "little")
 
     def decode(self, data: bytes) -> int:
         return int.from_bytes(data, "little")
@@ -102,9 +127,10 @@ class Boolean(Form):
     size, name = 1, "boolean"
 
     def _encoded(self, value: Any, path: str) -> bytes:
-        if value not in (True, False) or not isinstance(value, (bool, int)):
+        truth = given.truth_of(value)
+        if truth is None:
             raise self.wrong(value, "True or False", path)
-        return bytes([bool(value)])
+        return bytes([truth])
 
     def decode(self, data: bytes) -> bool:
         return data != b"\0"
@@ -119,22 +145,45 @@ class Bits(Form):
         self.name = f"Bit{'list' if is_list else 'vector'}[{length}]"
 
     def _encoded(self, value: Any, path: str) -> bytes:
-        if isinstance(value, str) and value.startswith("0x"):
-            return unhex(value, self, path)
-        if isinstance(value, (str, bytes)) or not hasattr(value, "__iter__"):
+        if isinstance(value, str):
+            return self._of_digits(value, path)
+        bits = given.truths_of(value)
+        if bits is None:
             raise self.wrong(value, "an iterable of True and False, or a string of 0x and the digits of the encoding", path)
-        bits = list(value)
-        if any(bit not in (0, 1) for bit in bits):
-            raise self.wrong(value, "bits that are True or False", path)
-        if len(bits) > self.length or not self.is_list and len(bits) < self.length:
-            raise self.wrong(value, f"{'at most ' if self.is_list else ''}{self.length} bits", path)
-        number = sum(1 << place for place, bit in enumerate([*bits, True] if self.is_list else bits) if bit)
-        return number.to_bytes((number.bit_length() + 7) // 8 if self.size is None else self.size, "little")
+        return self.packed(bits, path)
+
+    def packed(self, bits: bytes, path: str) -> bytes:
+        """The encoding of bits, a byte each."""
+        self.counted(len(bits), "bits", path)
+        digits = bits.translate(_DIGITS)[::-1]
+        number = int(b"1" + digits if self.is_list else digits, 2)
+        return number.to_bytes((len(bits) + 8) // 8 if self.size is None else self.size, "little")
+
+    def unpacked(self, data: bytes) -> bytes:
+        """The bits of an encoding, a byte each."""
+        digits = bin(int.from_bytes(data, "little"))[2:]
+        digits = digits[1:] if self.is_list else digits.zfill(self.length)
+        return digits[::-1].encode().translate(_BITS)
+
+    def _of_digits(self, text: str, path: str) -> bytes:
+        """The encoding that digits say, judged here: in the middle of a value its bytes would be another field's."""
+        data = unhex(text, self, path)
+        last = data[-1].bit_length() if data else 0
+        count = 8 * (len(data) - 1) + last
+        if self.is_list and not last:
+            raise self.wrong(text, "the digits of an encoding, whose last byte has the 1 after the last bit", path)
+        if self.is_list:
+            self.counted(count - 1, "bits", path)
+        elif len(data) != self.size or count > self.length:
+            raise self.wrong(text, f"the digits of {self.size} bytes, with 0 after the last of {self.length} bits", path)
+        return data
+
+    def count(self, bits: bytes) -> int:
+        """How many bits there are, a byte each."""
+        return len(bits)
 
     def decode(self, data: bytes) -> list[bool]:
-        number = int.from_bytes(data, "little")
-        count = number.bit_length() - 1 if self.is_list else self.length
-        return [bool(number >> place & 1) for place in range(count)]
+        return list(map(bool, self.unpacked(data)))
 
     def shown(self, value: Any, api: bool = False) -> str:
         return "0x" + self.encode(value).hex()
@@ -149,7 +198,8 @@ class Series(Form):
     def __init__(self, element: Form, length: int, is_list: bool) -> None:
         self.element, self.length, self.is_list = element, length, is_list
         self.size = None if is_list or element.size is None else element.size * length
-        self.is_bytes = isinstance(element, Uint) and element.is_byte
+        self.is_octets = isinstance(element, Uint) and element.size == 1
+        self.is_bytes = self.is_octets and element.is_byte  # type: ignore[attr-defined]
         self.code = _ARRAYS.get(element.size or 0) if isinstance(element, Uint) else None
         self.name = f"{'List' if is_list else 'Vector'}[{element.name}, {length}]"
 
@@ -159,46 +209,75 @@ class Series(Form):
         return f"{'List' if self.is_list else 'Vector'}[{element}, {self.length}]"
 
     def _encoded(self, value: Any, path: str) -> bytes:
-        if self.is_bytes or isinstance(value, (bytes, bytearray)) and self.element.size == 1:
-            return self._counted(as_bytes(value, self, path), value, path)
-        if isinstance(value, (str, bytes, dict)) or not hasattr(value, "__iter__"):
-            raise self.wrong(value, f"an iterable of {self.element.name}", path)
-        values = value if isinstance(value, array) else list(value)
-        self._counted(values, value, path)
-        packed = self._packed(values)
-        if packed is not None:
-            return packed
+        taken = unhex(value, self, path) if isinstance(value, str) and self.is_octets else self.taken(value, path)
+        self.counted(self.count(taken), "elements", path)
+        return self.whole(taken)
+
+    def taken(self, value: Any, path: str) -> Elements:
+        """The encodings of the elements that an object has, all of them, each judged."""
+        data = self._of_machine(value)
+        if data is not None:
+            return data
+        values = given.items_of(value)
+        if values is None:
+            raise self.wrong(value, self.wanted, path)
+        data = self._packed(values)
+        if data is not None:
+            return data
         parts = [self.element.encode(each, f"{path}/{place}") for place, each in enumerate(values)]
-        return joined([self.element] * len(parts), parts)
+        return parts if self.element.size is None else b"".join(parts)
 
-    def _counted(self, values: Any, value: Any, path: str) -> Any:
-        """The same values, if there are as many as may be."""
-        if len(values) > self.length or not self.is_list and len(values) < self.length:
-            wanted = f"{'at most ' if self.is_list else ''}{self.length} elements and not {len(values)}"
-            raise self.wrong(value, wanted, path)
-        return values
-
-    def _packed(self, values: Any) -> Optional[bytes]:
-        """The bytes of numbers that an array of Python can hold, or None."""
-        if self.code is None or not _LITTLE:
+    def _of_machine(self, value: Any) -> Optional[bytes]:
+        """The encodings of numbers that stand side by side in an object already."""
+        if self.code is None or given.is_bytes(value) and not self.is_octets:
             return None
-        if isinstance(values, array):
-            return values.tobytes() if values.typecode == self.code else None
+        return given.machine_of(value, self.element.size or 1)
+
+    def _packed(self, values: list[Any]) -> Optional[bytes]:
+        """The encodings of numbers or truth values, made at once; None where one is another object."""
+        if isinstance(self.element, Boolean):
+            return given.truths_of(values)
+        if self.code is None or not given.are_numbers(values):
+            return None
         try:
             return array(self.code, values).tobytes()
         except (TypeError, OverflowError):
             return None
 
+    def count(self, elements: Elements) -> int:
+        """How many elements these encodings are of."""
+        return len(elements) // (self.element.size or 1) if isinstance(elements, bytes) else len(elements)
+
+    def whole(self, elements: Elements) -> bytes:
+        """The encoding of a value with these elements."""
+        return elements if isinstance(elements, bytes) else joined([self.element] * len(elements), elements)
+
+    def split(self, data: bytes) -> Elements:
+        """The encodings of the elements of a value in bytes."""
+        if self.element.size is not None:
+            return data
+        return [data[part.start : part.end] for part in self.parts(data, 0, len(data))]
+
+    @property
+    def wanted(self) -> str:
+        """What a value is made of, in words."""
+        octets = "bytes, a string of 0x and an even number of hexadecimal digits, or " if self.is_octets else ""
+        return f"{octets}an iterable of {self.element.name}"
+
     def decode(self, data: bytes) -> Any:
         if self.is_bytes:
             return bytes(data)
-        if self.code is not None and _LITTLE:
+        if self.code is not None:
             return array(self.code, bytes(data))
+        if isinstance(self.element, Boolean):
+            return list(map(bool, data))
         return [part.form.decode(data[part.start : part.end]) for part in self.parts(data, 0, len(data))]
 
     def shown(self, value: Any, api: bool = False) -> Any:
         if self.is_bytes:
             return "0x" + value.hex()
+        if isinstance(self.element, Boolean) or self.code is not None and not api:
+            return list(value)
         return [self.element.shown(each, api) for each in value]
 
     def parts(self, data: bytes, start: int, end: int) -> Iterator[Part]:
@@ -234,8 +313,9 @@ class Container(Form):
         return "{" + ",".join(f"{name}:{form.shape}" for name, form in self.fields.items()) + "}"
 
     def _encoded(self, value: Any, path: str) -> bytes:
-        if not isinstance(value, dict):
+        if not isinstance(value, Mapping):
             raise self.wrong(value, f"a dict with the fields {', '.join(self.fields)}", path)
+        value = dict(value)
         lacking = [name for name in self.fields if name not in value]
         if lacking:
             raise BadValue(f"the field {lacking[0]} is missing", f"The fields are {', '.join(self.fields)}.", type=self.name, path=path)
@@ -277,12 +357,13 @@ class Union(Form):
         return f"Union[{', '.join('None' if form is None else form.shape for form in self.options)}]"
 
     def _encoded(self, value: Any, path: str) -> bytes:
-        if isinstance(value, dict) and set(value) == {"selector", "value"}:
-            value = (value["selector"], value["value"])
-        if not isinstance(value, (tuple, list)) or len(value) != 2:
+        pair = value
+        if isinstance(value, Mapping) and set(value) == {"selector", "value"}:
+            pair = (value["selector"], value["value"])
+        if not isinstance(pair, (tuple, list)) or len(pair) != 2:
             raise self.wrong(value, "a pair of a selector and a value", path)
-        selector, chosen = int(value[0]), value[1]
-        if not 0 <= selector < len(self.options):
+        selector, chosen = given.number_of(pair[0]), pair[1]
+        if selector is None or not 0 <= selector < len(self.options):
             raise self.wrong(value, f"a selector from 0 to {len(self.options) - 1}", path)
         form = self.options[selector]
         if form is None and chosen is not None:
@@ -336,22 +417,19 @@ def joined(forms: Sequence[Form], parts: Sequence[bytes]) -> bytes:
 
 def unhex(text: str, form: Form, path: str) -> bytes:
     """The bytes of a string of 0x and digits."""
-    try:
-        return bytes.fromhex(text[2:] if text.startswith("0x") else "none")
-    except ValueError:
-        raise form.wrong(text, "0x and an even number of hexadecimal digits", path) from None
+    data = given.hex_of(text)
+    if data is None:
+        raise form.wrong(text, "0x and an even number of hexadecimal digits", path)
+    return data
 
 
-def as_bytes(value: Any, form: Form, path: str) -> bytes:
-    """The bytes that an object says."""
-    if isinstance(value, str):
-        return unhex(value, form, path)
-    if isinstance(value, (bytes, bytearray, memoryview)):
-        return bytes(value)
+def said_of(value: Any) -> str:
+    """An object in a few words, whatever it is."""
     try:
-        return bytes(list(value))
-    except (TypeError, ValueError):
-        raise form.wrong(value, "bytes, or a string of 0x and hexadecimal digits", path) from None
+        said = repr(value[:40] if isinstance(value, (str, bytes, bytearray)) else value)
+    except Exception:
+        said = f"<{type(value).__name__}>"
+    return said if len(said) <= 40 else said[:37] + "..."
 
 
 def like(name: str, names: Either[Sequence[str], dict[str, Any]]) -> str:
@@ -385,57 +463,6 @@ def forms_of(types: Sequence[Any]) -> dict[str, Form]:
     for name, spelled in types:
         known[name] = form_of(spelled, known, name)
     return known
-
-
-def least(form: Form) -> int:
-    """The fewest bytes that the head of a value of the type has."""
-    if form.size is not None:
-        return form.size
-    if isinstance(form, Container):
-        return sum(4 if each.size is None else each.size for each in form.fields.values())
-    if isinstance(form, Series) and form.element.size is None:
-        return 4 if form.is_list else 4 * form.length
-    return 1 if isinstance(form, Union) else 0
-
-
-def has_offset(form: Form, data: bytes, position: int, start: int) -> bool:
-    """Whether one of the part's own offsets stands at a byte."""
-    if isinstance(form, Union) or isinstance(form, Series) and form.element.size is not None or isinstance(form, Bits):
-        return False
-    whole = offset_at(data, start) if isinstance(form, Series) and form.is_list else 0
-    return form.size is None and start <= position < start + max(whole, least(form))
-
-
-def is_fault_of(form: Form, data: bytes, code: int, position: int, start: int, end: int) -> bool:
-    """Whether a first fault at a byte is one of the head of this part, and not of a part in it. Of F3 and F9 to F11 there is no
-    doubt: their part is the least one."""
-    if code in (4, 5, 6):
-        return has_offset(form, data, position, start)
-    if code == 2:
-        return form.size is not None and position == start + form.size < end
-    if code == 1:
-        return position == start and end - start < least(form)
-    if not isinstance(form, Series) or not form.is_list or position != start:
-        return False
-    size = form.element.size or 4
-    return code == 7 and (end - start) % size > 0 or code == 8 and (end - start) // size > form.length
-
-
-def place_of(form: Form, data: bytes, position: int, code: int = 0) -> str:
-    """The path of the part that has a first fault at a byte, as far as bytes that are at fault tell."""
-    path, start, end = "", 0, len(data)
-    while not is_fault_of(form, data, code, position, start, end):
-        found = None
-        for part in form.parts(data, start, end):
-            if not start <= part.start <= part.end <= end:
-                return path or "/"
-            if part.start <= position < part.end or part.start == position == part.end and code in (1, 10):
-                found = part
-                break
-        if found is None:
-            break
-        path, form, start, end = f"{path}/{found.step}", found.form, found.start, found.end
-    return path or "/"
 
 
 def form_at(form: Form, path: str) -> Optional[Form]:

@@ -3,6 +3,9 @@
 Reading or writing an attribute or an element reads or writes that part alone, and a root hashes only what no root before it
 did. Numbers, booleans and bytes are Python's own; every other part is a view, which stands for a place: it shows what is
 there now.
+
+What is given is taken whole, judged and encoded before anything is changed, and outside the session's lock: it may be a view of
+another session, or run code of the caller's. What reads and then writes does both under that lock.
 """
 
 from __future__ import annotations
@@ -13,16 +16,18 @@ import weakref
 from array import array
 from typing import TYPE_CHECKING, Any, Iterable, Iterator, Optional
 
-from .errors import InvalidBytes, NoSuchPart
-from .forms import Bits, Boolean, Container, Form, Series, Uint, Union, like
+from . import given
+from .errors import BadPath, InvalidBytes, NoSuchPart, Status, SszError
+from .forms import Bits, Boolean, Container, Form, Series, Shaped, Uint, Union, like
 from .proof import Proof
-from .session import Session
+from .session import Lock, Session
 
 if TYPE_CHECKING:
     from .schema import Schema
 
-#: After so many edits a store gives up the nodes that no value needs any more.
-_EDITS_BETWEEN = 1 << 16
+#: A store gives up nodes where there are more than so many, and a share, beyond those that it kept the last time. While it does, those
+#: that stay are in memory twice: with a greater share a state that is edited would take more than half of its memory again.
+_FEW, _SHARE = 1 << 17, 8
 
 
 class Store:
@@ -31,50 +36,101 @@ class Store:
     def __init__(self, schema: Schema) -> None:
         self._schema = schema
         self._names = {id(form): name for name, form in reversed(schema._forms.items())}
+        self._lock = Lock()
         self._session: Optional[Session] = None
         self._classes: dict[int, type[View]] = {}
         self._numbers = itertools.count()
         self._edits = 0
+        self._seen, self._most = 0, _FEW
 
     @property
     def session(self) -> Session:
         """The session, which begins with the first value."""
-        if self._session is None:
-            self._session = self._schema.session()
-        return self._session
+        with self._lock:
+            if self._session is None:
+                self._session = self._schema.session()
+            return self._session
 
     def class_of(self, form: Form, name: str = "") -> Any:
         """The class of the values of a type that has a name, or of a part."""
         if is_plain(form):
             return self._schema.type(name) if name else form
-        if id(form) not in self._classes:
-            name = self._names.get(id(form), "")
-            kind = next(kind for of, kind in _KINDS if isinstance(form, of))
-            if isinstance(form, Series) and form.is_list:
-                kind = ListView
-            body = {"_form": form, "_store": self, "_type": name, "__slots__": (), "__doc__": f"A value of {form.name}."}
-            if isinstance(form, Container):
-                body.update({name: _Field(name, each) for name, each in form.fields.items() if not name.startswith("_")})
-            self._classes[id(form)] = type(name or form.name, (kind,), body)
-        return self._classes[id(form)]
+        with self._lock:
+            if id(form) not in self._classes:
+                self._classes[id(form)] = self._class(form)
+            return self._classes[id(form)]
+
+    def _class(self, form: Form) -> type[View]:
+        """A new class. A field whose name a view has for itself is had in brackets alone."""
+        name = self._names.get(id(form), "")
+        kind = next(kind for of, kind in _KINDS if isinstance(form, of))
+        if isinstance(form, Series) and form.is_list:
+            kind = ListView
+        body = {"_form": form, "_store": self, "_type": name, "__slots__": (), "__doc__": f"A value of {form.name}."}
+        if isinstance(form, Container):
+            taken = set().union(*(vars(base) for base in kind.__mro__))
+            body.update({name: _Field(name, each) for name, each in form.fields.items() if name not in taken and name[0] != "_"})
+        return type(name or form.name, (kind,), body)
 
     def version(self) -> Version:
         """A name for a new version, which is dropped with the last view of it."""
-        return Version(self.session, f"v{next(self._numbers)}")
+        return Version(self._tended(), f"v{next(self._numbers)}")
 
-    def edited(self) -> None:
-        """Counts an edit, and now and then gives up the nodes that no value needs any more."""
-        self._edits += 1
-        if self._edits % _EDITS_BETWEEN == 0:
-            self.session.compact()
+    def writing(self) -> Session:
+        """The session, before a call that edits a value."""
+        session = self._tended()
+        with session.lock:
+            self._edits += 1
+        return session
+
+    def _tended(self) -> Session:
+        """The session, in which nodes that were left behind by edits and dropped values are given up once they are many. Where there is
+        no memory to do so, what comes next may do with what there is.
+        """
+        session = self.session
+        with session.lock:
+            if session.nodes() > self._most and self._edits + session.dropped != self._seen:
+                try:
+                    session.compact()
+                except SszError as error:
+                    if error.status != Status.NO_MEMORY:
+                        raise
+                self._note(session)
+        return session
+
+    def _note(self, session: Session) -> None:
+        """Keeps how many nodes there are after a compaction, and at how many the next one comes."""
+        nodes = session.nodes()
+        self._seen, self._most = self._edits + session.dropped, nodes + nodes // _SHARE + _FEW
+
+    def compact(self) -> None:
+        """Gives up the nodes that no value needs."""
+        session = self.session
+        with session.lock:
+            session.compact()
+            self._note(session)
 
 
 class Version:
     """The name of a version. It lives as long as this object."""
 
     def __init__(self, session: Session, name: str) -> None:
-        self.session, self.name = session, name
-        weakref.finalize(self, session.drop_later, name).atexit = False
+        self.session, self._names = session, [name]
+        weakref.finalize(self, _drop_all, session, self._names).atexit = False
+
+    @property
+    def name(self) -> str:
+        """The name in the session."""
+        return self._names[0]
+
+    def become(self, other: Version) -> None:
+        """Takes the value of another version, and gives up its own."""
+        self._names[0], other._names[0] = other._names[0], self._names[0]
+
+
+def _drop_all(session: Session, names: list[str]) -> None:
+    for name in names:
+        session.drop_later(name)
 
 
 def is_plain(form: Form) -> bool:
@@ -96,11 +152,10 @@ class _Field:
         view._write(self.name, self.form, value)
 
 
-class View:
+class View(Shaped):
     """A value, or a part of one: a place in it."""
 
     __slots__ = ("_version", "_path", "__weakref__")
-    _form: Form
     _store: Store
     _type: str
     _version: Version
@@ -129,7 +184,8 @@ class View:
     @classmethod
     def decode_bytes(cls, data: bytes) -> Any:
         """The value that the bytes encode."""
-        view, data = cls._made(), bytes(data)
+        data = given.bytes_of(data)
+        view = cls._made()
         try:
             view._version.session.load(view._version.name, cls._type, data)
         except InvalidBytes as error:
@@ -148,10 +204,7 @@ class View:
     def hash_tree_root(self) -> bytes:
         """The root."""
         version = self._version
-        if self._path == "/":
-            return version.session.root(version.name)
-        (root,) = version.session.prove(version.name, self._path).leaves.values()
-        return root
+        return version.session.root(version.name) if self._path == "/" else version.session.node(version.name, self._path)
 
     def to_plain(self) -> Any:
         """The value as Python's own objects: numbers, bytes, lists, arrays and dicts."""
@@ -173,10 +226,18 @@ class View:
 
     def prove(self, *paths: str) -> Proof:
         """The multiproof of parts against the root of the whole value. A path begins here: "/slot"."""
-        whole = [self._below(path) for path in paths or ["/"]]
-        return self._version.session.prove(self._version.name, *whole)
+        version, whole = self._version, [self._below(path) for path in paths or ["/"]]
+        with version.session.lock:
+            version.session.see(version.name, self._path)
+            return version.session.prove(version.name, *whole)
 
     def _below(self, path: str) -> str:
+        """The path from the whole value of one that begins here."""
+        if not isinstance(path, str):
+            raise TypeError(f"a path is text (str), and {path!r} was given.")
+        if not path.startswith("/"):
+            raise BadPath("this is no path", "A path begins with /, as /validators/7/slashed.", status=Status.SYNTAX, name="SYNTAX",
+                          type=self._type, path=path)
         if self._path == "/":
             return path
         return self._path if path == "/" else self._path + path
@@ -187,18 +248,16 @@ class View:
     def _read(self, step: object, form: Form) -> Any:
         path = self._step(step)
         if is_plain(form):
-            return form.decode(self._version.session.get(self._version.name, path))
+            return form.decode(self._version.session.get(self._version.name, path, form.size or _ROOM))
         return self._store.class_of(form)._at(self._version, path)
 
     def _write(self, step: object, form: Form, value: Any) -> None:
         path = self._step(step)
-        self._version.session.set(self._version.name, path, form.encode(value, path))
-        self._store.edited()
+        self._put(path, form.encode(value, path))
 
-    def _write_whole(self, value: Any) -> None:
-        data = self._form.encode(value, self._path)
-        self._version.session.set(self._version.name, self._path, data)
-        self._store.edited()
+    def _put(self, path: str, data: bytes) -> None:
+        """Makes the part at a path of the whole value that which the bytes encode."""
+        self._store.writing().set(self._version.name, path, data)
 
     def __eq__(self, other: object) -> bool:
         if isinstance(other, View):
@@ -224,7 +283,9 @@ class ContainerView(View):
     __slots__ = ()
     _form: Any
 
-    def __new__(cls, **fields: Any) -> Any:
+    def __new__(cls, /, *values: Any, **fields: Any) -> Any:
+        if values:
+            raise TypeError(f"{cls.__name__} takes its fields by name, as {cls.__name__}({next(iter(cls._form.fields))}=..)")
         view = cls._default()
         for name, value in fields.items():
             view[name] = value
@@ -236,7 +297,15 @@ class ContainerView(View):
     def __setitem__(self, name: str, value: Any) -> None:
         self._write(name, self._field(name), value)
 
+    def __iter__(self) -> Iterator[str]:
+        return iter(self._form.fields)
+
+    def __contains__(self, name: object) -> bool:
+        return isinstance(name, str) and name in self._form.fields
+
     def _field(self, name: str) -> Form:
+        if not isinstance(name, str):
+            raise TypeError(f"the fields of {type(self).__name__} are had by name, and {name!r} was given")
         if name not in self._form.fields:
             raise AttributeError(self._no_field(name))
         return self._form.fields[name]
@@ -250,7 +319,10 @@ class ContainerView(View):
         raise AttributeError(self._no_field(name))
 
     def _no_field(self, name: str) -> str:
-        return f"{type(self).__name__} has no field {name}. {like(name, self._form.fields)}"
+        kind = type(self).__name__
+        if name in self._form.fields:
+            return f"the field {name} of {kind} is had in brackets: value[{name!r}]"
+        return f"{kind} has no field {name}. {like(name, self._form.fields)}"
 
     @classmethod
     def fields(cls) -> list[str]:
@@ -260,7 +332,10 @@ class ContainerView(View):
     def __repr__(self) -> str:
         if self._form.size is None or self._form.size > 256:
             return super().__repr__()
-        shown = self.to_obj()
+        try:
+            shown = self.to_obj()
+        except (SszError, RuntimeError):
+            return f"<{type(self).__name__} at {self._path}, which is not there>"
         return f"{type(self).__name__}({', '.join(f'{name}={value!r}' for name, value in shown.items())})"
 
 
@@ -276,6 +351,10 @@ class SeriesView(View):
     def __len__(self) -> int:
         return self._form.length
 
+    @property
+    def _element(self) -> Form:
+        return self._form.element
+
     def _place(self, place: Any) -> int:
         number = operator.index(place)
         count = len(self)
@@ -285,38 +364,70 @@ class SeriesView(View):
         return number % count
 
     def __getitem__(self, place: Any) -> Any:
-        if isinstance(place, slice):
-            if is_plain(self._form.element):
-                return self.to_plain()[place]
-            return [self._read(number, self._form.element) for number in range(*place.indices(len(self)))]
-        return self._read(self._place(place), self._form.element)
+        with self._version.session.lock:
+            if not isinstance(place, slice):
+                return self._read(self._place(place), self._element)
+            if not is_plain(self._element):
+                return [self._read(number, self._element) for number in range(*place.indices(len(self)))]
+        return self.to_plain()[place]
 
     def __setitem__(self, place: Any, value: Any) -> None:
-        if not isinstance(place, slice):
-            self._write(self._place(place), self._form.element, value)
+        if isinstance(place, slice):
+            self._replace(place, self._taken(value))
             return
-        values = self.to_plain()
-        try:
-            values[place] = array(values.typecode, value) if isinstance(values, array) else list(value)
-        except (TypeError, OverflowError):
-            values = list(values)
-            values[place] = list(value)
-        self._write_whole(values)
+        data = self._element.encode(value, self._step(operator.index(place)))
+        with self._version.session.lock:
+            self._put(self._step(self._place(place)), data)
+
+    def _taken(self, value: Any) -> Any:
+        """The encodings of all elements of an iterable."""
+        if isinstance(value, Shaped):
+            value = list(value)  # type: ignore[call-overload]
+        return self._form.taken(value, self._path)
+
+    def _replace(self, place: slice, new: Any) -> None:
+        """Puts elements in the places of a slice, by the rules of Python's lists."""
+        form = self._form
+        with self._version.session.lock:
+            old = form.split(self.encode_bytes())
+            elements = _spliced(old, place, new, form.element.size) if isinstance(old, bytes) else _spliced_list(old, place, new)
+            form.counted(form.count(elements), "elements", self._path)
+            self._put(self._path, form.whole(elements))
 
     def __iter__(self) -> Iterator[Any]:
-        if is_plain(self._form.element):
+        if is_plain(self._element):
             return iter(self.to_plain())
-        return (self._read(number, self._form.element) for number in range(len(self)))
+        return (self._read(number, self._element) for number in range(len(self)))
 
     def __bytes__(self) -> bytes:
         return self.encode_bytes()
 
     def __eq__(self, other: object) -> bool:
-        if isinstance(other, (list, tuple)) and is_plain(self._form.element):
-            return list(self) == list(other)
+        if isinstance(other, (list, tuple, array)):
+            return len(self) == len(other) and all(one == another for one, another in zip(self, other))
         return super().__eq__(other)
 
     __hash__ = None  # type: ignore[assignment]
+
+
+def _spliced_list(old: list[bytes], place: slice, new: list[bytes]) -> list[bytes]:
+    """The encodings of elements, of which those of a slice are others."""
+    elements = list(old)
+    elements[place] = new
+    return elements
+
+
+def _spliced(old: bytes, place: slice, new: bytes, size: int) -> bytes:
+    """The encodings of elements of so many bytes, side by side, of which those of a slice are others."""
+    places, count = range(*place.indices(len(old) // size)), len(new) // size
+    if places.step == 1:
+        return old[: size * places.start] + new + old[size * max(places.start, places.stop) :]
+    if len(places) != count:
+        raise ValueError(f"attempt to assign sequence of size {count} to extended slice of size {len(places)}")
+    changed = bytearray(old)
+    for at, number in enumerate(places):
+        changed[size * number : size * (number + 1)] = new[size * at : size * (at + 1)]
+    return bytes(changed)
 
 
 class ListView(SeriesView):
@@ -328,22 +439,37 @@ class ListView(SeriesView):
         return self._version.session.length(self._version.name, self._path)
 
     def append(self, value: Any) -> None:
-        """Puts an element behind the last one."""
-        data = self._form.element.encode(value, self._path)
-        self._version.session.append(self._version.name, self._path, data)
-        self._store.edited()
+        """Puts an element after the last one."""
+        data = self._element.encode(value, self._path)
+        self._store.writing().append(self._version.name, self._path, data)
 
     def extend(self, values: Iterable[Any]) -> None:
-        """Puts elements behind the last one."""
-        for value in values:
-            self.append(value)
+        """Puts elements after the last one: all of them, or none."""
+        new = self._taken(values)
+        with self._version.session.lock:
+            count, added = len(self), self._form.count(new)
+            self._form.counted(count + added, "elements", self._path)
+            if added * _MANY < count:
+                self._append_all(new)
+            else:
+                self._replace(slice(count, count), new)
+
+    def _append_all(self, new: Any) -> None:
+        """Appends one by one, on a fork that the value becomes once all is done."""
+        size, session = self._element.size or 1, self._store.writing()
+        parts = (new[at : at + size] for at in range(0, len(new), size)) if isinstance(new, bytes) else new
+        trial = self._store.version()
+        session.fork(self._version.name, trial.name)
+        for part in parts:
+            session.append(trial.name, self._path, part)
+        self._version.become(trial)
 
     def pop(self) -> Any:
         """Takes the last element away, and returns it as Python's own object."""
-        last = self[-1] if len(self) else None
-        value = last.to_plain() if isinstance(last, View) else last
-        self._version.session.pop(self._version.name, self._path)
-        self._store.edited()
+        with self._version.session.lock:
+            last = self[-1] if len(self) else None
+            value = last.to_plain() if isinstance(last, View) else last
+            self._store.writing().pop(self._version.name, self._path)
         return value
 
 
@@ -355,31 +481,23 @@ class BitsView(ListView):
     def __len__(self) -> int:
         return super().__len__() if self._form.is_list else self._form.length
 
-    def __getitem__(self, place: Any) -> Any:
-        return self.to_plain()[place] if isinstance(place, slice) else self._read(self._place(place), _BIT)
+    @property
+    def _element(self) -> Form:
+        return _BIT
 
-    def __setitem__(self, place: Any, value: Any) -> None:
-        if not isinstance(place, slice):
-            self._write(self._place(place), _BIT, value)
-            return
-        bits = self.to_plain()
-        bits[place] = list(value)
-        self._write_whole(bits)
+    def _taken(self, value: Any) -> bytes:
+        bits = given.truths_of(list(value) if isinstance(value, Shaped) else value)  # type: ignore[call-overload]
+        if bits is None:
+            raise self._form.wrong(value, "an iterable of True and False", self._path)
+        return bits
+
+    def _replace(self, place: slice, new: bytes) -> None:
+        with self._version.session.lock:
+            bits = self._form.unpacked(self.encode_bytes())
+            self._put(self._path, self._form.packed(_spliced(bits, place, new, 1), self._path))
 
     def __iter__(self) -> Iterator[bool]:
         return iter(self.to_plain())
-
-    def append(self, value: Any) -> None:
-        """Puts a bit behind the last one of a bitlist."""
-        self._version.session.append(self._version.name, self._path, _BIT.encode(value, self._path))
-        self._store.edited()
-
-    def __eq__(self, other: object) -> bool:
-        if isinstance(other, (list, tuple)):
-            return list(self) == list(other)
-        return View.__eq__(self, other)
-
-    __hash__ = None  # type: ignore[assignment]
 
 
 class UnionView(View):
@@ -389,26 +507,30 @@ class UnionView(View):
     _form: Any
 
     def __new__(cls, selector: int = 0, value: Any = None) -> Any:
-        if selector == 0 and value is None:
+        if value is None and given.number_of(selector) == 0:
             return cls._default()
         return cls.from_obj((selector, value))
 
     @property
     def selector(self) -> int:
         """The number of the option, from 0 on."""
-        return self._version.session.get(self._version.name, self._step("#sel"))[0]
+        return self._version.session.get(self._version.name, self._step("#sel"), 1)[0]
 
     @property
     def value(self) -> Any:
         """The value of the option, None of the option None."""
-        selector = self.selector
-        form = self._form.options[selector]
-        return None if form is None else self._read(f"#{selector}", form)
+        with self._version.session.lock:
+            selector = self.selector
+            form = self._form.options[selector]
+            return None if form is None else self._read(f"#{selector}", form)
 
     def choose(self, selector: int, value: Any = None) -> None:
         """Gives it another option, with this value."""
-        self._write_whole((selector, value))
+        self._put(self._path, self._form.encode((selector, value), self._path))
 
 
 _BIT = Boolean()
+_ROOM = 4096
+#: A list is written whole where it grows by one element for so many that it has, or by more: that is cheaper then.
+_MANY = 16
 _KINDS = [(Container, ContainerView), (Series, SeriesView), (Bits, BitsView), (Union, UnionView)]

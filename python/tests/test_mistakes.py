@@ -175,6 +175,11 @@ class Words(unittest.TestCase):
     def test_json_of_another_type(self) -> None:
         self.check(["encode", "deneb", "Fork", '{"epoch": 1}'], "no Fork", "previous_version is missing")
 
+    def test_digits_of_another_length(self) -> None:
+        for bits, other in (("0x01020304050607", "0x0803"), ("0x010203040506070809", "0x"), ("0x0102030405060708", "0x18")):
+            words = f'{{"seq_number": 1, "attnets": "{bits}", "syncnets": "{other}"}}'
+            self.check(["encode", "deneb", "MetaData", words], "no MetaData", "nets: ", "Give the digits of")
+
     def test_a_path_that_leads_nowhere(self) -> None:
         self.check(["show", "deneb", "Fork", "0x" + "00" * 16, "/slot"], "Fork /slot", "does not fit the type")
 
