@@ -86,10 +86,11 @@ class Memory(unittest.TestCase):
     def test_no_memory_to_compact_is_not_the_edit_s_error(self) -> None:
         schema = ssz.Schema({"ssz": 1, "types": [["Longs", {"list": ["uint64", 1 << 30]}]]})
         longs, store = schema.Longs(range(10)), schema._values
+        longs[2] = 9
         store._most = 0
         store.session.compact = lambda: (_ for _ in ()).throw(ssz.SszError("memory is used up", status=ssz.Status.NO_MEMORY))  # type: ignore[method-assign]
         longs[3] = 7
-        self.assertEqual(list(longs), [0, 1, 2, 7, 4, 5, 6, 7, 8, 9])
+        self.assertEqual(list(longs), [0, 1, 9, 7, 4, 5, 6, 7, 8, 9])
         self.assertGreater(store._most, 0)
         self.assertRaises(ssz.SszError, schema.compact)
 
