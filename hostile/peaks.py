@@ -21,8 +21,8 @@ STATE = """
 zeros = deneb.BeaconState()
 validator = deneb.Validator(pubkey=bytes(range(48)), effective_balance=32 * 10**9).encode_bytes()
 zeros.balances = range(32 * 10**9, 32 * 10**9 + (1 << 20))
-session, name = zeros._version.session, zeros._version.name
-session.set(name, "/validators", validator * (1 << 20))
+with zeros._version as name:
+    zeros._version.session.set(name, "/validators", validator * (1 << 20))
 del validator
 data = zeros.encode_bytes()
 del zeros

@@ -112,20 +112,26 @@ class Store:
 
 
 class Version:
-    """The name of a version. It lives as long as this object."""
+    """The name of a version. It lives as long as this object.
+
+    `with version as name:` has the name for calls of the session, with its lock: `become` gives the version another one.
+    """
 
     def __init__(self, session: Session, name: str) -> None:
         self.session, self._names = session, [name]
         weakref.finalize(self, _drop_all, session, self._names).atexit = False
 
-    @property
-    def name(self) -> str:
-        """The name in the session."""
+    def __enter__(self) -> str:
+        self.session.lock.__enter__()
         return self._names[0]
+
+    def __exit__(self, *_: object) -> None:
+        self.session.lock.__exit__()
 
     def become(self, other: Version) -> None:
         """Takes the value of another version, and gives up its own."""
-        self._names[0], other._names[0] = other._names[0], self._names[0]
+        with self.session.lock:
+            self._names[0], other._names[0] = other._names[0], self._names[0]
 
 
 def _drop_all(session: Session, names: list[str]) -> None:
@@ -178,7 +184,8 @@ class View(Shaped):
     @classmethod
     def _default(cls) -> Any:
         view = cls._made()
-        view._version.session.new(view._version.name, cls._type)
+        with view._version as name:
+            view._version.session.new(name, cls._type)
         return view
 
     @classmethod
@@ -187,7 +194,8 @@ class View(Shaped):
         data = given.bytes_of(data)
         view = cls._made()
         try:
-            view._version.session.load(view._version.name, cls._type, data)
+            with view._version as name:
+                view._version.session.load(name, cls._type, data)
         except InvalidBytes as error:
             raise cls._store._schema.type(cls._type).error(error.status, error.code, error.position, data) from None
         return view
@@ -199,12 +207,14 @@ class View(Shaped):
 
     def encode_bytes(self) -> bytes:
         """The encoding."""
-        return self._version.session.get(self._version.name, self._path)
+        with self._version as name:
+            return self._version.session.get(name, self._path)
 
     def hash_tree_root(self) -> bytes:
         """The root."""
-        version = self._version
-        return version.session.root(version.name) if self._path == "/" else version.session.node(version.name, self._path)
+        session = self._version.session
+        with self._version as name:
+            return session.root(name) if self._path == "/" else session.node(name, self._path)
 
     def to_plain(self) -> Any:
         """The value as Python's own objects: numbers, bytes, lists, arrays and dicts."""
@@ -221,15 +231,16 @@ class View(Shaped):
     def copy(self) -> Any:
         """A copy, which shares what neither edits. Of a part, the whole value is copied."""
         version = self._store.version()
-        version.session.fork(self._version.name, version.name)
+        with self._version as name, version as other:
+            version.session.fork(name, other)
         return self._at(version, self._path)
 
     def prove(self, *paths: str) -> Proof:
         """The multiproof of parts against the root of the whole value. A path begins here: "/slot"."""
-        version, whole = self._version, [self._below(path) for path in paths or ["/"]]
-        with version.session.lock:
-            version.session.see(version.name, self._path)
-            return version.session.prove(version.name, *whole)
+        session, whole = self._version.session, [self._below(path) for path in paths or ["/"]]
+        with self._version as name:
+            session.see(name, self._path)
+            return session.prove(name, *whole)
 
     def _below(self, path: str) -> str:
         """The path from the whole value of one that begins here."""
@@ -248,7 +259,8 @@ class View(Shaped):
     def _read(self, step: object, form: Form) -> Any:
         path = self._step(step)
         if is_plain(form):
-            return form.decode(self._version.session.get(self._version.name, path, form.size or _ROOM))
+            with self._version as name:
+                return form.decode(self._version.session.get(name, path, form.size or _ROOM))
         return self._store.class_of(form)._at(self._version, path)
 
     def _write(self, step: object, form: Form, value: Any) -> None:
@@ -257,7 +269,8 @@ class View(Shaped):
 
     def _put(self, path: str, data: bytes) -> None:
         """Makes the part at a path of the whole value that which the bytes encode."""
-        self._store.writing().set(self._version.name, path, data)
+        with self._version as name:
+            self._store.writing().set(name, path, data)
 
     def __eq__(self, other: object) -> bool:
         if isinstance(other, View):
@@ -364,7 +377,7 @@ class SeriesView(View):
         return number % count
 
     def __getitem__(self, place: Any) -> Any:
-        with self._version.session.lock:
+        with self._version:
             if not isinstance(place, slice):
                 return self._read(self._place(place), self._element)
             if not is_plain(self._element):
@@ -376,7 +389,7 @@ class SeriesView(View):
             self._replace(place, self._taken(value))
             return
         data = self._element.encode(value, self._step(operator.index(place)))
-        with self._version.session.lock:
+        with self._version:
             self._put(self._step(self._place(place)), data)
 
     def _taken(self, value: Any) -> Any:
@@ -388,7 +401,7 @@ class SeriesView(View):
     def _replace(self, place: slice, new: Any) -> None:
         """Puts elements in the places of a slice, by the rules of Python's lists."""
         form = self._form
-        with self._version.session.lock:
+        with self._version:
             old = form.split(self.encode_bytes())
             elements = _spliced(old, place, new, form.element.size) if isinstance(old, bytes) else _spliced_list(old, place, new)
             form.counted(form.count(elements), "elements", self._path)
@@ -436,17 +449,19 @@ class ListView(SeriesView):
     __slots__ = ()
 
     def __len__(self) -> int:
-        return self._version.session.length(self._version.name, self._path)
+        with self._version as name:
+            return self._version.session.length(name, self._path)
 
     def append(self, value: Any) -> None:
         """Puts an element after the last one."""
         data = self._element.encode(value, self._path)
-        self._store.writing().append(self._version.name, self._path, data)
+        with self._version as name:
+            self._store.writing().append(name, self._path, data)
 
     def extend(self, values: Iterable[Any]) -> None:
         """Puts elements after the last one: all of them, or none."""
         new = self._taken(values)
-        with self._version.session.lock:
+        with self._version:
             count, added = len(self), self._form.count(new)
             self._form.counted(count + added, "elements", self._path)
             if added * _MANY < count:
@@ -459,17 +474,18 @@ class ListView(SeriesView):
         size, session = self._element.size or 1, self._store.writing()
         parts = (new[at : at + size] for at in range(0, len(new), size)) if isinstance(new, bytes) else new
         trial = self._store.version()
-        session.fork(self._version.name, trial.name)
-        for part in parts:
-            session.append(trial.name, self._path, part)
-        self._version.become(trial)
+        with self._version as name, trial as other:
+            session.fork(name, other)
+            for part in parts:
+                session.append(other, self._path, part)
+            self._version.become(trial)
 
     def pop(self) -> Any:
         """Takes the last element away, and returns it as Python's own object."""
-        with self._version.session.lock:
+        with self._version as name:
             last = self[-1] if len(self) else None
             value = last.to_plain() if isinstance(last, View) else last
-            self._store.writing().pop(self._version.name, self._path)
+            self._store.writing().pop(name, self._path)
         return value
 
 
@@ -492,7 +508,7 @@ class BitsView(ListView):
         return bits
 
     def _replace(self, place: slice, new: bytes) -> None:
-        with self._version.session.lock:
+        with self._version:
             bits = self._form.unpacked(self.encode_bytes())
             self._put(self._path, self._form.packed(_spliced(bits, place, new, 1), self._path))
 
@@ -514,12 +530,13 @@ class UnionView(View):
     @property
     def selector(self) -> int:
         """The number of the option, from 0 on."""
-        return self._version.session.get(self._version.name, self._step("#sel"), 1)[0]
+        with self._version as name:
+            return self._version.session.get(name, self._step("#sel"), 1)[0]
 
     @property
     def value(self) -> Any:
         """The value of the option, None of the option None."""
-        with self._version.session.lock:
+        with self._version:
             selector = self.selector
             form = self._form.options[selector]
             return None if form is None else self._read(f"#{selector}", form)

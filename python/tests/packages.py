@@ -66,13 +66,20 @@ def python(tally, libraries):
 
 
 def rust(tally, libraries, room):
-    """The tests of the crate for Rust."""
+    """The tests of the crate for Rust, in debug and in release, and clippy's lints."""
     if not shutil.which("cargo"):
         return
-    said, status = ran("cargo", "test", "--offline", "--target-dir", room / "target", where=TOP / "rust", SSZ_LIB_DIR=libraries)
-    found = [tuple(map(int, pair)) for pair in re.findall(r"(?m)^test result: \w+\. (\d+) passed; (\d+) failed", said)]
-    passed, failed = (sum(column) for column in zip(*found)) if found else (0, 0)
-    tally.add("rust", passed, failed or int(status != 0 or not passed))
+    words = ("--offline", "--target-dir", room / "target")
+    for profile in ("debug", "release"):
+        said, status = ran("cargo", "test", *words, *["--release"] * (profile == "release"), where=TOP / "rust", SSZ_LIB_DIR=libraries)
+        found = [tuple(map(int, pair)) for pair in re.findall(r"(?m)^test result: \w+\. (\d+) passed; (\d+) failed", said)]
+        passed, failed = (sum(column) for column in zip(*found)) if found else (0, 0)
+        tally.add(f"rust, {profile}", passed, failed or int(status != 0 or not passed))
+    if subprocess.run(["cargo", "clippy", "--version"], stdout=subprocess.DEVNULL, stderr=subprocess.DEVNULL).returncode:
+        print("left out: the lints of rust/ (no clippy)")
+        return
+    _, status = ran("cargo", "clippy", *words, "--all-targets", "--", "-D", "warnings", where=TOP / "rust", SSZ_LIB_DIR=libraries)
+    tally.add("rust, clippy", int(status == 0), int(status != 0))
 
 
 def c(tally, prefix, room):

@@ -83,6 +83,19 @@ class Threads(unittest.TestCase):
         runs = [tuple(longs[at : at + 3]) for at in range(1000, len(longs), 3)]
         self.assertEqual(sorted(runs), sorted((number, turn, number) for number in range(THREADS) for turn in range(50)))
 
+    def test_reads_beside_extends(self) -> None:
+        longs = ssz.Schema(TYPES).Longs([7] * 1000)
+
+        def work(number: int) -> None:
+            for turn in range(300):
+                if number % 4 == 0:
+                    longs.extend([number, turn])
+                else:
+                    self.assertEqual((longs[0], len(longs) % 2, len(longs.encode_bytes()) % 16), (7, 0, 0))
+                    self.assertEqual((len(longs.hash_tree_root()), len(longs.prove("/1").leaves)), (32, 1))
+
+        self.assertEqual(together(work), [])
+
     def test_a_union_read_beside_choices(self) -> None:
         choice = ssz.Schema(TYPES).Choice(1, 5)
 
