@@ -172,6 +172,13 @@ class Words(unittest.TestCase):
     def test_text_that_is_no_json(self) -> None:
         self.check(["encode", "deneb", "Fork", "{no}"], "{no}", "no JSON", "line 1 column 2")
 
+    def test_json_with_a_member_twice(self) -> None:
+        root = '"root": "0x' + 64 * "0" + '"'
+        self.check(["encode", "deneb", "Checkpoint", f'{{"epoch": 1, "epoch": 2, {root}}}'], "no JSON", "'epoch' twice")
+
+    def test_json_that_is_too_deep(self) -> None:
+        self.check(["encode", "deneb", "Fork", self.file("deep.json", 100_000 * "[")], "deep.json", "too deep")
+
     def test_json_of_another_type(self) -> None:
         self.check(["encode", "deneb", "Fork", '{"epoch": 1}'], "no Fork", "previous_version is missing")
 

@@ -2,6 +2,7 @@
 
 from __future__ import annotations
 
+import collections
 import json
 import os
 import re
@@ -109,11 +110,21 @@ def checked(kind: Type, word: str, as_hex: bool = False) -> bytes:
 
 def json_of(word: str) -> Any:
     """The JSON of a file, of standard input, or of the word itself."""
-    text = word.encode() if word[:1] in ("{", "[", '"') else content(word)
+    text = word.encode("utf-8", "surrogateescape") if word[:1] in ("{", "[", '"') else content(word)
     try:
-        return json.loads(text)
+        return json.loads(text, object_pairs_hook=_object)
     except ValueError as error:
         raise problem(word[:40], f"this is no JSON ({error})") from None
+    except RecursionError:
+        raise problem(word[:40], "arrays and objects stand too deep in one another") from None
+
+
+def _object(members: list[tuple[str, Any]]) -> dict[str, Any]:
+    """An object of JSON, none of whose members is lost."""
+    counts = collections.Counter(name for name, _ in members)
+    if len(counts) < len(members):
+        raise ValueError(f"an object has the member {counts.most_common(1)[0][0]!r} twice")
+    return dict(members)
 
 
 def write(data: bytes, out: str | None) -> None:
