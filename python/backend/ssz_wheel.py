@@ -25,6 +25,7 @@ Version: {VERSION}
 Summary: SimpleSerialize (SSZ), the encoding and the hash tree of Ethereum's consensus layer, over a proved library
 Requires-Python: >=3.9
 """
+ENTRIES = "[console_scripts]\nssz-py = ssz.__main__:main\n"
 WHEEL = f"Wheel-Version: 1.0\nGenerator: ssz_wheel\nRoot-Is-Purelib: false\nTag: {TAG}\n"
 
 
@@ -51,6 +52,9 @@ def files() -> Iterator[tuple[str, bytes]]:
     for file in (SONAME, f"glibc-hwcaps/x86-64-v3/{SONAME}"):
         if (libraries / file).is_file():
             yield f"{NAME}/lib/{file}", (libraries / file).read_bytes()
+    built = libraries.parent / "share" / "ssz" / "built.txt"
+    if built.is_file():
+        yield f"{NAME}/lib/built.txt", built.read_bytes()
     schemas = TOP.parent / "examples" / "ethereum"
     if not schemas.is_dir():
         schemas = libraries.parent / "share" / "ssz" / "schemas"
@@ -58,6 +62,7 @@ def files() -> Iterator[tuple[str, bytes]]:
         yield f"{NAME}/schemas/{file.relative_to(schemas)}", file.read_bytes()
     yield f"{NAME}-{VERSION}.dist-info/METADATA", METADATA.encode()
     yield f"{NAME}-{VERSION}.dist-info/WHEEL", WHEEL.encode()
+    yield f"{NAME}-{VERSION}.dist-info/entry_points.txt", ENTRIES.encode()
 
 
 def build_wheel(wheel_directory: str, config_settings: Any = None, metadata_directory: Any = None) -> str:

@@ -16,7 +16,7 @@ from __future__ import annotations
 from typing import Any
 
 from ._library import LibraryMissing
-from .errors import (BadPath, BadProof, BadSchema, BadValue, InvalidBytes, NoSuchPart, NoSuchType, Refused, Status, SszError)
+from .errors import (BadJson, BadPath, BadProof, BadSchema, BadValue, InvalidBytes, NoSuchPart, NoSuchType, Refused, Status, SszError)
 from .proof import Branch, Proof, verify
 from .schema import Schema, Slice, Type
 from .session import Session
@@ -24,7 +24,7 @@ from .values import View
 
 __version__ = "0.1.0"
 __all__ = [
-    "BadPath", "BadProof", "BadSchema", "BadValue", "Branch", "InvalidBytes", "LibraryMissing", "NoSuchPart", "NoSuchType", "Proof",
+    "BadJson", "BadPath", "BadProof", "BadSchema", "BadValue", "Branch", "InvalidBytes", "LibraryMissing", "NoSuchPart", "NoSuchType", "Proof",
     "Refused", "Schema", "Session", "Slice", "Status", "SszError", "Type", "View", "decode", "encode", "get_hash_tree_root", "verify",
 ]
 

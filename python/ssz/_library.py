@@ -53,6 +53,7 @@ _ENTRIES = [ctypes.POINTER(Entry), ctypes.c_size_t]
 _INDICES = [ctypes.POINTER(Index), ctypes.c_size_t]
 
 _CALLS = {
+    "ssz_version": [],
     "ssz_schema_read": _HANDLE + _BYTES + _FAULT,
     "ssz_schema_share": _HANDLE * 2 + _FAULT,
     "ssz_schema_free": _HANDLE,
@@ -62,6 +63,8 @@ _CALLS = {
     "ssz_gindex": _HANDLE + _NUMBER + _BYTES + [ctypes.POINTER(Index)] + _FAULT,
     "ssz_part": _HANDLE + _NUMBER + _BYTES * 2 + _ROOM + _FAULT,
     "ssz_place": _HANDLE + _NUMBER + _BYTES * 2 + [ctypes.POINTER(Stretch)] + _FAULT,
+    "ssz_to_json": _HANDLE + _NUMBER + _BYTES + _ROOM + _FAULT,
+    "ssz_of_json": _HANDLE + _NUMBER + _BYTES + _ROOM + _FAULT,
     "ssz_limit": _HANDLE + _NUMBER + _LENGTH + _FAULT,
     "ssz_names": _HANDLE + _ROOM + _FAULT,
     "ssz_type_name": _HANDLE + _NUMBER + _ROOM + _FAULT,
@@ -139,6 +142,16 @@ def _loaded() -> ctypes.CDLL:
         call.argtypes = words
         call.restype = ctypes.c_uint32
     return calls
+
+
+def version() -> int:
+    """The version of the library, as SSZ_VERSION of ssz.h."""
+    return int(library().ssz_version())
+
+
+def place() -> str:
+    """The file of the library; its name where the system found it."""
+    return str(library()._name)
 
 
 class _Process:

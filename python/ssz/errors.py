@@ -73,6 +73,21 @@ SCHEMA_FAULTS = {
     15: ("TooLong", "the text is longer than 2^26 bytes", "See whether this is the schema, and not a value."),
 }
 
+#: Of each fault of a value's JSON its name, what is wrong, and what to do.
+JSON_FAULTS = {
+    1: ("NotJson", "this is no JSON", "Let a JSON tool find the place: often a comma too many."),
+    2: ("Kind", "a part is another kind of JSON", "Numbers, bits and bytes are strings in this form; encode reads the other forms."),
+    3: ("Text", "a string is not written as its type wants it",
+        "No leading zeros, 0x in front of bytes, digits in lower case, bits as 0 and 1."),
+    4: ("Range", "a number does not fit its width", "See whether the field is wider in another fork, or mend the number."),
+    5: ("Count", "a part has another number of bytes or elements",
+        "Compare with the length or the limit in the schema, which may be another preset's."),
+    6: ("Member", "a field is missing, or a member is no field", "Compare with the fields of the type, which may be another fork's."),
+    7: ("Selector", "a selector is no option's number", "Compare with the union's options, counted from 0."),
+    8: ("Spelling", "the text is not spelled as the value's own",
+        "Leave out white space, escapes and the last line feed, and order the members; encode reads other spellings."),
+}
+
 #: Of each refusal of a session its name, what is wrong, and what to do.
 REFUSALS = {
     1: ("Syntax", "the line is no statement", "Compare it with the table of statements in docs/formats.md."),
@@ -130,6 +145,10 @@ class InvalidBytes(SszError, ValueError):
     """The bytes encode no value of the type."""
 
 
+class BadJson(SszError, ValueError):
+    """The text is not the JSON of a value, in the one spelling that `ssz run` has."""
+
+
 class BadSchema(SszError, ValueError):
     """The text is no schema."""
 
@@ -167,6 +186,7 @@ _CLASSES = {
     Status.ABSENT: NoSuchPart,
     Status.NO_PLACE: NoSuchPart,
     Status.BAD_PROOF: BadProof,
+    Status.BAD_JSON: BadJson,
     Status.REFUSED: Refused,
 }
 _REFUSED = {2: NoSuchType, 5: BadPath, 6: NoSuchPart, 8: NoSuchPart, 9: NoSuchPart}
@@ -181,6 +201,9 @@ def error_of(status: int, code: int, position: int, *, type: str = "", path: str
     elif status == Status.BAD_SCHEMA:
         name, what, advice = SCHEMA_FAULTS[code]
         place = f"S{code} {name}" + (f", definition {position}, counted from 0" if 3 <= code <= 14 else "")
+    elif status == Status.BAD_JSON:
+        name, what, advice = JSON_FAULTS[code]
+        place = f"J{code} {name}" + (f", part {position}, counted from 0 in the order of the text" if 2 <= code <= 7 else "")
     elif status == Status.REFUSED:
         name, what, advice = REFUSALS[code]
         kind, place = _REFUSED.get(code, Refused), f"{code} {name}"

@@ -50,6 +50,11 @@ class Form:
     size: Optional[int] = None
     name = ""
 
+    @property
+    def least(self) -> int:
+        """The length of the shortest encoding."""
+        return self.size or 0
+
     def __repr__(self) -> str:
         return self.name
 
@@ -165,6 +170,10 @@ class Bits(Form):
         digits = digits[1:] if self.is_list else digits.zfill(self.length)
         return digits[::-1].encode().translate(_BITS)
 
+    @property
+    def least(self) -> int:
+        return 1 if self.size is None else self.size
+
     def _of_digits(self, text: str, path: str) -> bytes:
         """The encoding that digits say, judged here: in the middle of a value its bytes would be another field's."""
         data = unhex(text, self, path)
@@ -207,6 +216,12 @@ class Series(Form):
     def shape(self) -> str:
         element = "uint8" if self.is_bytes else self.element.shape
         return f"{'List' if self.is_list else 'Vector'}[{element}, {self.length}]"
+
+    @property
+    def least(self) -> int:
+        if self.size is not None:
+            return self.size
+        return 0 if self.is_list else self.length * (4 + self.element.least)
 
     def _encoded(self, value: Any, path: str) -> bytes:
         taken = unhex(value, self, path) if isinstance(value, str) and self.is_octets else self.taken(value, path)
@@ -312,6 +327,10 @@ class Container(Form):
     def shape(self) -> str:
         return "{" + ",".join(f"{name}:{form.shape}" for name, form in self.fields.items()) + "}"
 
+    @functools.cached_property
+    def least(self) -> int:
+        return sum(4 + form.least if form.size is None else form.size for form in self.fields.values())
+
     def _encoded(self, value: Any, path: str) -> bytes:
         if not isinstance(value, Mapping):
             raise self.wrong(value, f"a dict with the fields {', '.join(self.fields)}", path)
@@ -355,6 +374,10 @@ class Union(Form):
     @functools.cached_property
     def shape(self) -> str:
         return f"Union[{', '.join('None' if form is None else form.shape for form in self.options)}]"
+
+    @property
+    def least(self) -> int:
+        return 1 + min(0 if form is None else form.least for form in self.options)
 
     def _encoded(self, value: Any, path: str) -> bytes:
         pair = value

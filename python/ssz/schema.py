@@ -8,9 +8,9 @@ from collections.abc import Mapping
 from pathlib import Path
 from typing import Any, Iterator
 
-from . import given, values
+from . import faults, given, values
 from ._library import Fault, Index, Stretch
-from .errors import NoSuchPart, NoSuchType, Status, SszError, error_of
+from .errors import BadJson, BadSchema, NoSuchPart, NoSuchType, Status, SszError, error_of
 from .forms import BUILT_IN, Form, form_at, forms_of, like
 from .places import place_of
 from .session import Held, Session, _data, _name, _word
@@ -88,6 +88,28 @@ class Type:
         if status:
             raise self.error(status, fault.code, fault.position, data, path)
         return room.raw[: count.value]
+
+    def to_json(self, data: bytes) -> bytes:
+        """The JSON text of the value that the bytes encode, as `json` of scripts prints it (docs/formats.md, Values as JSON)."""
+        return self._text("ssz_to_json", given.bytes_of(data))
+
+    def of_json(self, text: bytes | str) -> bytes:
+        """The encoding of the value whose JSON text this is, in the one spelling that `to_json` has; see `encode_bytes` for others."""
+        taken = given.word_of(text, "a JSON text") if isinstance(text, str) else given.bytes_of(text)
+        try:
+            return self._text("ssz_of_json", taken)
+        except BadJson as error:
+            raise faults.of_json(error, taken) from None
+
+    def _text(self, call: str, data: bytes) -> bytes:
+        """What a call makes of bytes, in room that it says."""
+        count, status = ctypes.c_uint64(4 * len(data) + 64), int(Status.NO_ROOM)
+        while status == Status.NO_ROOM:
+            space = ctypes.create_string_buffer(count.value)
+            status, fault = self._status(call, data, space, len(space), ctypes.byref(count))
+        if status:
+            raise self.error(status, fault.code, fault.position, data)
+        return ctypes.string_at(space, count.value)
 
     def open(self, data: bytes) -> Slice:
         """The bytes, checked once, to ask for many parts. Raises InvalidBytes with the first fault."""
@@ -175,7 +197,10 @@ class Schema(Held):
             text = json.dumps(dict(text))
         self.text = given.word_of(text, "a schema") if isinstance(text, str) else given.bytes_of(text, "a schema's text")
         super().__init__()
-        self._call("ssz_schema_read", *_data(self.text))
+        try:
+            self._call("ssz_schema_read", *_data(self.text))
+        except BadSchema as error:
+            raise faults.of_schema(error, self.text) from None
         self._of_forms(forms_of(json.loads(self.text)["types"]))
 
     def _of_forms(self, forms: dict[str, Form]) -> None:

@@ -3,11 +3,14 @@
 import contextlib
 import io
 import json
+import os
+import shutil
 import subprocess
 import sys
 import tempfile
 import unittest
 import xml.etree.ElementTree as xml
+from hashlib import sha256
 from pathlib import Path
 from unittest import mock
 
@@ -17,6 +20,7 @@ from ssz.command import progress, snappy
 from ssz.ethereum import deneb
 
 ROOT = "0x" + "11" * 32
+PROGRAM = os.environ.get("SSZ_PROGRAM") or os.path.join(os.environ.get("SSZ_LIB_DIR", ""), "..", "bin", "ssz")
 
 
 def said(*words: str, given: bytes = b"") -> tuple[int, str]:
@@ -109,8 +113,75 @@ class Command(unittest.TestCase):
         self.assertEqual(said("api-json", "--back", "deneb", "BeaconState", wrapped, "-o", made), (0, ""))
         self.assertEqual(Path(made).read_bytes(), self.state.encode_bytes())
 
+    def test_root(self) -> None:
+        self.assertEqual(said("root", "deneb", "BeaconState", self.file), (0, f"0x{self.state.hash_tree_root().hex()}\n"))
+        checkpoint = "0x" + sha256((3).to_bytes(32, "little") + bytes.fromhex(ROOT[2:])).hexdigest() + "\n"
+        self.assertEqual(said("root", "deneb", "BeaconState", self.file, "/finalized_checkpoint"), (0, checkpoint))
+        self.assertEqual(said("root", "deneb", "BeaconState", self.file, "/balances/5"), (0, f"0x05{'00' * 31}\n"))
+        self.assertEqual(said("part", "deneb", "BeaconState", self.file, "/balances/5"), (0, f"0x05{'00' * 7}\n"))
+
+    def test_prove_and_verify(self) -> None:
+        root = f"0x{self.state.hash_tree_root().hex()}"
+        status, proof = said("prove", "deneb", "BeaconState", self.file, "/slot", "/finalized_checkpoint/root")
+        self.assertEqual((status, proof[:9]), (0, "proof 34="))
+        places = self.write("p.proof", proof.encode()), self.write("root.txt", f"root {root}\n".encode())
+        for words in ((root, places[0]), (places[1], places[0]), (root, proof.rstrip()), (root, "-")):
+            self.assertEqual(said("verify", *words, given=proof.encode()), (0, "valid: the proof leads to the root\n"))
+        self.assertEqual(said("verify", ROOT, places[0]), (1, "invalid: the proof leads to another root\n"))
+
+    def test_gindex(self) -> None:
+        self.assertEqual(said("gindex", "deneb", "BeaconState", "/finalized_checkpoint/root"), (0, "105\n"))
+        self.assertEqual(said("gindex", "deneb", "BeaconState", "/slot", "/fork"), (0, "/slot 34\n/fork 35\n"))
+
+    def test_types(self) -> None:
+        rows = [line.split() for line in said("types", "deneb")[1].splitlines()]
+        self.assertIn(["Checkpoint", "40", "Container", "of", "2", "fields"], rows)
+        self.assertEqual(said("types", "deneb", "Checkpoint")[1].splitlines()[2].split(), ["root", "32", "Vector[byte,", "32]"])
+        text = json.dumps({"ssz": 1, "types": [["V", {"vector": [{"union": ["uint16", {"bitlist": 9}]}, 3]}], ["L", {"list": ["V", 2]}]]})
+        rows = [line.split()[:4] for line in said("types", self.write("s.json", text.encode()))[1].splitlines()]
+        self.assertEqual(rows[1:], [["V", "18", "or", "more"], ["L", "0", "or", "more"]])
+
+    def test_run(self) -> None:
+        saved = str(self.room / "out.ssz")
+        lines = ["# a script", "", "lit V Checkpoint 0x" + "05" + "00" * 39, f"load S BeaconState {self.file}", "root S", "root W",
+                 "set V /epoch 0x00", "json V /", f"save V {saved}", f"load W Checkpoint {saved}", f"loadjson X Checkpoint {self.room}/x.json",
+                 f"loadjson Y Checkpoint {self.room}/y.json", f"load Z Checkpoint {self.file}", "root X\r"]
+        self.write("x.json", said("run", "deneb", self.write("j", "\n".join([lines[2], lines[7]]).encode()))[1][8:].rstrip("\n").encode())
+        self.write("y.json", b'{"epoch":7}')
+        script = self.write("script", "\n".join(lines).encode())
+        err = io.StringIO()
+        with contextlib.redirect_stderr(err):
+            status, text = said("run", "deneb", script)
+        self.assertEqual((status, text.splitlines()[2]), (1, f"root 0x{self.state.hash_tree_root().hex()}"))
+        self.assertIn("ssz: line 7: set V /epoch 0x00: the bytes end too soon", err.getvalue())
+        if os.path.exists(PROGRAM):
+            ran = subprocess.run([PROGRAM, "run", self.write("deneb.json", deneb.text), script], capture_output=True, text=True)
+            self.assertEqual(text, ran.stdout)
+
+    def test_run_names_the_line_of_a_file(self) -> None:
+        script = self.write("script", f"new V Fork\nload W Fork {self.room}/none.ssz\nroot V\n".encode())
+        err = io.StringIO()
+        with contextlib.redirect_stderr(err):
+            self.assertEqual(said("run", "deneb", script), (1, "ok\n"))
+        for word in (f"{script}, line 2", "none.ssz", "no such file", "before it were done"):
+            self.assertIn(word, err.getvalue())
+
+    def test_version(self) -> None:
+        out = io.StringIO()
+        with self.assertRaises(SystemExit) as ended, contextlib.redirect_stdout(out):
+            command.main(["--version"])
+        self.assertEqual((ended.exception.code, out.getvalue().splitlines()[0]), (0, f"ssz {ssz.__version__} for Python"))
+        self.assertIn(f"libssz {ssz.__version__} for x86-64-v", out.getvalue())
+
+    @unittest.skipUnless(shutil.which("bash"), "no bash")
+    def test_completion(self) -> None:
+        file = self.write("completion", said("completion", "bash")[1].encode())
+        ran = subprocess.run(["bash", "-c", f". {file}; COMP_WORDS=(ssz-py ch); COMP_CWORD=1; _ssz_py; echo ${{COMPREPLY[*]}}"],
+                             capture_output=True, text=True)
+        self.assertEqual((ran.stdout, ran.stderr), ("check\n", ""))
+
     def test_help_has_examples(self) -> None:
-        for name in command._EXAMPLES:
+        for name in [*command._COMMANDS, "spec-tests", "completion"]:
             ran = subprocess.run([sys.executable, "-m", "ssz", name, "--help"], capture_output=True, text=True,
                                  env={"PYTHONPATH": str(Path(ssz.__file__).parents[1])})
             self.assertIn("example:\n  python -m ssz " + name, ran.stdout)

@@ -46,7 +46,16 @@ def assigned(value: object, name: str, given: object) -> object:
 
 #: What is done, and what the message must have.
 CALLS = [
-    ("a schema that is no JSON", lambda: ssz.Schema("{"), ["no JSON", "S1", "json.tool"]),
+    ("a schema that is no JSON", lambda: ssz.Schema('{"ssz":1,\n"types":[],}'), ["no JSON", "S1", "line 2, column 12", "comma"]),
+    ("a schema after a byte order mark", lambda: ssz.Schema(b'\xef\xbb\xbf{"ssz":1,"types":[]}'), ["S1", "byte order mark", "UTF-8"]),
+    ("a schema in UTF-16", lambda: ssz.Schema('{"ssz":1,"types":[]}'.encode("utf-16")), ["S1", "UTF-16"]),
+    ("an empty schema", lambda: ssz.Schema(""), ["S1", "empty"]),
+    ("a name that is not defined", lambda: ssz.Schema({"ssz": 1, "types": [["Root", "uint8"], ["B", {"list": ["Rot", 4]}]]}),
+     ["S5", "Rot,", "definition 1 (B)", "Did you mean Root?"]),
+    ("a definition with two fields of one name", lambda: ssz.Schema({"ssz": 1, "types": [["B", {"container": [["a", "byte"], ["a", "byte"]]}]]}),
+     ["S10", "definition 0 (B)"]),
+    ("a value's text that is no JSON", lambda: deneb.type("Fork").of_json('{"epoch":"1",}'), ["J1", "line 1, column 14"]),
+    ("a value's JSON with numbers", lambda: deneb.type("Checkpoint").of_json('{"epoch":1,"root":"0x00"}'), ["J2 Kind", "strings", "encode reads"]),
     ("JSON that is no schema", lambda: ssz.Schema('{"ssz":"1","types":[]}'), ["no schema", "S2", '"types"']),
     ("a slip in a definition", lambda: ssz.Schema({"ssz": 1, "types": [["A", "uint8"], ["B", "unit64"]]}),
      ["not defined", "S5", "definition 1", "spelling"]),

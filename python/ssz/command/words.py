@@ -16,6 +16,7 @@ from ..schema import Schema, Type
 from . import snappy
 from .progress import Progress
 
+_ROOT = re.compile(rb"(?:root )?(?:0x)?([0-9a-fA-F]{64})\s*")
 _DIGITS = re.compile(rb"\s*(0x)?([0-9a-fA-F]{2}\s*)+")
 
 
@@ -138,3 +139,14 @@ def write(data: bytes, out: str | None) -> None:
             Path(out).write_bytes(data)
         except OSError as error:
             raise problem(out, f"it can't be written ({error.strerror})") from None
+
+
+def root_of(word: str) -> bytes:
+    """A root: digits, or a file with the line that `ssz root` prints, with digits, or with its 32 bytes."""
+    text = word.encode() if is_digits(word) else content(word)
+    if not is_digits(word) and len(text) == 32:
+        return text
+    found = _ROOT.fullmatch(text)
+    if not found:
+        raise problem(word[:40], "this is no root", "A root is 0x and 64 hexadecimal digits, or a file with that.")
+    return bytes.fromhex(found[1].decode())

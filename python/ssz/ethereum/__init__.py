@@ -10,11 +10,11 @@ from ..session import Lock
 FORKS = ("phase0", "altair", "bellatrix", "capella", "deneb", "electra", "fulu")
 
 _PACKAGE = Path(__file__).resolve().parents[1]
-_FOLDERS = (_PACKAGE / "schemas", _PACKAGE.parents[1] / "examples" / "ethereum")
+_FOLDERS = (_PACKAGE / "schemas", _PACKAGE.parents[1] / "schemas", _PACKAGE.parents[1] / "examples" / "ethereum")
 
 
 def folder() -> Path:
-    """The folder of the schemas' files: the package's own, or the one of a checkout of the repository."""
+    """The folder of the schemas' files: the package's own, the one of ./install, or that of a checkout of the repository."""
     return next((each for each in _FOLDERS if each.is_dir()), _FOLDERS[0])
 
 
