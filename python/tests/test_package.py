@@ -34,6 +34,7 @@ class Packages(unittest.TestCase):
             with zipfile.ZipFile(os.path.join(room, backend.build_wheel(room))) as wheel:
                 names, record = set(wheel.namelist()), wheel.read(f"ssz-{ssz.__version__}.dist-info/RECORD").decode()
         self.assertEqual({line.split(",")[0] for line in record.splitlines()}, names)
+        self.assertIn(f"ssz-{ssz.__version__}.dist-info/entry_points.txt", names)
         self.assertLessEqual({"ssz/__main__.py", "ssz/py.typed", "ssz/lib/libssz.so.0", "ssz/schemas/deneb.json",
                               "ssz/schemas/minimal/fulu.json", "ssz/command/picture.py"}, names)
 
