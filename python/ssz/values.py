@@ -289,6 +289,25 @@ class View(Shaped):
         place = "" if self._path == "/" else f" at {self._path}"
         return f"<{type(self).__name__}{place}>"
 
+    def __str__(self) -> str:
+        try:
+            return self._brief()
+        except (SszError, RuntimeError):
+            return f"<{type(self).__name__} at {self._path}, which is not there>"
+
+    def _brief(self) -> str:
+        """The value in a line, long parts by their lengths."""
+        raise NotImplementedError
+
+
+def _brief_of(value: Any) -> str:
+    """A part in a line."""
+    if isinstance(value, View):
+        return value._brief()
+    if isinstance(value, bytes):
+        return "0x" + (value.hex() if len(value) <= 32 else f"{value[:8].hex()}.. ({len(value)} bytes)")
+    return str(value)
+
 
 class ContainerView(View):
     """A container: its fields are attributes, and had by name in brackets too."""
@@ -297,10 +316,14 @@ class ContainerView(View):
     _form: Any
 
     def __new__(cls, /, *values: Any, **fields: Any) -> Any:
-        if values:
-            raise TypeError(f"{cls.__name__} takes its fields by name, as {cls.__name__}({next(iter(cls._form.fields))}=..)")
+        names = list(cls._form.fields)
+        if len(values) > len(names):
+            raise TypeError(f"{cls.__name__} has {len(names)} fields ({', '.join(names[:12])}), and {len(values)} values were given")
+        twice = next((name for name in names[: len(values)] if name in fields), None)
+        if twice:
+            raise TypeError(f"the field {twice} of {cls.__name__} was given twice, by its place and by its name")
         view = cls._default()
-        for name, value in fields.items():
+        for name, value in [*zip(names, values), *fields.items()]:
             view[name] = value
         return view
 
@@ -350,6 +373,9 @@ class ContainerView(View):
         except (SszError, RuntimeError):
             return f"<{type(self).__name__} at {self._path}, which is not there>"
         return f"{type(self).__name__}({', '.join(f'{name}={value!r}' for name, value in shown.items())})"
+
+    def _brief(self) -> str:
+        return f"{type(self).__name__}({', '.join(f'{name}={_brief_of(self[name])}' for name in self)})"
 
 
 class SeriesView(View):
@@ -414,6 +440,11 @@ class SeriesView(View):
 
     def __bytes__(self) -> bytes:
         return self.encode_bytes()
+
+    def _brief(self) -> str:
+        count = len(self)
+        shown = [_brief_of(self[number]) for number in range(min(count, _SHOWN))]
+        return f"[{', '.join(shown)}{f', .. ({count} elements)' if count > _SHOWN else ''}]"
 
     def __eq__(self, other: object) -> bool:
         if isinstance(other, (list, tuple, array)):
@@ -515,6 +546,10 @@ class BitsView(ListView):
     def __iter__(self) -> Iterator[bool]:
         return iter(self.to_plain())
 
+    def _brief(self) -> str:
+        data = self.encode_bytes()
+        return f"0x{data.hex()}" if len(data) <= 32 else f"0x{data[:8].hex()}.. ({len(self)} bits)"
+
 
 class UnionView(View):
     """A union: `selector` says which option it has, `value` is its value, `choose` gives it another one."""
@@ -541,6 +576,10 @@ class UnionView(View):
             form = self._form.options[selector]
             return None if form is None else self._read(f"#{selector}", form)
 
+    def _brief(self) -> str:
+        with self._version:
+            return f"({self.selector}, {_brief_of(self.value)})"
+
     def choose(self, selector: int, value: Any = None) -> None:
         """Gives it another option, with this value."""
         self._put(self._path, self._form.encode((selector, value), self._path))
@@ -550,4 +589,6 @@ _BIT = Boolean()
 _ROOM = 4096
 #: A list is written whole where it grows by one element for so many that it has, or by more: that is cheaper then.
 _MANY = 16
+#: As many elements of a list are shown in a line.
+_SHOWN = 3
 _KINDS = [(Container, ContainerView), (Series, SeriesView), (Bits, BitsView), (Union, UnionView)]
