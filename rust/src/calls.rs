@@ -1,4 +1,8 @@
-//! The calls of include/ssz.h.
+//! The calls of include/ssz.h. A slice's or a text's pointer is never null, not even of an empty one.
+
+use std::ops::Range;
+
+use crate::held::size;
 
 #[repr(C)]
 #[derive(Default)]
@@ -27,6 +31,16 @@ pub struct Index {
     pub high: u64,
 }
 
+impl Index {
+    pub fn of(number: u128) -> Index {
+        Index { low: number as u64, high: (number >> 64) as u64 }
+    }
+
+    pub fn number(self) -> u128 {
+        u128::from(self.high) << 64 | u128::from(self.low)
+    }
+}
+
 /// A chunk of a proof, and its generalized index.
 #[repr(C)]
 #[derive(Clone, Copy, Default)]
@@ -41,6 +55,12 @@ pub struct Entry {
 pub struct Stretch {
     pub start: u64,
     pub len: u64,
+}
+
+impl Stretch {
+    pub fn range(&self) -> Range<usize> {
+        size(self.start)..size(self.start.saturating_add(self.len))
+    }
 }
 
 type Bytes = *const u8;
@@ -58,6 +78,9 @@ extern "C" {
         schema: *mut Handle, number: u64, data: Bytes, len: usize, path: Bytes, path_len: usize, room: Room, room_len: usize,
         part_len: *mut u64, fault: *mut Fault,
     ) -> u32;
+    pub fn ssz_place(
+        schema: *mut Handle, number: u64, data: Bytes, len: usize, path: Bytes, path_len: usize, place: *mut Stretch, fault: *mut Fault,
+    ) -> u32;
     pub fn ssz_size(schema: *mut Handle, number: u64, size: *mut u64, fault: *mut Fault) -> u32;
     pub fn ssz_fields(schema: *mut Handle, number: u64, count: *mut u64, fault: *mut Fault) -> u32;
     pub fn ssz_field(schema: *mut Handle, number: u64, place: u64, room: Room, room_len: usize, len: *mut u64, fault: *mut Fault) -> u32;
@@ -74,6 +97,7 @@ extern "C" {
     ) -> u32;
     pub fn ssz_slice_place(slice: *mut Handle, path: Bytes, len: usize, place: *mut Stretch, fault: *mut Fault) -> u32;
     pub fn ssz_slice_close(slice: *mut Handle) -> u32;
+    pub fn ssz_verify(root: *const [u8; 32], line: Bytes, len: usize) -> u32;
     pub fn ssz_verify_all(root: *const [u8; 32], leaves: *const Entry, leaves_len: usize, nodes: *const Entry, nodes_len: usize) -> u32;
     pub fn ssz_session_start_on(session: *mut Handle, schema: *mut Handle, fault: *mut Fault) -> u32;
     pub fn ssz_session_end(session: *mut Handle) -> u32;
@@ -107,6 +131,9 @@ extern "C" {
     ) -> u32;
     pub fn ssz_session_drop(session: *mut Handle, name: Bytes, len: usize, fault: *mut Fault) -> u32;
     pub fn ssz_session_root(session: *mut Handle, name: Bytes, len: usize, root: *mut [u8; 32], fault: *mut Fault) -> u32;
+    pub fn ssz_session_gindex(
+        session: *mut Handle, kind: Bytes, kind_len: usize, path: Bytes, path_len: usize, index: *mut Index, fault: *mut Fault,
+    ) -> u32;
     pub fn ssz_session_prove_all(
         session: *mut Handle, name: Bytes, len: usize, indices: *const Index, indices_len: usize, room: *mut Entry, room_len: usize,
         leaves: *mut u64, proof_len: *mut u64, fault: *mut Fault,

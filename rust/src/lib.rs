@@ -24,6 +24,7 @@
 #[allow(missing_docs)]
 mod calls;
 mod error;
+mod held;
 mod proof;
 mod schema;
 mod session;

@@ -1,51 +1,10 @@
+use std::ops::Range;
 use std::sync::{Arc, Mutex, MutexGuard, PoisonError};
 
 use crate::calls::*;
-use crate::error::{ended, Error, Result, NO_ROOM};
+use crate::error::{Error, Result};
+use crate::held::{copied, text_of, Held};
 use crate::slice::Slice;
-
-/// What a handle holds; boxed, so that it does not move.
-pub(crate) struct Held {
-    handle: Box<Handle>,
-    end: unsafe extern "C" fn(*mut Handle) -> u32,
-}
-
-// A handle is used by one thread at a time, and may be by any: ssz.h.
-unsafe impl Send for Held {}
-
-impl Held {
-    pub fn begun(begin: impl FnOnce(*mut Handle, *mut Fault) -> u32, end: unsafe extern "C" fn(*mut Handle) -> u32) -> Result<Held> {
-        let mut held = Held { handle: Handle::none(), end };
-        held.call(begin)?;
-        Ok(held)
-    }
-
-    pub fn call(&mut self, call: impl FnOnce(*mut Handle, *mut Fault) -> u32) -> Result<()> {
-        let mut fault = Fault::default();
-        let status = call(&mut *self.handle, &mut fault);
-        ended(status, &fault)
-    }
-
-    /// The bytes that a call copies to room, with more room where it is too little.
-    pub fn filled(&mut self, room: usize, call: impl Fn(*mut Handle, *mut u8, usize, *mut u64, *mut Fault) -> u32) -> Result<Vec<u8>> {
-        let mut fault = Fault::default();
-        let (mut space, mut len) = (vec![0; room.max(1)], 0);
-        let mut status = call(&mut *self.handle, space.as_mut_ptr(), space.len(), &mut len, &mut fault);
-        if status == NO_ROOM {
-            space = vec![0; len as usize];
-            status = call(&mut *self.handle, space.as_mut_ptr(), space.len(), &mut len, &mut fault);
-        }
-        ended(status, &fault)?;
-        space.truncate(len as usize);
-        Ok(space)
-    }
-}
-
-impl Drop for Held {
-    fn drop(&mut self) {
-        unsafe { (self.end)(&mut *self.handle) };
-    }
-}
 
 /// The types that a schema file defines. Threads may share one: calls wait for one another, unless each thread has its own by
 /// [`share`](Schema::share).
@@ -92,8 +51,10 @@ impl Schema {
 
     /// The names of all types in byte order, the built-in ones too.
     pub fn names(&self) -> Result<Vec<String>> {
-        let names = self.text_by(4096, |handle, room, room_len, len, fault| unsafe { ssz_names(handle, room, room_len, len, fault) })?;
-        Ok(names.lines().map(str::to_owned).collect())
+        let names = self.text_by(|handle, room, room_len, len, fault| unsafe { ssz_names(handle, room, room_len, len, fault) })?;
+        let mut names: Vec<String> = names.lines().map(str::to_owned).collect();
+        names.shrink_to_fit();
+        Ok(names)
     }
 
     /// The types that were asked for so far, in order: by name, or as part of another.
@@ -118,13 +79,12 @@ impl Schema {
         end: unsafe extern "C" fn(*mut Handle) -> u32,
     ) -> Result<Held> {
         let mut lent = self.lock();
-        Held::begun(|handle, fault| begin(handle, &mut *lent.handle, fault), end)
+        Held::begun(|handle, fault| begin(handle, lent.as_lent(), fault), end)
     }
 
     /// A text that a call copies.
-    fn text_by(&self, room: usize, call: impl Fn(*mut Handle, *mut u8, usize, *mut u64, *mut Fault) -> u32) -> Result<String> {
-        let text = self.lock().filled(room, call)?;
-        Ok(String::from_utf8_lossy(&text).into_owned())
+    fn text_by(&self, call: impl Fn(*mut Handle, *mut u8, usize, *mut u64, *mut Fault) -> u32) -> Result<String> {
+        self.lock().filled(call).map(text_of)
     }
 }
 
@@ -160,7 +120,7 @@ pub struct Type<'s> {
 impl<'s> Type<'s> {
     /// The first of its names in byte order; `None` where it has none.
     pub fn name(&self) -> Result<Option<String>> {
-        present(self.schema.text_by(64, |handle, room, room_len, len, fault| unsafe {
+        present(self.schema.text_by(|handle, room, room_len, len, fault| unsafe {
             ssz_type_name(handle, self.number, room, room_len, len, fault)
         }))
     }
@@ -190,7 +150,7 @@ impl<'s> Type<'s> {
 
     fn fields(&self) -> Result<Vec<(String, Type<'s>)>> {
         let name = |place| {
-            self.schema.text_by(64, |handle, room, room_len, len, fault| unsafe {
+            self.schema.text_by(|handle, room, room_len, len, fault| unsafe {
                 ssz_field(handle, self.number, place, room, room_len, len, fault)
             })
         };
@@ -232,13 +192,29 @@ impl<'s> Type<'s> {
     pub fn gindex(&self, path: &str) -> Result<u128> {
         let mut index = Index::default();
         self.schema.call(|handle, fault| unsafe { ssz_gindex(handle, self.number, path.as_ptr(), path.len(), &mut index, fault) })?;
-        Ok(u128::from(index.high) << 64 | u128::from(index.low))
+        Ok(index.number())
     }
 
     /// The encoding of the part at a path of the value that the bytes encode, all of which are checked: for many parts see
     /// [`Type::open`]. A bit is one byte, a length (`/list/#len`) eight.
     pub fn part(&self, data: &[u8], path: &str) -> Result<Vec<u8>> {
-        self.schema.lock().filled(data.len().max(8), |handle, room, room_len, len, fault| unsafe {
+        match self.place(data, path) {
+            Err(Error::NoPlace) => self.part_without_place(data, path),
+            place => copied(data.get(place?).ok_or(Error::Absent)?),
+        }
+    }
+
+    fn place(&self, data: &[u8], path: &str) -> Result<Range<usize>> {
+        let mut place = Stretch::default();
+        self.schema.call(|handle, fault| unsafe {
+            ssz_place(handle, self.number, data.as_ptr(), data.len(), path.as_ptr(), path.len(), &mut place, fault)
+        })?;
+        Ok(place.range())
+    }
+
+    /// A bit, or a length.
+    fn part_without_place(&self, data: &[u8], path: &str) -> Result<Vec<u8>> {
+        self.schema.lock().filled(|handle, room, room_len, len, fault| unsafe {
             ssz_part(handle, self.number, data.as_ptr(), data.len(), path.as_ptr(), path.len(), room, room_len, len, fault)
         })
     }

@@ -3,7 +3,7 @@ use std::sync::{Mutex, PoisonError};
 
 use crate::calls::*;
 use crate::error::Result;
-use crate::schema::Held;
+use crate::held::Held;
 
 /// Bytes that were checked once as a value of a type: each part is found without a look at the others. It has a copy of the bytes
 /// and shares the schema, which may go first. Threads may share one: calls wait for one another.
@@ -30,7 +30,7 @@ impl Slice {
     /// The encoding of the part at a path. A bit is one byte, a length (`/list/#len`) eight.
     pub fn part(&self, path: &str) -> Result<Vec<u8>> {
         let mut held = self.held.lock().unwrap_or_else(PoisonError::into_inner);
-        held.filled(64, |handle, room, room_len, len, fault| unsafe {
+        held.filled(|handle, room, room_len, len, fault| unsafe {
             ssz_slice_part(handle, path.as_ptr(), path.len(), room, room_len, len, fault)
         })
     }
@@ -41,6 +41,6 @@ impl Slice {
         let mut place = Stretch::default();
         let mut held = self.held.lock().unwrap_or_else(PoisonError::into_inner);
         held.call(|handle, fault| unsafe { ssz_slice_place(handle, path.as_ptr(), path.len(), &mut place, fault) })?;
-        Ok(place.start as usize..(place.start + place.len) as usize)
+        Ok(place.range())
     }
 }
