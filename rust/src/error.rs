@@ -32,9 +32,11 @@ pub enum Error {
     Absent,
     /// The part is a bit or a length, which has no bytes of its own.
     NoPlace,
-    /// The text is no multiproof.
+    /// The text, or the leaves and nodes, are no multiproof.
     BadProof,
-    /// Want of memory.
+    /// The proof has more leaves than one, and a branch has one.
+    NoBranch,
+    /// Out of memory.
     NoMemory,
     /// A session refused the call.
     Refused {
@@ -93,11 +95,11 @@ const FAULTS: &[(&str, &str)] = &[
     ("Extra", "bytes follow the end of the value; they may be of a longer type"),
     ("BadBool", "a boolean is one byte, 00 or 01, and here stands another one"),
     ("FirstOffset", "the first offset does not lead to where the variable parts begin; compare the fields with the type"),
-    ("OffsetRange", "an offset leads behind the end of the bytes, which may be cut off"),
+    ("OffsetRange", "an offset leads past the end of the bytes, which may be cut off"),
     ("OffsetOrder", "an offset is below the one before it"),
     ("Ragged", "a list's bytes are no whole number of elements"),
     ("TooMany", "a list has more elements or bits than its limit, which may be another preset's"),
-    ("PaddingBits", "a bit behind the last one of a bitvector is 1"),
+    ("PaddingBits", "a bit after the last one of a bitvector is 1"),
     ("NoDelimiter", "a bitlist lacks the 1 that marks its end"),
     ("BadSelector", "a union's first byte is no option's number"),
 ];
@@ -142,8 +144,9 @@ impl fmt::Display for Error {
             Error::BadPath => write!(to, "the path does not fit the type"),
             Error::Absent => write!(to, "the value has no such part: ask for the length first"),
             Error::NoPlace => write!(to, "the part is a bit or a length, which has no bytes of its own"),
-            Error::BadProof => write!(to, "the text is no multiproof: one line, with exactly the nodes that the leaves need"),
-            Error::NoMemory => write!(to, "memory is used up"),
+            Error::BadProof => write!(to, "this is no multiproof: one line, with exactly the nodes that the leaves need"),
+            Error::NoBranch => write!(to, "the proof has more leaves than one, and a branch has one"),
+            Error::NoMemory => write!(to, "out of memory"),
             Error::Refused { code } => {
                 let (name, what) = entry(REFUSALS, *code);
                 write!(to, "refused ({code} {name}): {what}")

@@ -128,7 +128,7 @@ fn proofs_are_asked_by_number() {
     let mut session = session();
     let root = session.root("V").unwrap();
     let proof = session.prove_at("V", &[7, 2]).unwrap();
-    assert_eq!(proof.leaves.keys().copied().collect::<Vec<_>>(), [2, 7]);
+    assert_eq!(proof.leaves().iter().map(|leaf| leaf.0).collect::<Vec<_>>(), [2, 7]);
     assert_eq!(proof.verify(&root), Ok(true));
     assert_eq!(session.prove("V", &["/a", "/b/#len"]).unwrap(), proof);
     assert_eq!(session.prove("V", &["2", "/b/#len"]).unwrap(), proof);
@@ -183,13 +183,13 @@ fn proofs_lead_to_roots() {
     assert_eq!(proof.verify(&root), Ok(true));
     assert_eq!(proof.verify(&[0; 32]), Ok(false));
     assert_eq!(proof.to_string().parse::<Proof>().unwrap(), proof);
-    assert_eq!(proof.branch(), None);
+    assert_eq!(proof.branch(), Err(Error::NoBranch));
     assert_eq!("hello".parse::<Proof>().unwrap_err(), Error::BadProof);
     let one = session.prove("V", &["/a"]).unwrap();
     let (index, leaf, nodes) = one.branch().unwrap();
     assert_eq!((index, nodes.len()), (2, 1));
-    assert_eq!(Proof::of_branch(index, leaf, &nodes), Some(one));
-    assert_eq!(Proof::of_branch(4, leaf, &nodes), None);
+    assert_eq!(Proof::of_branch(index, leaf, &nodes), Ok(one));
+    assert_eq!(Proof::of_branch(4, leaf, &nodes), Err(Error::BadProof));
 }
 
 #[test]
