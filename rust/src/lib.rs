@@ -20,6 +20,9 @@
 //! ```
 
 #![warn(missing_docs)]
+// Nothing that a peer sends may end the process.
+#![deny(clippy::unwrap_used, clippy::expect_used, clippy::panic, clippy::unreachable, clippy::todo, clippy::unimplemented)]
+#![deny(clippy::indexing_slicing, clippy::string_slice, clippy::arithmetic_side_effects)]
 
 #[allow(missing_docs)]
 mod calls;
