@@ -191,22 +191,3 @@ fn proofs_lead_to_roots() {
     assert_eq!(Proof::of_branch(index, leaf, &nodes), Ok(one));
     assert_eq!(Proof::of_branch(4, leaf, &nodes), Err(Error::BadProof));
 }
-
-#[test]
-fn threads_share_a_schema() {
-    let schema = schema();
-    let wanted = schema.find("Pair").unwrap().root(&[0, 0, 6, 0, 0, 0]);
-    thread::scope(|scope| {
-        for _ in 0..4 {
-            scope.spawn(|| (0..100).for_each(|_| assert_eq!(schema.find("Pair").unwrap().root(&[0, 0, 6, 0, 0, 0]), wanted)));
-        }
-    });
-    let mine: Vec<_> = (0..4).map(|_| schema.share().unwrap()).collect();
-    drop(schema);
-    let asked = mine.into_iter().map(|schema| thread::spawn(move || schema.find("Pair").unwrap().root(&[0, 0, 6, 0, 0, 0])));
-    for root in asked.collect::<Vec<_>>() {
-        assert_eq!(root.join().expect("it ends"), wanted);
-    }
-    let moved = session();
-    thread::spawn(move || drop(moved)).join().expect("the session ends there");
-}
