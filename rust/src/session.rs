@@ -93,7 +93,9 @@ impl Session {
 
     /// Gives another name the value of a version: the same nodes, at no cost.
     pub fn fork(&mut self, name: &str, other: &str) -> Result<()> {
-        self.held.call(|handle, fault| unsafe { ssz_session_fork(handle, name.as_ptr(), name.len(), other.as_ptr(), other.len(), fault) })?;
+        self.held.call(|handle, fault| unsafe {
+            ssz_session_fork(handle, name.as_ptr(), name.len(), other.as_ptr(), other.len(), fault)
+        })?;
         self.has_kind_of(other, name);
         Ok(())
     }
@@ -142,7 +144,8 @@ impl Session {
         Ok(count)
     }
 
-    /// The multiproof of the parts at paths, or at generalized indices as decimal numbers.
+    /// The multiproof of the parts at paths, or at generalized indices as decimal numbers. Each word is one path or one number; what is
+    /// neither is [`Error::Syntax`].
     pub fn prove(&mut self, name: &str, paths: &[&str]) -> Result<Proof> {
         let indices: Result<Vec<u128>> = paths.iter().map(|path| self.index_of(name, path)).collect();
         self.prove_at(name, &indices?)
@@ -160,6 +163,7 @@ impl Session {
     fn gindex_of(&mut self, name: &str, path: &str) -> Result<u128> {
         let kind = match self.kinds.get(name) {
             Some(kind) => kind,
+            // no such version, or no name: the library says which
             None => return self.prove_at(name, &[1]).and(Err(Error::NoType)),
         };
         let mut index = Index::default();

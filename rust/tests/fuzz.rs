@@ -37,6 +37,10 @@ const NUMBERS: [&str; 14] = [
     "340282366920938463463374607431768211456", "1 2", "2.0",
 ];
 
+/// Characters that are put into lines: digits, what stands between words, and what looks like either.
+const CHARS: [char; 19] =
+    ['0', '1', '9', 'a', 'A', 'g', 'x', '=', '/', ' ', '\t', '\n', '\r', '+', '-', '_', '\0', '\u{a0}', '\u{661}'];
+
 extern "C" {
     fn ssz_verify(root: *const [u8; 32], line: *const u8, len: usize) -> u32;
     fn ssz_verify_branch(root: *const [u8; 32], leaf: *const [u8; 32], index: u64, branch: *const u8, len: usize) -> u32;
@@ -183,7 +187,7 @@ fn with_other_char(draws: &mut Draws, line: &str) -> String {
     let at = draws.below(chars.len() + 1);
     // most of the line is digits of chunks: its end and its beginning are drawn more often
     let at = draws.pick(&[at, at, at.min(9), chars.len() - at.min(chars.len()).min(3)]);
-    let other = draws.pick(&['0', '1', '9', 'a', 'A', 'g', 'x', '=', '/', ' ', '\t', '\n', '\r', '+', '-', '_', '\0', '\u{a0}', '\u{661}']);
+    let other = draws.pick(&CHARS);
     match draws.below(3) {
         0 if at < chars.len() => chars[at] = other,
         1 if at < chars.len() => drop(chars.remove(at)),
