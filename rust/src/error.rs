@@ -24,7 +24,7 @@ pub enum Error {
         /// The number of the definition, counted from 0.
         definition: u64,
     },
-    /// The text spells no path, or the name is none.
+    /// The text spells no path and no index, or the name is none.
     Syntax,
     /// The path does not fit the type.
     BadPath,

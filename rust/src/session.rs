@@ -72,7 +72,7 @@ impl Session {
         })
     }
 
-    /// Puts an element behind the last one of the list at a path.
+    /// Puts an element after the last one of the list at a path.
     pub fn append(&mut self, name: &str, path: &str, data: &[u8]) -> Result<()> {
         self.held.call(|handle, fault| unsafe {
             ssz_session_append(handle, name.as_ptr(), name.len(), path.as_ptr(), path.len(), data.as_ptr(), data.len(), fault)

@@ -66,7 +66,7 @@ fn leaves_twice_are_no_proof() {
 }
 
 #[test]
-fn nodes_ascending_wanting_or_too_many_are_no_proof() {
+fn nodes_ascending_missing_or_too_many_are_no_proof() {
     assert_eq!(read("proof 4=C / 3=C 5=C").err(), Some(Error::BadProof));
     assert_eq!(read("proof 4=C / 5=C").err(), Some(Error::BadProof));
     assert_eq!(read("proof 4=C / 5=C 3=C 2=C").err(), Some(Error::BadProof));
