@@ -5,6 +5,8 @@
 # A last column says how many bytes a node takes at most, by the peak of memory.
 # Run it after 'rt run' in crates/bench, which builds the program.
 set -eu
+takes=none
+. "$(dirname "$0")/words"
 cd "$(dirname "$0")/.."
 exec env PYTHONPATH=bench python3 - "$@" <<'PY'
 from measure import BENCH, least, run

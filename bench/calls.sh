@@ -4,6 +4,8 @@
 # of nine million bytes, by themselves and by a slice of them. Needs both built (`rt lib`, `rt run`) and a C
 # compiler: bench/calls.sh [ROUNDS].
 set -eu
+takes=numbers
+. "$(dirname "$0")/words"
 rounds=${1:-9}
 cd "$(dirname "$0")/.."
 out=$(mktemp -d)

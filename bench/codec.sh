@@ -4,6 +4,8 @@
 # Run it after 'rt run' in crates/bench, which builds the program, on an idle machine:
 # bench/codec.sh [ROUNDS].
 set -eu
+takes=numbers
+. "$(dirname "$0")/words"
 cd "$(dirname "$0")/.."
 exec env PYTHONPATH=bench python3 - "$@" <<'PY'
 import os, shutil, tempfile

@@ -4,6 +4,8 @@
 # kept. All by the program; each time is the least of some rounds.
 # Run it after 'rt run' in crates/ssz_cli, which builds the program: bench/compact.sh [ROUNDS]
 set -eu
+takes=numbers
+. "$(dirname "$0")/words"
 cd "$(dirname "$0")/.."
 exec env PYTHONPATH=bench python3 - "$@" <<'PY'
 import os, tempfile

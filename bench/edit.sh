@@ -7,6 +7,8 @@
 # Run it after 'rt run' in crates/bench and in crates/ssz_cli, which build the programs:
 # bench/edit.sh [ROUNDS [EDITS]].
 set -eu
+takes=numbers
+. "$(dirname "$0")/words"
 cd "$(dirname "$0")/.."
 exec env PYTHONPATH=bench python3 - "$@" <<'PY'
 import json, os, subprocess, tempfile

@@ -4,6 +4,8 @@
 # machine only ever adds to a time, so that each is the least of many short rounds, which take turns.
 # Run it after 'rt run' in crates/bench and crates/ssz_cli: bench/edit_time.sh [ROUNDS]
 set -eu
+takes=numbers
+. "$(dirname "$0")/words"
 cd "$(dirname "$0")/.."
 exec env PYTHONPATH=bench python3 - "$@" <<'PY'
 import os, tempfile

@@ -5,6 +5,8 @@
 # Wants valgrind, and 'rt run' in crates/ssz_cli and crates/bench before it, which builds the programs:
 # bench/edit_work.sh [EDITS [DEPTH..]]
 set -eu
+takes=numbers
+. "$(dirname "$0")/words"
 cd "$(dirname "$0")/.."
 exec env PYTHONPATH=bench python3 - "$@" <<'PY'
 import os, sys, tempfile

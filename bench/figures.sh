@@ -4,6 +4,8 @@
 # crates/ssz_c, or with BUILD=FOLDER of ./build-v3: bench/figures.sh FOLDER [SCRIPT..].
 # It takes half an hour for all of them; a script that fails is said, and the others go on.
 set -eu
+takes=any
+. "$(dirname "$0")/words"
 [ $# -ge 1 ] || { sed -n '2,6s/^# \{0,1\}//p' "$0"; exit 2; }
 mkdir -p "$1"
 to=$(cd "$1" && pwd)

@@ -7,6 +7,8 @@
 # Run it after 'rt run' in crates/ssz_cli and in crates/bench: bench/hashes.sh ROUNDS [FOLDER [VALIDATORS]].
 # It needs gcc and, of Debian, libssl-dev.
 set -eu
+takes=any
+. "$(dirname "$0")/words"
 cd "$(dirname "$0")/.."
 room=$(mktemp -d)
 trap 'rm -rf "$room"' EXIT

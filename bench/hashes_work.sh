@@ -5,6 +5,8 @@
 # An instruction over eight lanes is one: seconds are told by bench/hashes.sh.
 # Wants valgrind, and 'rt run' in crates/bench before it: bench/hashes_work.sh [FOLDER [VALIDATORS]].
 set -eu
+takes=any
+. "$(dirname "$0")/words"
 cd "$(dirname "$0")/.."
 exec env PYTHONPATH=bench python3 - "$@" <<'PY'
 import os, random, sys, tempfile

@@ -8,6 +8,8 @@
 #
 # The C library's allocator keeps the memory that is given back to it, as in bench/codec.sh.
 set -eu
+takes=numbers
+. "$(dirname "$0")/words"
 cd "$(dirname "$0")/.."
 exec env PYTHONPATH=bench python3 - "$@" <<'PY'
 import json, os, random, sys, tempfile

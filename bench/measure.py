@@ -29,9 +29,17 @@ KEEP_MORE = dict(KEEP, MALLOC_TOP_PAD_=str(1 << 26))
 Run = collections.namedtuple("Run", "seconds user peak first last")
 
 
+def is_there(program):
+    """Ends where there is no program to be measured, and says what makes it."""
+    if not os.access(program, os.X_OK):
+        crate = os.path.basename(os.path.dirname(os.path.dirname(os.path.abspath(program))))
+        sys.exit(f"no program {program}: rt run in crates/{crate} makes it, and BUILD=FOLDER names what ./build-v3 FOLDER made")
+
+
 def run(*words, env=None, status=0):
     """A run of a program, which has to end with this status. Its peak of memory is what `time` says, which is
     small: that of a child of this process would be at least what this process holds. Its lines go to a file."""
+    is_there(words[0])
     with tempfile.TemporaryFile() as out, tempfile.NamedTemporaryFile("r") as peak:
         time = ["/usr/bin/time", "-q", "-f", "%M", "-o", peak.name]
         # what is said of a fault that is wanted is not looked at
@@ -57,6 +65,7 @@ LENGTH = 4096
 
 def counted(program, *words, env=None, status=0):
     """The instructions of a run of a program, as callgrind counts them, and the lines that it printed."""
+    is_there(program)
     link = os.path.join(COUNTED.name, "counted")
     if os.path.lexists(link):
         os.remove(link)

@@ -7,6 +7,8 @@
 # Run it after 'rt run' in crates/bench, which builds the program: bench/partial.sh [ROUNDS
 # [TIMES]].
 set -eu
+takes=numbers
+. "$(dirname "$0")/words"
 cd "$(dirname "$0")/.."
 exec env PYTHONPATH=bench python3 - "$@" <<'PY'
 import sys, tempfile

@@ -3,6 +3,8 @@
 # should grow about as n log n.
 # Run it after 'rt run' in crates/ssz_cli, which builds the program.
 set -eu
+takes=none
+. "$(dirname "$0")/words"
 cd "$(dirname "$0")/.."
 exec env PYTHONPATH=bench python3 - "$@" <<'PY'
 import os, tempfile

@@ -7,6 +7,8 @@
 # says how many pairs were hashed for the proofs.
 # Run it after 'rt run' in crates/bench, which builds the program: bench/prove.sh [ROUNDS].
 set -eu
+takes=numbers
+. "$(dirname "$0")/words"
 cd "$(dirname "$0")/.."
 exec env PYTHONPATH=bench python3 - "$@" <<'PY'
 from measure import BENCH, least, numbers, print_load, run

@@ -6,6 +6,8 @@
 # Run it after 'rt run' in crates/bench, which builds the program: bench/reading.sh [ROUNDS [SIZE..]],
 # the sizes in bytes. The C library's allocator keeps the memory that is given back to it, as in bench/codec.sh.
 set -eu
+takes=numbers
+. "$(dirname "$0")/words"
 cd "$(dirname "$0")/.."
 exec env PYTHONPATH=bench python3 - "$@" <<'PY'
 import os, sys, tempfile

@@ -5,6 +5,8 @@
 # Run it after 'rt run' in crates/ssz_cli and in crates/bench. It needs gcc and, of Debian,
 # libssl-dev.
 set -eu
+takes=none
+. "$(dirname "$0")/words"
 cd "$(dirname "$0")/.."
 top=$PWD
 room=$(mktemp -d)

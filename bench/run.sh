@@ -5,6 +5,8 @@
 # Run it after 'rt run' in crates/ssz_cli and in crates/bench, which build the programs:
 # bench/run.sh [ROUNDS]
 set -eu
+takes=numbers
+. "$(dirname "$0")/words"
 cd "$(dirname "$0")/.."
 exec env PYTHONPATH=bench python3 - "$@" <<'PY'
 import os, tempfile

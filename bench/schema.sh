@@ -2,6 +2,8 @@
 # Processor time to read schema files of three sizes each: the time per byte should not grow.
 # Run it after 'rt run' in crates/bench, which builds the program.
 set -eu
+takes=none
+. "$(dirname "$0")/words"
 cd "$(dirname "$0")/.."
 exec env PYTHONPATH=bench python3 - "$@" <<'PY'
 import os, sys, tempfile

@@ -3,6 +3,8 @@
 # time per byte should not grow, and memory should be the file's.
 # Run it after 'rt run' in crates/bench, which builds the program.
 set -eu
+takes=none
+. "$(dirname "$0")/words"
 cd "$(dirname "$0")/.."
 exec env PYTHONPATH=bench python3 - "$@" <<'PY'
 import os, tempfile

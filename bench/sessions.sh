@@ -9,6 +9,8 @@
 # and the static library, built by `rt run` in crates/ssz_cli and crates/bench and by `rt lib` in crates/ssz_c:
 # bench/sessions.sh [work|time [VALIDATORS [ROUNDS]]]
 set -eu
+takes=any
+. "$(dirname "$0")/words"
 cd "$(dirname "$0")/.."
 out=$(mktemp -d)
 trap 'rm -rf "$out"' EXIT

@@ -5,6 +5,8 @@
 # finds so many less that of a run that finds none, the least of the rounds.
 # Run it after 'rt run' in crates/bench, which builds the program: bench/slices.sh [ROUNDS [TIMES]].
 set -eu
+takes=numbers
+. "$(dirname "$0")/words"
 cd "$(dirname "$0")/.."
 exec env PYTHONPATH=bench python3 - "$@" <<'PY'
 import sys, tempfile

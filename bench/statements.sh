@@ -3,6 +3,8 @@
 # those before them; of `list`, what a hundred take over a thousand names, for each name.
 # Wants valgrind, and 'rt run' in crates/ssz_cli before it, or BUILD=FOLDER for what ./build-v3 FOLDER made.
 set -eu
+takes=none
+. "$(dirname "$0")/words"
 cd "$(dirname "$0")/.."
 exec env PYTHONPATH=bench python3 - "$@" <<'PY'
 import os, tempfile

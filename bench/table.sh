@@ -6,6 +6,8 @@
 # Of no rounds, the instructions alone, which do not depend on what else the machine does.
 # Wants valgrind, and 'rt run' in crates/bench before it: bench/table.sh [ROUNDS [VALIDATORS]].
 set -eu
+takes=numbers
+. "$(dirname "$0")/words"
 cd "$(dirname "$0")/.."
 exec env PYTHONPATH=bench python3 - "$@" <<'PY'
 import json, os, random, tempfile

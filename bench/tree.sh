@@ -10,6 +10,8 @@
 # Run it after 'rt run' in crates/bench, which builds the program: bench/tree.sh [ROUNDS [SIZE..]],
 # the sizes in bytes.
 set -eu
+takes=numbers
+. "$(dirname "$0")/words"
 cd "$(dirname "$0")/.."
 exec env PYTHONPATH=bench python3 - "$@" <<'PY'
 import sys

@@ -4,6 +4,8 @@
 # come all over (far), and that ascend and have 56 of 64 bytes alike (long).
 # Run it after 'rt run' in crates/bench, which builds the program.
 set -eu
+takes=none
+. "$(dirname "$0")/words"
 cd "$(dirname "$0")/.."
 exec env PYTHONPATH=bench python3 - "$@" <<'PY'
 from measure import BENCH, least_of

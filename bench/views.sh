@@ -7,6 +7,8 @@
 # Wants valgrind, and 'rt run' in crates/bench before it, which builds the program, or BUILD=FOLDER of
 # ./build-v3: bench/views.sh [ROUNDS [TIMES [VALIDATORS]]]
 set -eu
+takes=numbers
+. "$(dirname "$0")/words"
 cd "$(dirname "$0")/.."
 exec env PYTHONPATH=bench python3 - "$@" <<'PY'
 import os, tempfile

@@ -3,6 +3,8 @@
 # woven alone: what the base takes is taken off each. Each time is the least of the rounds, which take turns.
 # Run it after 'rt run' in crates/ssz_cli, which builds the program: bench/weave.sh [ROUNDS [EDITS]]
 set -eu
+takes=numbers
+. "$(dirname "$0")/words"
 cd "$(dirname "$0")/.."
 exec env PYTHONPATH=bench python3 - "$@" <<'PY'
 import os, tempfile

@@ -5,6 +5,8 @@
 # and roots as a script, which is also read and whose lines are printed, up to 100,000 edits.
 # Run it after 'rt run' in crates/ssz_cli, which builds the program: bench/work.sh [ROUNDS [EDITS..]]
 set -eu
+takes=numbers
+. "$(dirname "$0")/words"
 cd "$(dirname "$0")/.."
 exec env PYTHONPATH=bench:rows python3 - "$@" <<'PY'
 import json, os, sys, tempfile

@@ -466,10 +466,13 @@ def headings(page):
     return found
 
 
-def main():
+def main(words):
+    if words not in ([], ["--check"]):
+        print(__doc__)
+        return 0 if words in (["-h"], ["--help"]) else 2
     known = all_definitions()
     pages = {"docs/proved.md": proved(known), "docs/definitions.md": page_of_definitions(known, cited())}
-    if sys.argv[1:] == ["--check"]:
+    if words == ["--check"]:
         checks = [*check_pages(pages), *check_floors(), *check_believe(known), *check_code(), *check_links()]
         wrong = [one for one in checks if one]
         print("\n".join(wrong + [f"{len(checks)} checks, {len(wrong)} faults"]))
@@ -481,4 +484,4 @@ def main():
 
 
 if __name__ == "__main__":
-    sys.exit(main())
+    sys.exit(main(sys.argv[1:]))

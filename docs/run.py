@@ -125,14 +125,20 @@ def run_page(page):
     return len(there), differ, out
 
 
-def main():
+def main(pages):
+    if {"-h", "--help"} & set(pages):
+        print(__doc__)
+        return 0
+    others = [page for page in pages if page not in PAGES]
+    if others:
+        sys.exit(f"no page {', '.join(others)}: there are {', '.join(PAGES)}")
     if not shutil.which("ssz"):
         sys.exit(HOW)
-    counts = [run_page(page) for page in sys.argv[1:] or PAGES]
+    counts = [run_page(page) for page in pages or PAGES]
     total, wrong, out = (sum(column) for column in zip(*counts))
     print(f"{total} commands, {wrong} differ, {out} left out")
     return 1 if wrong or not total else 0
 
 
 if __name__ == "__main__":
-    sys.exit(main())
+    sys.exit(main(sys.argv[1:]))

@@ -5,7 +5,7 @@ First each read and each write of each example fails in turn, or moves half of i
 is interrupted by a signal and moves one byte at a time. Then whole files and outputs are bad: full,
 closed, absent, a folder, forbidden to the user, endless, or cut while they are read.
 
-  python3 hostile/devices.py     after 'rt run' in crates/ssz_cli, which builds the program
+  python3 hostile/devices.py     after 'rt run' in crates/ssz_cli, which builds the program; SSZ=FILE names another
 """
 import hashlib
 import os
@@ -15,7 +15,7 @@ import threading
 
 import rows
 from rows import Row, chunk, hexed, merkleize, pair, root_of_p
-from runs import BEFORE, Place, Tally
+from runs import BEFORE, Place, Tally, words_of
 
 NOBODY = 65534
 
@@ -232,4 +232,5 @@ def main():
 
 
 if __name__ == "__main__":
+    words_of(__doc__)
     main()

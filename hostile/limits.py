@@ -13,6 +13,7 @@ import sys
 import tempfile
 
 from rows import SSZ, TYPES, USAGE, chunk, hexed, merkleize, pair, proof, root_of_p, schema
+from runs import words_of
 
 MOST = 1 << 26
 DEFAULT = 268435456
@@ -212,8 +213,7 @@ def run(words):
     return ran.returncode, ran.stdout.decode(), float(user) + float(system), int(kib) / 1024
 
 
-def main():
-    only = sys.argv[1] if len(sys.argv) > 1 else ""
+def main(only):
     runs, differed = 0, 0
     print("load %.1f" % os.getloadavg()[0])
     print("%-30s %6s %8s %8s" % ("what", "status", "seconds", "MiB"))
@@ -233,8 +233,8 @@ def main():
                 print("%-30s %6d %8.2f %8.1f%s" % (name, ended[0], *ended[2:], "" if good else
                       "  DIFFERS: " + ended[1][:200]), flush=True)
     print("%d runs, %d differed" % (runs, differed))
-    sys.exit(1 if differed else 0)
+    sys.exit(1 if differed or not runs else 0)
 
 
 if __name__ == "__main__":
-    main()
+    main(words_of(__doc__, "word").word)

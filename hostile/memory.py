@@ -7,10 +7,10 @@ of the example's, and leave each file that is saved whole or as before. One in w
 is refused must do so, or do without and end as the example does: the standard library's `collect`
 first asks for more than it needs.
 
-  python3 hostile/memory.py      after 'rt run' in crates/ssz_cli, which builds the program
+  python3 hostile/memory.py      after 'rt run' in crates/ssz_cli, which builds the program; SSZ=FILE names another
 """
 from rows import rows
-from runs import BEFORE, Place, Tally, is_front
+from runs import BEFORE, Place, Tally, is_front, words_of
 
 
 def refuse(place, tally, row, how, number):
@@ -41,4 +41,5 @@ def main():
 
 
 if __name__ == "__main__":
+    words_of(__doc__)
     main()

@@ -11,7 +11,7 @@ from dataclasses import dataclass, field
 TOP = os.path.join(os.path.dirname(os.path.abspath(__file__)), "..")
 sys.path.append(os.path.join(TOP, "rows"))
 from ssz import merkleize, number_chunk as chunk, sha as pair
-SSZ = os.path.abspath(os.path.join(TOP, "crates", "ssz_cli", "out", "ssz_cli"))
+SSZ = os.path.abspath(os.environ.get("SSZ") or os.path.join(TOP, "crates", "ssz_cli", "out", "ssz_cli"))
 USAGE = ("usage: ssz root SCHEMA TYPE FILE | run SCHEMA SCRIPT"
          " | weave SCHEMA BASE ORDER SCRIPT.. | verify ROOT FILE | work SCHEMA TYPE SEED EDITS"
          " | part SCHEMA TYPE FILE PATH | partial SCHEMA TYPE PROOF SCRIPT | clash FILE FILE")

@@ -1,12 +1,25 @@
 """Runs of the program in a folder of their own, with the shim of this folder before it."""
+import argparse
 import os
 import subprocess
+import sys
 import tempfile
 
 from rows import SSZ
 
 HERE = os.path.dirname(os.path.abspath(__file__))
 BEFORE = b"as before"
+
+
+def words_of(about, *words):
+    """The words of the command line, once the program is there. `about` is the script's own text."""
+    parser = argparse.ArgumentParser(description=about, formatter_class=argparse.RawDescriptionHelpFormatter)
+    for word in words:
+        parser.add_argument(word, metavar=word.upper(), nargs="?", default="")
+    given = parser.parse_args()
+    if not os.access(SSZ, os.X_OK):
+        sys.exit(f"no program {SSZ}: rt run in crates/ssz_cli makes it, and SSZ=FILE names another")
+    return given
 
 
 class Place:

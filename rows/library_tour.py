@@ -5,6 +5,7 @@
 
 The value is that of docs/ssz.md. What is wanted is computed by ssz.py and by the machine of scripts over it.
 """
+import argparse
 import os
 
 import ssz
@@ -94,4 +95,5 @@ def main():
 
 
 if __name__ == "__main__":
+    argparse.ArgumentParser(description=__doc__, formatter_class=argparse.RawDescriptionHelpFormatter).parse_args()
     main()

@@ -7,6 +7,7 @@ Everything is computed over plain values by hashlib and the rules of simple-seri
 merkle-proofs.md (consensus-specs v1.4.0) alone, with nothing of this repository: one module of
 rows/node a subject, over the encodings, trees and indices of its modules ssz_*.
 """
+import argparse
 import os
 
 from node import edit, engine, partial, reading, tree
@@ -30,4 +31,5 @@ def main():
 
 
 if __name__ == "__main__":
+    argparse.ArgumentParser(description=__doc__, formatter_class=argparse.RawDescriptionHelpFormatter).parse_args()
     main()

@@ -7,6 +7,7 @@ Each module of rows/program has the runs of a subject, in the order in which the
 wanted is computed there from the text of the standard and of docs/formats.md over plain values, or
 known from outside; nothing of the program takes part.
 """
+import argparse
 import os
 
 from program import clashes, drawn, drawn_partials, ethereum, faults, known, partials, parts
@@ -54,4 +55,5 @@ def main():
 
 
 if __name__ == "__main__":
+    argparse.ArgumentParser(description=__doc__, formatter_class=argparse.RawDescriptionHelpFormatter).parse_args()
     main()

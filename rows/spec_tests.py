@@ -6,6 +6,7 @@
 The archives themselves are not part of this repository. Values are drawn, encodings and roots come from ssz.py and hashlib; faulty ones
 are encodings cut off, or with a byte or a bit too many. A snappy block is made of literals, and of copies where bytes repeat.
 """
+import argparse
 import os
 import random
 import sys
@@ -109,6 +110,6 @@ def main(folder):
 
 
 if __name__ == "__main__":
-    if len(sys.argv) != 2:
-        sys.exit(__doc__)
-    main(sys.argv[1])
+    parser = argparse.ArgumentParser(description=__doc__, formatter_class=argparse.RawDescriptionHelpFormatter)
+    parser.add_argument("folder", metavar="FOLDER")
+    main(parser.parse_args().folder)

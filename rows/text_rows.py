@@ -7,6 +7,7 @@ The rows of json, plain and slices, and what must be printed for them, are made 
 other rows are data of the crate, and the lines that are wanted for them stand in rows/text/ too;
 the module of each subject, in crates/type_rows, script_rows or value_rows, says where they come from.
 """
+import argparse
 import os
 
 from text import json_texts, plain, slices
@@ -53,4 +54,5 @@ def main():
 
 
 if __name__ == "__main__":
+    argparse.ArgumentParser(description=__doc__, formatter_class=argparse.RawDescriptionHelpFormatter).parse_args()
     main()

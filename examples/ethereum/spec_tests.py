@@ -184,6 +184,8 @@ def main(ssz, tests):
 
 
 if __name__ == "__main__":
+    if {"-h", "--help"} & set(sys.argv[1:]):
+        sys.exit(print(__doc__))
     if len(sys.argv) != 3:
         sys.exit(__doc__)
     program = shutil.which(sys.argv[1])

@@ -3,6 +3,8 @@
 # of edit_under_view.txt, in a copy of the repository, and ends with status 0 exactly where that is
 # what edit_under_view.said has, and where the same program without the edit is compiled and run.
 set -eu
+case ${1-} in -h | --help) sed -n '2,4s/^# \{0,1\}//p' "$0"; exit 0 ;; esac
+[ $# = 0 ] || { echo "$0: no word $1" >&2; exit 2; }
 here=$(cd "$(dirname "$0")" && pwd)
 folder=$(mktemp -d)
 trap 'rm -rf "$folder"' EXIT

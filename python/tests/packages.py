@@ -143,6 +143,8 @@ def packages(tally, prefix, room):
 
 
 def main(words):
+    if {"-h", "--help"} & set(words):
+        return print(__doc__)
     if len(words) > 1 or words and words[0].startswith("-"):
         sys.exit(__doc__)
     tally = Tally()

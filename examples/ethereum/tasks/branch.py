@@ -22,7 +22,7 @@ def proof_of(index, leaf, nodes):
 
 
 def main(words):
-    if len(words) == 1:
+    if len(words) == 1 and not words[0].startswith("-"):
         with open(words[0], encoding="ascii") as file:
             print("\n".join(branch_of(file.read().strip())))
     elif len(words) > 1:
@@ -32,4 +32,6 @@ def main(words):
 
 
 if __name__ == "__main__":
+    if {"-h", "--help"} & set(sys.argv[1:]):
+        sys.exit(print(__doc__))
     main(sys.argv[1:])

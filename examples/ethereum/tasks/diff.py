@@ -38,6 +38,8 @@ def differing(schema, name, said):
 
 
 if __name__ == "__main__":
+    if {"-h", "--help"} & set(sys.argv[1:]):
+        sys.exit(print(__doc__))
     if len(sys.argv) not in (4, 5):
         sys.exit(__doc__)
     schema_file, type_name, *rest = sys.argv[1:]
