@@ -4,9 +4,10 @@
  * number. What the caller keeps:
  *
  *  - A pointer that is not null has room for what it points to, or so many bytes as its length
- *    says. A null pointer is SSZ_NULL, with a length of 0 too, and nothing is done: the functions
- *    at the end of this header see to that. For no bytes at all pass a length of 0 and any pointer
- *    that is not null ("" will do).
+ *    says. NULL with a length of 0 is no bytes and no room, as any pointer with 0 is: the value of
+ *    an empty list, or the question how much room is wanted. A fault may be NULL, and is then told
+ *    to nobody. Each other null pointer is SSZ_NULL, and nothing is done: the functions at the end
+ *    of this header see to that.
  *  - During a call nothing else reads or writes what the call's pointers lead to, and what one
  *    pointer leads to that the call writes through overlaps nothing that another one leads to.
  *  - A handle is a variable of type ssz_schema, ssz_session or ssz_slice. It begins as
@@ -57,10 +58,11 @@ enum {
     SSZ_UNLIKE = 10,     /* the proof leads to another root */
     SSZ_NO_MEMORY = 11,  /* out of memory */
     SSZ_NO_ROOM = 12,    /* too little room for what was found */
-    SSZ_REFUSED = 13,    /* a session refused: the reply to a line says why, else the code */
+    SSZ_REFUSED = 13,    /* a session refused: the reply to a line says why, else the code; or
+                            ssz_schema_share, of one handle twice, with no code */
     SSZ_NO_READ = 14,    /* the line's statement reads a file, and a session has none */
     SSZ_NO_WRITE = 15,   /* the line's statement writes a file, and a session has none */
-    SSZ_NULL = 16,       /* a pointer is null */
+    SSZ_NULL = 16,       /* a pointer is null that may not be */
     SSZ_NO_PLACE = 17,   /* the part is a bit or a length, which has no bytes of its own */
     SSZ_BAD_JSON = 18    /* the JSON text of no value: code 1 to 8 for J1 to J8, and the part */
 };
@@ -144,7 +146,8 @@ uint32_t ssz_schema_read(ssz_schema *schema, const uint8_t *bytes, size_t len, s
 /* Gives the first handle the schema that the other one holds, as for another thread: only the
  * numbers of its types are copied, which are the same in both; a type that gets one later gets it
  * in one handle alone. Either may be freed first. What the first handle held before is freed; under
- * any status but SSZ_OK it then holds nothing. SSZ_NO_HANDLE of the other, SSZ_NO_MEMORY. */
+ * any status but SSZ_OK it then holds nothing. SSZ_NO_HANDLE of the other, SSZ_NO_MEMORY.
+ * SSZ_REFUSED where both are one handle, which stays as it is. */
 uint32_t ssz_schema_share(ssz_schema *schema, ssz_schema *other, ssz_fault *fault);
 
 /* Frees what the handle holds. SSZ_NO_HANDLE where it holds nothing, as after a first free. */
@@ -443,7 +446,7 @@ static inline const char *ssz_status_text(uint32_t status) {
     case SSZ_UNLIKE: return "the proof leads to another root";
     case SSZ_NO_MEMORY: return "out of memory";
     case SSZ_NO_ROOM: return "too little room for what was found";
-    case SSZ_REFUSED: return "the session refused";
+    case SSZ_REFUSED: return "it was refused";
     case SSZ_NO_READ: return "a session has no file to read";
     case SSZ_NO_WRITE: return "a session has no file to write";
     case SSZ_NULL: return "a pointer is null";
@@ -453,30 +456,56 @@ static inline const char *ssz_status_text(uint32_t status) {
     }
 }
 
-/* Null pointers. The library's calls above take none: each name stands from here on for a function
- * that answers SSZ_NULL where a pointer is null, and else makes the call. Other languages make the
- * calls themselves, and see to it that no pointer is null. */
+/* Pointers that are null. The library's calls above take none: each name stands from here on for a
+ * function that passes something else where there are no bytes, no room and no fault, answers
+ * SSZ_NULL where another pointer is null, and else makes the call. Other languages make the calls
+ * themselves, and see to it that no pointer is null. */
 
-static inline uint32_t ssz_null(ssz_fault *fault) {
+/* How a call ends that is not made. */
+static inline uint32_t ssz_ended(ssz_fault *fault, uint32_t status) {
     if (fault) {
-        fault->status = SSZ_NULL;
+        fault->status = status;
         fault->code = 0;
         fault->position = 0;
     }
-    return SSZ_NULL;
+    return status;
+}
+
+static inline uint32_t ssz_null(ssz_fault *fault) {
+    return ssz_ended(fault, SSZ_NULL);
+}
+
+/* Whether so many things are not there. */
+static inline int ssz_lacks(const void *things, size_t len) {
+    return !things && len;
+}
+
+/* Where bytes are read from; where there are none, a byte that nobody reads. */
+static inline const uint8_t *ssz_from(const uint8_t *bytes) {
+    static const uint8_t none = 0;
+    return bytes ? bytes : &none;
+}
+
+/* Where bytes are written to; where there is no room, a byte that nobody writes. */
+static inline uint8_t *ssz_into(uint8_t *room) {
+    static uint8_t none = 0;
+    return room ? room : &none;
 }
 
 static inline uint32_t ssz_schema_read_given(ssz_schema *schema, const uint8_t *bytes, size_t len,
                                              ssz_fault *fault) {
-    if (!schema || !bytes || !fault) return ssz_null(fault);
-    return ssz_schema_read(schema, bytes, len, fault);
+    ssz_fault unseen;
+    if (!schema || ssz_lacks(bytes, len)) return ssz_null(fault);
+    return ssz_schema_read(schema, ssz_from(bytes), len, fault ? fault : &unseen);
 }
 #define ssz_schema_read ssz_schema_read_given
 
 static inline uint32_t ssz_schema_share_given(ssz_schema *schema, ssz_schema *other,
                                               ssz_fault *fault) {
-    if (!schema || !other || !fault) return ssz_null(fault);
-    return ssz_schema_share(schema, other, fault);
+    ssz_fault unseen;
+    if (!schema || !other) return ssz_null(fault);
+    if (schema == other) return ssz_ended(fault, SSZ_REFUSED);
+    return ssz_schema_share(schema, other, fault ? fault : &unseen);
 }
 #define ssz_schema_share ssz_schema_share_given
 
@@ -488,35 +517,39 @@ static inline uint32_t ssz_schema_free_given(ssz_schema *schema) {
 
 static inline uint32_t ssz_type_given(ssz_schema *schema, const uint8_t *name, size_t len,
                                       uint64_t *type, ssz_fault *fault) {
-    if (!schema || !name || !type || !fault) return ssz_null(fault);
-    return ssz_type(schema, name, len, type, fault);
+    ssz_fault unseen;
+    if (!schema || ssz_lacks(name, len) || !type) return ssz_null(fault);
+    return ssz_type(schema, ssz_from(name), len, type, fault ? fault : &unseen);
 }
 #define ssz_type ssz_type_given
 
 static inline uint32_t ssz_check_given(ssz_schema *schema, uint64_t type, const uint8_t *bytes,
                                        size_t len, ssz_fault *fault) {
-    if (!schema || !bytes || !fault) return ssz_null(fault);
-    return ssz_check(schema, type, bytes, len, fault);
+    ssz_fault unseen;
+    if (!schema || ssz_lacks(bytes, len)) return ssz_null(fault);
+    return ssz_check(schema, type, ssz_from(bytes), len, fault ? fault : &unseen);
 }
 #define ssz_check ssz_check_given
 
 static inline uint32_t ssz_root_given(ssz_schema *schema, uint64_t type, const uint8_t *bytes,
                                       size_t len, uint8_t root[32], ssz_fault *fault) {
-    if (!schema || !bytes || !root || !fault) return ssz_null(fault);
-    return ssz_root(schema, type, bytes, len, root, fault);
+    ssz_fault unseen;
+    if (!schema || ssz_lacks(bytes, len) || !root) return ssz_null(fault);
+    return ssz_root(schema, type, ssz_from(bytes), len, root, fault ? fault : &unseen);
 }
 #define ssz_root ssz_root_given
 
 static inline uint32_t ssz_gindex_given(ssz_schema *schema, uint64_t type, const uint8_t *path,
                                         size_t len, ssz_index *index, ssz_fault *fault) {
-    if (!schema || !path || !index || !fault) return ssz_null(fault);
-    return ssz_gindex(schema, type, path, len, index, fault);
+    ssz_fault unseen;
+    if (!schema || ssz_lacks(path, len) || !index) return ssz_null(fault);
+    return ssz_gindex(schema, type, ssz_from(path), len, index, fault ? fault : &unseen);
 }
 #define ssz_gindex ssz_gindex_given
 
 static inline uint32_t ssz_verify_given(const uint8_t root[32], const uint8_t *proof, size_t len) {
-    if (!root || !proof) return SSZ_NULL;
-    return ssz_verify(root, proof, len);
+    if (!root || ssz_lacks(proof, len)) return SSZ_NULL;
+    return ssz_verify(root, ssz_from(proof), len);
 }
 #define ssz_verify ssz_verify_given
 
@@ -524,29 +557,36 @@ static inline uint32_t ssz_part_given(ssz_schema *schema, uint64_t type, const u
                                       size_t len, const uint8_t *path, size_t path_len,
                                       uint8_t *room, size_t room_len, uint64_t *part_len,
                                       ssz_fault *fault) {
-    if (!schema || !bytes || !path || !room || !part_len || !fault) return ssz_null(fault);
-    return ssz_part(schema, type, bytes, len, path, path_len, room, room_len, part_len, fault);
+    ssz_fault unseen;
+    if (!schema || ssz_lacks(bytes, len) || ssz_lacks(path, path_len) ||
+        ssz_lacks(room, room_len) || !part_len)
+        return ssz_null(fault);
+    return ssz_part(schema, type, ssz_from(bytes), len, ssz_from(path), path_len, ssz_into(room),
+                    room_len, part_len, fault ? fault : &unseen);
 }
 #define ssz_part ssz_part_given
 
 static inline uint32_t ssz_session_start_given(ssz_session *session, const uint8_t *schema,
                                                size_t len, ssz_fault *fault) {
-    if (!session || !schema || !fault) return ssz_null(fault);
-    return ssz_session_start(session, schema, len, fault);
+    ssz_fault unseen;
+    if (!session || ssz_lacks(schema, len)) return ssz_null(fault);
+    return ssz_session_start(session, ssz_from(schema), len, fault ? fault : &unseen);
 }
 #define ssz_session_start ssz_session_start_given
 
 static inline uint32_t ssz_session_run_given(ssz_session *session, const uint8_t *line, size_t len,
                                              uint64_t *reply_len, ssz_fault *fault) {
-    if (!session || !line || !reply_len || !fault) return ssz_null(fault);
-    return ssz_session_run(session, line, len, reply_len, fault);
+    ssz_fault unseen;
+    if (!session || ssz_lacks(line, len) || !reply_len) return ssz_null(fault);
+    return ssz_session_run(session, ssz_from(line), len, reply_len, fault ? fault : &unseen);
 }
 #define ssz_session_run ssz_session_run_given
 
 static inline uint32_t ssz_session_reply_given(ssz_session *session, uint8_t *room, size_t room_len,
                                                uint64_t *reply_len, ssz_fault *fault) {
-    if (!session || !room || !reply_len || !fault) return ssz_null(fault);
-    return ssz_session_reply(session, room, room_len, reply_len, fault);
+    ssz_fault unseen;
+    if (!session || ssz_lacks(room, room_len) || !reply_len) return ssz_null(fault);
+    return ssz_session_reply(session, ssz_into(room), room_len, reply_len, fault ? fault : &unseen);
 }
 #define ssz_session_reply ssz_session_reply_given
 
@@ -558,85 +598,105 @@ static inline uint32_t ssz_session_end_given(ssz_session *session) {
 
 static inline uint32_t ssz_size_given(ssz_schema *schema, uint64_t type, uint64_t *size,
                                       ssz_fault *fault) {
-    if (!schema || !size || !fault) return ssz_null(fault);
-    return ssz_size(schema, type, size, fault);
+    ssz_fault unseen;
+    if (!schema || !size) return ssz_null(fault);
+    return ssz_size(schema, type, size, fault ? fault : &unseen);
 }
 #define ssz_size ssz_size_given
 
 static inline uint32_t ssz_fields_given(ssz_schema *schema, uint64_t type, uint64_t *count,
                                         ssz_fault *fault) {
-    if (!schema || !count || !fault) return ssz_null(fault);
-    return ssz_fields(schema, type, count, fault);
+    ssz_fault unseen;
+    if (!schema || !count) return ssz_null(fault);
+    return ssz_fields(schema, type, count, fault ? fault : &unseen);
 }
 #define ssz_fields ssz_fields_given
 
 static inline uint32_t ssz_field_given(ssz_schema *schema, uint64_t type, uint64_t place,
                                        uint8_t *room, size_t room_len, uint64_t *len,
                                        ssz_fault *fault) {
-    if (!schema || !room || !len || !fault) return ssz_null(fault);
-    return ssz_field(schema, type, place, room, room_len, len, fault);
+    ssz_fault unseen;
+    if (!schema || ssz_lacks(room, room_len) || !len) return ssz_null(fault);
+    return ssz_field(schema, type, place, ssz_into(room), room_len, len, fault ? fault : &unseen);
 }
 #define ssz_field ssz_field_given
 
 static inline uint32_t ssz_default_given(ssz_schema *schema, uint64_t type, uint8_t *room,
                                          size_t room_len, uint64_t *made_len, ssz_fault *fault) {
-    if (!schema || !room || !made_len || !fault) return ssz_null(fault);
-    return ssz_default(schema, type, room, room_len, made_len, fault);
+    ssz_fault unseen;
+    if (!schema || ssz_lacks(room, room_len) || !made_len) return ssz_null(fault);
+    return ssz_default(schema, type, ssz_into(room), room_len, made_len, fault ? fault : &unseen);
 }
 #define ssz_default ssz_default_given
 
 static inline uint32_t ssz_verify_branch_given(const uint8_t root[32], const uint8_t leaf[32],
                                                uint64_t index, const uint8_t *branch, size_t len) {
-    if (!root || !leaf || !branch) return SSZ_NULL;
-    return ssz_verify_branch(root, leaf, index, branch, len);
+    if (!root || !leaf || ssz_lacks(branch, len)) return SSZ_NULL;
+    return ssz_verify_branch(root, leaf, index, ssz_from(branch), len);
 }
 #define ssz_verify_branch ssz_verify_branch_given
 
 static inline uint32_t ssz_verify_all_given(const uint8_t root[32], const ssz_entry *leaves,
                                             size_t leaves_len, const ssz_entry *nodes,
                                             size_t nodes_len) {
-    if (!root || !leaves || !nodes) return SSZ_NULL;
-    return ssz_verify_all(root, leaves, leaves_len, nodes, nodes_len);
+    static const ssz_entry none = {{0, 0}, {0}};
+    if (!root || ssz_lacks(leaves, leaves_len) || ssz_lacks(nodes, nodes_len)) return SSZ_NULL;
+    return ssz_verify_all(root, leaves ? leaves : &none, leaves_len, nodes ? nodes : &none,
+                          nodes_len);
 }
 #define ssz_verify_all ssz_verify_all_given
 
 static inline uint32_t ssz_place_given(ssz_schema *schema, uint64_t type, const uint8_t *bytes,
                                        size_t len, const uint8_t *path, size_t path_len,
                                        ssz_stretch *place, ssz_fault *fault) {
-    if (!schema || !bytes || !path || !place || !fault) return ssz_null(fault);
-    return ssz_place(schema, type, bytes, len, path, path_len, place, fault);
+    ssz_fault unseen;
+    if (!schema || ssz_lacks(bytes, len) || ssz_lacks(path, path_len) || !place)
+        return ssz_null(fault);
+    return ssz_place(schema, type, ssz_from(bytes), len, ssz_from(path), path_len, place,
+                     fault ? fault : &unseen);
 }
 #define ssz_place ssz_place_given
 
 static inline uint32_t ssz_to_json_given(ssz_schema *schema, uint64_t type, const uint8_t *bytes,
                                          size_t len, uint8_t *room, size_t room_len,
                                          uint64_t *text_len, ssz_fault *fault) {
-    if (!schema || !bytes || !room || !text_len || !fault) return ssz_null(fault);
-    return ssz_to_json(schema, type, bytes, len, room, room_len, text_len, fault);
+    ssz_fault unseen;
+    if (!schema || ssz_lacks(bytes, len) || ssz_lacks(room, room_len) || !text_len)
+        return ssz_null(fault);
+    return ssz_to_json(schema, type, ssz_from(bytes), len, ssz_into(room), room_len, text_len,
+                       fault ? fault : &unseen);
 }
 #define ssz_to_json ssz_to_json_given
 
 static inline uint32_t ssz_of_json_given(ssz_schema *schema, uint64_t type, const uint8_t *text,
                                          size_t len, uint8_t *room, size_t room_len,
                                          uint64_t *made_len, ssz_fault *fault) {
-    if (!schema || !text || !room || !made_len || !fault) return ssz_null(fault);
-    return ssz_of_json(schema, type, text, len, room, room_len, made_len, fault);
+    ssz_fault unseen;
+    if (!schema || ssz_lacks(text, len) || ssz_lacks(room, room_len) || !made_len)
+        return ssz_null(fault);
+    return ssz_of_json(schema, type, ssz_from(text), len, ssz_into(room), room_len, made_len,
+                       fault ? fault : &unseen);
 }
 #define ssz_of_json ssz_of_json_given
 
 static inline uint32_t ssz_session_new_given(ssz_session *session, const uint8_t *name,
                                              size_t name_len, const uint8_t *type, size_t type_len,
                                              ssz_fault *fault) {
-    if (!session || !name || !type || !fault) return ssz_null(fault);
-    return ssz_session_new(session, name, name_len, type, type_len, fault);
+    ssz_fault unseen;
+    if (!session || ssz_lacks(name, name_len) || ssz_lacks(type, type_len)) return ssz_null(fault);
+    return ssz_session_new(session, ssz_from(name), name_len, ssz_from(type), type_len,
+                           fault ? fault : &unseen);
 }
 #define ssz_session_new ssz_session_new_given
 
 static inline uint32_t ssz_session_load_given(ssz_session *session, const uint8_t *name,
                                               size_t name_len, const uint8_t *type, size_t type_len,
                                               const uint8_t *bytes, size_t len, ssz_fault *fault) {
-    if (!session || !name || !type || !bytes || !fault) return ssz_null(fault);
-    return ssz_session_load(session, name, name_len, type, type_len, bytes, len, fault);
+    ssz_fault unseen;
+    if (!session || ssz_lacks(name, name_len) || ssz_lacks(type, type_len) || ssz_lacks(bytes, len))
+        return ssz_null(fault);
+    return ssz_session_load(session, ssz_from(name), name_len, ssz_from(type), type_len,
+                            ssz_from(bytes), len, fault ? fault : &unseen);
 }
 #define ssz_session_load ssz_session_load_given
 
@@ -644,9 +704,12 @@ static inline uint32_t ssz_session_bytes_given(ssz_session *session, const uint8
                                                size_t name_len, const uint8_t *path,
                                                size_t path_len, uint8_t *room, size_t room_len,
                                                uint64_t *part_len, ssz_fault *fault) {
-    if (!session || !name || !path || !room || !part_len || !fault) return ssz_null(fault);
-    return ssz_session_bytes(session, name, name_len, path, path_len, room, room_len, part_len,
-                             fault);
+    ssz_fault unseen;
+    if (!session || ssz_lacks(name, name_len) || ssz_lacks(path, path_len) ||
+        ssz_lacks(room, room_len) || !part_len)
+        return ssz_null(fault);
+    return ssz_session_bytes(session, ssz_from(name), name_len, ssz_from(path), path_len,
+                             ssz_into(room), room_len, part_len, fault ? fault : &unseen);
 }
 #define ssz_session_bytes ssz_session_bytes_given
 
@@ -654,25 +717,34 @@ static inline uint32_t ssz_session_json_given(ssz_session *session, const uint8_
                                               size_t name_len, const uint8_t *path, size_t path_len,
                                               uint8_t *room, size_t room_len, uint64_t *text_len,
                                               ssz_fault *fault) {
-    if (!session || !name || !path || !room || !text_len || !fault) return ssz_null(fault);
-    return ssz_session_json(session, name, name_len, path, path_len, room, room_len, text_len,
-                            fault);
+    ssz_fault unseen;
+    if (!session || ssz_lacks(name, name_len) || ssz_lacks(path, path_len) ||
+        ssz_lacks(room, room_len) || !text_len)
+        return ssz_null(fault);
+    return ssz_session_json(session, ssz_from(name), name_len, ssz_from(path), path_len,
+                            ssz_into(room), room_len, text_len, fault ? fault : &unseen);
 }
 #define ssz_session_json ssz_session_json_given
 
 static inline uint32_t ssz_session_len_given(ssz_session *session, const uint8_t *name,
                                              size_t name_len, const uint8_t *path, size_t path_len,
                                              uint64_t *count, ssz_fault *fault) {
-    if (!session || !name || !path || !count || !fault) return ssz_null(fault);
-    return ssz_session_len(session, name, name_len, path, path_len, count, fault);
+    ssz_fault unseen;
+    if (!session || ssz_lacks(name, name_len) || ssz_lacks(path, path_len) || !count)
+        return ssz_null(fault);
+    return ssz_session_len(session, ssz_from(name), name_len, ssz_from(path), path_len, count,
+                           fault ? fault : &unseen);
 }
 #define ssz_session_len ssz_session_len_given
 
 static inline uint32_t ssz_session_set_given(ssz_session *session, const uint8_t *name,
                                              size_t name_len, const uint8_t *path, size_t path_len,
                                              const uint8_t *bytes, size_t len, ssz_fault *fault) {
-    if (!session || !name || !path || !bytes || !fault) return ssz_null(fault);
-    return ssz_session_set(session, name, name_len, path, path_len, bytes, len, fault);
+    ssz_fault unseen;
+    if (!session || ssz_lacks(name, name_len) || ssz_lacks(path, path_len) || ssz_lacks(bytes, len))
+        return ssz_null(fault);
+    return ssz_session_set(session, ssz_from(name), name_len, ssz_from(path), path_len,
+                           ssz_from(bytes), len, fault ? fault : &unseen);
 }
 #define ssz_session_set ssz_session_set_given
 
@@ -680,16 +752,21 @@ static inline uint32_t ssz_session_append_given(ssz_session *session, const uint
                                                 size_t name_len, const uint8_t *path,
                                                 size_t path_len, const uint8_t *bytes, size_t len,
                                                 ssz_fault *fault) {
-    if (!session || !name || !path || !bytes || !fault) return ssz_null(fault);
-    return ssz_session_append(session, name, name_len, path, path_len, bytes, len, fault);
+    ssz_fault unseen;
+    if (!session || ssz_lacks(name, name_len) || ssz_lacks(path, path_len) || ssz_lacks(bytes, len))
+        return ssz_null(fault);
+    return ssz_session_append(session, ssz_from(name), name_len, ssz_from(path), path_len,
+                              ssz_from(bytes), len, fault ? fault : &unseen);
 }
 #define ssz_session_append ssz_session_append_given
 
 static inline uint32_t ssz_session_pop_given(ssz_session *session, const uint8_t *name,
                                              size_t name_len, const uint8_t *path, size_t path_len,
                                              ssz_fault *fault) {
-    if (!session || !name || !path || !fault) return ssz_null(fault);
-    return ssz_session_pop(session, name, name_len, path, path_len, fault);
+    ssz_fault unseen;
+    if (!session || ssz_lacks(name, name_len) || ssz_lacks(path, path_len)) return ssz_null(fault);
+    return ssz_session_pop(session, ssz_from(name), name_len, ssz_from(path), path_len,
+                           fault ? fault : &unseen);
 }
 #define ssz_session_pop ssz_session_pop_given
 
@@ -698,8 +775,11 @@ static inline uint32_t ssz_session_choose_given(ssz_session *session, const uint
                                                 size_t path_len, uint8_t selector,
                                                 const uint8_t *bytes, size_t len,
                                                 ssz_fault *fault) {
-    if (!session || !name || !path || !bytes || !fault) return ssz_null(fault);
-    return ssz_session_choose(session, name, name_len, path, path_len, selector, bytes, len, fault);
+    ssz_fault unseen;
+    if (!session || ssz_lacks(name, name_len) || ssz_lacks(path, path_len) || ssz_lacks(bytes, len))
+        return ssz_null(fault);
+    return ssz_session_choose(session, ssz_from(name), name_len, ssz_from(path), path_len, selector,
+                              ssz_from(bytes), len, fault ? fault : &unseen);
 }
 #define ssz_session_choose ssz_session_choose_given
 
@@ -707,23 +787,29 @@ static inline uint32_t ssz_session_choose_default_given(ssz_session *session, co
                                                         size_t name_len, const uint8_t *path,
                                                         size_t path_len, uint8_t selector,
                                                         ssz_fault *fault) {
-    if (!session || !name || !path || !fault) return ssz_null(fault);
-    return ssz_session_choose_default(session, name, name_len, path, path_len, selector, fault);
+    ssz_fault unseen;
+    if (!session || ssz_lacks(name, name_len) || ssz_lacks(path, path_len)) return ssz_null(fault);
+    return ssz_session_choose_default(session, ssz_from(name), name_len, ssz_from(path), path_len,
+                                      selector, fault ? fault : &unseen);
 }
 #define ssz_session_choose_default ssz_session_choose_default_given
 
 static inline uint32_t ssz_session_fork_given(ssz_session *session, const uint8_t *name,
                                               size_t name_len, const uint8_t *other,
                                               size_t other_len, ssz_fault *fault) {
-    if (!session || !name || !other || !fault) return ssz_null(fault);
-    return ssz_session_fork(session, name, name_len, other, other_len, fault);
+    ssz_fault unseen;
+    if (!session || ssz_lacks(name, name_len) || ssz_lacks(other, other_len))
+        return ssz_null(fault);
+    return ssz_session_fork(session, ssz_from(name), name_len, ssz_from(other), other_len,
+                            fault ? fault : &unseen);
 }
 #define ssz_session_fork ssz_session_fork_given
 
 static inline uint32_t ssz_session_drop_given(ssz_session *session, const uint8_t *name,
                                               size_t name_len, ssz_fault *fault) {
-    if (!session || !name || !fault) return ssz_null(fault);
-    return ssz_session_drop(session, name, name_len, fault);
+    ssz_fault unseen;
+    if (!session || ssz_lacks(name, name_len)) return ssz_null(fault);
+    return ssz_session_drop(session, ssz_from(name), name_len, fault ? fault : &unseen);
 }
 #define ssz_session_drop ssz_session_drop_given
 
@@ -731,15 +817,20 @@ static inline uint32_t ssz_session_upgrade_given(ssz_session *session, const uin
                                                  size_t name_len, const uint8_t *other,
                                                  size_t other_len, const uint8_t *type,
                                                  size_t type_len, ssz_fault *fault) {
-    if (!session || !name || !other || !type || !fault) return ssz_null(fault);
-    return ssz_session_upgrade(session, name, name_len, other, other_len, type, type_len, fault);
+    ssz_fault unseen;
+    if (!session || ssz_lacks(name, name_len) || ssz_lacks(other, other_len) ||
+        ssz_lacks(type, type_len))
+        return ssz_null(fault);
+    return ssz_session_upgrade(session, ssz_from(name), name_len, ssz_from(other), other_len,
+                               ssz_from(type), type_len, fault ? fault : &unseen);
 }
 #define ssz_session_upgrade ssz_session_upgrade_given
 
 static inline uint32_t ssz_session_root_given(ssz_session *session, const uint8_t *name,
                                               size_t name_len, uint8_t root[32], ssz_fault *fault) {
-    if (!session || !name || !root || !fault) return ssz_null(fault);
-    return ssz_session_root(session, name, name_len, root, fault);
+    ssz_fault unseen;
+    if (!session || ssz_lacks(name, name_len) || !root) return ssz_null(fault);
+    return ssz_session_root(session, ssz_from(name), name_len, root, fault ? fault : &unseen);
 }
 #define ssz_session_root ssz_session_root_given
 
@@ -747,8 +838,11 @@ static inline uint32_t ssz_session_gindex_given(ssz_session *session, const uint
                                                 size_t type_len, const uint8_t *path,
                                                 size_t path_len, ssz_index *index,
                                                 ssz_fault *fault) {
-    if (!session || !type || !path || !index || !fault) return ssz_null(fault);
-    return ssz_session_gindex(session, type, type_len, path, path_len, index, fault);
+    ssz_fault unseen;
+    if (!session || ssz_lacks(type, type_len) || ssz_lacks(path, path_len) || !index)
+        return ssz_null(fault);
+    return ssz_session_gindex(session, ssz_from(type), type_len, ssz_from(path), path_len, index,
+                              fault ? fault : &unseen);
 }
 #define ssz_session_gindex ssz_session_gindex_given
 
@@ -756,9 +850,12 @@ static inline uint32_t ssz_session_prove_given(ssz_session *session, const uint8
                                                size_t name_len, const uint8_t *index,
                                                size_t index_len, uint8_t *room, size_t room_len,
                                                uint64_t *proof_len, ssz_fault *fault) {
-    if (!session || !name || !index || !room || !proof_len || !fault) return ssz_null(fault);
-    return ssz_session_prove(session, name, name_len, index, index_len, room, room_len, proof_len,
-                             fault);
+    ssz_fault unseen;
+    if (!session || ssz_lacks(name, name_len) || ssz_lacks(index, index_len) ||
+        ssz_lacks(room, room_len) || !proof_len)
+        return ssz_null(fault);
+    return ssz_session_prove(session, ssz_from(name), name_len, ssz_from(index), index_len,
+                             ssz_into(room), room_len, proof_len, fault ? fault : &unseen);
 }
 #define ssz_session_prove ssz_session_prove_given
 
@@ -767,101 +864,120 @@ static inline uint32_t ssz_session_prove_all_given(ssz_session *session, const u
                                                    size_t indices_len, ssz_entry *room,
                                                    size_t room_len, uint64_t *leaves,
                                                    uint64_t *proof_len, ssz_fault *fault) {
-    if (!session || !name || !indices || !room || !leaves || !proof_len || !fault)
+    static const ssz_index none = {0, 0};
+    ssz_entry nowhere;
+    ssz_fault unseen;
+    if (!session || ssz_lacks(name, name_len) || ssz_lacks(indices, indices_len) ||
+        ssz_lacks(room, room_len) || !leaves || !proof_len)
         return ssz_null(fault);
-    return ssz_session_prove_all(session, name, name_len, indices, indices_len, room, room_len,
-                                 leaves, proof_len, fault);
+    return ssz_session_prove_all(session, ssz_from(name), name_len, indices ? indices : &none,
+                                 indices_len, room ? room : &nowhere, room_len, leaves, proof_len,
+                                 fault ? fault : &unseen);
 }
 #define ssz_session_prove_all ssz_session_prove_all_given
 
 static inline uint32_t ssz_session_compact_given(ssz_session *session, ssz_fault *fault) {
-    if (!session || !fault) return ssz_null(fault);
-    return ssz_session_compact(session, fault);
+    ssz_fault unseen;
+    if (!session) return ssz_null(fault);
+    return ssz_session_compact(session, fault ? fault : &unseen);
 }
 #define ssz_session_compact ssz_session_compact_given
 
 static inline uint32_t ssz_session_nodes_given(ssz_session *session, uint64_t *count,
                                                ssz_fault *fault) {
-    if (!session || !count || !fault) return ssz_null(fault);
-    return ssz_session_nodes(session, count, fault);
+    ssz_fault unseen;
+    if (!session || !count) return ssz_null(fault);
+    return ssz_session_nodes(session, count, fault ? fault : &unseen);
 }
 #define ssz_session_nodes ssz_session_nodes_given
 
 static inline uint32_t ssz_form_given(ssz_schema *schema, uint64_t type, uint32_t *form,
                                       ssz_fault *fault) {
-    if (!schema || !form || !fault) return ssz_null(fault);
-    return ssz_form(schema, type, form, fault);
+    ssz_fault unseen;
+    if (!schema || !form) return ssz_null(fault);
+    return ssz_form(schema, type, form, fault ? fault : &unseen);
 }
 #define ssz_form ssz_form_given
 
 static inline uint32_t ssz_limit_given(ssz_schema *schema, uint64_t type, uint64_t *limit,
                                        ssz_fault *fault) {
-    if (!schema || !limit || !fault) return ssz_null(fault);
-    return ssz_limit(schema, type, limit, fault);
+    ssz_fault unseen;
+    if (!schema || !limit) return ssz_null(fault);
+    return ssz_limit(schema, type, limit, fault ? fault : &unseen);
 }
 #define ssz_limit ssz_limit_given
 
 static inline uint32_t ssz_parts_given(ssz_schema *schema, uint64_t type, uint64_t *count,
                                        ssz_fault *fault) {
-    if (!schema || !count || !fault) return ssz_null(fault);
-    return ssz_parts(schema, type, count, fault);
+    ssz_fault unseen;
+    if (!schema || !count) return ssz_null(fault);
+    return ssz_parts(schema, type, count, fault ? fault : &unseen);
 }
 #define ssz_parts ssz_parts_given
 
 static inline uint32_t ssz_part_type_given(ssz_schema *schema, uint64_t type, uint64_t place,
                                            uint64_t *part, ssz_fault *fault) {
-    if (!schema || !part || !fault) return ssz_null(fault);
-    return ssz_part_type(schema, type, place, part, fault);
+    ssz_fault unseen;
+    if (!schema || !part) return ssz_null(fault);
+    return ssz_part_type(schema, type, place, part, fault ? fault : &unseen);
 }
 #define ssz_part_type ssz_part_type_given
 
 static inline uint32_t ssz_names_given(ssz_schema *schema, uint8_t *room, size_t room_len,
                                        uint64_t *len, ssz_fault *fault) {
-    if (!schema || !room || !len || !fault) return ssz_null(fault);
-    return ssz_names(schema, room, room_len, len, fault);
+    ssz_fault unseen;
+    if (!schema || ssz_lacks(room, room_len) || !len) return ssz_null(fault);
+    return ssz_names(schema, ssz_into(room), room_len, len, fault ? fault : &unseen);
 }
 #define ssz_names ssz_names_given
 
 static inline uint32_t ssz_type_name_given(ssz_schema *schema, uint64_t type, uint8_t *room,
                                            size_t room_len, uint64_t *len, ssz_fault *fault) {
-    if (!schema || !room || !len || !fault) return ssz_null(fault);
-    return ssz_type_name(schema, type, room, room_len, len, fault);
+    ssz_fault unseen;
+    if (!schema || ssz_lacks(room, room_len) || !len) return ssz_null(fault);
+    return ssz_type_name(schema, type, ssz_into(room), room_len, len, fault ? fault : &unseen);
 }
 #define ssz_type_name ssz_type_name_given
 
 static inline uint32_t ssz_types_given(ssz_schema *schema, uint64_t *count, ssz_fault *fault) {
-    if (!schema || !count || !fault) return ssz_null(fault);
-    return ssz_types(schema, count, fault);
+    ssz_fault unseen;
+    if (!schema || !count) return ssz_null(fault);
+    return ssz_types(schema, count, fault ? fault : &unseen);
 }
 #define ssz_types ssz_types_given
 
 static inline uint32_t ssz_session_start_on_given(ssz_session *session, ssz_schema *schema,
                                                   ssz_fault *fault) {
-    if (!session || !schema || !fault) return ssz_null(fault);
-    return ssz_session_start_on(session, schema, fault);
+    ssz_fault unseen;
+    if (!session || !schema) return ssz_null(fault);
+    return ssz_session_start_on(session, schema, fault ? fault : &unseen);
 }
 #define ssz_session_start_on ssz_session_start_on_given
 
 static inline uint32_t ssz_slice_open_given(ssz_slice *slice, ssz_schema *schema, uint64_t type,
                                             const uint8_t *bytes, size_t len, ssz_fault *fault) {
-    if (!slice || !schema || !bytes || !fault) return ssz_null(fault);
-    return ssz_slice_open(slice, schema, type, bytes, len, fault);
+    ssz_fault unseen;
+    if (!slice || !schema || ssz_lacks(bytes, len)) return ssz_null(fault);
+    return ssz_slice_open(slice, schema, type, ssz_from(bytes), len, fault ? fault : &unseen);
 }
 #define ssz_slice_open ssz_slice_open_given
 
 static inline uint32_t ssz_slice_part_given(ssz_slice *slice, const uint8_t *path, size_t path_len,
                                             uint8_t *room, size_t room_len, uint64_t *part_len,
                                             ssz_fault *fault) {
-    if (!slice || !path || !room || !part_len || !fault) return ssz_null(fault);
-    return ssz_slice_part(slice, path, path_len, room, room_len, part_len, fault);
+    ssz_fault unseen;
+    if (!slice || ssz_lacks(path, path_len) || ssz_lacks(room, room_len) || !part_len)
+        return ssz_null(fault);
+    return ssz_slice_part(slice, ssz_from(path), path_len, ssz_into(room), room_len, part_len,
+                          fault ? fault : &unseen);
 }
 #define ssz_slice_part ssz_slice_part_given
 
-static inline uint32_t ssz_slice_place_given(ssz_slice *slice, const uint8_t *path,
-                                             size_t path_len, ssz_stretch *place,
-                                             ssz_fault *fault) {
-    if (!slice || !path || !place || !fault) return ssz_null(fault);
-    return ssz_slice_place(slice, path, path_len, place, fault);
+static inline uint32_t ssz_slice_place_given(ssz_slice *slice, const uint8_t *path, size_t path_len,
+                                             ssz_stretch *place, ssz_fault *fault) {
+    ssz_fault unseen;
+    if (!slice || ssz_lacks(path, path_len) || !place) return ssz_null(fault);
+    return ssz_slice_place(slice, ssz_from(path), path_len, place, fault ? fault : &unseen);
 }
 #define ssz_slice_place ssz_slice_place_given
 

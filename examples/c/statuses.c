@@ -93,6 +93,9 @@ static void types(void) {
     want("no type", ssz_type(&schema, TEXT("\xff"), &again, &fault), SSZ_NO_TYPE);
     want("as before", again == p, 1);
     want("its own numbers", ssz_check(&other, p, value, 9, &fault), SSZ_NO_TYPE);
+    want("with itself", ssz_schema_share(&schema, &schema, &fault), SSZ_REFUSED);
+    fault_is("with itself", SSZ_REFUSED, 0, 0);
+    want("as before", ssz_check(&schema, p, value, 9, &fault), SSZ_OK);
     want("no number", ssz_check(&schema, UINT64_MAX, value, 9, &fault), SSZ_NO_TYPE);
     want("no number", ssz_root(&schema, 2, value, 9, root, &fault), SSZ_NO_TYPE);
     want("no number", ssz_gindex(&schema, 2, TEXT("/a"), &index_of, &fault), SSZ_NO_TYPE);
@@ -363,7 +366,7 @@ static void sessions(void) {
     want("end", ssz_session_end(&two), SSZ_OK);
 }
 
-/* A null pointer in each place of each call. */
+/* A null pointer in each place of each call, with a length where it has one. */
 static void nulls(void) {
     ssz_session session = SSZ_SESSION_NONE;
     ssz_slice slice = SSZ_SLICE_NONE;
@@ -372,23 +375,23 @@ static void nulls(void) {
     uint64_t n;
     want("null", ssz_schema_read(NULL, TEXT(PAIR), &fault), SSZ_NULL);
     fault_is("null", SSZ_NULL, 0, 0);
-    want("null", ssz_schema_read(&schema, NULL, 0, &fault), SSZ_NULL);
-    want("null", ssz_schema_read(&schema, TEXT(PAIR), NULL), SSZ_NULL);
+    want("null", ssz_schema_read(&schema, NULL, 1, &fault), SSZ_NULL);
+    want("null", ssz_schema_read(NULL, TEXT(PAIR), NULL), SSZ_NULL);
     want("null", ssz_schema_free(NULL), SSZ_NULL);
     want("null", ssz_schema_share(NULL, &other, &fault), SSZ_NULL);
     want("null", ssz_schema_share(&schema, NULL, &fault), SSZ_NULL);
-    want("null", ssz_schema_share(&schema, &other, NULL), SSZ_NULL);
+    want("null", ssz_schema_share(NULL, &other, NULL), SSZ_NULL);
     want("null", ssz_type(NULL, TEXT("P"), &n, &fault), SSZ_NULL);
-    want("null", ssz_type(&schema, NULL, 0, &n, &fault), SSZ_NULL);
+    want("null", ssz_type(&schema, NULL, 1, &n, &fault), SSZ_NULL);
     want("null", ssz_type(&schema, TEXT("P"), NULL, &fault), SSZ_NULL);
     want("null", ssz_check(NULL, p, value, 9, &fault), SSZ_NULL);
-    want("null", ssz_check(&schema, p, NULL, 0, &fault), SSZ_NULL);
-    want("null", ssz_check(&schema, p, value, 9, NULL), SSZ_NULL);
+    want("null", ssz_check(&schema, p, NULL, 1, &fault), SSZ_NULL);
+    want("null", ssz_check(NULL, p, value, 9, NULL), SSZ_NULL);
     want("null", ssz_root(NULL, p, value, 9, root, &fault), SSZ_NULL);
-    want("null", ssz_root(&schema, p, NULL, 0, root, &fault), SSZ_NULL);
+    want("null", ssz_root(&schema, p, NULL, 1, root, &fault), SSZ_NULL);
     want("null", ssz_root(&schema, p, value, 9, NULL, &fault), SSZ_NULL);
     want("null", ssz_gindex(NULL, p, TEXT("/a"), &index_of, &fault), SSZ_NULL);
-    want("null", ssz_gindex(&schema, p, NULL, 0, &index_of, &fault), SSZ_NULL);
+    want("null", ssz_gindex(&schema, p, NULL, 1, &index_of, &fault), SSZ_NULL);
     want("null", ssz_gindex(&schema, p, TEXT("/a"), NULL, &fault), SSZ_NULL);
     want("null", ssz_form(NULL, p, &form, &fault), SSZ_NULL);
     want("null", ssz_form(&schema, p, NULL, &fault), SSZ_NULL);
@@ -399,42 +402,42 @@ static void nulls(void) {
     want("null", ssz_part_type(NULL, p, 0, &n, &fault), SSZ_NULL);
     want("null", ssz_part_type(&schema, p, 0, NULL, &fault), SSZ_NULL);
     want("null", ssz_names(NULL, names, 99, &n, &fault), SSZ_NULL);
-    want("null", ssz_names(&schema, NULL, 0, &n, &fault), SSZ_NULL);
+    want("null", ssz_names(&schema, NULL, 1, &n, &fault), SSZ_NULL);
     want("null", ssz_names(&schema, names, 99, NULL, &fault), SSZ_NULL);
     want("null", ssz_type_name(NULL, p, names, 99, &n, &fault), SSZ_NULL);
-    want("null", ssz_type_name(&schema, p, NULL, 0, &n, &fault), SSZ_NULL);
+    want("null", ssz_type_name(&schema, p, NULL, 1, &n, &fault), SSZ_NULL);
     want("null", ssz_type_name(&schema, p, names, 99, NULL, &fault), SSZ_NULL);
     want("null", ssz_types(NULL, &n, &fault), SSZ_NULL);
     want("null", ssz_types(&schema, NULL, &fault), SSZ_NULL);
     want("null", ssz_slice_open(NULL, &schema, p, value, 9, &fault), SSZ_NULL);
     want("null", ssz_slice_open(&slice, NULL, p, value, 9, &fault), SSZ_NULL);
-    want("null", ssz_slice_open(&slice, &schema, p, NULL, 0, &fault), SSZ_NULL);
-    want("null", ssz_slice_open(&slice, &schema, p, value, 9, NULL), SSZ_NULL);
+    want("null", ssz_slice_open(&slice, &schema, p, NULL, 1, &fault), SSZ_NULL);
+    want("null", ssz_slice_open(&slice, NULL, p, value, 9, NULL), SSZ_NULL);
     want("null", ssz_slice_part(NULL, TEXT("/a"), room, 9, &n, &fault), SSZ_NULL);
-    want("null", ssz_slice_part(&slice, NULL, 0, room, 9, &n, &fault), SSZ_NULL);
-    want("null", ssz_slice_part(&slice, TEXT("/a"), NULL, 0, &n, &fault), SSZ_NULL);
+    want("null", ssz_slice_part(&slice, NULL, 1, room, 9, &n, &fault), SSZ_NULL);
+    want("null", ssz_slice_part(&slice, TEXT("/a"), NULL, 1, &n, &fault), SSZ_NULL);
     want("null", ssz_slice_part(&slice, TEXT("/a"), room, 9, NULL, &fault), SSZ_NULL);
     want("null", ssz_slice_place(NULL, TEXT("/a"), &place, &fault), SSZ_NULL);
-    want("null", ssz_slice_place(&slice, NULL, 0, &place, &fault), SSZ_NULL);
+    want("null", ssz_slice_place(&slice, NULL, 1, &place, &fault), SSZ_NULL);
     want("null", ssz_slice_place(&slice, TEXT("/a"), NULL, &fault), SSZ_NULL);
     want("null", ssz_slice_close(NULL), SSZ_NULL);
     want("null", ssz_session_start_on(NULL, &schema, &fault), SSZ_NULL);
     want("null", ssz_session_start_on(&session, NULL, &fault), SSZ_NULL);
-    want("null", ssz_session_start_on(&session, &schema, NULL), SSZ_NULL);
+    want("null", ssz_session_start_on(&session, NULL, NULL), SSZ_NULL);
     want("null", ssz_verify(NULL, TEXT(PROOF)), SSZ_NULL);
-    want("null", ssz_verify(root, NULL, 0), SSZ_NULL);
-    want("null", part(p, NULL, 0, TEXT("/a")), SSZ_NULL);
-    want("null", part(p, value, 9, NULL, 0), SSZ_NULL);
+    want("null", ssz_verify(root, NULL, 1), SSZ_NULL);
+    want("null", part(p, NULL, 1, TEXT("/a")), SSZ_NULL);
+    want("null", part(p, value, 9, NULL, 1), SSZ_NULL);
     want("null", ssz_part(NULL, p, value, 9, TEXT("/a"), room, 9, &n, &fault), SSZ_NULL);
-    want("null", ssz_part(&schema, p, value, 9, TEXT("/a"), NULL, 0, &n, &fault), SSZ_NULL);
+    want("null", ssz_part(&schema, p, value, 9, TEXT("/a"), NULL, 1, &n, &fault), SSZ_NULL);
     want("null", ssz_part(&schema, p, value, 9, TEXT("/a"), room, 9, NULL, &fault), SSZ_NULL);
     want("null", ssz_session_start(NULL, TEXT(PAIR), &fault), SSZ_NULL);
-    want("null", ssz_session_start(&session, NULL, 0, &fault), SSZ_NULL);
+    want("null", ssz_session_start(&session, NULL, 1, &fault), SSZ_NULL);
     want("null", ssz_session_run(NULL, TEXT("list"), &n, &fault), SSZ_NULL);
-    want("null", ssz_session_run(&session, NULL, 0, &n, &fault), SSZ_NULL);
+    want("null", ssz_session_run(&session, NULL, 1, &n, &fault), SSZ_NULL);
     want("null", ssz_session_run(&session, TEXT("list"), NULL, &fault), SSZ_NULL);
     want("null", ssz_session_reply(NULL, room, 9, &n, &fault), SSZ_NULL);
-    want("null", ssz_session_reply(&session, NULL, 0, &n, &fault), SSZ_NULL);
+    want("null", ssz_session_reply(&session, NULL, 1, &n, &fault), SSZ_NULL);
     want("null", ssz_session_reply(&session, room, 9, NULL, &fault), SSZ_NULL);
     want("null", ssz_session_end(NULL), SSZ_NULL);
 }

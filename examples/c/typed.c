@@ -310,37 +310,37 @@ static void long_value(const uint8_t *bytes, size_t most) {
     ENDS(ssz_of_json(&schema, type, bytes, most, room, 9, &len, &fault), SSZ_TOO_LONG, 0, 0);
 }
 
-/* A null pointer in a place of each call. */
+/* A null pointer in a place of each call, with a length where it has one. */
 static void nulls(void) {
-    ENDS(ssz_session_new(&s, NULL, 0, TEXT("P"), &fault), SSZ_NULL, 0, 0);
-    ENDS(ssz_session_load(&s, TEXT("Z"), TEXT("L"), NULL, 0, &fault), SSZ_NULL, 0, 0);
-    ENDS(ssz_session_bytes(&s, TEXT("W"), TEXT("/"), NULL, 0, &len, &fault), SSZ_NULL, 0, 0);
+    ENDS(ssz_session_new(&s, NULL, 1, TEXT("P"), &fault), SSZ_NULL, 0, 0);
+    ENDS(ssz_session_load(&s, TEXT("Z"), TEXT("L"), NULL, 1, &fault), SSZ_NULL, 0, 0);
+    ENDS(ssz_session_bytes(&s, TEXT("W"), TEXT("/"), NULL, 1, &len, &fault), SSZ_NULL, 0, 0);
     ENDS(ssz_session_json(&s, TEXT("W"), TEXT("/"), room, 9, NULL, &fault), SSZ_NULL, 0, 0);
     ENDS(ssz_session_len(&s, TEXT("W"), TEXT("/"), NULL, &fault), SSZ_NULL, 0, 0);
-    ENDS(ssz_session_set(&s, TEXT("W"), TEXT("/b"), NULL, 0, &fault), SSZ_NULL, 0, 0);
-    ENDS(ssz_session_append(&s, TEXT("W"), NULL, 0, eight, 8, &fault), SSZ_NULL, 0, 0);
-    ENDS(ssz_session_pop(&s, NULL, 0, TEXT("/b"), &fault), SSZ_NULL, 0, 0);
-    ENDS(ssz_session_choose(&s, TEXT("W"), TEXT("/u"), 1, NULL, 0, &fault), SSZ_NULL, 0, 0);
+    ENDS(ssz_session_set(&s, TEXT("W"), TEXT("/b"), NULL, 1, &fault), SSZ_NULL, 0, 0);
+    ENDS(ssz_session_append(&s, TEXT("W"), NULL, 1, eight, 8, &fault), SSZ_NULL, 0, 0);
+    ENDS(ssz_session_pop(&s, NULL, 1, TEXT("/b"), &fault), SSZ_NULL, 0, 0);
+    ENDS(ssz_session_choose(&s, TEXT("W"), TEXT("/u"), 1, NULL, 1, &fault), SSZ_NULL, 0, 0);
     ENDS(ssz_session_choose_default(NULL, TEXT("W"), TEXT("/u"), 1, &fault), SSZ_NULL, 0, 0);
-    ENDS(ssz_session_fork(&s, TEXT("W"), NULL, 0, &fault), SSZ_NULL, 0, 0);
-    ENDS(ssz_session_drop(&s, NULL, 0, &fault), SSZ_NULL, 0, 0);
-    ENDS(ssz_session_upgrade(&s, TEXT("W"), TEXT("Z"), NULL, 0, &fault), SSZ_NULL, 0, 0);
+    ENDS(ssz_session_fork(&s, TEXT("W"), NULL, 1, &fault), SSZ_NULL, 0, 0);
+    ENDS(ssz_session_drop(&s, NULL, 1, &fault), SSZ_NULL, 0, 0);
+    ENDS(ssz_session_upgrade(&s, TEXT("W"), TEXT("Z"), NULL, 1, &fault), SSZ_NULL, 0, 0);
     ENDS(ssz_session_root(&s, TEXT("W"), NULL, &fault), SSZ_NULL, 0, 0);
     ENDS(ssz_session_gindex(&s, TEXT("P"), TEXT("/"), NULL, &fault), SSZ_NULL, 0, 0);
-    ENDS(ssz_session_prove(&s, TEXT("W"), NULL, 0, room, 9, &len, &fault), SSZ_NULL, 0, 0);
-    ENDS(ssz_session_prove_all(&s, TEXT("W"), NULL, 0, entries, 9, &len, &count, &fault), SSZ_NULL, 0, 0);
+    ENDS(ssz_session_prove(&s, TEXT("W"), NULL, 1, room, 9, &len, &fault), SSZ_NULL, 0, 0);
+    ENDS(ssz_session_prove_all(&s, TEXT("W"), NULL, 1, entries, 9, &len, &count, &fault), SSZ_NULL, 0, 0);
     ENDS(ssz_session_compact(NULL, &fault), SSZ_NULL, 0, 0);
     ENDS(ssz_session_nodes(&s, NULL, &fault), SSZ_NULL, 0, 0);
     ENDS(ssz_size(NULL, type, &count, &fault), SSZ_NULL, 0, 0);
     ENDS(ssz_fields(&schema, type, NULL, &fault), SSZ_NULL, 0, 0);
-    ENDS(ssz_field(&schema, type, 0, NULL, 0, &len, &fault), SSZ_NULL, 0, 0);
-    ENDS(ssz_default(&schema, type, NULL, 0, &len, &fault), SSZ_NULL, 0, 0);
-    ENDS(ssz_to_json(&schema, type, NULL, 0, room, 9, &len, &fault), SSZ_NULL, 0, 0);
-    ENDS(ssz_of_json(&schema, type, NULL, 0, room, 9, &len, &fault), SSZ_NULL, 0, 0);
+    ENDS(ssz_field(&schema, type, 0, NULL, 1, &len, &fault), SSZ_NULL, 0, 0);
+    ENDS(ssz_default(&schema, type, NULL, 1, &len, &fault), SSZ_NULL, 0, 0);
+    ENDS(ssz_to_json(&schema, type, NULL, 1, room, 9, &len, &fault), SSZ_NULL, 0, 0);
+    ENDS(ssz_of_json(&schema, type, NULL, 1, room, 9, &len, &fault), SSZ_NULL, 0, 0);
     ENDS(ssz_place(&schema, type, value, 33, TEXT("/"), NULL, &fault), SSZ_NULL, 0, 0);
-    SO(ssz_session_drop(&s, TEXT("W"), NULL) == SSZ_NULL);
+    SO(ssz_session_drop(NULL, TEXT("W"), NULL) == SSZ_NULL);
     SO(ssz_verify_branch(root, NULL, 1, room, 0) == SSZ_NULL);
-    SO(ssz_verify_all(root, NULL, 0, entries, 0) == SSZ_NULL);
+    SO(ssz_verify_all(root, NULL, 1, entries, 0) == SSZ_NULL);
 }
 
 int main(void) {
