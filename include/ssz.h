@@ -11,15 +11,38 @@
  *  - During a call nothing else reads or writes what the call's pointers lead to, and what one
  *    pointer leads to that the call writes through overlaps nothing that another one leads to.
  *  - A handle is a variable of type ssz_schema, ssz_session or ssz_slice. It begins as
- *    SSZ_SCHEMA_NONE, SSZ_SESSION_NONE or SSZ_SLICE_NONE and is changed by calls alone; it is not
- *    copied while it holds something. It is given to one call at a time, and goes from thread to
- *    thread by a thread's start or end, a lock, or an atomic in sequentially consistent order.
- *    Threads that ask one schema at once have a handle each, by ssz_schema_share: the schema itself
- *    stands in memory once, and is freed with the last handle or slice on it. No call sees what was
- *    done by another handle, and there is no state beside them. A handle has a mark of its kind
- *    while it holds something: one that was freed, a handle of another kind and one that was never
- *    set (short of a mark by chance) hold nothing.
+ *    SSZ_SCHEMA_NONE, SSZ_SESSION_NONE or SSZ_SLICE_NONE, and calls alone change it. It is given to
+ *    one call at a time, and goes from thread to thread by a thread's start or end, a lock, or an
+ *    atomic in sequentially consistent order. Threads that ask one schema at once have a handle
+ *    each, by ssz_schema_share: the schema itself stands in memory once, and is freed with the last
+ *    handle or slice on it. No call sees what was done by another handle, and there is no state
+ *    beside them.
  *  - malloc, realloc and free are those of one allocator; no call is made from a signal handler.
+ *
+ * Handles, forks and stacks. A handle is moved by assignment, where the first variable becomes NONE
+ * before the next call. A call with a copy beside the first is undefined: it may lead to memory
+ * that was freed. So is one with a variable that was never set, in which the words of an earlier
+ * handle may stand. A mark tells a handle that was freed, one of another kind, and zeros: these
+ * hold nothing (SSZ_NO_HANDLE). Two threads with one handle at once are undefined too; mostly one
+ * of them finds it empty (SSZ_NO_HANDLE). The library has no threads and no locks. So after a fork
+ * the child has handles of its own, to use and to free, where the parent had one thread. Where it
+ * had more, a call or malloc may stand half done in the child: it makes no call before exec. A call
+ * takes at most so many KB of its thread's stack, with types of Ethereum (a state of 2^20
+ * validators), and with any (31 types in one another, trees of 126 levels, a schema of whoever
+ * wrote it). JSON and proofs are of whoever wrote them, in both:
+ *
+ *     ssz_schema_read, ssz_session_start              40   160
+ *     ssz_of_json                                    160   160
+ *     ssz_root                                        64   192
+ *     ssz_session_root, _prove, _prove_all            96   320
+ *     ssz_session_bytes, _json                        24   128
+ *     ssz_verify, ssz_verify_all                     800   800
+ *     all others                                      24    48
+ *
+ * ssz_session_run takes what the call of its statement does, and ssz_verify_branch 1 KB. So a
+ * thread of 1024 KB makes every call. One of 192 KB makes all but ssz_verify and ssz_verify_all
+ * with types of Ethereum, and one of 384 KB with any. In one of 32 KB the first schema that is read
+ * ends the process, where a guard page stands below the stack; else it writes below it.
  *
  * What the library keeps: once each handle had its ssz_schema_free, ssz_session_end or
  * ssz_slice_close, all that it took is freed; it keeps no pointer that it was given after the call
