@@ -1,12 +1,26 @@
 #!/bin/sh
+# examples/foreign.sh
+#
 # Builds the static library and the examples of C, Python and Rust, runs each over the same inputs as the
 # program `ssz`, and compares what they print, of sessions beside `ssz run` too. Each part is asked of a slice
-# as well, and sessions stand on a schema that was read. examples/c/statuses.c and typed.c lead each call to its
-# statuses, and memory.c refuses each allocation in turn, under valgrind where that is there; state.c edits a
-# state, whose root and bytes are compared, and threads.c asks in eight threads. It needs the kit that README
-# names, and says what it left out for want of a compiler, an interpreter or valgrind. The last line is
-# 'N compared, M differ'.
+# as well, and sessions stand on a schema that was read.
+#
+# The examples of C that test themselves are run as they are, built with the address and the undefined-behaviour
+# sanitizer, and under valgrind: statuses.c and typed.c lead each call to its statuses, pointers.c and empty.cpp
+# pass what may be null, handles.c moves handles and forks, and memory.c refuses each allocation in turn. state.c
+# edits a state, whose root and bytes are compared, and threads.c asks in eight threads.
+#
+# It needs the kit that README names, and says what it left out for want of a compiler, an interpreter or valgrind.
+# The last line is 'N compared, M differ'.
 set -eu
+usage() {
+    sed -n '2,/^set -eu/s/^# \{0,1\}//p' "$0"
+}
+case ${1-} in
+'') ;;
+-h | --help) usage; exit 0 ;;
+*) usage >&2; exit 2 ;;
+esac
 cd "$(dirname "$0")/.."
 out=$(mktemp -d)
 trap 'rm -rf "$out"' EXIT
@@ -17,26 +31,86 @@ ssz=crates/ssz_cli/out/ssz_cli
 [ -x "$ssz" ] || (cd crates/ssz_cli && rt run -- root data/pair.json P data/zero16.bin) >"$out/log" 2>&1 ||
     { tail "$out/log"; exit 1; }
 library="crates/ssz_c/out/libssz_c.a $kit/c/liblibc_c.a"
+compared=0
+differ=0
+
+# NAME TO COMPILER FLAG ..: builds examples/c/NAME as TO.
+build() {
+    example=examples/c/$1 to=$2
+    shift 2
+    "$@" -Wall -Wextra -Iinclude -o "$to" "$example" $library
+}
+
+# WHAT COMMAND ..: an example that tests itself finds all as it should be.
+holds() {
+    what=$1
+    shift
+    compared=$((compared + 1))
+    if "$@" >"$out/said" 2>&1; then
+        echo "$what: $(tail -n 1 "$out/said")"
+    else
+        differ=$((differ + 1))
+        echo "$what differs:"
+        cat "$out/said"
+    fi
+}
+
+# COMPILER ..: the first one whose programs run with both sanitizers, or nothing.
+sanitized='-g -O1 -fsanitize=address,undefined -fno-sanitize-recover=all'
+sanitizing() {
+    echo 'int main(void) { return 0; }' >"$out/none.c"
+    for one in "$@"; do
+        command -v "$one" >/dev/null || continue
+        "$one" $sanitized -o "$out/none" "$out/none.c" 2>/dev/null && "$out/none" 2>/dev/null || continue
+        echo "$one"
+        return
+    done
+}
+
+refusing='-Wl,--wrap=malloc,--wrap=realloc'
+# The examples of C that test themselves: as they are, with sanitizers, and under valgrind.
+self_tests_of_c() {
+    watched='valgrind -q --leak-check=full --error-exitcode=9'
+    command -v valgrind >/dev/null || { watched=; echo "left out: valgrind"; }
+    sanitizer=$(sanitizing cc gcc clang)
+    [ "$sanitizer" ] || echo "left out: sanitizers for C (no compiler has them)"
+    for name in statuses typed pointers handles memory; do
+        more=
+        [ "$name" != memory ] || more=$refusing
+        build "$name.c" "$out/$name" cc -std=c11 -O2 $more
+        holds "$name.c" $watched "$out/$name"
+        [ "$sanitizer" ] || continue
+        build "$name.c" "$out/$name.sanitized" "$sanitizer" -std=c11 $sanitized $more
+        holds "$name.c, sanitized" "$out/$name.sanitized"
+    done
+}
+
+# The one of C++, by each compiler and standard.
+self_tests_of_cpp() {
+    found=
+    for compiler in c++ clang++; do
+        command -v "$compiler" >/dev/null || continue
+        found=yes
+        for standard in c++11 c++17; do
+            build empty.cpp "$out/empty" "$compiler" -std=$standard -O2
+            holds "empty.cpp, $compiler -std=$standard" "$out/empty"
+        done
+    done
+    [ "$found" ] || echo "left out: c++ (no compiler)"
+    sanitizer=$(sanitizing c++ g++ clang++)
+    [ "$sanitizer" ] || { echo "left out: sanitizers for C++ (no compiler has them)"; return; }
+    build empty.cpp "$out/empty.sanitized" "$sanitizer" -std=c++11 $sanitized
+    holds "empty.cpp, sanitized" "$out/empty.sanitized"
+}
 
 # What each language runs, or nothing.
 ways=
 if command -v cc >/dev/null; then
-    cc -std=c11 -O2 -Wall -Wextra -Iinclude -o "$out/c" examples/c/example.c $library
-    cc -std=c11 -O2 -Wall -Wextra -Iinclude -o "$out/statuses" examples/c/statuses.c $library
-    cc -std=c11 -O2 -Wall -Wextra -Iinclude -o "$out/typed" examples/c/typed.c $library
-    cc -std=c11 -O2 -Wall -Wextra -Iinclude -o "$out/state_c" examples/c/state.c $library
-    cc -std=c11 -O2 -Wall -Wextra -Iinclude -Wl,--wrap=malloc,--wrap=realloc -o "$out/memory" examples/c/memory.c $library
-    cc -std=c11 -O2 -Wall -Wextra -pthread -Iinclude -o "$out/threads" examples/c/threads.c $library
-    if command -v valgrind >/dev/null; then
-        valgrind -q --leak-check=full --error-exitcode=9 "$out/statuses"
-        valgrind -q --leak-check=full --error-exitcode=9 "$out/typed"
-        valgrind -q --leak-check=full --error-exitcode=9 "$out/memory"
-    else
-        echo "left out: valgrind"
-        "$out/statuses"
-        "$out/typed"
-        "$out/memory"
-    fi
+    build example.c "$out/c" cc -std=c11 -O2
+    build state.c "$out/state_c" cc -std=c11 -O2
+    build threads.c "$out/threads" cc -std=c11 -O2 -pthread
+    self_tests_of_c
+    self_tests_of_cpp
     ways="$ways c"
     if command -v python3 >/dev/null; then
         cc -shared -o "$out/libssz_c.so" -Wl,--whole-archive $library -Wl,--no-whole-archive
@@ -75,8 +149,6 @@ by_program() {
     "$ssz" verify "$(cut -d' ' -f2 "$out/root")" "$5" || true
 }
 
-compared=0
-differ=0
 # WORDS: each way prints of them what is wanted.
 each_way() {
     for way in $ways; do
@@ -231,4 +303,4 @@ list
 LINES
 
 echo "$compared compared, $differ differ"
-[ "$differ" -eq 0 ]
+[ "$differ" -eq 0 ] && [ "$compared" -gt 0 ]

@@ -89,7 +89,7 @@ def deep():
     """31 types in one another, of each kind that has others in it."""
     four, one = struct.pack("<I", 4), b"\7"
     lists = nested(lambda form: {"list": [form, 8]}, {"list": ["uint8", 1 << 10]}, 30)
-    tops = [nested(lambda part: offsets([part]), one * 100, levels) for levels in (26, 25)]
+    tops = [nested(lambda part: offsets([part]), one * 256, levels) for levels in (26, 25)]
     value, element = (nested(lambda part: offsets([part] * 5), top, 4) for top in tops)
     yield Case("31 lists", ANY, of(lists), "T", value, "/0" * 31, "/", element)
     vectors = nested(lambda form: {"vector": [form, 1]}, "uint8", 31)

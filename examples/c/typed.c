@@ -20,7 +20,7 @@ static const char TYPES[] =
 static const uint8_t value[33] = {5, 0, 0, 0, 0, 0, 0, 0, 16, 0, 0, 0, 32, 0, 0, 0,
                                   1, 0, 0, 0, 0, 0, 0, 0, 2,  0, 0, 0, 0,  0, 0, 0, 0};
 static const char JSON[] = "{\"a\":\"5\",\"b\":[\"1\",\"2\"],\"u\":[0,null]}";
-static const uint8_t eight[8] = {7};
+static const uint8_t eight[9] = {7}; /* a number, and a byte more */
 /* the root of two zero chunks, which stands in the deposit contract: that of a union of None, too */
 static const uint8_t zeros[32] = {0xf5, 0xa5, 0xfd, 0x42, 0xd1, 0x6a, 0x20, 0x30, 0x27, 0x98, 0xef,
                                   0x6e, 0xd3, 0x09, 0x97, 0x9b, 0x43, 0x00, 0x3d, 0x23, 0x20, 0xd9,
