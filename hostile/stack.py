@@ -23,7 +23,7 @@ from dataclasses import dataclass
 from pathlib import Path
 
 TOP = Path(__file__).resolve().parents[1]
-HEADER, FULU = TOP / "include" / "ssz.h", TOP / "examples" / "ethereum" / "fulu.json"
+HEADER, PAGE, FULU = TOP / "include" / "ssz.h", TOP / "docs" / "c.md", TOP / "examples" / "ethereum" / "fulu.json"
 ETHEREUM, ANY = 0, 1
 #: A stack on which every call can be measured, in KB.
 MUCH = 4096
@@ -121,20 +121,29 @@ class Said:
     dies: int
 
 
-def said():
-    """The figures of the header."""
-    text = HEADER.read_text()
+def rows(pattern, text):
+    """The KB of each call in the rows of a table: `ssz_session_root, _prove` are two calls."""
     found = {}
-    for names, *columns in re.findall(r"(?m)^ \*     (ssz_\w+(?:, \w+)*|all others) +(\d+) +(\d+)$", text):
-        names = names.split(", ")
+    for names, *columns in re.findall(pattern, text):
+        names = names.replace("`", "").split(", ")
         before = names[0].rpartition("_")[0]
         for name in names:
             found[(before + name if name.startswith("_") else name).removeprefix("ssz_")] = [int(column) for column in columns]
+    return found
+
+
+def said():
+    """The figures of the header, which are those of the page."""
+    text = HEADER.read_text()
+    found = rows(r"(?m)^ \*     (ssz_\w+(?:, \w+)*|all others) +(\d+) +(\d+)$", text)
     threads = re.search(r"a thread of (\d+) KB makes every call\. One of (\d+) KB makes all but ssz_verify and ssz_verify_all "
                         r"with types of Ethereum, and one of (\d+) KB with any\. In one of (\d+) KB the first schema",
                         re.sub(r"\s+\*?\s*", " ", text))
     if OTHERS not in found or not threads:
         sys.exit(f"{HEADER}: no figures of the stack")
+    shown = rows(r"(?m)^\| (`ssz_.+`|all others) \| (\d+) \| (\d+) \|$", PAGE.read_text())
+    if found != {name: columns for name, columns in shown.items() if name != "verify_branch"}:
+        sys.exit(f"{PAGE}: other figures than in {HEADER}")
     whole, *columns, dies = map(int, threads.groups())
     return Said(found, whole, columns, dies)
 
