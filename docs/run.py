@@ -3,6 +3,7 @@
 
   python3 docs/run.py          runs all pages, with `ssz` in the PATH; exit status 1 where something differs
   python3 docs/run.py PAGE ..  runs these
+  --without PROGRAM            leaves out the blocks that need this program
 
 Two kinds of fenced blocks are run, those of a page from its first to its last one in one shell:
 
@@ -107,13 +108,13 @@ def links(folder):
     return folder
 
 
-def run_page(page):
+def run_page(page, without):
     """How many commands of a page were run, how many printed something else, and how many were left out."""
     found = commands(page)
-    there = [one for one in found if all(shutil.which(need) for need in one.needs)]
+    missing = sorted({need for one in found for need in one.needs if need == without or not shutil.which(need)})
+    there = [one for one in found if not set(one.needs) & set(missing)]
     kit = [one for one in there if "rt" in one.needs]
     plain = [one for one in there if "rt" not in one.needs]
-    missing = sorted({need for one in found for need in one.needs if not shutil.which(need)})
     differ = 0
     with tempfile.TemporaryDirectory() as folder:
         differ += run(page, plain, place_of(page, folder), os.path.expanduser("~")) if plain else 0
@@ -129,12 +130,17 @@ def main(pages):
     if {"-h", "--help"} & set(pages):
         print(__doc__)
         return 0
+    without = None
+    if "--without" in pages[:-1]:
+        place = pages.index("--without")
+        without = pages[place + 1]
+        pages = pages[:place] + pages[place + 2:]
     others = [page for page in pages if page not in PAGES]
     if others:
         sys.exit(f"no page {', '.join(others)}: there are {', '.join(PAGES)}")
     if not shutil.which("ssz"):
         sys.exit(HOW)
-    counts = [run_page(page) for page in pages or PAGES]
+    counts = [run_page(page, without) for page in pages or PAGES]
     total, wrong, out = (sum(column) for column in zip(*counts))
     print(f"{total} commands, {wrong} differ, {out} left out")
     return 1 if wrong or not total else 0

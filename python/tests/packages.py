@@ -99,6 +99,24 @@ def c(tally, prefix, room):
     tally.add("c", passed, failed)
 
 
+def stacks(tally, prefix):
+    """What each call takes of a stack, beside what the header says."""
+    if not shutil.which("cc"):
+        return
+    said, status = ran(sys.executable, "hostile/stack.py", "--prefix", prefix)
+    found = [tuple(map(int, pair)) for pair in re.findall(r"(?m)^(\d+) runs, (\d+) differed", said)] or [(0, 0)]
+    runs, differed = found[-1]
+    tally.add("stacks", runs - differed, differed or int(status != 0 or not runs))
+
+
+def pages(tally, prefix):
+    """The commands of README and of the pages of users, with the programs of the installation."""
+    said, status = ran(sys.executable, "docs/run.py", "--without", "rt", PATH=f"{prefix}/bin:{os.environ['PATH']}")
+    found = [tuple(map(int, pair)) for pair in re.findall(r"(?m)^(\d+) commands, (\d+) differ", said)] or [(0, 0)]
+    count, differ = found[-1]
+    tally.add("pages", count - differ, differ or int(status != 0 or not count))
+
+
 def shown(package):
     """What the page of a package says that its example prints."""
     return re.search(r"prints\n\n((?:    .*\n)+)", (TOP / package / "README.md").read_text())[1].replace("    ", "")
@@ -139,6 +157,8 @@ def packages(tally, prefix, room):
     python(tally, libraries)
     rust(tally, libraries, room)
     c(tally, prefix, room)
+    stacks(tally, prefix)
+    pages(tally, prefix)
     front(tally, prefix, room)
 
 
