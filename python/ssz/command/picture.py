@@ -9,9 +9,11 @@ from typing import Iterator, NamedTuple
 
 from ..proof import Proof
 
-_WIDE, _HIGH, _EDGE, _ROUND = 84, 40, 70, 8
+_WIDE, _HIGH, _EDGE, _ROUND = 132, 46, 70, 7
+#: A longer name of a node with children is cut, so that it does not reach its neighbour.
+_LONGEST = 13
 _COLOURS = {"root": "#7a3db8", "leaf": "#c8372d", "helper": "#2d6fc8", "node": "#ffffff"}
-_LEGEND = {"root": "root", "leaf": "leaf: what is proved", "helper": "helper: given by the proof", "node": "hash of the two below"}
+_LEGEND = {"root": "root", "leaf": "leaf: what is proved", "helper": "helper: given by the proof", "node": "computed: hash of the two below"}
 
 
 def nodes_of(proof: Proof) -> dict[int, bytes]:
@@ -59,16 +61,37 @@ def kind_of(index: int, proof: Proof) -> str:
     return "helper" if index in proof.helpers else "root" if index == 1 else "node"
 
 
-def drawn(index: int, chunk: bytes, kind: str, name: str, at: tuple[int, int]) -> Iterator[str]:
-    """A node: a disk, its index and its hash, and the whole of both where the pointer rests."""
+def shape(kind: str, across: float, down: float, size: float = _ROUND) -> str:
+    """A node's shape, by which its kind is told without colour: a leaf is a square, a helper a disk in a ring, the root a diamond."""
+    look = f'fill="{_COLOURS[kind]}" stroke="#444"'
+    if kind == "leaf":
+        return f'<rect x="{across - size}" y="{down - size}" width="{2 * size}" height="{2 * size}" {look}/>'
+    if kind == "root":
+        far = size + 3
+        return f'<path d="M{across} {down - far}L{across + far} {down}L{across} {down + far}L{across - far} {down}Z" {look}/>'
+    ring = f'<circle cx="{across}" cy="{down}" r="{size + 3}" fill="none" stroke="{_COLOURS[kind]}"/>' if kind == "helper" else ""
+    return f'{ring}<circle cx="{across}" cy="{down}" r="{size if ring else size - 3}" {look}/>'
+
+
+def drawn(index: int, chunk: bytes, kind: str, name: str, at: tuple[int, int], is_last: bool) -> Iterator[str]:
+    """A node: its shape, its name, its index and the first digits of its hash, and the whole of all where the pointer rests. No edge
+    leads down from the last ones, whose words stand below; those of others stand beside, away from the other child of their parent.
+    """
     across, down = at
     label = f"{name} {index}" if name else str(index)
-    yield (f'<g><title>{escape(f"{kind} {label} 0x{chunk.hex()}")}</title>'
-           f'<circle cx="{across}" cy="{down}" r="{_ROUND}" fill="{_COLOURS[kind]}" stroke="#444"/>')
-    if name or kind in ("leaf", "root"):
-        yield (f'<text x="{across}" y="{down - 12}" text-anchor="middle" font-weight="bold" stroke="#fff" stroke-width="3" '
-               f'paint-order="stroke">{escape(label)}</text>')
-    yield f'<text x="{across + 11}" y="{down + 8}" fill="#666" font-size="8">{chunk.hex()[:8]}</text></g>'
+    told = f"{_LEGEND[kind].partition(':')[0]} {label} 0x{chunk.hex()}"
+    yield f"<g><title>{escape(told)}</title>{shape(kind, across, down)}"
+    label = label if is_last or len(name) <= _LONGEST else f"{name[:_LONGEST - 2]}.. {index}"
+    x, y, anchor = (across, down + 24, "middle") if is_last else _beside(index, across, down)
+    halo = 'stroke="#fff" stroke-width="3" paint-order="stroke"'
+    weight = ' font-weight="bold"' if name else ""
+    yield f'<text x="{x}" y="{y}" text-anchor="{anchor}"{weight} {halo}>{escape(label)}</text>'
+    yield f'<text x="{x}" y="{y + 12}" text-anchor="{anchor}" fill="#666" font-size="8" {halo}>{chunk.hex()[:8]}</text></g>'
+
+
+def _beside(index: int, across: int, down: int) -> tuple[int, int, str]:
+    """Where the words beside a node stand, and how they are set."""
+    return (across + 14, down - 3, "start") if index % 2 or index == 1 else (across - 14, down - 3, "end")
 
 
 def svg(proof: Proof, names: dict[int, str], title: str) -> str:
@@ -77,7 +100,7 @@ def svg(proof: Proof, names: dict[int, str], title: str) -> str:
     places, edges = placed(nodes)
     first, last = min(edge[0] for edge in edges), max(edge[1] for edge in edges)
     at = {index: (round(_EDGE + place - first), _EDGE + _HIGH * index.bit_length()) for index, place in places.items()}
-    wide, high = max(920, round(2 * _EDGE + last - first) + 180), 2 * _EDGE + _HIGH * len(edges)
+    wide, high = max(1000, round(2 * _EDGE + last - first) + 180), 2 * _EDGE + _HIGH * len(edges)
     lines = [
         f'<svg xmlns="http://www.w3.org/2000/svg" width="{wide}" height="{high}" viewBox="0 0 {wide} {high}" '
         f'font-family="monospace" font-size="11">',
@@ -86,12 +109,11 @@ def svg(proof: Proof, names: dict[int, str], title: str) -> str:
         f'<text x="20" y="44">root 0x{nodes[1].hex()}</text>',
     ]
     for place, (kind, text) in enumerate(_LEGEND.items()):
-        lines.append(f'<circle cx="{28 + 230 * place}" cy="62" r="6" fill="{_COLOURS[kind]}" stroke="#444"/>'
-                     f'<text x="{40 + 230 * place}" y="66">{text}</text>')
+        lines.append(f'{shape(kind, 28 + 225 * place, 62, 6)}<text x="{44 + 225 * place}" y="66">{text}</text>')
     for index in places:
         if index > 1:
             (x, y), (to_x, to_y) = at[index], at[index >> 1]
             lines.append(f'<line x1="{x}" y1="{y}" x2="{to_x}" y2="{to_y}" stroke="#999"/>')
     for index in places:
-        lines.extend(drawn(index, nodes[index], kind_of(index, proof), names.get(index, ""), at[index]))
+        lines.extend(drawn(index, nodes[index], kind_of(index, proof), names.get(index, ""), at[index], 2 * index not in places))
     return "\n".join([*lines, "</svg>", ""])
