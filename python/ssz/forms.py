@@ -17,6 +17,7 @@ from . import given
 from .errors import BadValue
 
 _ARRAYS = {1: "B", 2: "H", 4: "I", 8: "Q"} if sys.byteorder == "little" else {}
+_SCRIPTS = "the JSON of scripts (loadjson, Type.of_json)"
 _DIGITS, _BITS = bytes.maketrans(b"\0\1", b"01"), bytes.maketrans(b"01", b"\0\1")
 
 
@@ -115,6 +116,8 @@ class Uint(Form):
 
     def _encoded(self, value: Any, path: str) -> bytes:
         number = given.number_of(value)
+        if number is None and isinstance(value, str) and value.startswith("0x"):
+            raise self.wrong(value, f"a whole number; 0x and digits are {_SCRIPTS} for a uint256", path)
         if number is None or not 0 <= number < 1 << 8 * self.size:
             raise self.wrong(value, f"a whole number from 0 to {(1 << 8 * self.size) - 1}", path)
         return number.to_bytes(self.size, "little")
@@ -176,6 +179,8 @@ class Bits(Form):
 
     def _of_digits(self, text: str, path: str) -> bytes:
         """The encoding that digits say, judged here: in the middle of a value its bytes would be another field's."""
+        if text and not text.strip("01"):
+            raise self.wrong(text, f"0x and the digits of the encoding, or a list of bits; text of 0 and 1 is {_SCRIPTS}", path)
         data = unhex(text, self, path)
         last = data[-1].bit_length() if data else 0
         count = 8 * (len(data) - 1) + last

@@ -54,6 +54,8 @@ CALLS = [
      ["S5", "Rot,", "definition 1 (B)", "Did you mean Root?"]),
     ("a definition with two fields of one name", lambda: ssz.Schema({"ssz": 1, "types": [["B", {"container": [["a", "byte"], ["a", "byte"]]}]]}),
      ["S10", "definition 0 (B)"]),
+    ("bits as scripts have them", lambda: kinds.Marks("101"), ["0x and the digits", "loadjson"]),
+    ("a number as scripts have it", lambda: kinds.Choice(1, "0x" + "05" * 8), ["a whole number", "uint256", "loadjson"]),
     ("a value's text that is no JSON", lambda: deneb.type("Fork").of_json('{"epoch":"1",}'), ["J1", "line 1, column 14"]),
     ("a value's JSON with numbers", lambda: deneb.type("Checkpoint").of_json('{"epoch":1,"root":"0x00"}'), ["J2 Kind", "strings", "encode reads"]),
     ("JSON that is no schema", lambda: ssz.Schema('{"ssz":"1","types":[]}'), ["no schema", "S2", '"types"']),
