@@ -10,6 +10,8 @@
 # pass what may be null, handles.c moves handles and forks, and memory.c refuses each allocation in turn. state.c
 # edits a state, whose root and bytes are compared, and threads.c asks in eight threads.
 #
+# The doors of Python, Rust and C are driven by hostile/doors.py with 20,000 drawn rounds beside the program.
+#
 # It needs the kit that README names, and says what it left out for want of a compiler, an interpreter or valgrind.
 # The last line is 'N compared, M differ'.
 set -eu
@@ -301,6 +303,36 @@ LINES
 compare_lines "$out/16" <<'LINES'
 list
 LINES
+
+# TO: an installation of what was built here: the program, the header, and the library as an archive and shared.
+installed() {
+    mkdir -p "$1/bin" "$1/include" "$1/lib"
+    cp "$ssz" "$1/bin/ssz"
+    cp include/ssz.h "$1/include/ssz.h"
+    {
+        echo "CREATE $1/lib/libssz.a"
+        for archive in $library; do echo "ADDLIB $archive"; done
+        printf 'SAVE\nEND\n'
+    } | ar -M
+    cc -shared -o "$1/lib/libssz.so.0" -Wl,--whole-archive $library -Wl,--no-whole-archive
+}
+
+# Python, Rust and C beside the program: each round is one that is compared.
+doors() {
+    for one in cc ar python3 cargo; do
+        command -v $one >/dev/null || { echo "left out: the doors (no $one)"; return; }
+    done
+    installed "$out/installed"
+    python3 hostile/doors.py --prefix "$out/installed" --rounds 20000 >"$out/said" || true
+    cat "$out/said"
+    rounds=$(sed -n '$s/^\([0-9]*\) rounds, .*/\1/p' "$out/said")
+    wrong=$(sed -n '$s/.* rounds, \([0-9]*\) differ$/\1/p' "$out/said")
+    compared=$((compared + ${rounds:-0}))
+    # That no round was run is a difference, too.
+    [ "${rounds:-0}" -gt 0 ] || wrong=1
+    differ=$((differ + ${wrong:-1}))
+}
+doors
 
 echo "$compared compared, $differ differ"
 [ "$differ" -eq 0 ] && [ "$compared" -gt 0 ]
