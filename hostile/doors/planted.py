@@ -29,7 +29,7 @@ FAULTS = [
     Fault("Python: a view whose place is gone has a root", "python/ssz/session.py", "            self.see(name, path)\n            return self._filled", "            return self._filled"),
     Fault("Rust: a looser grammar of proofs", "rust/src/proof.rs", "        verdict(unsafe { ssz_verify(&ANY_ROOT, line.as_ptr(), line.len()) })?;\n", ""),
     Fault("Rust: more leaves than one are a branch", "rust/src/proof.rs", "            [(index, leaf)] =>", "            [(index, leaf), ..] =>"),
-    Fault("Rust: a choice loses the last byte of a long value", "rust/src/session.rs", "selector, data.as_ptr(), data.len(), fault",
+    Fault("Rust: a choice loses what is beyond 40 bytes", "rust/src/session.rs", "selector, data.as_ptr(), data.len(), fault",
           "selector, data.as_ptr(), data.len().min(40), fault"),
     Fault("C: a byte is appended where there are none", "include/ssz.h", "ssz_from(bytes), len, fault ? fault : &unseen);\n}\n#define ssz_session_append",
           "ssz_from(bytes), len + !len, fault ? fault : &unseen);\n}\n#define ssz_session_append"),
