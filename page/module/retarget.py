@@ -1,11 +1,11 @@
 """Turns the LLVM module that the kit made of the proved functions for x86-64 into one for wasm64.
 
-    retarget.py FROM.ll TO.ll
-
 It changes the two lines that name the target, drops the attributes that are x86's, and gives the three functions of the
 heap that the kit declares in C bodies over runtime.c. Sizes, alignments and byte order are the same on both. It stops at
 what it does not know: any other function that is declared and is not LLVM's own, any intrinsic of x86, any assembly but
 the empty one, which is no instruction and only holds accesses of memory in their order (an `Arc` has it)."""
+import argparse
+import os
 import re
 import sys
 
@@ -69,11 +69,17 @@ def retargeted(lines):
         sys.exit(f"retarget: no {OURS - seen}")
 
 
-def main(source, target):
-    with open(source, encoding="utf-8") as it:
+def main():
+    words = argparse.ArgumentParser(prog="retarget.py", description=__doc__)
+    words.add_argument("source", metavar="FROM.ll")
+    words.add_argument("target", metavar="TO.ll")
+    given = words.parse_args()
+    if not os.path.isfile(given.source):
+        words.error(f"{given.source} is no file")
+    with open(given.source, encoding="utf-8") as it:
         text = "".join(retargeted(it))
-    with open(target, "w", encoding="utf-8") as it:
+    with open(given.target, "w", encoding="utf-8") as it:
         it.write(text + HEAP)
 
 
-main(*sys.argv[1:])
+main()

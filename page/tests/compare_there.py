@@ -1,8 +1,7 @@
-"""Compares a module with the proved program in headless Chromium, for where no node runs it:
-
-    compare_there.py MODULE SSZ SCHEMAS.json [VALUES [SEED]]
+"""Compares a module with the proved program in headless Chromium, for where no node runs it.
 
 The page tests/compare.html does what tests/compare.mjs does in node, and asks this server for what the program prints."""
+import argparse
 import functools
 import http.server
 import json
@@ -12,8 +11,6 @@ import sys
 import tempfile
 import threading
 import time
-
-from browser import PAGE, chromium
 
 
 class Handler(http.server.SimpleHTTPRequestHandler):
@@ -43,22 +40,37 @@ class Handler(http.server.SimpleHTTPRequestHandler):
         pass
 
 
-def main(module, ssz, schemas, values="60", seed="7"):
+def compared(given):
+    """Whether the module is like the program; what the page says of it is printed."""
+    from browser import PAGE, chromium
     with tempfile.TemporaryDirectory() as folder:
-        own = {"module": module, "ssz": ssz, "schemas": schemas}
-        own = {name: os.path.abspath(it) for name, it in own.items()}
+        own = {name: os.path.abspath(getattr(given, name)) for name in ("module", "ssz", "schemas")}
         handler = functools.partial(Handler, folder=folder, directory=PAGE, **own)
         server = http.server.ThreadingHTTPServer(("127.0.0.1", 0), handler)
         threading.Thread(target=server.serve_forever, daemon=True).start()
         driver = chromium()
-        driver.get(f"http://127.0.0.1:{server.server_port}/tests/compare.html?values={values}&seed={seed}")
+        page = f"http://127.0.0.1:{server.server_port}/tests/compare.html"
+        driver.get(f"{page}?values={given.values}&seed={given.seed}")
         while not driver.title.startswith(("alike: ", "unlike: ")):
             time.sleep(0.2)
         good = driver.title.startswith("alike: ")
         print(driver.title.removeprefix("alike: "))
         driver.quit()
         server.shutdown()
-    return 0 if good else 1
+    return good
 
 
-sys.exit(main(*sys.argv[1:]))
+def main():
+    words = argparse.ArgumentParser(prog="compare_there.py", description=__doc__)
+    for name in ("module", "ssz", "schemas"):
+        words.add_argument(name, metavar=name.upper())
+    words.add_argument("values", metavar="VALUES", nargs="?", type=int, default=60)
+    words.add_argument("seed", metavar="SEED", nargs="?", type=int, default=7)
+    given = words.parse_args()
+    for name in ("module", "ssz", "schemas"):
+        if not os.path.isfile(getattr(given, name)):
+            words.error(f"{getattr(given, name)} is no file")
+    return 0 if compared(given) else 1
+
+
+sys.exit(main())

@@ -1,4 +1,4 @@
-// Tests of what the page works out by itself, as tables: node tests/units.mjs.
+// Tests of what the page works out by itself, as tables.
 import assert from "node:assert/strict";
 import { scan, spelled, pretty, lineOf } from "../lib/json.mjs";
 import { hexOf, ofHex } from "../lib/hex.mjs";
@@ -6,6 +6,9 @@ import { helperIndices, readProof, compared } from "../lib/proofs.mjs";
 import { Types, form } from "../lib/types.mjs";
 import { find, partAt, partOfJson, countOf, shown } from "../lib/parts.mjs";
 import { drawn, draws } from "../lib/draws.mjs";
+import { takeWords } from "./words.mjs";
+
+takeWords("units.mjs: tests what the page works out by itself", (given) => !given.length);
 
 let tests = 0;
 const same = (ours, wanted, what) => { assert.deepEqual(ours, wanted, what); tests++; };
