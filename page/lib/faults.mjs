@@ -9,7 +9,7 @@ export const FAULTS = [null,
   ["Extra", "bytes follow a value of a fixed size",
     "Does a line feed or another value follow, or is the type of another fork longer?"],
   ["BadBool", "a boolean's byte is neither 00 nor 01",
-    "Most often a field in front of it is missing, or one too many."],
+    "Most often a field before it is missing, or one too many."],
   ["FirstOffset", "the first offset is not where the variable parts begin",
     "The first offset is the length of the fixed parts: is it the type of another fork?"],
   ["OffsetRange", "an offset is beyond its scope",
@@ -21,7 +21,7 @@ export const FAULTS = [null,
   ["TooMany", "there are more elements or bits than the limit",
     "Has the schema the limits of another preset (minimal, mainnet)?"],
   ["PaddingBits", "an unused bit of a bitvector is 1",
-    "Has the bitvector another length in the schema? Bits behind its last one are 0."],
+    "Has the bitvector another length in the schema? Bits after its last one are 0."],
   ["NoDelimiter", "a bitlist has no byte, or its last byte is 00",
     "The writer left the delimiting 1 out: a bitlist without bits is 01."],
   ["BadSelector", "a union's selector is no option's number",
@@ -48,7 +48,7 @@ const REFUSALS = { 5: "the path does not fit the type", 6: "the value has no suc
   8: "the list is full: its length is the limit", 9: "the list is empty", 10: "no option has this selector",
     12: "too long",
   13: "the tree has no node at this index",
-    14: "one of the chosen parts is in another: the leaves of a proof stand apart" };
+    14: "one of the ticked parts is in another: the leaves of a proof stand apart" };
 
 const SAYS = {
   [INVALID]: ({ code, position }, what) =>
@@ -60,10 +60,10 @@ const SAYS = {
   [REFUSED]: ({ code }) => `Refused: ${REFUSALS[code] ?? `code ${code}`}.`,
   [NO_TYPE]: () => "The schema has no type of this name.",
   [TOO_LONG]: () => "Too long: a value has fewer than 2^32 bytes, a text at most 2^26.",
-  [SYNTAX]: () => "This spells no path: write steps behind /, as in /validators/7/slashed.",
+  [SYNTAX]: () => "This spells no path: write steps after /, as in /validators/7/slashed.",
   [BAD_PATH]: () => "The path does not fit the type.",
   [ABSENT]: () => "The value has no such part.",
-  [NO_MEMORY]: () => "Want of memory: the browser gives the module no more.",
+  [NO_MEMORY]: () => "Out of memory: the browser gives the module no more.",
 };
 const said = (before, text) => (text ? `${before}${text}` : "");
 

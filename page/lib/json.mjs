@@ -20,7 +20,7 @@ export function scan(text) {
   const reader = new Reader(text);
   const node = reader.value(0);
   reader.blank();
-  if (reader.at < text.length) reader.fail("text behind the value");
+  if (reader.at < text.length) reader.fail("text after the value");
   return node;
 }
 

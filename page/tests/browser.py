@@ -27,13 +27,18 @@ with open(f"{HERE}/inside.js", encoding="utf-8") as file:
     INSIDE = file.read()
 
 
+def script_of(name):
+    """A script of page/ as a module."""
+    sys.dont_write_bytecode = True
+    loader = importlib.machinery.SourceFileLoader(name, f"{PAGE}/{name}")
+    script = importlib.util.module_from_spec(importlib.util.spec_from_loader(name, loader))
+    loader.exec_module(script)
+    return script
+
+
 def served():
     """The server of page/serve on a free port, and its address."""
-    sys.dont_write_bytecode = True
-    loader = importlib.machinery.SourceFileLoader("serve", f"{PAGE}/serve")
-    serve = importlib.util.module_from_spec(importlib.util.spec_from_loader("serve", loader))
-    loader.exec_module(serve)
-    it = serve.server(0)
+    it = script_of("serve").server(0)
     threading.Thread(target=it.serve_forever, daemon=True).start()
     return it, f"http://127.0.0.1:{it.server_port}/"
 

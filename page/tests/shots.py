@@ -1,14 +1,20 @@
-"""The screenshots of docs/page.md: page/test --shots FOLDER."""
+"""The screenshots of docs/page.md and the sizes in it: page/test --shots FOLDER."""
+import gzip
+import os
+import re
 import time
 
-from browser import Page, chromium, served
+from browser import PAGE, Page, chromium, served
 from png import small
-from tasks import DENEB
+
+FULU = "mainnet/fulu"
+#: What stands between these lines of page.md is written here.
+SIZES = re.compile(r"(?s)(?<=<!-- sizes -->\n).*?(?=<!-- end of sizes -->)")
 
 
 def value(page):
     """A value, one part of it, the picture of two parts and their proof."""
-    page.open(schema=DENEB, type="Attestation", seed=4, path="/data/source/epoch")
+    page.open(schema=FULU, type="Attestation", seed=4, path="/data/source/epoch")
     page.until(lambda: page.all("#picture rect"), what="the picture")
     for path in ("/data/slot", "/data/source/epoch"):
         page.inside("prove", path)
@@ -19,7 +25,7 @@ def value(page):
 
 def fault(page):
     """A first fault, with its byte."""
-    page.open(schema=DENEB, type="SignedBeaconBlock", seed=6)
+    page.open(schema=FULU, type="SignedBeaconBlock", seed=6)
     page.good()
     bad = bytearray.fromhex(page.value("hex-text"))
     offset = page.ask("part", path="/message/body/attestations/0")["offset"]["at"]
@@ -31,7 +37,7 @@ def fault(page):
 
 def edits(page):
     """Edits of a state, each with its root, and a picture with trees of zeros."""
-    page.open(schema="mainnet/fulu", type="BeaconState")
+    page.open(schema=FULU, type="BeaconState")
     page.press("default")
     page.good()
     for path, does, text in (("/balances", "append", '"32000000000"'), ("/slot", "set", '"7"'),
@@ -43,7 +49,7 @@ def edits(page):
 
 
 def leaves(page):
-    """The ways of five parts to the root, across the page."""
+    """The branches of five parts to the root, across the page."""
     page.open(schema="minimal/fulu", type="BeaconState")
     page.press("default")
     page.good()
@@ -59,11 +65,48 @@ def leaves(page):
     page.run("document.getElementById('h-tree').scrollIntoView()")
 
 
-SHOTS = [("page", value, "light", 1480, 1230, False), ("page_proof", leaves, "light", 1100, 1340, False), ("page_fault", fault, "light", 1200, 900, False),
-         ("page_dark", edits, "dark", 1480, 1100, False), ("page_phone", value, "dark", 390, 1500, True)]
+#: Each picture: its name, what is done for it, light or dark, width and height, and whether it is a phone's.
+SHOTS = [("page", value, "light", 1440, 1230, False), ("page_proof", leaves, "light", 1100, 1400, False),
+         ("page_fault", fault, "light", 1200, 900, False), ("page_dark", edits, "dark", 1440, 1100, False),
+         ("page_phone", value, "dark", 390, 1500, True)]
+
+
+def sizes():
+    """The table of the modules' sizes."""
+    rows = ["| Module | Bytes | By gzip |", "|---|---:|---:|"]
+    for name in ("ssz.wasm", "ssz32.wasm"):
+        with open(f"{PAGE}/out/{name}", "rb") as it:
+            module = it.read()
+        rows.append(f"| `{name}` | {len(module):,} | {len(gzip.compress(module, mtime=0)):,} |")
+    return "\n".join(rows) + "\n"
+
+
+def numbers(table):
+    return [int(it.replace(",", "")) for it in re.findall(r"[\d,]{5,}", table)]
+
+
+def sizes_are_told():
+    """The sizes in docs/page.md are within a twentieth those of the modules: else page/test --shots docs writes them anew."""
+    with open(f"{PAGE}/../docs/page.md", encoding="utf-8") as it:
+        told, made = numbers(SIZES.search(it.read())[0]), numbers(sizes())
+    assert len(told) == len(made) and all(abs(a - b) * 20 <= b for a, b in zip(told, made)), (told, made)
+    return f"{made[0]:,} and {made[2]:,} bytes"
+
+
+def write_sizes(folder):
+    """Writes the sizes into the folder's page.md, if it has one."""
+    name = f"{folder}/page.md"
+    if not os.path.exists(name):
+        return
+    with open(name, encoding="utf-8") as it:
+        text = SIZES.sub(sizes(), it.read())
+    with open(name, "w", encoding="utf-8") as it:
+        it.write(text)
+    print(f"{name}: the sizes", flush=True)
 
 
 def main(folder):
+    write_sizes(folder)
     server, address = served()
     for name, act, scheme, width, height, phone in SHOTS:
         driver = chromium(width, height)

@@ -208,7 +208,7 @@ def two_proofs(page):
     page.inside("prove", "/data/source/epoch")
     page.edit("set", '"77"')
     page.until(lambda: page.value("proof").startswith("proof 86=0x4d"), what="the other proof")
-    assert "chosen" in page.text("tree-of"), "what was chosen"
+    assert "ticked" in page.text("tree-of"), "what was ticked"
     page.fill("check-root", page.text("root"))
     page.fill("check-proof", first)
     page.fill("other-proof", page.value("proof"))

@@ -33,7 +33,7 @@ export const guarded = (place, act, what) => async (...given) => {
   }
 };
 
-/** Takes an answer on a whole value, or none, for what all panes show. An edit keeps what was chosen. */
+/** Takes an answer on a whole value, or none, for what all panes show. An edit keeps what was ticked. */
 export function take(answer, path = "", isEdit = false) {
   app.value = answer?.fault ? null : answer;
   app.fault = answer?.fault ? answer : null;

@@ -13,7 +13,7 @@ export class Client {
   launch() {
     this.worker = new Worker(new URL("../worker/worker.mjs", import.meta.url), { type: "module" });
     this.worker.onmessage = ({ data }) => this.take(data);
-    this.worker.onerror = () => this.drop("the worker ended", "The worker could not be started.");
+    this.worker.onerror = () => this.drop("the worker ended", "The page's worker could not be started.");
   }
 
   ask(op, given = {}, moved = []) {
@@ -63,7 +63,7 @@ export class Client {
   // What was asked has no answer any more.
   drop(why, says = "") {
     this.worker.terminate();
-    for (const { no } of this.waiting.values()) no(Object.assign(new Error(why), { stopped: !says }));
+    for (const { no } of this.waiting.values()) no(Object.assign(new Error(says || why), { stopped: !says }));
     this.waiting.clear();
     this.end();
     if (says) $("status").textContent = says;

@@ -1,5 +1,5 @@
 // The encoding as digits, some rows at a time: the selected part and its offset are marked, a byte
-// leads to its part.
+// leads to its part. The numbers of bytes are decimal here as everywhere on the page.
 import { $, make } from "./dom.mjs";
 import { app, ask, guarded, latest, on } from "./app.mjs";
 import { reveal } from "./tree.mjs";
@@ -32,21 +32,28 @@ function cell(at, byte) {
   return own;
 }
 
-/** A row of digits, behind the place of its first byte. */
+const head = (text) => make("span", { role: "rowheader", textContent: text.padStart(String(app.length).length + 1) });
+
+/** A row of digits, after the number of its first byte. */
 function rowOf(at, bytes) {
-  const digits = Math.max(4, app.length.toString(16).length), place = at.toString(16).padStart(digits, "0");
-  const head = make("span", { className: "place", role: "rowheader", textContent: place });
-  return make("div", { role: "row" }, head, ...bytes.map((byte, i) => cell(at + i, byte)));
+  return make("div", { role: "row" }, head(String(at)), ...bytes.map((byte, i) => cell(at + i, byte)));
 }
 
-/** Shows the rows from `from` on. A fault may lie behind the last byte: there stands a mark. */
+/** What each column adds to the number at the head of a row. */
+function columns() {
+  const heads = Array.from({ length: width() }, (_, i) =>
+    make("span", { role: "columnheader", className: i === 8 ? "gap" : "", textContent: String(i).padStart(2) }));
+  return make("div", { role: "row" }, head("+"), ...heads);
+}
+
+/** Shows the rows from `from` on. A fault may lie after the last byte: there stands a mark. */
 const paint = latest(async (isLatest) => {
   const count = ROWS * width(), bytes = app.length ? [...await ask("window", { from, count })] : [];
   if (!isLatest()) return;
   const end = from + bytes.length, rows = [];
   const shown = end === app.length && app.fault?.fault.position === end ? [...bytes, undefined] : bytes;
   for (let i = 0; i < shown.length; i += width()) rows.push(rowOf(from + i, shown.slice(i, i + width())));
-  $("hex").replaceChildren(...rows);
+  $("hex").replaceChildren(...(rows.length ? [columns()] : []), ...rows);
   const empty = app.value || app.fault ? "no bytes" : "";
   $("hex-where").textContent = app.length ? `${from} to ${end - 1} of ${many(app.length, "byte")}` : empty;
   $("hex-back").disabled = from === 0;

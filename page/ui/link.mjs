@@ -1,4 +1,4 @@
-// Links: what stands behind # is schema or text, type, the value and the path. A value is deflated
+// Links: what stands after # is schema or text, type, the value and the path. A value is deflated
 // where that is shorter.
 import { $, copy } from "./dom.mjs";
 import { app, on } from "./app.mjs";

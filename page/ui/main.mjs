@@ -1,7 +1,8 @@
-// The page: starts the worker, reads the schemas, and shows what the link says, or an example.
+// The page: starts the worker, reads the schemas, and shows what the link says, or an example. Its
+// controls are off until the library is there.
 import { $, fail } from "./dom.mjs";
 import { app, ask, client, on } from "./app.mjs";
-import { listSchemas, readSchema, setSchema } from "./schema.mjs";
+import { listSchemas, newest, readSchema, setSchema } from "./schema.mjs";
 import { give } from "./value.mjs";
 import { bytesIn, keepLink } from "./link.mjs";
 import { inWords } from "../lib/faults.mjs";
@@ -12,7 +13,7 @@ import "./picture.mjs";
 import "./proof.mjs";
 import "./history.mjs";
 
-const EXAMPLE = { schema: "mainnet/deneb", type: "Attestation", seed: 4, path: "/data/source/epoch" };
+const EXAMPLE = { type: "Attestation", seed: 4, path: "/data/source/epoch" };
 
 // Which module: bits=32 in the address takes that with a memory of 32 bits.
 const given = new URLSearchParams(location.hash.slice(1)), bits = Number(given.get("bits") ?? 64);
@@ -20,22 +21,38 @@ const given = new URLSearchParams(location.hash.slice(1)), bits = Number(given.g
 async function start() {
   client.launch();
   const it = await ask("start", { bits });
-  client.ready = `library ready: ${Math.round(it.size / 1024)} KiB, memory of ${it.bits} bits`;
+  client.ready = `library ready, memory of ${it.bits} bits`;
   client.end();
+}
+
+/** Says in the middle of the page why the library is not there. No control can do anything then. */
+function tellNotReady(why) {
+  $("controls").disabled = true;
+  $("h-notice").textContent = why.notBuilt ? "The library is not there" : "The library could not be started";
+  $("notice-why").textContent = inWords(why);
+  $("notice-how").hidden = !why.notBuilt;
+  $("notice").className = "now";
+  $("notice").hidden = false;
+  $("status").textContent = "not ready";
+  document.body.dataset.ready = "failed";
 }
 
 /** After a stop: the value is gone with the worker that had it. */
 client.again = async (why) => {
-  await start();
+  try {
+    await start();
+  } catch (failed) {
+    return tellNotReady(failed);
+  }
   await readSchema();
   const says = why === "stopped" ? "Stopped." : `${why[0].toUpperCase()}${why.slice(1)}.`;
-  fail("value-error", `${says} The value is given up; give it again, or another one.`);
+  return fail("value-error", `${says} The value is given up; give it again, or another one.`);
 };
 
 async function open() {
   await listSchemas();
   const isBare = !given.has("schema") && !given.has("text");
-  setSchema(given.get("schema") ?? EXAMPLE.schema, given.get("text"));
+  setSchema(given.get("schema") ?? newest(), given.get("text"));
   await readSchema(given.get("type") ?? (isBare ? EXAMPLE.type : ""));
   keepLink();
   try {
@@ -70,12 +87,14 @@ async function tellBuild() {
 
 // For tests and measures.
 window.explorer = { app, ask };
+$("notice").hidden = true;
+$("status").textContent = "loading…";
 try {
   await start();
   await tellBuild();
+  $("controls").disabled = false;
   await open();
   document.body.dataset.ready = "true";
 } catch (why) {
-  $("status").textContent = inWords(why);
-  document.body.dataset.ready = "failed";
+  tellNotReady(why);
 }

@@ -1,20 +1,25 @@
-// The picture of the Merkle tree on the way to some parts: leaves, helpers and the root, level by
-// level.
+// The picture of the branches from some parts to the root: leaves, helpers and what is computed of
+// them, level by level. Each box says which it is.
 import { $, make, svg, table } from "./dom.mjs";
 import { app, ask, latest, on, take } from "./app.mjs";
 import { inWords } from "../lib/faults.mjs";
 import { many, shortHash } from "../lib/hex.mjs";
 
-// Boxes of two lines for one leaf; of three, and narrower, where more nodes stand side by side.
-const TWO = { wide: 172, tall: 32, step: 50, gap: 14, index: 13, name: 16, lines: 2 },
-  THREE = { wide: 115, tall: 45, step: 63, gap: 10, index: 13, name: 15, lines: 3 };
+// Boxes of two lines for one leaf; of three, and narrower, where more nodes stand side by side. So
+// many letters of an index have room, and of a name.
+const TWO = { wide: 178, tall: 34, step: 52, gap: 12, index: 13, name: 24, lines: 2 },
+  THREE = { wide: 122, tall: 46, step: 64, gap: 10, index: 9, name: 17, lines: 3 };
+// How wide a letter of an index is beside one of a name.
+const LETTER = 1.05;
 // From so many bytes on the tree of nodes, which takes some ten times the memory, is made on demand.
 const LARGE = 8_000_000;
+// Half of the text that stands for levels that are left out.
+const FOLD_ROOM = 145;
 let shown = null;
 
 /** Whether a level is as the one above it, with no name and no helper but trees of zeros. */
 function isDull(levels, i) {
-  const has = (it) => (it.is === "way" && !it.name) || (it.is === "helper" && it.zero !== null);
+  const has = (it) => (it.is === "computed" && !it.name) || (it.is === "helper" && it.zero !== null);
   return levels[i].length === levels[i - 1]?.length && levels[i].every(has);
 }
 
@@ -40,17 +45,27 @@ function chunkOf({ chunk, zero }) {
   return zero ? `zeros, ${many(zero, "level")}` : "a zero chunk";
 }
 
-/** The box of a node, by the form of boxes: its index, its name, and its chunk in short. */
+/** What a node is to a proof, in a word. */
+const isOf = ({ index, is }) => (index === "1" ? "root" : is);
+
+/** An index in so many letters. */
+function shortIndex(index, most) {
+  const half = (most - 1) >> 1;
+  return index.length > most ? `${index.slice(0, half)}…${index.slice(-half)}` : index;
+}
+
+/** The box of a node, by the form of boxes: its index, its name, its chunk in short, and what it is. */
 function box(it, x, y, { wide, tall, index: most, name, lines }) {
-  const left = x - wide / 2 + 8, { index } = it, kind = index === "1" ? "way" : it.is;
-  const cut = index.length > most ? `${index.slice(0, 5)}…${index.slice(-5)}` : index;
-  const at = lines === 2 ? { x: x + wide / 2 - 7, y: y + 13, "text-anchor": "end" } : { x: left, y: y + 26 };
-  return svg("g", { class: kind + (it.zero === null ? "" : " zero") },
+  const left = x - wide / 2 + 8, right = x + wide / 2 - 8, isLow = lines === 2, bottom = y + tall - 6;
+  const index = shortIndex(it.index, most), room = isLow ? Math.floor(name - LETTER * index.length) : name;
+  const at = isLow ? { x: right, y: y + 13, "text-anchor": "end" } : { x: left, y: y + 26 };
+  return svg("g", { class: it.is + (it.zero === null ? "" : " zero") },
     svg("rect", { x: x - wide / 2, y, width: wide, height: tall }),
-    svg("text", { x: left, y: y + 13 }, cut),
-    svg("text", { ...at, class: "name" }, short(it.name ?? "", name)),
-    svg("text", { x: left, y: y + tall - 6, class: "soft" }, chunkOf(it)),
-    svg("title", {}, `${index} = ${it.chunk}${it.name ? `, ${it.name}` : ""}`));
+    svg("text", { x: left, y: y + 13 }, index),
+    svg("text", { ...at, class: "name" }, short(it.name ?? "", room)),
+    svg("text", { x: left, y: bottom, class: "soft" }, chunkOf(it)),
+    svg("text", { x: right, y: isLow ? bottom : y + 13, class: "is" }, isOf(it)),
+    svg("title", {}, `${it.index} = ${it.chunk}, ${isOf(it)}${it.name ? `, ${it.name}` : ""}`));
 }
 
 /**
@@ -70,14 +85,14 @@ function placed(level, above, { W, wide, gap }) {
 }
 
 /**
- * The lines down to a level from the places above it; dotted ones, along the ways alone, where
+ * The lines down to a level from the places above it; dotted ones, along the branches alone, where
  * levels are left out between.
  */
 function linesTo(level, xs, above, { step, tall }, y, isFolded) {
   return level.flatMap((it, i) => {
-    const isWay = it.is !== "helper", y1 = y - (isFolded ? 2 * step : step) + tall;
-    if (isFolded && !isWay) return [];
-    const own = `${isWay ? "way" : ""}${isFolded ? " folded" : ""}`;
+    const isComputed = it.is !== "helper", y1 = y - (isFolded ? 2 * step : step) + tall;
+    if (isFolded && !isComputed) return [];
+    const own = `${isComputed ? "computed" : ""}${isFolded ? " folded" : ""}`;
     return [svg("line", { class: own, x1: above[i], y1, x2: xs[i], y2: y })];
   });
 }
@@ -88,17 +103,18 @@ function picture(levels, all) {
   const lines = [], nodes = [];
   form.W = most * (form.wide + form.gap) + form.gap;
   // The places of the nodes that have two below them, in their order.
-  let y = 10, ways = [form.W / 2], isFolded = false;
+  let y = 10, parents = [form.W / 2], isFolded = false;
   for (const { nodes: level, skipped } of folded(levels, all)) {
     if (skipped) {
-      nodes.push(svg("text", { x: form.W / 2, y: y + 19, class: "soft halo", "text-anchor": "middle" },
+      const x = Math.min(Math.max(parents[0], FOLD_ROOM), form.W - FOLD_ROOM);
+      nodes.push(svg("text", { x, y: y + 19, class: "soft halo", "text-anchor": "middle" },
         `${skipped} levels whose helpers are trees of zeros`));
       isFolded = true;
     } else {
-      const above = level.map((_, i) => ways[i >> 1]), xs = placed(level, above, form);
+      const above = level.map((_, i) => parents[i >> 1]), xs = placed(level, above, form);
       if (y > 10) lines.push(...linesTo(level, xs, above, form, y, isFolded));
       level.forEach((it, i) => nodes.push(box(it, xs[i], y, form)));
-      ways = xs.filter((_, i) => level[i].is === "way");
+      parents = xs.filter((_, i) => level[i].is === "computed");
       isFolded = false;
     }
     y += form.step;
@@ -108,11 +124,10 @@ function picture(levels, all) {
   return svg("svg", words, ...lines, ...nodes);
 }
 
-const IS = { way: "on the way", leaf: "leaf", helper: "helper" };
 function asTable(levels) {
   const mono = (textContent) => ({ textContent, className: "mono" });
-  const rows = levels.flat().map(({ index, is, name, chunk }) =>
-    ({ cells: [mono(index), index === "1" ? "root" : IS[is], name ?? "", mono(chunk)] }));
+  const rows = levels.flat().map((it) =>
+    ({ cells: [mono(it.index), isOf(it), it.name ?? "", mono(it.chunk)] }));
   return table(["Index", "Is", "Name", "Chunk"], rows);
 }
 
@@ -120,12 +135,12 @@ function draw() {
   if (!shown) return;
   const { levels, leaves, helpers } = shown, own = picture(levels, $("all").checked);
   const from = leaves === 1 ? "a leaf" : `${leaves} leaves`, over = many(levels.length - 1, "level");
-  const says = `The way from ${from} to the root over ${over}, with ${many(helpers, "helper")}`;
+  const says = `The branch from ${from} to the root over ${over}, with ${many(helpers, "helper")}`;
   own.setAttribute("aria-label", `${says}; the table below has the same`);
   $("picture").replaceChildren(own);
   const box = $("picture");
   // A picture that is a little too wide is made smaller, a wider one scrolls.
-  const isNear = Number(own.getAttribute("width")) < 1.35 * box.clientWidth;
+  const isNear = Number(own.getAttribute("width")) < 1.25 * box.clientWidth;
   if (isNear) Object.assign(own.style, { maxWidth: "100%", height: "auto" });
   box.scrollLeft = (box.scrollWidth - box.clientWidth) / 2;
   $("nodes").querySelector("div").replaceChildren($("nodes").open ? asTable(levels) : "");
@@ -137,6 +152,7 @@ function clear(text = "") {
   $("picture").replaceChildren();
   $("nodes").hidden = true;
   $("tree-of").textContent = text;
+  $("tree-how").hidden = true;
   $("proof").value = $("chosen").textContent = "";
 }
 
@@ -154,7 +170,7 @@ function offer() {
   $("picture").replaceChildren(own);
 }
 
-/** Shows the way of the chosen parts, or of the selected one, and their multiproof. */
+/** Shows the branches of the ticked parts, or of the selected one, and their multiproof. */
 const show = latest(async (isLatest) => {
   if (!app.value || !app.row) return clear();
   if (!app.value.hasTree && app.value.length >= LARGE) return offer();
@@ -165,7 +181,9 @@ const show = latest(async (isLatest) => {
     shown = found;
     const { leaves, helpers } = found, names = items.map((it) => it || "/").join(", ");
     const counted = `${leaves} ${leaves === 1 ? "leaf" : "leaves"} (${names}) and ${many(helpers, "helper")}`;
-    $("tree-of").textContent = `Of the ${app.chosen.size ? "chosen parts" : "selected part"}: ${names}`;
+    $("h-tree").textContent = items.length > 1 ? "Branches to the root" : "Branch to the root";
+    $("tree-of").textContent = `Of the ${app.chosen.size ? "ticked" : "selected"} ${items.length > 1 ? "parts" : "part"}: ${names}`;
+    $("tree-how").hidden = false;
     $("chosen").textContent = `${counted}: ${many(32 * (leaves + helpers), "byte")} of chunks`;
     $("proof").value = proof;
     app.value.hasTree = true;

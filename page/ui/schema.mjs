@@ -21,6 +21,9 @@ export async function listSchemas() {
     make("option", { value: OWN, textContent: "your own text" }));
 }
 
+/** The newest fork of mainnet; the build has the schemas in the order of their forks. */
+export const newest = () => Object.keys(texts).findLast((name) => name.startsWith("mainnet/"));
+
 export const schemaText = () => ($("schema").value === OWN ? $("text").value : texts[$("schema").value]);
 export const isOwn = () => $("schema").value === OWN;
 

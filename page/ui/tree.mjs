@@ -2,7 +2,7 @@
 import { $, make, fail } from "./dom.mjs";
 import { app, ask, choose, emit, guarded, latest, on, select } from "./app.mjs";
 
-const MANY = 100;
+const MANY = 100, CONFIRMED = "confirmed by the library";
 let top = null;
 
 // A line of the table: what the worker said of the part, which one it is of how many, and the lines
@@ -31,7 +31,7 @@ function placeOf({ from, to, bit }) {
 /** The cell of a part's place, with the library's word on it. */
 function bytesCell(row) {
   const place = placeOf(row), own = make("td", { className: "number bytes", title: place });
-  if (row.confirmed === true && place) own.append(make("span", { className: "tick", textContent: "✓ " }));
+  if (row.confirmed === true && place) own.append(make("span", { className: "tick", textContent: "✓ ", title: CONFIRMED }));
   if (row.confirmed === false) own.append(make("b", { className: "error", textContent: "unlike " }));
   own.append(place);
   return own;
@@ -140,7 +140,7 @@ function keepInSight(own) {
   else if (end > box.scrollTop + box.clientHeight) box.scrollTop = end - box.clientHeight;
 }
 
-/** Opens the way to a part and selects it; as far as the way goes, where there is no such part. */
+/** Opens the path to a part and selects it; as far as the path goes, where there is no such part. */
 export async function reveal(path, focuses = false) {
   let line = top;
   for (const step of path.split("/").slice(1)) {
@@ -186,7 +186,7 @@ const goTo = guarded("goto-error", async (text) => {
   const path = text === "/" ? "" : text;
   if (path && !path.startsWith("/")) throw new Error("Give a path, as /slot, or the number of a byte.");
   if (!(await reveal(path, true))) fail("goto-error",
-    `There is no ${path}: this is as far as the way goes.`);
+    `There is no ${path}: this is as far as the path goes.`);
 });
 
 on("value", ({ path }) => {

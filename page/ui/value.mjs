@@ -113,7 +113,7 @@ $("copy-root").onclick = () => copy(`0x${app.value.root}`, "the root is copied")
 addEventListener("dragover", (event) => event.preventDefault());
 addEventListener("drop", (event) => {
   event.preventDefault();
-  readFile(event.dataTransfer.files[0]);
+  if (!$("controls").disabled) readFile(event.dataTransfer.files[0]);
 });
 
 on("value", () => {

@@ -12,26 +12,39 @@ import { picture, zeroTrees, ZEROS } from "./pictures.mjs";
 // A module with a memory of 64 bits, to see whether the browser has such.
 const WIDE = Uint8Array.of(0, 97, 115, 109, 1, 0, 0, 0, 5, 3, 1, 4, 1);
 const MOST_OWN = 4096;
+// What stands on the left and on the right below the node of such a part.
+const MIXED_IN = { list: ["elements", "length"], bitlist: ["bits", "length"], union: ["value", "selector"] };
 const SPECIAL = { "#len": ["length", "uint64"], "#sel": ["selector", "uint8"] };
 
 let zeros = null;
 
 /**
- * The names of nodes: of the parts on the ways to some, and of what stands beside them in
- * containers.
+ * The names of nodes: of the parts on the branches of some, and of what stands beside these in
+ * containers, lists and unions.
  */
 function namesOf(value, paths) {
   const names = new Map([["1", value.type.name]]);
-  const put = (path, name) => names.set(String(value.gindex(path)), name);
   for (const path of paths) {
     const steps = path.split("/").slice(1);
     for (let n = 0; n < steps.length; n++) {
       const above = steps.slice(0, n).map((it) => `/${it}`).join("");
-      for (const { name } of value.look(above)?.type?.fields ?? []) put(`${above}/${name}`, name);
-      put(`${above}/${steps[n]}`, steps[n]);
+      const index = String(value.gindex(`${above}/${steps[n]}`));
+      for (const [own, name] of namesBelow(value, above))
+        if (!names.has(String(own))) names.set(String(own), name);
+      // A number says little without what it counts.
+      if (/^\d+$/.test(steps[n])) names.set(index, n ? `${steps[n - 1]}/${steps[n]}` : steps[n]);
+      else if (!names.has(index)) names.set(index, steps[n]);
     }
   }
   return names;
+}
+
+/** The names of nodes below a part: of fields, and of what is mixed in beside contents. */
+function namesBelow(value, path) {
+  const type = value.look(path)?.type, index = value.gindex(path);
+  const beside = MIXED_IN[type?.kind];
+  if (beside) return [[2n * index, beside[0]], [2n * index + 1n, beside[1]]];
+  return (type?.fields ?? []).map(({ name }) => [value.gindex(`${path}/${name}`), name]);
 }
 
 /** The multiproof of some parts, each a path or an index. */
@@ -65,7 +78,7 @@ export const answers = {
   async start({ bits }) {
     const wide = bits !== 32 && WebAssembly.validate(WIDE), name = wide ? "ssz.wasm" : "ssz32.wasm";
     const found = await fetch(new URL(`../out/${name}`, import.meta.url));
-    if (!found.ok) throw new Error(`page/out/${name} is not there: run page/build first`);
+    if (!found.ok) throw Object.assign(new Error(`page/out/${name} was not built.`), { notBuilt: true });
     const own = await found.arrayBuffer(), begin = performance.now();
     desk.ssz = await Ssz.load(own);
     return { size: own.byteLength, bits: wide ? 64 : 32, ready: performance.now() - begin };

@@ -28,8 +28,8 @@ function special(value, path, it) {
     gindex: String(value.gindex(`${path}/${step}`)), opens: false, confirmed: null, ...more });
   switch (it.type?.kind) {
     case "union": {
-      const chosen = String(value.bytes[it.from]);
-      return [own("#sel", "selector", { from: it.from, to: it.from + 1, value: chosen })];
+      const selector = String(value.bytes[it.from]);
+      return [own("#sel", "selector", { from: it.from, to: it.from + 1, value: selector })];
     }
     case "list": case "bitlist":
       return [own("#len", "length", { from: null, to: null, value: String(value.count(it)) })];

@@ -3,7 +3,8 @@
 // waited enough.
 import { answers } from "./answers.mjs";
 
-const PLAIN = ["message", "status", "code", "position", "path", "detail", "line", "defines", "from", "to"];
+const PLAIN = ["message", "status", "code", "position", "path", "detail", "line", "defines", "from", "to",
+  "notBuilt"];
 
 let turn = Promise.resolve();
 
