@@ -7,7 +7,7 @@ import { many, shortHash } from "../lib/hex.mjs";
 
 // Boxes of two lines for one leaf; of three, and narrower, where more nodes stand side by side. So
 // many letters of an index have room, and of a name.
-const TWO = { wide: 178, tall: 34, step: 52, gap: 12, index: 13, name: 24, lines: 2 },
+const TWO = { wide: 162, tall: 34, step: 52, gap: 12, index: 11, name: 22, lines: 2 },
   THREE = { wide: 122, tall: 46, step: 64, gap: 10, index: 9, name: 17, lines: 3 };
 // How wide a letter of an index is beside one of a name.
 const LETTER = 1.05;

@@ -2,7 +2,7 @@
 import { $, make, fail } from "./dom.mjs";
 import { app, ask, choose, emit, guarded, latest, on, select } from "./app.mjs";
 
-const MANY = 100, CONFIRMED = "confirmed by the library";
+const MANY = 100, CONFIRMED = "confirmed by the library", INDENT = 0.85;
 let top = null;
 
 // A line of the table: what the worker said of the part, which one it is of how many, and the lines
@@ -45,7 +45,7 @@ function nameCell(line) {
   const twist = make("span", { className: "twist", textContent: sign, "aria-hidden": "true" });
   twist.onclick = (event) => { event.stopPropagation(); toggle(line); };
   const own = make("td", {}, twist, make("span", { className: "step", textContent: row.path ? row.step : "/" }));
-  own.style.paddingLeft = `${(level - 1) * 0.95 + 0.3}rem`;
+  own.style.paddingLeft = `${(level - 1) * INDENT + 0.3}rem`;
   return own;
 }
 
@@ -77,7 +77,7 @@ function moreElement({ more, level, from, earlier }) {
   const own = make("button", { textContent: `${Math.min(left, MANY)} ${which} of ${left.toLocaleString("en")}` });
   own.onclick = guarded("goto-error", async () => { await load(more, from, true); draw(); });
   const cell = make("td", { colSpan: 6, role: "gridcell" }, own);
-  cell.style.paddingLeft = `${level * 0.95 + 0.3}rem`;
+  cell.style.paddingLeft = `${level * INDENT + 0.3}rem`;
   return make("tr", { role: "row", "aria-level": level }, cell);
 }
 
