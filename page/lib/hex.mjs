@@ -22,8 +22,8 @@ export function ofHex(text) {
   return out;
 }
 
-/** A hash in short. */
-export const shortHash = (hash) => (hash ? `${hash.slice(0, 8)}…${hash.slice(-6)}` : "");
+/** A hash in short: so many digits of each end. */
+export const shortHash = (hash, digits) => `${hash.slice(0, 2 + digits)}…${hash.slice(-digits)}`;
 
 /** A number with its word, in the plural where it is not 1. */
 export const many = (n, word) => `${n.toLocaleString("en")} ${word}${n === 1 ? "" : "s"}`;

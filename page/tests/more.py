@@ -79,6 +79,7 @@ def a_phone(page):
         page.until(lambda: page.all("#picture rect"), what="the picture")
         wide = page.run("return document.documentElement.scrollWidth")
         assert wide <= 390, wide
+        assert page.at("root").size["height"] > 20, "the root is to be seen"
         page.inside("prove", "/signature")
         page.until(lambda: "/signature" in page.text("chosen"), what="the choice")
     finally:

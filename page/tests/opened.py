@@ -9,8 +9,8 @@ from browser import PAGE, script_of
 from tasks import ATTESTATION
 
 #: From this width on there are three columns.
-THREE = 1180
-WIDTHS = (1000, THREE, 1200, 1300, 1440, 1900)
+THREE = 1200
+WIDTHS = (1000, 1100, THREE, 1300, 1440, 1900)
 STATE = "minimal/fulu"
 
 

@@ -5,12 +5,17 @@ import { app, ask, latest, on, take } from "./app.mjs";
 import { inWords } from "../lib/faults.mjs";
 import { many, shortHash } from "../lib/hex.mjs";
 
-// Boxes of two lines for one leaf; of three, and narrower, where more nodes stand side by side. So
-// many letters of an index have room, and of a name.
-const TWO = { wide: 162, tall: 34, step: 52, gap: 12, index: 11, name: 22, lines: 2 },
-  THREE = { wide: 122, tall: 46, step: 64, gap: 10, index: 9, name: 17, lines: 3 };
-// How wide a letter of an index is beside one of a name.
-const LETTER = 1.05;
+// Boxes of two lines for one leaf; of three where more nodes stand side by side, and of four where
+// these have too little room. `letters`: so many of an index have room, of a name, and of each end
+// of a chunk. `at`: on which side and how deep each text stands.
+const TWO = { wide: 168, tall: 34, step: 52, gap: 12, letters: [11, 22, 6],
+  at: { index: ["left", 13], name: ["right", 13], chunk: ["left", 28], is: ["right", 28] } };
+const THREE = { wide: 122, tall: 46, step: 64, gap: 10, letters: [9, 17, 6],
+  at: { index: ["left", 13], is: ["right", 13], name: ["left", 26], chunk: ["left", 40] } };
+const FOUR = { wide: 92, tall: 58, step: 75, gap: 8, letters: [11, 12, 4],
+  at: { is: ["left", 12], index: ["left", 25], name: ["left", 38], chunk: ["left", 51] } };
+// A picture that is wider than its place by this much is made smaller, a wider one scrolls.
+const SHRINKS = 1.4;
 // From so many bytes on the tree of nodes, which takes some ten times the memory, is made on demand.
 const LARGE = 8_000_000;
 // Half of the text that stands for levels that are left out.
@@ -39,10 +44,10 @@ function folded(levels, all) {
 
 const short = (text, most) => (text.length > most ? `${text.slice(0, most - 1)}…` : text);
 
-/** What is said of a node's chunk. */
-function chunkOf({ chunk, zero }) {
-  if (zero === null) return shortHash(chunk);
-  return zero ? `zeros, ${many(zero, "level")}` : "a zero chunk";
+/** What is said of a node's chunk, with so many digits of each end. */
+function chunkOf({ chunk, zero }, digits) {
+  if (zero === null) return shortHash(chunk, digits);
+  return zero ? `2^${zero} zeros` : "zeros";
 }
 
 /** What a node is to a proof, in a word. */
@@ -55,17 +60,26 @@ function shortIndex(index, most) {
 }
 
 /** The box of a node, by the form of boxes: its index, its name, its chunk in short, and what it is. */
-function box(it, x, y, { wide, tall, index: most, name, lines }) {
-  const left = x - wide / 2 + 8, right = x + wide / 2 - 8, isLow = lines === 2, bottom = y + tall - 6;
-  const index = shortIndex(it.index, most), room = isLow ? Math.floor(name - LETTER * index.length) : name;
-  const at = isLow ? { x: right, y: y + 13, "text-anchor": "end" } : { x: left, y: y + 26 };
+function box(it, x, y, { wide, tall, letters: [most, name, digits], at }) {
+  const index = shortIndex(it.index, most), room = at.index[1] === at.name[1] ? name - index.length - 1 : name;
+  const place = ([side, deep]) => (side === "left" ? { x: x - wide / 2 + 8, y: y + deep }
+    : { x: x + wide / 2 - 8, y: y + deep, "text-anchor": "end" });
   return svg("g", { class: it.is + (it.zero === null ? "" : " zero") },
     svg("rect", { x: x - wide / 2, y, width: wide, height: tall }),
-    svg("text", { x: left, y: y + 13 }, index),
-    svg("text", { ...at, class: "name" }, short(it.name ?? "", room)),
-    svg("text", { x: left, y: bottom, class: "soft" }, chunkOf(it)),
-    svg("text", { x: right, y: isLow ? bottom : y + 13, class: "is" }, isOf(it)),
+    svg("text", place(at.index), index),
+    svg("text", { ...place(at.name), class: "name" }, short(it.name ?? "", room)),
+    svg("text", { ...place(at.chunk), class: "soft" }, chunkOf(it, digits)),
+    svg("text", { ...place(at.is), class: "is" }, isOf(it)),
     svg("title", {}, `${it.index} = ${it.chunk}, ${isOf(it)}${it.name ? `, ${it.name}` : ""}`));
+}
+
+/** How wide a picture is with so many boxes of a form side by side. */
+const widthOf = (most, { wide, gap }) => most * (wide + gap) + gap;
+
+/** The form of boxes for so many side by side, with so much room. */
+function formOf(most, room) {
+  if (most <= 2) return TWO;
+  return widthOf(most, THREE) <= room ? THREE : FOUR;
 }
 
 /**
@@ -97,11 +111,11 @@ function linesTo(level, xs, above, { step, tall }, y, isFolded) {
   });
 }
 
-/** Draws the rows. */
-function picture(levels, all) {
-  const most = Math.max(...levels.map((it) => it.length)), form = { ...(most > 2 ? THREE : TWO) };
+/** Draws the rows, for so much room. */
+function picture(levels, all, room) {
+  const most = Math.max(...levels.map((it) => it.length)), form = { ...formOf(most, room) };
   const lines = [], nodes = [];
-  form.W = most * (form.wide + form.gap) + form.gap;
+  form.W = widthOf(most, form);
   // The places of the nodes that have two below them, in their order.
   let y = 10, parents = [form.W / 2], isFolded = false;
   for (const { nodes: level, skipped } of folded(levels, all)) {
@@ -133,14 +147,13 @@ function asTable(levels) {
 
 function draw() {
   if (!shown) return;
-  const { levels, leaves, helpers } = shown, own = picture(levels, $("all").checked);
+  const box = $("picture"), { levels, leaves, helpers } = shown;
+  const own = picture(levels, $("all").checked, box.clientWidth || box.parentElement.clientWidth);
   const from = leaves === 1 ? "a leaf" : `${leaves} leaves`, over = many(levels.length - 1, "level");
   const says = `The branch from ${from} to the root over ${over}, with ${many(helpers, "helper")}`;
   own.setAttribute("aria-label", `${says}; the table below has the same`);
-  $("picture").replaceChildren(own);
-  const box = $("picture");
-  // A picture that is a little too wide is made smaller, a wider one scrolls.
-  const isNear = Number(own.getAttribute("width")) < 1.25 * box.clientWidth;
+  box.replaceChildren(own);
+  const isNear = Number(own.getAttribute("width")) < SHRINKS * box.clientWidth;
   if (isNear) Object.assign(own.style, { maxWidth: "100%", height: "auto" });
   box.scrollLeft = (box.scrollWidth - box.clientWidth) / 2;
   $("nodes").querySelector("div").replaceChildren($("nodes").open ? asTable(levels) : "");
