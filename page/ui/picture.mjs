@@ -16,7 +16,7 @@ const FOUR = { wide: 92, tall: 58, step: 75, gap: 8, letters: [11, 12, 4],
   at: { is: ["left", 12], index: ["left", 25], name: ["left", 38], chunk: ["left", 51] } };
 // A picture that is wider than its place by this much is made smaller, a wider one scrolls.
 const SHRINKS = 1.4;
-// From so many bytes on the tree of nodes, which takes some ten times the memory, is made on demand.
+// From so many bytes on the tree of nodes, which takes some eight times the memory, is made on demand.
 const LARGE = 8_000_000;
 // Half of the text that stands for levels that are left out.
 const FOLD_ROOM = 145;
@@ -44,10 +44,11 @@ function folded(levels, all) {
 
 const short = (text, most) => (text.length > most ? `${text.slice(0, most - 1)}…` : text);
 
-/** What is said of a node's chunk, with so many digits of each end. */
+/** What is said of a node's chunk, with so many digits of each end: of a tree of zeros, how many chunks it has. */
 function chunkOf({ chunk, zero }, digits) {
   if (zero === null) return shortHash(chunk, digits);
-  return zero ? `2^${zero} zeros` : "zeros";
+  const count = zero < 10 ? 2 ** zero : `2^${zero}`;
+  return `${count} ${digits < 6 ? "zero" : "zero chunk"}${zero ? "s" : ""}`;
 }
 
 /** What a node is to a proof, in a word. */
