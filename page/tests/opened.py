@@ -159,6 +159,9 @@ def roles_in_the_picture(page):
     page.select("/balances")
     for _ in range(2):
         page.edit("append", '"32000000000"')
+    page.select("/balances/1")
+    page.until(lambda: "balances/1" in page.text("picture"), what="the picture of one leaf")
+    apart = [page.run(OVERLAPS)]
     for path in ("/balances/1", "/slot"):
         page.select(path)
         page.inside("prove", path)
@@ -174,20 +177,23 @@ def roles_in_the_picture(page):
     named = {it[2]: it[1] for it in page.inside("nodes") if it[2]}
     assert named["length"] == "helper" and named["elements"] == "computed" and named["balances/1"] == "leaf", named
     assert "Each computed node is the hash of the two nodes below it" in page.text("tree-how")
-    overlaps = page.run(OVERLAPS)
-    assert not overlaps, overlaps
+    apart.append(page.run(OVERLAPS))
+    page.press("wide")
+    apart.append(page.run(OVERLAPS))
+    page.press("wide")
+    assert len({it[0] for it in apart}) == 3 and not any(it[1] for it in apart), apart
     return f"{len(boxes)} boxes"
 
 
-#: Texts of a box that run into one another, or out of it.
-OVERLAPS = """return [...document.querySelectorAll('#picture g')].flatMap((box) => {
+#: How wide boxes are, and texts of a box that run into one another, or out of it.
+OVERLAPS = """return [document.querySelector('#picture rect').getBBox().width, [...document.querySelectorAll('#picture g')].flatMap((box) => {
   const texts = [...box.querySelectorAll('text')].filter((it) => it.textContent).map((it) => [it.textContent, it.getBBox()]);
   const whole = box.querySelector('rect').getBBox();
   const out = texts.filter(([, it]) => it.x < whole.x || it.x + it.width > whole.x + whole.width);
-  const clash = texts.filter(([, one], i) => texts.some(([, other], k) => i < k && one.x < other.x + other.width
-    && other.x < one.x + one.width && one.y + 3 < other.y + other.height && other.y + 3 < one.y + one.height));
+  const clash = texts.filter(([, one], i) => texts.some(([, other], k) => i < k && one.x < other.x + other.width + 2
+    && other.x < one.x + one.width + 2 && one.y + 3 < other.y + other.height && other.y + 3 < one.y + one.height));
   return [...out, ...clash].map(([text]) => text);
-});"""
+})];"""
 
 
 OPENED = [opened_as_a_file, without_its_module, ready, todays_fork, at_each_width, head_of_the_table, one_base, says_for_itself,

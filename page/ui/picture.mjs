@@ -10,7 +10,7 @@ import { many, shortHash } from "../lib/hex.mjs";
 // of a chunk. `at`: on which side and how deep each text stands.
 const TWO = { wide: 168, tall: 34, step: 52, gap: 12, letters: [11, 22, 6],
   at: { index: ["left", 13], name: ["right", 13], chunk: ["left", 28], is: ["right", 28] } };
-const THREE = { wide: 122, tall: 46, step: 64, gap: 10, letters: [9, 17, 6],
+const THREE = { wide: 130, tall: 46, step: 64, gap: 10, letters: [9, 17, 6],
   at: { index: ["left", 13], is: ["right", 13], name: ["left", 26], chunk: ["left", 40] } };
 const FOUR = { wide: 92, tall: 58, step: 75, gap: 8, letters: [11, 12, 4],
   at: { is: ["left", 12], index: ["left", 25], name: ["left", 38], chunk: ["left", 51] } };
