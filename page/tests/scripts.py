@@ -6,6 +6,7 @@ import io
 import os
 import pathlib
 import shutil
+import socket
 import subprocess
 import sys
 import tempfile
@@ -61,6 +62,13 @@ def refused(env):
             assert status == 2 and "usage: " in text and "Traceback" not in text, (script[1], words, status, text)
 
 
+def a_taken_port(env):
+    """page/serve says that its port is taken, or that there is nothing to serve yet."""
+    with socket.create_server(("127.0.0.1", 0)) as it:
+        status, text = said(SCRIPTS[1], [str(it.getsockname()[1])], env)
+    assert status == 1 and text.count("\n") == 1 and "page/" in text, (status, text)
+
+
 def of_page_test():
     """page/test as a module, with a package that is nowhere."""
     loader = importlib.machinery.SourceFileLoader("page_test", str(PAGE / "test"))
@@ -94,6 +102,7 @@ def scripts():
     with watched() as (env, done):
         helped(env)
         refused(env)
+        a_taken_port(env)
         assert not done.exists(), done.read_text()
         installs_only_if_told(env, done)
     assert files() == before, "files of the page have changed"
