@@ -275,8 +275,9 @@ class Containers(unittest.TestCase):
     def test_names(self) -> None:
         row = kinds.Row(n=3)
         self.assertEqual((list(row), "n" in row, "m" in row, 0 in row), (["n"], True, False, False))
-        for call in (lambda: row[0], lambda: row.__setitem__(0, 1), lambda: kinds.Row(3)):
+        for call in (lambda: row[0], lambda: row.__setitem__(0, 1), lambda: kinds.Row(3, 4), lambda: kinds.Row(3, n=3)):
             self.assertRaises(TypeError, call)
+        self.assertEqual(kinds.Row(3), row)
 
 
 if __name__ == "__main__":
