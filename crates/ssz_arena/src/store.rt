@@ -263,6 +263,8 @@ impl Store {
         ensures enough { n ≤ self.old.spare → IsOk result }
         ensures stays { n ≤ self.old.spare → self.new ≡ self.old }
         ensures err { OnErr result (self.new ≡ self.old) }
+        ensures most { length self.new.nodes + self.new.spare
+            ≤ max (2 * (length self.old.nodes + self.old.spare)) (length self.old.nodes + n) }
     {
         let spare = self.spare();
         if n <= spare {

@@ -35,7 +35,7 @@ use Rattle.ssz_places.specs.Charges.{pairs_at, choice_pairs, choose_charge}
 use Rattle.ssz_places.proofs.Charging.{law_of_charges}
 use Rattle.ssz_gindex.proofs.HelperNodes.{some_from}
 use Rattle.ssz_places.proofs.Theorems.{law_of_choice}
-use Rattle.ssz_tree.specs.Added.{AddsNodes, MakesNode}
+use Rattle.ssz_tree.specs.Added.{AddsNodes, MakesNode, TakesRoom}
 use Rattle.ssz_making.specs.Parts.{MadePart, chunk_part, joined_leaf, part_of_value, none_part}
 use Rattle.ssz_tree.proofs.Adding.{MakesPair, Makes-joined}
 use Rattle.ssz_tree.proofs.FewNodes.{few_nodes}
@@ -226,9 +226,10 @@ module _ (types : Types) (ids : List (Option ℕ)) (k : ℕ) (option : Option �
         (joined_leaf (option_part types option x) (number_chunk k)) made
         → AddsNodes (2 * (option_part types option x).cost + 3 + levels place.index)
         ((option_part types option x).cost + 1 + levels place.index) arena new
+        → TakesRoom (2 * (option_part types option x).cost + 3 + levels place.index) arena new
         → Edits t arena new node (choose_charge t path k x) (edited (with_choice k x) t v path)
         made
-    choose_made x fits v of new made put_is adds =
+    choose_made x fits v of new made put_is adds takes =
         let y = choice_of k x in
         let w = some_from (part t v path) (found.present v of) in
         let within = within_options types.trees ids k option there in
@@ -263,6 +264,7 @@ module _ (types : Types) (ids : List (Option ℕ)) (k : ℕ) (option : Option �
             due = omega (arith, put_is.due, choice_levels, cost);
             more = omega (arith, adds.unhashed, choice_levels, cost);
             few = omega (arith, adds.count, choice_levels, cost);
+            room = omega (arith, takes, choice_levels, cost);
           },
         )
 

@@ -14,7 +14,6 @@ use Rattle.ssz_making.specs.Parts.{MadePart}
 use Rattle.ssz_tree.proofs.Adding.{Adds-then, Adds-within}
 use Rattle.ssz_walk.specs.declared.place.Place.{Place}
 use Rattle.ssz_edit.specs.Slots.{HasList, IsGrown}
-use Rattle.ssz_edit.proofs.Replacing.{adds_room}
 
 module _ (old : ArenaContent) (node : NodeId) (place : Place) (below : ℕ)
     (has : HasList old node place below) where
@@ -123,13 +122,11 @@ grown_kept old mid new node place below other count made keeps has grown = recor
   due = omega (arith, grown.due, keeps.todo node has.known);
 }
 
--- room, an element and a list
-pub adds_element : (old mid after new : ArenaContent) (nodes cost below more : ℕ)
-    → mid.nodes ≡ old.nodes → old.spare ≤ mid.spare → AddsNodes nodes cost mid after
-    → AddsNodes (below + 2 + more) (below + 1 + more) after new
-    → AddsNodes (nodes + 2 + (below + more)) (cost + 1 + (below + more)) old new
-adds_element old mid after new nodes cost below more same room first second =
-    Adds-within (0 + nodes + (below + 2 + more)) (0 + cost + (below + 1 + more)) _ _ old new
-    (Adds-then (0 + nodes) (0 + cost) (below + 2 + more) (below + 1 + more) old after new
-    (Adds-then 0 0 nodes cost old mid after (adds_room old mid same room) first) second)
+-- an element and a list
+pub adds_element : (mid after new : ArenaContent) (nodes cost below more : ℕ)
+    → AddsNodes nodes cost mid after → AddsNodes (below + 2 + more) (below + 1 + more) after new
+    → AddsNodes (nodes + 2 + (below + more)) (cost + 1 + (below + more)) mid new
+adds_element mid after new nodes cost below more first second =
+    Adds-within (nodes + (below + 2 + more)) (cost + (below + 1 + more)) _ _ mid new
+    (Adds-then nodes cost (below + 2 + more) (below + 1 + more) mid after new first second)
     (omega arith) (omega arith)

@@ -36,7 +36,7 @@ use Rattle.ssz_places.proofs.Lying.{can_hold, law_of_spots}
 use Rattle.ssz_places.proofs.Theorems.{law_of_places, law_of_edits, law_of_faults}
 use Rattle.ssz_walk.specs.declared.place.Place.{Place}
 use Rattle.ssz_walk.specs.Found.{spot_of, IsFound, IsLost}
-use Rattle.ssz_tree.specs.Added.{AddsNodes}
+use Rattle.ssz_tree.specs.Added.{AddsNodes, TakesRoom}
 use Rattle.ssz_edit.specs.Edited.{IsPut, AnswersEdit, edited_part}
 
 -- the steps from one on
@@ -152,8 +152,9 @@ module _ (format : Format) (types : Types) (arena : ArenaContent) (id : ℕ) (no
       (edited_part (spot_of place.spot) u x (tree_of arena place.node)) made
       → AddsNodes (2 * pairs u x + 1 + levels place.index)
       (pairs u x + levels place.index) arena new
+      → TakesRoom (2 * pairs u x + 1 + levels place.index) arena new
       → AnswersEdit t arena new node (set_charge t path x) (edited (λ _ _. Ok x) t v path) (Ok made)
-  set_made new x v made fit free of put adds =
+  set_made new x v made fit free of put adds takes =
       let w = some_from (part t v path) (found.present v of) in
       let e = lands v of (λ _ _. Ok x) w.0 x w.1 free refl fit (tree_of new made) put.is in
       let cost = pairs_there (λ s. pairs s x) in (
@@ -166,6 +167,7 @@ module _ (format : Format) (types : Types) (arena : ArenaContent) (id : ℕ) (no
           due = omega (arith, put.due, levels_there, cost);
           more = omega (arith, adds.unhashed, levels_there, cost);
           few = omega (arith, adds.count, levels_there, cost);
+          room = omega (arith, takes, levels_there, cost);
         },
       )
 

@@ -35,7 +35,7 @@ use Rattle.ssz_gindex.proofs.HelperNodes.{some_from}
 use Rattle.ssz_places.proofs.Lying.{law_of_spots}
 use Rattle.ssz_places.proofs.Theorems.{law_of_places, law_of_faults}
 use Rattle.ssz_making.specs.Parts.{MadePart}
-use Rattle.ssz_tree.specs.Added.{AddsNodes}
+use Rattle.ssz_tree.specs.Added.{AddsNodes, TakesRoom}
 use Rattle.ssz_walk.specs.declared.place.Place.{Place}
 use Rattle.ssz_walk.specs.Found.{spot_of, IsFound, LeadsNowhere}
 use Rattle.ssz_walk.specs.Mixed.{HasContentNode}
@@ -247,9 +247,11 @@ module _ (format : Format) (types : Types) (arena : ArenaContent) (id : ℕ) (no
           + (levels slot.below + levels place.index))
           (pairs (type_of types slot.element.id) x + 1 + (levels slot.below + levels place.index))
           arena new
+          → TakesRoom (2 * pairs (type_of types slot.element.id) x + 3
+          + (levels slot.below + levels place.index)) arena new
           → AnswersEdit t arena new node (append_charge t v path x)
           (edited (with_more x) t v path) (Ok made)
-      append_made x v fits of l content_is counts new made grows adds =
+      append_made x v fits of l content_is counts new made grows adds takes =
           let more_is = more_made u limit x l.w limited l.fits fits (omega (arith, counts, within))
           in
           let law = law_of_append format u l.w x more_is.0
@@ -283,6 +285,7 @@ module _ (format : Format) (types : Types) (arena : ArenaContent) (id : ℕ) (no
               due = omega (arith, grown.due, levels_are, cost, slot_levels);
               more = omega (arith, adds.unhashed, levels_are, cost, slot_levels);
               few = omega (arith, adds.count, levels_are, cost, slot_levels);
+              room = omega (arith, takes, levels_are, cost, slot_levels);
             },
           )
 
@@ -297,8 +300,9 @@ module _ (format : Format) (types : Types) (arena : ArenaContent) (id : ℕ) (no
           (tree_of arena slot.element.node)) i made)
           → AddsNodes (3 + (levels slot.below + levels place.index))
           (1 + (levels slot.below + levels place.index)) arena new
+          → TakesRoom (3 + (levels slot.below + levels place.index)) arena new
           → AnswersEdit t arena new node (pop_charge t v path) (edited with_less t v path) (Ok made)
-      pop_made v of l content_is counts new made grows adds =
+      pop_made v of l content_is counts new made grows adds takes =
           let less_is = less_made u l.w counted l.fits (omega (arith, counts)) in
           let law = law_of_pop format u l.w less_is.0
           (record { legal = l.legal; fits = l.fits }) less_is.1 in
@@ -327,5 +331,6 @@ module _ (format : Format) (types : Types) (arena : ArenaContent) (id : ℕ) (no
               due = omega (arith, grown.due, levels_are, slot_levels);
               more = omega (arith, adds.unhashed, levels_are, slot_levels);
               few = omega (arith, adds.count, levels_are, slot_levels);
+              room = omega (arith, takes, levels_are, slot_levels);
             },
           )

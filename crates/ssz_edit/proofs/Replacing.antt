@@ -1,33 +1,27 @@
 -- A part put in its place, from an arena to one that has more nodes.
-use Rattle.std.proofs.Common.{◌≡◌, ℕ, ◌+◌, ◌≤◌, List, length, sym, ap, ap₂, ◌∙◌, Some, None, Result, Err, arith}
-use Rattle.std.specs.Prelude.{IsOk, is_ok, slice_index}
+use Rattle.std.proofs.Common.{◌≡◌, ℕ, ◌+◌, ◌≤◌, sym, ap, ap₂, subst, ◌∙◌, Some, None, Result, Err, arith}
+use Rattle.std.specs.Prelude.{IsOk, is_ok}
 use Rattle.std.proofs.lemmas.Bool.{false≢true}
-use Rattle.std.specs.List.{count_by}
 use Rattle.std.proofs.lemmas.Option.{none-some}
 use Rattle.ssz_chunk.specs.Tree.{Tree}
 use Rattle.ssz_chunk.specs.Index.{at, put, levels}
 use Rattle.ssz_arena.specs.declared.node.NodeId.{NodeId}
-use Rattle.ssz_arena.specs.Named.{ArenaNode as Node}
-use Rattle.ssz_arena.specs.Content.{ArenaContent, tree_of, todo, todos, is_unhashed, IsNodeOf, KeepsNodes}
-use Rattle.ssz_arena.proofs.Keeping.{keeps_same}
+use Rattle.ssz_arena.specs.Content.{ArenaContent, tree_of, todo, IsNodeOf, KeepsNodes}
 use Rattle.ssz_tree.specs.Added.{AddsNodes, IsPartNode}
 use Rattle.ssz_making.specs.Parts.{MadePart}
+use Rattle.ssz_tree.proofs.Adding.{Adds-none, Adds-within}
 use Rattle.ssz_edit.specs.Edited.{IsPut}
 
 -- an error is no answer
 pub not_ok : {X E : Type 0} (r : Result X E) (e : E) → r ≡ Err e → IsOk r → ⊥
 not_ok r e is ok = false≢true (sym (ap is_ok is) ∙ ok)
 
--- nothing but room was added
-pub adds_room : (old new : ArenaContent) → new.nodes ≡ old.nodes → old.spare ≤ new.spare
-    → AddsNodes 0 0 old new
-adds_room old new same more = record {
-  keeps = keeps_same old new same;
-  same = record { each = λ id known. ap (λ ns. slice_index (todos ns) id.0) same };
-  count = omega (arith, ap (λ (ns : List Node). length ns) same);
-  unhashed = omega (arith, ap (count_by is_unhashed) same);
-  spare = omega arith;
-}
+-- nothing was added
+pub adds_nothing : (nodes pairs : ℕ) (old new : ArenaContent) → new ≡ old
+    → AddsNodes nodes pairs old new
+adds_nothing nodes pairs old new same =
+    subst (λ a. AddsNodes nodes pairs old a) (sym same)
+    (Adds-within 0 0 nodes pairs old old (Adds-none old) (omega arith) (omega arith))
 
 -- a node that was there
 module _ (old new : ArenaContent) (keeps : KeepsNodes old new) (node : NodeId)

@@ -14,6 +14,7 @@ use Rattle.ssz_places.specs.Spots.{with_part, without_part}
 use Rattle.ssz_arena.specs.declared.node.NodeId.{NodeId}
 use Rattle.ssz_arena.specs.Content.{ArenaContent, tree_of, todo, unhashed, node_count, IsNodeOf}
 use Rattle.ssz_making.specs.Parts.{MadePart}
+use Rattle.ssz_tree.specs.Added.{TakesRoom}
 use Rattle.ssz_making.specs.Nodes.{new_nodes}
 
 -- a node's tree with a value at a spot, for the value's pairs and nodes
@@ -36,7 +37,7 @@ pub record IsPut (old new : ArenaContent) (node : NodeId) (index : ℕ) (other :
 
 -- the node made has the tree of the edited value, which fits; by the edit at most as many pairs
 -- more are to be hashed as it is charged, for this node and in all, and at most twice as many nodes
--- and one are new
+-- and one are new; it takes memory for no more than these, or doubles the room
 pub record IsEdit (t : SszType) (old new : ArenaContent) (node made : NodeId) (result : SszValue)
     (charge : ℕ) : Type 0 where
   pub known : IsNodeOf new made
@@ -45,6 +46,7 @@ pub record IsEdit (t : SszType) (old new : ArenaContent) (node made : NodeId) (r
   pub due : todo new made ≤ todo old node + charge
   pub more : unhashed new ≤ unhashed old + charge
   pub few : node_count new ≤ node_count old + 2 * charge + 1
+  pub room : TakesRoom (2 * charge + 1) old new
 
 -- so for the value that the edit of the whole value gives
 abbrev pub Edits : SszType → ArenaContent → ArenaContent → NodeId → ℕ → Edited → NodeId → Type 0

@@ -12,15 +12,14 @@ ghost use Rattle.ssz_value.specs.Suiting.{IsInner, inner_of};
 ghost use Rattle.ssz_places.specs.PlaceLaws.{IsTreeOf};
 ghost use Rattle.ssz_places.specs.Charges.{choose_charge};
 ghost use Rattle.ssz_arena.specs.Content.{IsNodeOf, KeepsNodes, KeepsTodo, todo, tree_of};
-ghost use Rattle.ssz_tree.specs.Added.{AddsNodes, IsPartNode};
-ghost use Rattle.ssz_making.specs.Parts.{none_part};
+ghost use Rattle.ssz_tree.specs.Added.{AddsNodes, MakesNode, TakesRoom};
 ghost use Rattle.ssz_edit.specs.Chosen.{HasNoOptions};
 ghost use Rattle.ssz_edit.specs.Edited.{AnswersEdit, Edits};
 ghost use Rattle.ssz_edit.specs.Given.{IsOfOption, option_part, option_value};
 ghost use Rattle.ssz_edit.specs.Targets.{CannotChoose, ChoosesAt, HasUnion};
 
 use super::given::{Given, fitting, given_node, given_of, option_fitting};
-use super::room::reserve_for;
+use super::room::reserve_option;
 use ssz_arena::{Arena, NodeId};
 use ssz_chunk::PairHash;
 use ssz_packing::number_chunk;
@@ -148,11 +147,15 @@ pub fn put_choice<H: PairHash>(
         (option_value schema.now choice.now.option inner.now) in
         let more = levels choice.now.place.index in
         AddsNodes (2 * part.cost + 3 + more) (part.cost + 1 + more) arena.old arena.new }
+    ensures room { let part = option_part schema.now choice.now.option
+        (option_value schema.now choice.now.option inner.now) in
+        TakesRoom (2 * part.cost + 3 + levels choice.now.place.index) arena.old arena.new }
     ensures err { OnErr result (arena.new.nodes ≡ arena.old.nodes) }
 {
     option_fitting(schema, choice.option, inner);
     let levels = choice.place.index.levels() as usize;
-    let chosen = option_node(arena, schema, choice.option, inner, levels + 2)?;
+    reserve_option(arena, schema, choice.option, inner, levels + 2)?;
+    let chosen = option_node(arena, schema, choice.option, inner);
     let number = arena.leaf(number_chunk(u128::from(choice.selector)));
     let union = arena.pair(chosen, number);
     match arena.replace(node, choice.place.index, union) {
@@ -161,43 +164,29 @@ pub fn put_choice<H: PairHash>(
     }
 }
 
-// The node of what is given for an option, and room for as many nodes more.
+// The node of what is given for an option, where there is room: for None every arena has it.
 fn option_node<H: PairHash>(
     arena: &mut Arena<H>,
     schema: &Schema,
     option: Option<TypeId>,
     inner: &Option<Given<'_>>,
-    more: usize,
-) -> Result<NodeId, AllocError>
+) -> NodeId
     requires known { IsBelow (length schema.now.trees) option }
     requires inner { IsOfOption schema.now option inner.now }
-    requires few { more < 2 ^ 32 }
-    ensures part { IfOk result (IsPartNode arena.new (option_part schema.now option
-        (option_value schema.now option inner.now))) }
-    ensures room { OnOk result (more ≤ arena.new.spare) }
-    ensures adds { let part = option_part schema.now option
+    requires room { let part = option_part schema.now option
+        (option_value schema.now option inner.now) in 2 * part.cost + 1 ≤ arena.old.spare }
+    ensures makes { MakesNode arena.old arena.new
+        (option_part schema.now option (option_value schema.now option inner.now)) result }
+    ensures spare { let part = option_part schema.now option
         (option_value schema.now option inner.now) in
-        AddsNodes part.nodes part.cost arena.old arena.new }
-    ensures err { OnErr result (arena.new.nodes ≡ arena.old.nodes) }
+        arena.old.spare ≤ arena.new.spare + 2 * part.cost + 1 }
 {
     let Some(id) = option else {
-        return none_node(arena, more);
+        return arena.zero(0);
     };
     let Some(given) = inner else {
-        return none_node(arena, more);
+        return arena.zero(0);
     };
     fitting(schema, id, given);
-    reserve_for(arena, schema, id, given, more)?;
-    Ok(given_node(arena, schema, id, given))
-}
-
-// The node of the option None, which every arena has, and room for as many nodes more.
-fn none_node<H: PairHash>(arena: &mut Arena<H>, more: usize) -> Result<NodeId, AllocError>
-    ensures part { IfOk result (IsPartNode arena.new none_part) }
-    ensures room { OnOk result (more ≤ arena.new.spare) }
-    ensures adds { AddsNodes 0 0 arena.old arena.new }
-    ensures err { OnErr result (arena.new.nodes ≡ arena.old.nodes) }
-{
-    arena.reserve(more)?;
-    Ok(arena.zero(0))
+    given_node(arena, schema, id, given)
 }

@@ -12,7 +12,7 @@ ghost use Rattle.ssz_places.specs.PlaceLaws.{IsTreeOf};
 ghost use Rattle.ssz_places.specs.Spots.{CanHold, LiesWithin};
 ghost use Rattle.ssz_places.specs.EditLaws.{IsCounted};
 ghost use Rattle.ssz_arena.specs.Content.{IsNodeOf, todo, tree_of};
-ghost use Rattle.ssz_tree.specs.Added.{AddsNodes, IsPartNode};
+ghost use Rattle.ssz_tree.specs.Added.{AddsNodes, IsPartNode, TakesRoom};
 ghost use Rattle.ssz_making.specs.Parts.{MadePart};
 ghost use Rattle.ssz_walk.specs.Found.{LeadsNowhere, spot_of};
 ghost use Rattle.ssz_walk.specs.Mixed.{HasContentNode};
@@ -147,6 +147,10 @@ pub fn put_element<H: PairHash>(
         let cost = pairs t (given_value t given.now) in
         let more = levels end.now.slot.below + levels end.now.list.index in
         AddsNodes (2 * cost + 3 + more) (cost + 1 + more) arena.old arena.new }
+    ensures room { let t = type_of schema.now end.now.slot.element.id in
+        let cost = pairs t (given_value t given.now) in
+        let more = levels end.now.slot.below + levels end.now.list.index in
+        TakesRoom (2 * cost + 3 + more) arena.old arena.new }
     ensures err { OnErr result (arena.new.nodes ≡ arena.old.nodes) }
 {
     let list = &end.list;
@@ -184,6 +188,8 @@ pub fn empty_slot<H: PairHash>(
     ensures fresh { IfOk result (λ made. 0 < todo arena.new made) }
     ensures adds { let more = levels slot.now.below + levels list.now.index in
         AddsNodes (3 + more) (1 + more) arena.old arena.new }
+    ensures room { TakesRoom (3 + (levels slot.now.below + levels list.now.index))
+        arena.old arena.new }
     ensures err { OnErr result (arena.new.nodes ≡ arena.old.nodes) }
 {
     let levels = slot.below.levels() as usize + list.index.levels() as usize;

@@ -9,7 +9,7 @@ ghost use Rattle.ssz_value.specs.Values.{SszValue};
 ghost use Rattle.ssz_places.specs.Charges.{set_charge};
 ghost use Rattle.ssz_places.specs.PlaceLaws.{IsTreeOf};
 ghost use Rattle.ssz_arena.specs.Content.{IsNodeOf, todo, tree_of};
-ghost use Rattle.ssz_tree.specs.Added.{AddsNodes};
+ghost use Rattle.ssz_tree.specs.Added.{AddsNodes, TakesRoom};
 ghost use Rattle.ssz_edit.specs.Edited.{Edits};
 ghost use Rattle.ssz_edit.specs.Given.{given_value, IsGiven};
 ghost use Rattle.ssz_edit.specs.Targets.{HasPlace, SetsAt};
@@ -49,6 +49,9 @@ pub fn put_part<H: PairHash>(
     ensures adds { let t = type_of schema.now place.now.id in
         let cost = pairs t (given_value t given.now) in let more = levels place.now.index in
         AddsNodes (2 * cost + 1 + more) (cost + more) arena.old arena.new }
+    ensures room { let t = type_of schema.now place.now.id in
+        let cost = pairs t (given_value t given.now) in
+        TakesRoom (2 * cost + 1 + levels place.now.index) arena.old arena.new }
     ensures err { OnErr result (arena.new.nodes ≡ arena.old.nodes) }
     ensures basic { IsSome (basic_size (type_of schema.now place.now.id))
         → levels place.now.index + 1 ≤ arena.old.spare → IsOk result }

@@ -1,15 +1,17 @@
 -- What calls add to an arena, one after another.
-use Rattle.std.proofs.Common.{◌≡◌, ℕ, suc, ◌+◌, ◌-◌, ◌^◌, ◌<◌, ◌≤◌, min, List, [], ◌∷◌, length, take, drop, refl, sym, ap, ap₂, subst, ◌∙◌, arith, zero-add, length-drop}
+use Rattle.std.proofs.Common.{◌≡◌, ℕ, suc, slice_index, ◌+◌, ◌-◌, ◌^◌, ◌<◌, ◌≤◌, min, List, [], ◌∷◌, length, take, drop, refl, sym, ap, ap₂, subst, ◌∙◌, arith, zero-add, length-drop}
 use Rattle.std.proofs.lemmas.List.{take-map, drop-map, take-append-drop, length-take}
+use Rattle.std.specs.List.{count_by}
 use Rattle.std.proofs.lemmas.List.Sums.{sum_by-append}
 use Rattle.ssz_chunk.specs.Chunk.{zero_chunk}
 use Rattle.ssz_chunk.specs.Tree.{leaf, pair, merkle_tree, merkle_pairs, zero_tree}
 use Rattle.ssz_chunk.proofs.Growing.{grow-suc}
 use Rattle.ssz_chunk.proofs.Trees.{full-zero, full-suc}
 use Rattle.ssz_arena.specs.declared.node.NodeId.{NodeId}
-use Rattle.ssz_arena.specs.Content.{ArenaContent, tree_of, todo, unhashed, node_count, IsNodeOf, KeepsNodes, KeepsTodo}
+use Rattle.ssz_arena.specs.Named.{ArenaNode as Node}
+use Rattle.ssz_arena.specs.Content.{ArenaContent, tree_of, todo, todos, is_unhashed, unhashed, node_count, IsNodeOf, KeepsNodes, KeepsTodo}
 use Rattle.ssz_arena.proofs.Keeping.{keeps_same, keeps_trans}
-use Rattle.ssz_tree.specs.Added.{AddsNodes, IsPartNode, MakesNode}
+use Rattle.ssz_tree.specs.Added.{AddsNodes, IsPartNode, MakesNode, TakesRoom}
 use Rattle.ssz_making.specs.Parts.{MadePart, part_trees, costs, whole_of, joined_leaf, chunk_part, none_part}
 use Rattle.ssz_tree.specs.Stack.{LevelsAreNodes}
 
@@ -28,6 +30,7 @@ Adds-none arena = record {
   count = omega arith;
   unhashed = omega arith;
   spare = omega arith;
+  room = λ _. refl;
 }
 
 -- one call, and then another
@@ -39,6 +42,10 @@ Adds-then n p m q old middle new first second = record {
   count = omega (arith, first.count, second.count);
   unhashed = omega (arith, first.unhashed, second.unhashed);
   spare = omega (arith, first.spare, second.spare);
+  room = λ enough.
+      let one = first.room (omega (arith, enough)) in
+      let other = second.room (omega (arith, enough, first.spare)) in
+      omega (arith, one, other);
 }
 
 -- it is no more than this
@@ -50,7 +57,33 @@ Adds-within n p m q old new adds nodes pairs = record {
   count = omega (arith, adds.count);
   unhashed = omega (arith, adds.unhashed);
   spare = omega (arith, adds.spare);
+  room = λ enough. adds.room (omega (arith, enough, nodes));
 }
+
+-- memory was taken before, for as many nodes at least where there was no room for them
+pub Adds-after : (n p : ℕ) (old mid new : ArenaContent) → mid.nodes ≡ old.nodes
+    → old.spare ≤ mid.spare → (n ≤ old.spare → mid ≡ old) → AddsNodes n p mid new
+    → AddsNodes n p old new
+Adds-after n p old mid new same more stays adds =
+    let count : node_count mid ≡ node_count old = ap (λ (ns : List Node). length ns) same in
+    record {
+      keeps = keeps_trans (keeps_same old mid same) adds.keeps;
+      same = record {
+        each = λ id inside.
+            adds.same.each id (omega (arith, inside, count))
+            ∙ ap (λ ns. slice_index (todos ns) id.0) same;
+      };
+      count = omega (arith, adds.count, count);
+      unhashed = omega (arith, adds.unhashed, ap (count_by is_unhashed) same);
+      spare = omega (arith, adds.spare, more);
+      room = λ enough. subst (λ a. node_count new + new.spare ≡ node_count a + a.spare)
+          (stays enough) (adds.room (omega (arith, enough, more)));
+    }
+
+-- and what it took is what the nodes have
+pub Takes-after : (n m p : ℕ) (old mid new : ArenaContent) → TakesRoom m old mid → m ≤ n
+    → n ≤ mid.spare → AddsNodes n p mid new → TakesRoom n old new
+Takes-after n m p old mid new takes few room adds = omega (arith, takes, few, adds.room room)
 
 -- a leaf, a pair
 pub Adds-leaf : (old new : ArenaContent) → KeepsNodes old new → KeepsTodo old new
@@ -62,6 +95,7 @@ Adds-leaf old new keeps same hashed more less = record {
   count = omega (arith, more);
   unhashed = omega (arith, hashed);
   spare = omega (arith, less);
+  room = λ enough. omega (arith, more, less);
 }
 
 pub Adds-pair : (old new : ArenaContent) → KeepsNodes old new → KeepsTodo old new
@@ -73,6 +107,7 @@ Adds-pair old new keeps same one more less = record {
   count = omega (arith, more);
   unhashed = omega (arith, one);
   spare = omega (arith, less);
+  room = λ enough. omega (arith, more, less);
 }
 
 -- a pair a level from the lowest on

@@ -1,18 +1,18 @@
 -- A container some of whose fields are given, in an arena that got room.
-use Rattle.std.proofs.Common.{◌≡◌, ℕ, ◌+◌, ◌<◌, List, [], ◌∷◌, length, Option, Some, None, refl, sym, ap, ap₂, ◌∙◌, subst}
+use Rattle.std.proofs.Common.{◌≡◌, ℕ, ◌+◌, ◌<◌, min, List, [], ◌∷◌, length, Option, Some, None, refl, sym, ap, ap₂, ◌∙◌, subst}
 use Rattle.std.specs.List.{AllByRecursion}
 use Rattle.ssz_chunk.specs.Tree.{merkle_pairs}
 use Rattle.ssz_schema.specs.Types.{SszType, Fields, container, no_fields, field}
-use Rattle.ssz_schema.specs.Sizes.{depth}
+use Rattle.ssz_schema.specs.Sizes.{depth, field_count}
 use Rattle.ssz_schema.specs.Unfolding.{fields_over}
 use Rattle.ssz_arena.specs.Named.{ArenaNode as Node}
 use Rattle.ssz_arena.specs.declared.node.NodeId.{NodeId}
 use Rattle.ssz_arena.specs.Content.{ArenaContent}
 use Rattle.ssz_value.proofs.PartLemmas.{Part as FieldPart}
-use Rattle.ssz_making.specs.Parts.{MadePart, whole_of}
-use Rattle.ssz_tree.specs.Added.{IsPartNode}
+use Rattle.ssz_making.specs.Parts.{MadePart, costs, whole_of}
+use Rattle.ssz_tree.specs.Added.{AddsNodes, IsPartNode}
 use Rattle.ssz_tree.specs.Shared.{shared_fields, default_part}
-use Rattle.ssz_tree.specs.Given.{IsGiven, MakesFields, given_part, parts_with, given_part_with, shared_with, left_fields}
+use Rattle.ssz_tree.specs.Given.{IsGiven, MakesFields, default_parts, given_part, parts_with, given_part_with, pairs_with, shared_with, left_fields}
 use Rattle.ssz_tree.proofs.DefaultForms.{count-fields}
 
 -- what is given is there while the nodes stay
@@ -51,6 +51,18 @@ part-made old new end t fs d given id same form deep made =
     subst (λ u. IsPartNode end (given_part_with old u given) id) (sym form)
     (subst (λ k. IsPartNode end (whole_of k (parts_with old fs given)) id) (deep ∙ ap depth form)
     (subst (λ ps. IsPartNode end (whole_of d ps) id) (parts-room old new fs given same) made.is))
+
+pub nodes-made : (new end : ArenaContent) (t : SszType) (fs : Fields) (d : ℕ)
+    (given : List (Option NodeId)) (id : NodeId) → t ≡ container fs → d ≡ depth t
+    → MakesFields new end d fs given id
+    → AddsNodes (shared_with t given) (min (shared_with t given) (pairs_with t given)) new end
+nodes-made new end t fs d given id form deep made =
+    subst (λ u. AddsNodes (shared_with u given) (min (shared_with u given) (pairs_with u given))
+    new end) (sym form)
+    (subst (λ k. (let above = merkle_pairs k (field_count fs) in
+    let nodes = above + shared_fields (left_fields fs given) in
+    AddsNodes nodes (min nodes (above + costs (default_parts (left_fields fs given)))) new end))
+    (deep ∙ ap depth form) made.adds)
 
 -- the nodes that are made for it
 pub shared-fields : (t : SszType) (trees : List SszType) (fields : List FieldPart) (d : ℕ)

@@ -5,11 +5,12 @@ ghost use Rattle.ssz_value.specs.Reading.{value_in};
 ghost use Rattle.ssz_value.specs.Pairs.{pairs};
 ghost use Rattle.ssz_making.specs.Parts.{part_of_value};
 ghost use Rattle.ssz_making.specs.Nodes.{new_nodes};
-ghost use Rattle.ssz_tree.specs.Added.{AddsNodes, IsPartNode, MakesNode};
+ghost use Rattle.ssz_tree.specs.Added.{AddsNodes, IsPartNode, MakesNode, TakesRoom};
 
 use super::growing::Growing;
 use super::room::{nodes_for, reserve_nodes};
 use ssz_arena::{Arena, NodeId};
+use ssz_bytes::as_bytes;
 use ssz_chunk::PairHash;
 use ssz_making::{bytes_part, bytes_tally};
 use ssz_schema::{Schema, TypeId};
@@ -34,6 +35,8 @@ pub fn build_bytes<H: PairHash>(
         AddsNodes (new_nodes t v) (pairs t v) arena.old arena.new }
     ensures enough { let t = type_of schema.now id in
         new_nodes t (value_in t bytes.now) ≤ arena.old.spare → IsOk result }
+    ensures room { let t = type_of schema.now id in
+        TakesRoom (new_nodes t (value_in t bytes.now)) arena.old arena.new }
     ensures err { OnErr result (arena.new ≡ arena.old) }
 {
     let tally = bytes_tally(schema, id, bytes);
@@ -67,8 +70,13 @@ pub fn bytes_needed(schema: &Schema, id: TypeId, bytes: &[u8]) -> usize
     requires known { id < length schema.now.trees }
     requires short { length bytes.now < 2 ^ 32 }
     requires faultless { first_fault (type_of schema.now id) 0 bytes.now ≡ None }
-    ensures { let t = type_of schema.now id in
+    ensures number { let t = type_of schema.now id in
         result ≡ min (2 * pairs t (value_in t bytes.now) + 1) (2 ^ 64 - 1) }
+    ensures enough { let t = type_of schema.now id in let v = value_in t bytes.now in
+        new_nodes t v ≤ 2 * pairs t v + 1 }
 {
+    // So it is known that they are the bytes of a value that fits.
+    let _legal = schema.ty(id);
+    let _bytes = as_bytes(bytes);
     nodes_for(bytes_tally(schema, id, bytes).pairs) as usize
 }

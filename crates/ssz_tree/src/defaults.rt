@@ -7,7 +7,7 @@ ghost use Rattle.ssz_schema.specs.Sizes.{basic_size, element_chunks};
 ghost use Rattle.ssz_schema.specs.Unfolding.{type_of, fields_over, options_over, IsBelow};
 ghost use Rattle.ssz_value.specs.Defaults.{default_of};
 ghost use Rattle.ssz_value.specs.Pairs.{pairs};
-ghost use Rattle.ssz_tree.specs.Added.{AddsNodes, IsPartNode};
+ghost use Rattle.ssz_tree.specs.Added.{AddsNodes, IsPartNode, TakesRoom};
 ghost use Rattle.ssz_making.specs.Parts.{elements_part};
 ghost use Rattle.ssz_tree.specs.Given.{IsGiven, MakesFields, left_fields, made_at, given_part};
 ghost use Rattle.ssz_tree.specs.Shared.{MakesWith, default_part, empty_part, shared, shared_fields, shared_vector};
@@ -36,6 +36,7 @@ pub fn build_default<H: PairHash>(
     ensures adds { let t = type_of schema.now id in
         AddsNodes (shared t) (min (shared t) (pairs t (default_of t))) arena.old arena.new }
     ensures enough { shared (type_of schema.now id) ≤ arena.old.spare → IsOk result }
+    ensures room { TakesRoom (shared (type_of schema.now id)) arena.old arena.new }
     ensures err { OnErr result (arena.new ≡ arena.old) }
 {
     reserve_nodes(arena, shared_nodes(schema, id))?;

@@ -1,7 +1,7 @@
 ghost use Rattle.std.specs.Prelude.{◌<◌, ◌≤◌, ◌≡◌, length, min, IsOk, IfOk, OnErr};
 ghost use Rattle.std.specs.List.{AllByRecursion};
 ghost use Rattle.ssz_schema.specs.Unfolding.{type_of};
-ghost use Rattle.ssz_tree.specs.Added.{AddsNodes, IsPartNode};
+ghost use Rattle.ssz_tree.specs.Added.{AddsNodes, IsPartNode, TakesRoom};
 ghost use Rattle.ssz_tree.specs.Given.{IsGiven, given_part_with, pairs_with, shared_with};
 
 use super::defaults::{build_default, container_node};
@@ -30,6 +30,8 @@ pub fn build_fields<H: PairHash>(
         AddsNodes nodes (min nodes (pairs_with t given.now)) arena.old arena.new }
     ensures enough { shared_with (type_of schema.now id) given.now ≤ arena.old.spare
         → IsOk result }
+    ensures room { TakesRoom (shared_with (type_of schema.now id) given.now)
+        arena.old arena.new }
     ensures err { OnErr result (arena.new ≡ arena.old) }
 {
     let Ty::Container(fields) = schema.ty(id) else {

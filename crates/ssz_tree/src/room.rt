@@ -1,5 +1,6 @@
 ghost use Rattle.std.specs.Prelude.{◌≡◌, ℕ, ◌+◌, ◌*◌, ◌-◌, ◌^◌, ◌≤◌, min, max, IsOk, OnOk, OnErr};
 ghost use Rattle.ssz_arena.specs.Content.{node_count};
+ghost use Rattle.ssz_tree.specs.Added.{TakesRoom};
 
 use ssz_arena::Arena;
 use ssz_chunk::PairHash;
@@ -15,6 +16,8 @@ pub fn reserve_nodes<H: PairHash>(arena: &mut Arena<H>, nodes: u64) -> Result<()
     ensures exact { node_count arena.old ≤ nodes
         → OnOk result (arena.new.spare ≡ max nodes arena.old.spare) }
     ensures enough { (n : ℕ) → nodes ≡ min n (2 ^ 64 - 1) → n ≤ arena.old.spare → IsOk result }
+    ensures stays { nodes ≤ arena.old.spare → arena.new ≡ arena.old }
+    ensures most { TakesRoom nodes arena.old arena.new }
     ensures err { OnErr result (arena.new ≡ arena.old) }
 {
     if nodes <= arena.spare() as u64 {

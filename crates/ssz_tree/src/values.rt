@@ -4,7 +4,7 @@ ghost use Rattle.ssz_value.specs.Standing.{value_of, IsValue};
 ghost use Rattle.ssz_value.specs.Pairs.{pairs};
 ghost use Rattle.ssz_making.specs.Parts.{part_of_value};
 ghost use Rattle.ssz_making.specs.Nodes.{new_nodes};
-ghost use Rattle.ssz_tree.specs.Added.{AddsNodes, IsPartNode, MakesNode};
+ghost use Rattle.ssz_tree.specs.Added.{AddsNodes, IsPartNode, MakesNode, TakesRoom};
 
 use super::growing::Growing;
 use super::room::{nodes_for, reserve_nodes};
@@ -32,6 +32,8 @@ pub fn build<H: PairHash>(
         AddsNodes (new_nodes t v) (pairs t v) arena.old arena.new }
     ensures enough { new_nodes (type_of schema.now id) (value_of value.now) ≤ arena.old.spare
         → IsOk result }
+    ensures room { TakesRoom (new_nodes (type_of schema.now id) (value_of value.now))
+        arena.old arena.new }
     ensures err { OnErr result (arena.new ≡ arena.old) }
 {
     let tally = value_tally(schema, id, value);

@@ -148,4 +148,5 @@ compacted es made m roots ids before after ordered view is compaction moves = re
   count = λ test h. compaction.count test (passes_all before roots test
       (subst (All (λ root. PassesBelow before root test)) (sym is)
       (each_root (λ root. PassesBelow before root test) es m ordered view h)));
+  room = compaction.room;
 }

@@ -1,8 +1,8 @@
 -- The entries of one writer among those in order.
-use Rattle.std.proofs.Common.{◌≡◌, ℕ, ◌<◌, ◌≤◌, true, false, cond, ◌==◌, [], ◌∷◌, ◌++◌, map, arith, refl, sym, ap, ◌∙◌}
+use Rattle.std.proofs.Common.{◌≡◌, ℕ, ◌<◌, ◌≤◌, true, false, cond, ◌==◌, [], ◌∷◌, ◌++◌, length, map, arith, refl, sym, ap, ◌∙◌}
 use Rattle.std.proofs.lemmas.Bool.{false≢true, eq-eqb, ne_eqb}
 use Rattle.std.proofs.lemmas.Cmp.{ranked}
-use Rattle.std.proofs.lemmas.List.{append-nil}
+use Rattle.std.proofs.lemmas.List.{append-nil, length-map}
 use Rattle.std.specs.Cmp.Lexicographic.{slice_cmp}
 use Rattle.std.specs.FinMap as finite
 use Rattle.std.specs.List.{filter, AllByRecursion}
@@ -110,3 +110,24 @@ names_are row m writer ordered view =
     ∙ ap (λ es. map (λ key. key.1) (filter (λ key. key.0 == writer) (map (λ e. e.0) es)))
     (sym (finite.entries-from_sorted key_cmp row ordered))
     ∙ ap (λ n. entry_names n writer) view
+
+-- under which keys the entries of a writer are put, there are as many
+as_many_relabelled : (from to other : ℕ) (row : Row)
+    → length (relabelled from to row) ≡ length (relabelled from other row)
+as_many_relabelled from to other [] = refl
+as_many_relabelled from to other (e ∷ row) =
+    let rest : length (relabelled from to row) ≡ length (relabelled from other row) =
+    as_many_relabelled from to other row in
+    elim (e.0.0 == from) as (λ b.
+    length (cond b (((to, e.0.1), e.1) ∷ relabelled from to row) (relabelled from to row))
+    ≡ length (cond b (((other, e.0.1), e.1) ∷ relabelled from other row)
+    (relabelled from other row))) [ true ↦ omega (arith, rest) | false ↦ rest ]
+
+-- there are as many as the writer has names
+pub as_many_names : (row : Row) (m : Entries) (from to : ℕ) → IsOrdered row
+    → finite.from_sorted {R = key_cmp} row ≡ m
+    → length (relabelled from to row) ≡ length (entry_names m from)
+as_many_names row m from to ordered view =
+    as_many_relabelled from to from row
+    ∙ sym (length-map (relabelled from from row) (λ (e : Key × Held). e.0.1))
+    ∙ ap (λ names. length names) (names_are row m from ordered view)

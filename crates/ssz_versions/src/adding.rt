@@ -1,4 +1,4 @@
-ghost use Rattle.std.specs.Prelude.{◌≡◌, ◌≤◌, ◌++◌, T, vec_len};
+ghost use Rattle.std.specs.Prelude.{◌≡◌, ◌+◌, ◌≤◌, ◌++◌, T, vec_len};
 ghost use Rattle.std.specs.FinMap.Entries.{find, is_sorted};
 ghost use Rattle.ssz_versions.specs.Keys.{Key, key_cmp};
 
@@ -11,6 +11,7 @@ pub(crate) fn with_all(held: Tree, pool: &mut Pool, mut added: Vec<Entry>) -> Tr
     requires room { vec_len added ≤ pool.old }
     ensures entries { (key : Key) → find key_cmp key result
         ≡ find key_cmp key (added.items ++ held) }
+    ensures spare { pool.old ≤ pool.new + vec_len added }
     ensures ordered { T (is_sorted key_cmp result) }
 {
     let mut tree = held;

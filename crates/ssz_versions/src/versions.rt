@@ -1,10 +1,10 @@
-ghost use Rattle.std.specs.Prelude.{◌≡◌, ◌+◌, ◌≤◌, ℕ, List, None, IsOk, IsOkAnd, IfOk, OnOk, OnErr, option_map};
+ghost use Rattle.std.specs.Prelude.{◌≡◌, ◌+◌, ◌≤◌, ℕ, List, None, length, IsOk, IsOkAnd, IfOk, OnOk, OnErr, option_map};
 ghost use Rattle.std.specs.Borrow.{sem};
 ghost use Rattle.std.specs.FinMap as finite;
 ghost use Rattle.ssz_schema.specs.Names.{IsName};
 ghost use Rattle.ssz_versions.specs.Content.{held_at, entry_names, with_held};
 ghost use Rattle.ssz_versions.specs.Lending.{LendsNode};
-ghost use Rattle.ssz_versions.specs.Outcomes.{Adopts, MakesEntry, ForksEntry, Drops, IsUnchanged};
+ghost use Rattle.ssz_versions.specs.Outcomes.{Adopts, MakesEntry, ForksEntry, Drops, KeepsEntries};
 
 use super::adding::with_all;
 use super::fault::VersionFault;
@@ -94,6 +94,7 @@ impl Versions {
         requires { IsName name.now }
         ensures made { MakesEntry result self.old self.new writer.0 name.now (id, node) }
         ensures spare { self.old.spare ≤ self.new.spare + 1 }
+        ensures kept { OnErr result (self.old.spare ≤ self.new.spare) }
     {
         let key = VersionKey::new(writer.0, name.as_bytes());
         if self.held.find(&key).is_some() {
@@ -128,6 +129,7 @@ impl Versions {
         requires to { IsName to.now }
         ensures forked { ForksEntry result self.old self.new writer.0 from.now to.now }
         ensures spare { self.old.spare ≤ self.new.spare + 1 }
+        ensures kept { OnErr result (self.old.spare ≤ self.new.spare) }
     {
         let Some(held) = self.get(writer, from) else {
             return Err(VersionFault::NoVersion);
@@ -153,7 +155,7 @@ impl Versions {
     /// Makes room for n more versions. Where there is as much, nothing is changed and no memory
     /// taken.
     pub fn reserve(&mut self, n: usize) -> Result<(), AllocError>
-        ensures entries { IsUnchanged self.old self.new }
+        ensures entries { KeepsEntries self.old self.new }
         ensures ok { OnOk result (n ≤ self.new.spare) }
         ensures more { self.old.spare ≤ self.new.spare }
         ensures idle { n ≤ self.old.spare → IsOk result }
@@ -171,12 +173,15 @@ impl Versions {
         Ok(Names::from_vec(names))
     }
 
-    /// Gives a writer that holds nothing all that another one holds. Fails for want of memory, and
-    /// nothing is changed then.
+    /// Gives a writer that holds nothing all that another one holds: an entry takes room for one.
+    /// Fails for want of memory, and nothing is changed then but that there may be more room.
     pub fn adopt(&mut self, from: Writer, to: Writer) -> Result<(), AllocError>
         requires { (name : List ℕ) → held_at self.old.entries to.0 name ≡ None }
         ensures ok { OnOk result (Adopts self.old.entries self.new.entries from.0 to.0) }
-        ensures err { OnErr result (IsUnchanged self.old self.new) }
+        ensures err { OnErr result (KeepsEntries self.old self.new) }
+        ensures spare { self.old.spare
+            ≤ self.new.spare + length (entry_names self.old.entries from.0) }
+        ensures kept { OnErr result (self.old.spare ≤ self.new.spare) }
     {
         let mut added = Vec::new(self.pool.alloc());
         self.held.relabelled(from.0, to.0, &mut added)?;

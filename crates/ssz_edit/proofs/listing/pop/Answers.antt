@@ -136,3 +136,4 @@ returns-clause-answers g c v of =
     c.if-last-limit.false c.in-Some-slot_at.slot c.in-Some-slot_at.ensures.slot v of l
     mixed.0 (omega (arith, mixed.1, c.if-count-eq0.false)) c.empty_slot.new.arena
     c.in_ok-made.made c.in_ok-made.ensures.grown c.empty_slot.ensures.adds
+    c.empty_slot.ensures.room

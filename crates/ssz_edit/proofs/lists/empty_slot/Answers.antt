@@ -1,23 +1,41 @@
-use Rattle.std.proofs.Common.{◌≡◌, ap, subst, arith}
+use Rattle.std.proofs.Common.{◌≡◌, ◌+◌, ap, subst, arith}
 use Rattle.ssz_chunk.specs.Index.{levels}
 use Rattle.ssz_schema.specs.Unfolding.{type_of}
 use Rattle.ssz_arena.specs.Content.{tree_of}
 use Rattle.ssz_arena.proofs.Nodes.{tree}
 use Rattle.ssz_arena.proofs.Keeping.{keeps_same, keeps_trans}
 use Rattle.ssz_places.specs.Spots.{CanHold}
-use Rattle.ssz_tree.specs.Added.{IsPartNode}
-use Rattle.ssz_tree.proofs.Adding.{Adds-within}
+use Rattle.ssz_tree.specs.Added.{AddsNodes, IsPartNode}
+use Rattle.ssz_tree.proofs.Adding.{Adds-within, Adds-after, Takes-after}
 use Rattle.ssz_walk.specs.Found.{spot_of}
 use Rattle.ssz_edit.specs.Edited.{part_without}
 use Rattle.ssz_edit.proofs.Growing.{list_kept, grown_kept, adds_element}
-use Rattle.ssz_edit.proofs.Replacing.{adds_room}
+use Rattle.ssz_edit.proofs.Replacing.{adds_nothing}
 use Rattle.ssz_edit.proofs.lists.empty_slot.Goals as goal
+use Rattle.ssz_edit.proofs.lists.empty_slot.Goals.{After-put_list}
 
 pub returns-in_err-reserve-clause-adds : goal.returns-in_err-reserve-clause-adds
 returns-in_err-reserve-clause-adds g c =
-    Adds-within 0 0 _ _ c.args.arena.now c.reserve.new.self
-    (adds_room c.args.arena.now c.reserve.new.self c.reserve.ensures.nodes
-    c.reserve.ensures.more) (omega arith) (omega arith)
+    adds_nothing _ _ c.args.arena.now c.reserve.new.self c.in_err-reserve.ensures.err
+
+pub returns-in_err-reserve-clause-room : goal.returns-in_err-reserve-clause-room
+returns-in_err-reserve-clause-room g c =
+    omega (
+      arith,
+      c.reserve.ensures.most,
+      c.levels.ensures.exact,
+      c.levels-2.ensures.exact,
+    )
+
+-- the nodes that are made in the room that was taken
+made : (g : _) (c : After-put_list g)
+    → (let more = levels c.args.slot.now.below + levels c.args.list.now.index in
+    AddsNodes (3 + more) (1 + more) c.reserve.new.self c.put_list.new.arena)
+made g c =
+    Adds-within _ _ _ _ c.reserve.new.self c.put_list.new.arena
+    (adds_element c.reserve.new.self c.emptied_node-element.new.arena c.put_list.new.arena 1 0
+    (levels c.args.slot.now.below) (levels c.args.list.now.index)
+    c.emptied_node-element.ensures.adds c.put_list.ensures.adds) (omega arith) (omega arith)
 
 pub put_list-requires-clause-list : goal.put_list-requires-clause-list
 put_list-requires-clause-list g c =
@@ -45,8 +63,23 @@ returns-clause-grown g c holds =
 
 pub returns-clause-adds : goal.returns-clause-adds
 returns-clause-adds g c =
-    Adds-within _ _ _ _ c.args.arena.now c.put_list.new.arena
-    (adds_element c.args.arena.now c.reserve.new.self c.emptied_node-element.new.arena
-    c.put_list.new.arena 1 0 (levels c.args.slot.now.below)
-    (levels c.args.list.now.index) c.reserve.ensures.nodes c.reserve.ensures.more
-    c.emptied_node-element.ensures.adds c.put_list.ensures.adds) (omega arith) (omega arith)
+    Adds-after _ _ c.args.arena.now c.reserve.new.self c.put_list.new.arena
+    c.reserve.ensures.nodes c.reserve.ensures.more
+    (λ enough. c.reserve.ensures.stays (omega (
+      arith,
+      enough,
+      c.levels.ensures.exact,
+      c.levels-2.ensures.exact,
+    ))) (made g c)
+
+pub returns-clause-room : goal.returns-clause-room
+returns-clause-room g c =
+    Takes-after _ _ _ c.args.arena.now c.reserve.new.self c.put_list.new.arena
+    c.reserve.ensures.most
+    (omega (arith, c.levels.ensures.exact, c.levels-2.ensures.exact))
+    (omega (
+      arith,
+      c.in_ok-reserve.ensures.ok,
+      c.levels.ensures.exact,
+      c.levels-2.ensures.exact,
+    )) (made g c)

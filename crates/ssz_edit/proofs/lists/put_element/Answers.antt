@@ -8,22 +8,79 @@ use Rattle.ssz_arena.proofs.Nodes.{tree}
 use Rattle.ssz_arena.proofs.Keeping.{keeps_same, keeps_trans}
 use Rattle.ssz_places.specs.EditLaws.{content, count_of}
 use Rattle.ssz_places.specs.Spots.{CanHold}
-use Rattle.ssz_tree.specs.Added.{IsPartNode}
-use Rattle.ssz_tree.proofs.Adding.{Adds-within}
+use Rattle.ssz_tree.specs.Added.{AddsNodes, IsPartNode, TakesRoom}
+use Rattle.ssz_tree.proofs.Adding.{Adds-within, Adds-after, Takes-after}
 use Rattle.ssz_walk.specs.Found.{spot_of}
 use Rattle.ssz_edit.specs.Edited.{edited_part}
 use Rattle.ssz_edit.specs.Given.{given_value}
 use Rattle.ssz_edit.proofs.Counted.{count_small}
 use Rattle.ssz_edit.proofs.ListLanding.{list_value, element_type_is, append_made}
 use Rattle.ssz_edit.proofs.Growing.{list_kept, grown_kept, adds_element}
-use Rattle.ssz_edit.proofs.Replacing.{adds_room}
+use Rattle.ssz_edit.proofs.Replacing.{adds_nothing}
 use Rattle.ssz_edit.proofs.lists.put_element.Goals as goal
+use Rattle.ssz_edit.proofs.lists.put_element.Goals.{After-put_list}
 
 pub returns-in_err-reserve_for-clause-adds : goal.returns-in_err-reserve_for-clause-adds
 returns-in_err-reserve_for-clause-adds g c =
-    Adds-within 0 0 _ _ c.args.arena.now c.reserve_for.new.arena
-    (adds_room c.args.arena.now c.reserve_for.new.arena c.reserve_for.ensures.nodes
-    c.reserve_for.ensures.more) (omega arith) (omega arith)
+    adds_nothing _ _ c.args.arena.now c.reserve_for.new.arena c.in_err-reserve_for.ensures.err
+
+pub returns-in_err-reserve_for-clause-room : goal.returns-in_err-reserve_for-clause-room
+returns-in_err-reserve_for-clause-room g c =
+    omega (
+      arith,
+      c.reserve_for.ensures.most,
+      c.levels.ensures.exact,
+      c.levels-2.ensures.exact,
+    )
+
+-- the nodes that are made in the room that was taken
+made : (g : _) (c : After-put_list g)
+    → (let end = c.args.end.now in
+    let u = type_of c.args.schema.now end.slot.element.id in
+    let cost = pairs u (given_value u c.args.given.now) in
+    let more = levels end.slot.below + levels end.list.index in
+    AddsNodes (2 * cost + 3 + more) (cost + 1 + more) c.reserve_for.new.arena c.put_list.new.arena)
+made g c =
+    let end = c.args.end.now in
+    let u = type_of c.args.schema.now end.slot.element.id in
+    let cost = pairs u (given_value u c.args.given.now) in
+    Adds-within _ _ _ _ c.reserve_for.new.arena c.put_list.new.arena
+    (adds_element c.reserve_for.new.arena c.part_node-element.new.arena c.put_list.new.arena
+    (2 * cost + 1) cost (levels end.slot.below) (levels end.list.index)
+    c.part_node-element.ensures.adds c.put_list.ensures.adds) (omega arith) (omega arith)
+
+added : (g : _) (c : After-put_list g)
+    → (let end = c.args.end.now in
+    let u = type_of c.args.schema.now end.slot.element.id in
+    let cost = pairs u (given_value u c.args.given.now) in
+    let more = levels end.slot.below + levels end.list.index in
+    AddsNodes (2 * cost + 3 + more) (cost + 1 + more) c.args.arena.now c.put_list.new.arena)
+added g c =
+    Adds-after _ _ c.args.arena.now c.reserve_for.new.arena c.put_list.new.arena
+    c.reserve_for.ensures.nodes c.reserve_for.ensures.more
+    (λ enough. c.reserve_for.ensures.stays (omega (
+      arith,
+      enough,
+      c.levels.ensures.exact,
+      c.levels-2.ensures.exact,
+    ))) (made g c)
+
+taken : (g : _) (c : After-put_list g)
+    → (let end = c.args.end.now in
+    let u = type_of c.args.schema.now end.slot.element.id in
+    let cost = pairs u (given_value u c.args.given.now) in
+    let more = levels end.slot.below + levels end.list.index in
+    TakesRoom (2 * cost + 3 + more) c.args.arena.now c.put_list.new.arena)
+taken g c =
+    Takes-after _ _ _ c.args.arena.now c.reserve_for.new.arena c.put_list.new.arena
+    c.reserve_for.ensures.most
+    (omega (arith, c.levels.ensures.exact, c.levels-2.ensures.exact))
+    (omega (
+      arith,
+      c.in_ok-reserve_for.ensures.ok,
+      c.levels.ensures.exact,
+      c.levels-2.ensures.exact,
+    )) (made g c)
 
 pub put_list-requires-clause-list : goal.put_list-requires-clause-list
 put_list-requires-clause-list g c =
@@ -33,15 +90,10 @@ put_list-requires-clause-list g c =
     c.part_node-element.ensures.adds.keeps) c.requires.end.has_list
 
 pub returns-clause-adds : goal.returns-clause-adds
-returns-clause-adds g c =
-    let end = c.args.end.now in
-    let u = type_of c.args.schema.now end.slot.element.id in
-    let cost = pairs u (given_value u c.args.given.now) in
-    Adds-within _ _ _ _ c.args.arena.now c.put_list.new.arena
-    (adds_element c.args.arena.now c.reserve_for.new.arena c.part_node-element.new.arena
-    c.put_list.new.arena (2 * cost + 1) cost (levels end.slot.below)
-    (levels end.list.index) c.reserve_for.ensures.nodes c.reserve_for.ensures.more
-    c.part_node-element.ensures.adds c.put_list.ensures.adds) (omega arith) (omega arith)
+returns-clause-adds g c = added g c
+
+pub returns-clause-room : goal.returns-clause-room
+returns-clause-room g c = taken g c
 
 pub returns-clause-edits : goal.returns-clause-edits
 returns-clause-edits g c id path v at of =
@@ -75,8 +127,4 @@ returns-clause-edits g c id path v at of =
     (subst (λ t. CanHold spot t
     → IsPartNode c.part_node-element.new.arena (edited_part spot e x t) c.part_node-element.result)
     same c.part_node-element.ensures.part holds)))
-    (Adds-within _ _ _ _ old c.put_list.new.arena
-    (adds_element old c.reserve_for.new.arena c.part_node-element.new.arena
-    c.put_list.new.arena (2 * pairs e x + 1) (pairs e x) (levels end.slot.below)
-    (levels end.list.index) c.reserve_for.ensures.nodes c.reserve_for.ensures.more
-    c.part_node-element.ensures.adds c.put_list.ensures.adds) (omega arith) (omega arith))
+    (added g c) (taken g c)

@@ -28,6 +28,7 @@ returns-in-Some-replace-clause-adds g c =
       count = c.replace.ensures.count;
       unhashed = c.replace.ensures.unhashed;
       spare = c.replace.ensures.spare;
+      room = λ _. c.replace.ensures.room;
     })
     (Adds-leaf c.replace.new.self c.leaf-len.new.self c.leaf-len.ensures.keeps
     c.leaf-len.ensures.same c.leaf-len.ensures.unhashed c.leaf-len.ensures.count
@@ -41,6 +42,7 @@ returns-in-Some-replace-clause-adds g c =
       count = c.replace-2.ensures.count;
       unhashed = c.replace-2.ensures.unhashed;
       spare = c.replace-2.ensures.spare;
+      room = λ _. c.replace-2.ensures.room;
     })
 
 pub returns-in-None-clause-grown : goal.returns-in-None-clause-grown

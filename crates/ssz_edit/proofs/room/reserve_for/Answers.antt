@@ -12,3 +12,20 @@ returns-clause-ok g c =
     on_ok_weaker c.reserve_nodes.result (λ room. room (nodes + c.args.more)
     (omega (arith, c.saturating_add.ensures, c.given_needed-nodes.ensures)))
     c.reserve_nodes.ensures.ok
+
+pub returns-clause-stays : goal.returns-clause-stays
+returns-clause-stays g c enough =
+    c.reserve_nodes.ensures.stays (omega (
+      arith,
+      enough,
+      c.saturating_add.ensures,
+      c.given_needed-nodes.ensures,
+    ))
+
+pub returns-clause-most : goal.returns-clause-most
+returns-clause-most g c = omega (
+  arith,
+  c.reserve_nodes.ensures.most,
+  c.saturating_add.ensures,
+  c.given_needed-nodes.ensures,
+)

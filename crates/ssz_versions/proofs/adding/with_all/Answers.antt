@@ -17,6 +17,12 @@ loop-key-preserved c =
           ∙ ap (λ row. find key_cmp q (row ++ tree)) (sym c.in-Some.ensures.items)
           ∙ c.loop-key.invariant.entries q;
       room = omega (arith, c.in-Ok.ensures.ok, c.in-Some.ensures.cases, c.loop-key.invariant.room);
+      spare = omega (
+        arith,
+        c.in-Ok.ensures.ok,
+        c.in-Some.ensures.cases,
+        c.loop-key.invariant.spare,
+      );
     }
 
 pub returns-clause-entries : goal.returns-clause-entries

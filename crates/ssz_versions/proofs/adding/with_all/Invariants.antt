@@ -1,4 +1,4 @@
-use Rattle.std.proofs.Common.{◌≡◌, ◌≤◌, ◌++◌, vec_len}
+use Rattle.std.proofs.Common.{◌≡◌, ◌+◌, ◌≤◌, ◌++◌, vec_len}
 use Rattle.std.specs.FinMap.Entries.{find}
 use Rattle.ssz_versions.specs.Keys.{Key, key_cmp}
 use Rattle.ssz_versions.proofs.Ordered.{IsOrdered}
@@ -13,4 +13,5 @@ invariant-loop-key l = record {
   entries : (key : Key) → find key_cmp key (l.added.items ++ l.tree)
       ≡ find key_cmp key (l.fn.added.items ++ l.fn.held);
   room : vec_len l.added ≤ l.pool;
+  spare : l.fn.pool + vec_len l.added ≤ l.pool + vec_len l.fn.added;
 }
