@@ -2,13 +2,13 @@ use crate::halting::{Halting, HaltingFiles};
 use crate::reading::{got, reads};
 use ssz_outside::{DirFiles, Files, GetFault, Got, OutSink, PutFault, Sink};
 use std::alloc::Global;
-use std::fs;
 use std::test::Fail;
+use std::{fs, rt};
 
 // Whether a name is given these bytes, gives them at their length, and has too many for one less.
-fn keeps<F: Files>(
+fn keeps<R: rt::Files + Drop>(
     alloc: Global,
-    files: &mut F,
+    files: &mut DirFiles<R>,
     name: &str,
     (length, less): (u64, u64),
     bytes: &[u8],
@@ -19,7 +19,7 @@ fn keeps<F: Files>(
 }
 
 // Whether each name keeps what is put to it, a second put of fewer bytes, too.
-fn keeps_each<F: Files>(alloc: Global, files: &mut F, long: &[u8]) -> bool {
+fn keeps_each<R: rt::Files + Drop>(alloc: Global, files: &mut DirFiles<R>, long: &[u8]) -> bool {
     keeps(alloc, files, "first", (150000, 149999), long)
         && keeps(alloc, files, "second", (2, 1), b"12")
         && keeps(alloc, files, "first", (3, 2), b"345")
@@ -38,7 +38,7 @@ fn keeps_files_of_the_system(rt: HostRuntime) -> Result<(), Fail> {
 }
 
 // Whether a name is no file to read.
-fn fails<F: Files>(alloc: Global, files: &mut F, name: &str) -> bool {
+fn fails<R: rt::Files + Drop>(alloc: Global, files: &mut DirFiles<R>, name: &str) -> bool {
     got(alloc, files, name, 70000) == Err(GetFault::Failed)
 }
 

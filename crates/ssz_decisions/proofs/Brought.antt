@@ -2,7 +2,9 @@
 use Rattle.std.proofs.Common.{Bor, Bool, true, false, inl, inr, is_some, IsSome, option_map, ◌≡◌, ◌≤◌, ◌<◌, ◌+◌, ◌*◌, ℕ, List, Option, Some, None, length, Ok, Err, refl, sym, ap, subst, ◌∙◌, arith}
 use Rattle.std.proofs.lemmas.Bool.{false≢true, lt-ltb, ltb-true}
 use Rattle.std.proofs.lemmas.List.{length-replicate}
-use Rattle.std.specs.Prelude.{nat_lt, not, ◌&&◌, is_none, replicate, unwrap_or, IfSome, IsSomeAnd, []}
+use Rattle.std.specs.Prelude.{nat_lt, not, ◌&&◌, is_none, replicate, unwrap_or, IfSome, IsSomeAnd, [], ◌∷◌}
+use Rattle.ssz_outside.specs.Asked.{Ask, Asks, AsksOf}
+use Rattle.ssz_outside.proofs.Asking.{asks_append-none}
 use Rattle.ssz_outside.specs.Content.{Content as Files, file_bytes, contents}
 use Rattle.ssz_script.specs.declared.reply.TheConstants.Reply.{NO_TYPE, NAME_TAKEN, TOO_LONG}
 use Rattle.ssz_schema.specs.Types.{SszType}
@@ -28,7 +30,7 @@ use Rattle.ssz_machine.specs.Machine.{can_load, charge_in}
 use Rattle.ssz_machine.specs.Changes.{Touch, puts}
 use Rattle.ssz_decisions.specs.Content.{EngineContent, rules_of}
 use Rattle.ssz_decisions.specs.Decisions.{AnswersAnew, AnswersWith, DecidesRow, IsPaid, MakesFew}
-use Rattle.ssz_decisions.specs.Loading.{IsFree, IsTaken, LoadsWith, ReadsAs, loaded_row, brought_as, load_row}
+use Rattle.ssz_decisions.specs.Loading.{IsFree, IsTaken, LoadsWith, ReadsAs, asks_where, loaded_row, brought_as, load_row}
 use Rattle.ssz_decisions.specs.declared.decision.Decision.{Decision}
 use Rattle.ssz_decisions.specs.declared.decision.Decision.TheVariants.{BadJson, Made, Refused}
 use Rattle.ssz_decisions.specs.declared.load_form.Form.{Form}
@@ -194,6 +196,15 @@ module _ (pair_of : PairOf) (store : EngineContent) (writer : ℕ) (v t : Name)
       taken (Some n) true h e = refl
       taken (Some n) false h e = absurd (false≢true e)
 
+  -- where none does, a file is read
+  pub free-loads : (id : ℕ) → IsFree store writer v t id
+      → can_load (rules_of pair_of store) versions v t ≡ true
+  free-loads id free =
+      ap (λ (o : Option ℕ). is_some (option_map (type_of store.types) o)
+      && not (has_version v versions)) free.named
+      ∙ ap (λ (o : Option Version). not (is_some o))
+      (free-there store.types store.arena _ _ free.free (stand.each v))
+
   -- and then no file is read
   pub taken-blocks : (code : ℕ) → IsTaken store writer v t code
       → can_load (rules_of pair_of store) versions v t ≡ true → ⊥
@@ -213,6 +224,20 @@ module _ (pair_of : PairOf) (store : EngineContent) (writer : ℕ) (v t : Name)
       taken type (Some x) None h m can = m
       taken None (Some x) (Some y) h m can = false≢true can
       taken (Some type) (Some x) (Some y) h m can = false≢true can
+
+-- the files are asked for nothing where no file is read
+pub asks-nothing : (b : Bool) (ask : Ask) (asked : Asks) → (b ≡ true → ⊥)
+    → AsksOf false (asks_where b ask) asked asked
+asks-nothing true ask asked none = absurd (none refl)
+asks-nothing false ask asked none = sym (asks_append-none asked)
+
+-- for it where one is, also by its name and its limit in another form
+pub asks-one : (cut b : Bool) (name other : List ℕ) (most least : ℕ) (old new : Asks) → b ≡ true
+    → other ≡ name → least ≡ most → AsksOf cut ((other, least) ∷ []) old new
+    → AsksOf cut (asks_where b (name, most)) old new
+asks-one cut b name other most least old new is same limit asks =
+    rw is (subst (λ (m : ℕ). AsksOf cut ((name, m) ∷ []) old new) limit
+    (subst (λ (n : List ℕ). AsksOf cut ((n, least) ∷ []) old new) same asks))
 
 -- a file that was read is there
 pub there-whole : (o : Option (List ℕ)) (bytes : List ℕ) → o ≡ Some bytes → is_none o ≡ false

@@ -1,5 +1,6 @@
 -- What a name is given that is free: the value that a literal or a file has.
-use Rattle.std.specs.Prelude.{◌≡◌, ◌<◌, ◌⊎◌, IsTrue, true, false, length, ℕ, List, Option, Some, None, IsSome}
+use Rattle.std.specs.Prelude.{◌≡◌, ◌<◌, ◌⊎◌, IsTrue, Bool, true, false, length, ℕ, List, [], ◌∷◌, Option, Some, None, IsSome}
+use Rattle.ssz_outside.specs.Asked.{Ask, Asks, AsksOf}
 use Rattle.ssz_outside.specs.Content.{Content as Files, contents, is_absent}
 use Rattle.ssz_schema.specs.Types.{SszType}
 use Rattle.ssz_schema.specs.Unfolding.{type_number}
@@ -79,3 +80,17 @@ FindsFile pair_of store writer v t file told =
     (held : Files) → told ≡ Some held → (versions : Versions)
     → StandsForWriter store writer versions
     → can_load (rules_of pair_of store) versions v t ≡ true → is_absent held file ≡ false
+
+-- one ask, or none
+abbrev pub asks_where : Bool → Ask → List Ask
+asks_where true ask = ask ∷ []
+asks_where false ask = []
+
+-- The files are asked for that file where one is read for it, once and with the most bytes of a
+-- value; else they are asked for nothing. What was cut short may not have come to it.
+abbrev pub AsksLoad : PairOf → EngineContent → ℕ → Name → Name → Name → (cut : Bool) → Asks → Asks
+    → Type 0
+AsksLoad pair_of store writer v t file cut old new =
+    (versions : Versions) → StandsForWriter store writer versions
+    → AsksOf cut
+    (asks_where (can_load (rules_of pair_of store) versions v t) (file, store.most)) old new

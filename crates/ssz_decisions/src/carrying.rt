@@ -103,12 +103,15 @@ pub(crate) fn put_file<F: Files>(
     name: &FileName,
     bytes: &[u8],
 ) -> Result<(), EngineFault>
+    requires usable { F.usable files.old }
     ensures content { PutsFile result name.now bytes.now (F.content files.old)
         (F.content files.new) }
     ensures told { is_some (F.content files.new) ≡ is_some (F.content files.old) }
     ensures readable { (other : List ℕ) → F.readable files.old other → F.readable files.new other }
     ensures gets { F.get_faults files.new ≡ F.get_faults files.old }
     ensures puts { CountsWrites result (F.put_faults files.old) (F.put_faults files.new) }
+    ensures asks { F.asked files.new ≡ F.asked files.old }
+    ensures usable { OnOk result (F.usable files.new) }
 {
     match files.put(name.as_str(), bytes) {
         Ok(()) => Ok(()),
@@ -125,7 +128,8 @@ pub fn carry<F: Files, H: PairHash>(
     decision: Decision<'_>,
     files: &mut F,
 ) -> Result<Reply, EngineFault>
-    requires { CanDo store.old writer.0 decision }
+    requires can { CanDo store.old writer.0 decision }
+    requires usable { F.usable files.old }
     ensures nodes { SameNodes store.old store.new }
     ensures ok { IfOk result (IsAnswered decision.entry writer.0 line store.old.entries
         store.new.entries (F.content files.old) (F.content files.new)) }
@@ -137,6 +141,8 @@ pub fn carry<F: Files, H: PairHash>(
     ensures readable { (other : List ℕ) → F.readable files.old other → F.readable files.new other }
     ensures gets { F.get_faults files.new ≡ F.get_faults files.old }
     ensures puts { CountsWrites result (F.put_faults files.old) (F.put_faults files.new) }
+    ensures asks { F.asked files.new ≡ F.asked files.old }
+    ensures usable { OnOk result (F.usable files.new) }
 {
     match decision {
         Decision::Refused(code) => {
@@ -183,6 +189,7 @@ pub fn carry_out<F: Files, H: PairHash>(
 ) -> Result<Outcome, EngineFault>
     requires can { CanDo store.old writer.0 decision }
     requires room { vec_len out.old + 3 ≤ vec_capacity out.old }
+    requires usable { F.usable files.old }
     ensures nodes { SameNodes store.old store.new }
     ensures ok { IfOk result (λ outcome. IsCarriedOut decision.entry writer.0 line
         store.old.entries store.new.entries outcome (F.content files.old) (F.content files.new)
@@ -196,6 +203,8 @@ pub fn carry_out<F: Files, H: PairHash>(
     ensures readable { (other : List ℕ) → F.readable files.old other → F.readable files.new other }
     ensures gets { F.get_faults files.new ≡ F.get_faults files.old }
     ensures puts { CountsWrites result (F.put_faults files.old) (F.put_faults files.new) }
+    ensures asks { F.asked files.new ≡ F.asked files.old }
+    ensures usable { OnOk result (F.usable files.new) }
 {
     match decision {
         Decision::Refused(code) => {

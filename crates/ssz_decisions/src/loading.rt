@@ -1,5 +1,5 @@
 //! Statements that make a version of the value that a file has.
-ghost use Rattle.std.specs.Prelude.{◌≡◌, ◌≢◌, ◌<◌, ◌^◌, ℕ, List, None, Err, length, IfOk, OnOk, OnErr};
+ghost use Rattle.std.specs.Prelude.{◌≡◌, ◌≢◌, ◌<◌, ◌^◌, ℕ, List, None, Err, length, is_err, IfOk, OnOk, OnErr};
 ghost use Rattle.ssz_outside.specs.Content.{CanRead};
 ghost use Rattle.ssz_schema.specs.Unfolding.{type_of};
 ghost use Rattle.ssz_arena.specs.Content.{node_count};
@@ -7,7 +7,7 @@ ghost use Rattle.ssz_versions.specs.Content.{held_at};
 ghost use Rattle.ssz_machine.specs.Changes.{puts};
 ghost use Rattle.ssz_decisions.specs.Content.{Grows};
 ghost use Rattle.ssz_decisions.specs.Decisions.{AnswersAnew};
-ghost use Rattle.ssz_decisions.specs.Loading.{CanLoad, FindsFile, LoadsWith, brought_as, load_row};
+ghost use Rattle.ssz_decisions.specs.Loading.{AsksLoad, CanLoad, FindsFile, LoadsWith, brought_as, load_row};
 ghost use Rattle.ssz_decisions.specs.Outside.{CountsReads};
 
 use super::decision::Decision;
@@ -88,6 +88,7 @@ pub fn load<'a, F: Files, H: PairHash>(
     form: Form,
     files: &mut F,
 ) -> Result<Decision<'a>, EngineFault>
+    requires usable { F.usable files.old }
     ensures grows { Grows store.old store.new }
     ensures answers { IfOk result (LoadsWith H.pair_of (F.content files.old) file.now
         (λ bytes rules versions. load_row form rules versions v.now t.now bytes) (puts v.now)
@@ -104,6 +105,9 @@ pub fn load<'a, F: Files, H: PairHash>(
     ensures readable { (other : List ℕ) → F.readable files.old other → F.readable files.new other }
     ensures gets { CountsReads result (F.get_faults files.old) (F.get_faults files.new) }
     ensures puts { F.put_faults files.new ≡ F.put_faults files.old }
+    ensures asks { AsksLoad H.pair_of store.old writer.0 v.now t.now file.now (is_err result)
+        (F.asked files.old) (F.asked files.new) }
+    ensures usable { OnOk result (F.usable files.new) }
 {
     let id = match free_type(store, writer, v, t) {
         Ok(id) => id,

@@ -5,6 +5,7 @@ use Rattle.std.specs.List.{list_any, AllByRecursion}
 use Rattle.std.proofs.lemmas.Bool.{or_parts}
 use Rattle.std.proofs.lemmas.List.{map-append}
 use Rattle.ssz_arena.specs.Content.{unhashed}
+use Rattle.ssz_outside.specs.Asked.{AsksOf, asks_append}
 use Rattle.ssz_outside.specs.Content.{Content as Files}
 use Rattle.ssz_outside.specs.Outcome.{WritesPart}
 use Rattle.ssz_outside.specs.Pieces.{Told, told_append}
@@ -15,17 +16,18 @@ use Rattle.ssz_schema.specs.Unfolding.{Types}
 use Rattle.ssz_script.specs.Texts.{reply_line}
 use Rattle.ssz_machine.specs.declared.place.Place.{Place}
 use Rattle.ssz_machine.specs.Machine.{Line, Turn, step, reply_of, state_of, is_refused, misses}
-use Rattle.ssz_machine.specs.Plays.{Event, says, line_prefix, play, shown, shown_all, charges}
+use Rattle.ssz_machine.specs.Plays.{Event, says, line_prefix, next_number, play, shown, shown_all, charges}
 use Rattle.ssz_machine.specs.Runs.{IsUnderWay}
 use Rattle.ssz_machine.proofs.UnderWay.{line_follows, under_way_line}
-use Rattle.ssz_machine.proofs.Endings.{ends_without_memory, ends_unread, ends_torn_file, ends_torn_line, ends_ahead, steps_without_memory, steps_unread, steps_torn_file, steps_torn_line, steps_ahead}
+use Rattle.ssz_machine.proofs.Endings.{ends_without_memory, ends_unread, ends_torn_file, ends_torn_line, ends_ahead, begun_without_memory, begun_unread, begun_torn_file, begun_torn_line, begun_ahead, steps_without_memory, steps_unread, steps_torn_file, steps_torn_line, steps_ahead}
 use Rattle.ssz_decisions.specs.Content.{EngineContent, rules_of, KeepsEngine}
 use Rattle.ssz_engine.specs.Steps.{SavesPart, is_refusal}
 use Rattle.ssz_decisions.specs.Standing.{StaysFor}
-use Rattle.ssz_engine.specs.Scripts.{IsStopped, Scene, files_reached, point_of}
+use Rattle.ssz_engine.specs.Scripts.{AsksSteps, IsStopped, Scene, asks_of_turn, asks_of_turns, files_reached, point_of}
 use Rattle.ssz_engine.specs.Points.{Course, RunReaches, IsCutShort, PaysSteps, turns_of}
 use Rattle.ssz_engine.specs.Lines.{MakesTurn, Missed}
 use Rattle.ssz_decisions.specs.declared.outcome.Outcome.{Outcome}
+use Rattle.ssz_engine.proofs.Asks.{AsksNext, asks_at, asks_done, asks_next, asks_on}
 use Rattle.ssz_engine.proofs.Paying.{pays_step, pays_total}
 use Rattle.ssz_engine.proofs.Reaching.{reached_at}
 use Rattle.ssz_engine.proofs.Settling.{pays_nothing, settled}
@@ -107,10 +109,11 @@ module _ (pair_of : PairOf) (place : Place) (course : Course) where
 
   -- no memory between two lines
   pub no_memory : (left : List Event) (refused : Bool) (before after : Scene)
-      → RunReaches pair_of place course left refused before → after.told ≡ before.told
+      (c : RunReaches pair_of place course left refused before) → after.told ≡ before.told
       → after.pieces ≡ before.pieces → Passes before after
-      → IsCutShort place course status.Memory before after
-  no_memory left refused before after c told pieces passes =
+      → AsksNext course.rules (play course.rules place (last before left) c.state left)
+      before.asked after.asked → IsCutShort place course status.Memory before after
+  no_memory left refused before after c told pieces passes asks =
       let u = c.at.under in
       let printed = pieces ∙ c.at.printed in
       let held = told ∙ c.at.files in
@@ -136,6 +139,17 @@ module _ (pair_of : PairOf) (place : Place) (course : Course) where
             after.told printed held)
             (passes.stays c.state.versions c.at.versions)
             (owed_still before after c.done c.at.pays passes);
+        asks = asks_at course.rules (turns_of place course (u.numbers ++ last before left)) c.done
+            (play course.rules place (last before left) c.state left) _ _ course.asked before.asked
+            after.asked
+            (ap (λ es. play course.rules place (u.numbers ++ last before left) course.first es)
+            c.at.all ∙ u.turns left (last before left))
+            (steps_without_memory course.rules place course.events course.first c.at.front c.done
+            c.state left c.at.all u (last before left) course.ample course.pieces after.pieces
+            after.told printed held)
+            (begun_without_memory course.rules place course.events course.first c.at.front c.done
+            c.state left c.at.all u (last before left) course.ample course.pieces after.pieces
+            after.told printed held) c.at.asked asks;
       }
 
   module _ (writer : ℕ) (line : Line) (left : List Event) (was : Bool) (before after : Scene)
@@ -190,10 +204,23 @@ module _ (pair_of : PairOf) (place : Place) (course : Course) where
         (passes.stays c.state.versions c.at.versions)
         (owed_still before after c.done c.at.pays passes)
 
+    -- and its file was asked for, or not
+    asked_before : (after : Scene) (least most : ℕ) → least ≡ length c.done
+        → most ≡ length c.done + 1
+        → AsksOf true (asks_of_turn course.rules turn) before.asked after.asked
+        → AsksSteps course.rules (turns_of place course numbers_before) least most course.asked
+        after.asked
+    asked_before after least most are more asks =
+        asks_at course.rules (turns_of place course numbers_before) c.done
+        (turn ∷ play course.rules place (last before left) (state_of turn) left) least most
+        course.asked before.asked after.asked (split (last before left)) are more c.at.asked
+        (asks_next course.rules turn _ before.asked after.asked asks)
+
     pub line_unread : Missed course.rules turn (point_of before) (point_of after)
         → after.pieces ≡ before.pieces → Passes before after
+        → AsksOf true (asks_of_turn course.rules turn) before.asked after.asked
         → IsCutShort place course status.ReadFault before after
-    line_unread missed pieces passes =
+    line_unread missed pieces passes asks =
         let printed = pieces ∙ c.at.printed in
         let held = missed.files ∙ c.at.files in
         record {
@@ -216,11 +243,20 @@ module _ (pair_of : PairOf) (place : Place) (course : Course) where
               (steps_unread course.rules place course.events course.first c.at.front c.done
               c.state writer line left number c.at.all c.at.under (last before left) course.ample
               course.pieces after.pieces after.told c.at.found missed.stops printed held);
+          asks = asked_before after _ _
+              (steps_unread course.rules place course.events course.first c.at.front c.done
+              c.state writer line left number c.at.all c.at.under (last before left) course.ample
+              course.pieces after.pieces after.told c.at.found missed.stops printed held)
+              (begun_unread course.rules place course.events course.first c.at.front c.done
+              c.state writer line left number c.at.all c.at.under (last before left) course.ample
+              course.pieces after.pieces after.told c.at.found missed.stops printed held) asks;
         }
 
     pub line_unwritten : SavesPart turn before.told after.told → after.pieces ≡ before.pieces
-        → Passes before after → IsCutShort place course status.WriteFault before after
-    line_unwritten part pieces passes =
+        → Passes before after
+        → AsksOf true (asks_of_turn course.rules turn) before.asked after.asked
+        → IsCutShort place course status.WriteFault before after
+    line_unwritten part pieces passes asks =
         let printed = pieces ∙ c.at.printed in
         let tears = subst (λ (told : Option Files).
         WritesPart part.0.name part.0.bytes told after.told)
@@ -241,18 +277,30 @@ module _ (pair_of : PairOf) (place : Place) (course : Course) where
               (steps_torn_file course.rules place course.events course.first c.at.front c.done
               c.state writer line left number c.at.all c.at.under (last before left) course.ample
               course.pieces after.pieces after.told part.0 part.1 printed tears);
+          asks = asked_before after _ _
+              (steps_torn_file course.rules place course.events course.first c.at.front c.done
+              c.state writer line left number c.at.all c.at.under (last before left) course.ample
+              course.pieces after.pieces after.told part.0 part.1 printed tears)
+              (begun_torn_file course.rules place course.events course.first c.at.front c.done
+              c.state writer line left number c.at.all c.at.under (last before left) course.ample
+              course.pieces after.pieces after.told part.0 part.1 printed tears) asks;
         }
 
     pub line_memory : after.told ≡ before.told → after.pieces ≡ before.pieces → Passes before after
+        → AsksOf true (asks_of_turn course.rules turn) before.asked after.asked
         → IsCutShort place course status.Memory before after
-    line_memory told pieces passes =
+    line_memory told pieces passes asks =
         no_memory (says writer line ∷ left) was before after c told pieces passes
+        (asks_next course.rules (step course.rules place
+        (next_number (last before (says writer line ∷ left))) c.state writer line) _ before.asked
+        after.asked asks)
 
     module _ (made : Outcome) (text piece : List ℕ)
         (makes : MakesTurn course.rules course.base turn made (point_of before)
         (point_of after) text
         piece)
-        (fronted : text ≡ line_prefix place writer) where
+        (fronted : text ≡ line_prefix place writer)
+        (asks : AsksOf false (asks_of_turn course.rules turn) before.asked after.asked) where
       is_shown : piece ≡ shown place turn
       is_shown = makes.line ∙ ap (λ t. t ++ reply_line (reply_of turn)) fronted
 
@@ -268,6 +316,11 @@ module _ (pair_of : PairOf) (place : Place) (course : Course) where
           pays_step course.base c.done turn course.hashed course.left before.hashed
           (unhashed before.engine.arena) after.hashed (unhashed after.engine.arena) c.at.pays
           makes.pays
+
+      asked_after : after.asked
+          ≡ asks_append course.asked (asks_of_turns course.rules (c.done ++ turn ∷ []))
+      asked_after =
+          asks_on course.rules c.done turn course.asked before.asked after.asked c.at.asked asks
 
       -- the line was done and printed
       pub line_done : after.pieces ≡ told_append before.pieces (piece ∷ [])
@@ -287,6 +340,7 @@ module _ (pair_of : PairOf) (place : Place) (course : Course) where
           printed = printed ∙ ap (λ (t : Told). told_append t (piece ∷ [])) c.at.printed
               ∙ told_append-twice course.pieces (shown_all place c.done) (piece ∷ [])
               ∙ ap (told_append course.pieces) (sym more_lines);
+          asked = asked_after;
           ample = ample ∙ c.at.ample;
           answer = any-append c.done turn was (is_refusal made) c.at.answer makes.outcome;
           found = none-append (misses course.rules) c.done turn c.at.found makes.found;
@@ -316,6 +370,18 @@ module _ (pair_of : PairOf) (place : Place) (course : Course) where
           (let total = pays_total course.base (c.done ++ turn ∷ []) course.hashed course.left
           after.hashed (unhashed after.engine.arena) pays_after in omega arith)
 
+      -- and its file was asked for
+      asked_behind : (least most : ℕ) → least ≡ length (c.done ++ turn ∷ [])
+          → most ≡ length (c.done ++ turn ∷ [])
+          → AsksSteps course.rules (turns_of place course numbers_after) least most course.asked
+          after.asked
+      asked_behind least most are more =
+          asks_done course.rules (turns_of place course numbers_after) (c.done ++ turn ∷ [])
+          (play course.rules place (last after left) (state_of turn) left) least most course.asked
+          after.asked
+          (ap (λ es. play course.rules place numbers_after course.first es) longer
+          ∙ on.turns left (last after left)) are more asked_after
+
       -- it was done, and printed in part
       pub line_cut : (count : ℕ) → after.pieces ≡ told_append before.pieces (take count piece ∷ [])
           → IsCutShort place course status.WriteFault before after
@@ -342,6 +408,13 @@ module _ (pair_of : PairOf) (place : Place) (course : Course) where
                 (steps_torn_line course.rules place course.events course.first c.at.front c.done
                 c.state writer line left number c.at.all c.at.under (last after left)
                 course.ample course.pieces after.pieces after.told count printed makes.files);
+            asks = asked_behind _ _
+                (steps_torn_line course.rules place course.events course.first c.at.front c.done
+                c.state writer line left number c.at.all c.at.under (last after left)
+                course.ample course.pieces after.pieces after.told count printed makes.files)
+                (begun_torn_line course.rules place course.events course.first c.at.front c.done
+                c.state writer line left number c.at.all c.at.under (last after left)
+                course.ample course.pieces after.pieces after.told count printed makes.files);
           }
 
       -- it was done, and there was no memory to print it
@@ -364,6 +437,13 @@ module _ (pair_of : PairOf) (place : Place) (course : Course) where
             reached = λ all. no-read-memory;
             stopped = stopped_behind _
                 (steps_ahead course.rules place course.events course.first c.at.front c.done
+                c.state writer line left number c.at.all c.at.under (last after left)
+                course.ample course.pieces after.pieces after.told wants printed makes.files);
+            asks = asked_behind _ _
+                (steps_ahead course.rules place course.events course.first c.at.front c.done
+                c.state writer line left number c.at.all c.at.under (last after left)
+                course.ample course.pieces after.pieces after.told wants printed makes.files)
+                (begun_ahead course.rules place course.events course.first c.at.front c.done
                 c.state writer line left number c.at.all c.at.under (last after left)
                 course.ample course.pieces after.pieces after.told wants printed makes.files);
           }

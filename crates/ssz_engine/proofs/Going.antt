@@ -10,6 +10,7 @@ use Rattle.ssz_machine.specs.declared.place.Place.{Place}
 use Rattle.ssz_machine.specs.Plays.{Event}
 use Rattle.ssz_engine.specs.Scripts.{Scene, files_named}
 use Rattle.ssz_engine.specs.Points.{RunReaches, CountsFaults, Course, RunContinues, Runs, RunsSome, RunsUpTo, lines_in}
+use Rattle.ssz_engine.proofs.Asks.{asks_still}
 use Rattle.ssz_engine.proofs.Comings.{no_memory, passes_none}
 use Rattle.ssz_engine.proofs.Leading.{StaysReadable, earlier, keeps_on}
 use Rattle.ssz_engine.proofs.LinesDone.{named_parts, none_parts}
@@ -55,7 +56,7 @@ module _ {pair_of : PairOf} {place : Place} where
       → Runs pair_of place events (Err status.Memory) was now here here
   runs_memory {events} {was} {now} {here} = record {
     goes = λ course left comes. no_memory pair_of place course (events ++ left) was here here comes
-        refl refl (passes_none here);
+        refl refl (passes_none here) (asks_still course.rules _ here.asked);
     keeps = record { types = refl; most = refl; base = refl };
     nodes = λ none. keeps_same _ _ refl;
     rises = omega arith;

@@ -29,6 +29,7 @@ earlier place course ended before mid after readable cut = record {
       (all_names before.readable mid.readable readable
       (files_reached course.rules (turns_of place course cut.numbers)) all);
   stopped = cut.stopped;
+  asks = cut.asks;
 }
 
 -- what two parts keep

@@ -38,3 +38,4 @@ pub mod WorkDraws
 pub mod WorkPoints
 pub mod WorkRounds
 pub mod WorkEnds
+pub mod Asks

@@ -1,6 +1,7 @@
 -- What a line that was done, or was not, makes of a run.
-use Rattle.std.proofs.Common.{ℕ, ◌-◌, ◌≡◌, Bool, false, List, [], ◌∷◌, refl, subst, ◌+◌, ◌≤◌, ap, inl, inr}
+use Rattle.std.proofs.Common.{ℕ, ◌-◌, ◌≡◌, Bool, true, false, List, [], ◌∷◌, refl, subst, ◌+◌, ◌≤◌, ap, inl, inr}
 use Rattle.std.specs.Prelude.{Result, Ok, Err, ◌||◌, IfErr}
+use Rattle.ssz_outside.specs.Asked.{AsksOf}
 use Rattle.ssz_outside.specs.declared.status.Status.{Status}
 use Rattle.ssz_outside.specs.declared.status.Status.TheVariants as status
 use Rattle.ssz_proof.specs.Calculation.{PairOf}
@@ -10,10 +11,10 @@ use Rattle.ssz_machine.specs.Machine.{Line, step}
 use Rattle.ssz_machine.specs.Plays.{Event, says, line_prefix}
 use Rattle.ssz_engine.specs.Steps.{is_refusal}
 use Rattle.ssz_decisions.specs.Content.{KeepsEngine}
-use Rattle.ssz_engine.specs.Scripts.{Scene, point_of}
+use Rattle.ssz_engine.specs.Scripts.{Scene, asks_of_turn, point_of}
 use Rattle.ssz_engine.specs.Points.{Course, RunReaches, AnyRunContinues, CountsFaults, Runs}
 use Rattle.ssz_outside.specs.Printed.{CountsPrint, IsStop, PrintsLine}
-use Rattle.ssz_engine.specs.Lines.{TurnDoes, DoesLine, ended_by, Tries}
+use Rattle.ssz_engine.specs.Lines.{AsksLine, TurnDoes, DoesLine, ended_by, Tries}
 use Rattle.ssz_decisions.specs.declared.outcome.Outcome.{Outcome}
 use Rattle.ssz_decisions.specs.declared.fault.EngineFault.{EngineFault}
 use Rattle.ssz_decisions.specs.declared.fault.EngineFault.TheVariants.{Read, Write, Memory}
@@ -55,49 +56,68 @@ module _ (pair_of : PairOf) (place : Place) (writer : ℕ) (line : Line) (was : 
       (point_of before) (point_of after) text more) c.at.rules
       (does c.state c.at.versions c.at.files))
 
+  -- what it asks for, by the rules of the run
+  line_asks : (cut : Bool) (course : Course) (left : List Event)
+      (c : RunReaches pair_of place course (says writer line ∷ left) was before)
+      → AsksLine pair_of place writer line cut (point_of before) (point_of after)
+      → AsksOf cut (asks_of_turn course.rules
+      (step course.rules place (before.hashed - course.base) c.state writer line)) before.asked
+      after.asked
+  line_asks cut course left c asks =
+      subst (λ (rules : Rules). AsksOf cut (asks_of_turn rules
+      (step rules place (before.hashed - course.base) c.state writer line)) before.asked
+      after.asked) c.at.rules (asks c.state c.at.versions)
+
   -- it was not done
   pub stop_goes : (fault : EngineFault)
       → DoesLine pair_of place writer line (Err fault) (point_of before) (point_of after) text more
+      → AsksLine pair_of place writer line true (point_of before) (point_of after)
       → after.pieces ≡ before.pieces → Passes before after
       → AnyRunContinues pair_of place (says writer line ∷ [])
       (Err (ended_by fault)) was was before after
-  stop_goes Read does pieces passes course left c =
+  stop_goes Read does asks pieces passes course left c =
       line_unread pair_of place course writer line left was before after c
-      (line_does (Err Read) course left c does) pieces passes
-  stop_goes Write does pieces passes course left c =
+      (line_does (Err Read) course left c does) pieces passes (line_asks true course left c asks)
+  stop_goes Write does asks pieces passes course left c =
       line_unwritten pair_of place course writer line left was before after c
-      (line_does (Err Write) course left c does) pieces passes
-  stop_goes Memory does pieces passes course left c =
+      (line_does (Err Write) course left c does) pieces passes (line_asks true course left c asks)
+  stop_goes Memory does asks pieces passes course left c =
       line_memory pair_of place course writer line left was before after c
-      (line_does (Err Memory) course left c does) pieces passes
+      (line_does (Err Memory) course left c does) pieces passes (line_asks true course left c asks)
 
   -- it was done, and was printed or not
   pub print_goes : (printed : Result (Unit {0}) Status) (made : Outcome)
       → DoesLine pair_of place writer line (Ok made) (point_of before) (point_of after) text more
+      → AsksLine pair_of place writer line false (point_of before) (point_of after)
       → text ≡ line_prefix place writer → PrintsLine printed more before.pieces after.pieces
       → KeepsEngine before.engine after.engine
       → (printed ≡ Err status.Memory → before.ample ≡ false)
       → after.ample ≡ before.ample
       → AnyRunContinues pair_of place (says writer line ∷ []) printed was
       (is_refusal made || was) before after
-  print_goes (Ok x) made does fronted prints keeps memory ample course left c =
+  print_goes (Ok x) made does asks fronted prints keeps memory ample course left c =
       line_done pair_of place course writer line left was before after c made text more
-      (line_does (Ok made) course left c does) fronted prints keeps ample
-  print_goes (Err status.WriteFault) made does fronted prints keeps memory ample course left c =
+      (line_does (Ok made) course left c does) fronted (line_asks false course left c asks) prints
+      keeps ample
+  print_goes (Err status.WriteFault) made does asks fronted prints keeps memory ample course left
+      c =
       line_cut pair_of place course writer line left was before after c made text more
-      (line_does (Ok made) course left c does) fronted prints.0 prints.1
-  print_goes (Err status.Memory) made does fronted prints keeps memory ample course left c =
+      (line_does (Ok made) course left c does) fronted (line_asks false course left c asks)
+      prints.0 prints.1
+  print_goes (Err status.Memory) made does asks fronted prints keeps memory ample course left c =
       line_ahead pair_of place course writer line left was before after c made text more
-      (line_does (Ok made) course left c does) fronted (memory refl) prints
-  print_goes (Err status.Accepted) made does fronted prints keeps memory ample course left c =
+      (line_does (Ok made) course left c does) fronted (line_asks false course left c asks)
+      (memory refl) prints
+  print_goes (Err status.Accepted) made does asks fronted prints keeps memory ample course left c =
       absurd prints
-  print_goes (Err status.Refused) made does fronted prints keeps memory ample course left c =
+  print_goes (Err status.Refused) made does asks fronted prints keeps memory ample course left c =
       absurd prints
-  print_goes (Err status.Usage) made does fronted prints keeps memory ample course left c =
+  print_goes (Err status.Usage) made does asks fronted prints keeps memory ample course left c =
       absurd prints
-  print_goes (Err status.SchemaFault) made does fronted prints keeps memory ample course left c =
+  print_goes (Err status.SchemaFault) made does asks fronted prints keeps memory ample course left
+      c =
       absurd prints
-  print_goes (Err status.ReadFault) made does fronted prints keeps memory ample course left c =
+  print_goes (Err status.ReadFault) made does asks fronted prints keeps memory ample course left c =
       absurd prints
 
   -- the faults that were counted
@@ -138,12 +158,13 @@ module _ (pair_of : PairOf) (place : Place) (writer : ℕ) (line : Line) (was : 
   pub stop_runs : {now : Bool} (fault : EngineFault)
       → Tries {T = Outcome} (line ∷ []) (Err fault) (point_of before) (point_of after)
       → DoesLine pair_of place writer line (Err fault) (point_of before) (point_of after) text more
+      → AsksLine pair_of place writer line true (point_of before) (point_of after)
       → after.pieces ≡ before.pieces → after.sink_faults ≡ before.sink_faults
       → after.hashed ≤ before.hashed + unhashed before.engine.arena
       → StaysFor before.engine after.engine
       → Runs pair_of place (says writer line ∷ []) (Err (ended_by fault)) was now before after
-  stop_runs {now} fault tries does pieces sinks most stays = record {
-    goes = stop_goes fault does pieces
+  stop_runs {now} fault tries does asks pieces sinks most stays = record {
+    goes = stop_goes fault does asks pieces
         (record { rises = tries.rises; most = most; stays = stays });
     keeps = tries.keeps;
     nodes = tries.nodes;
@@ -158,14 +179,15 @@ module _ (pair_of : PairOf) (place : Place) (writer : ℕ) (line : Line) (was : 
   pub print_runs : (printed : Result (Unit {0}) Status) (made : Outcome)
       → Tries {T = Outcome} (line ∷ []) (Ok made) (point_of before) (point_of after)
       → DoesLine pair_of place writer line (Ok made) (point_of before) (point_of after) text more
+      → AsksLine pair_of place writer line false (point_of before) (point_of after)
       → text ≡ line_prefix place writer → PrintsLine printed more before.pieces after.pieces
       → CountsPrint printed before.sink_faults after.sink_faults
       → IfErr printed IsStop
       → (printed ≡ Err status.Memory → before.ample ≡ false) → after.ample ≡ before.ample
       → Runs pair_of place (says writer line ∷ []) printed was (is_refusal made || was) before
       after
-  print_runs printed made tries does fronted prints sinks stops memory ample = record {
-    goes = print_goes printed made does fronted prints tries.keeps memory ample;
+  print_runs printed made tries does asks fronted prints sinks stops memory ample = record {
+    goes = print_goes printed made does asks fronted prints tries.keeps memory ample;
     keeps = tries.keeps;
     nodes = tries.nodes;
     rises = tries.rises;

@@ -1,9 +1,10 @@
 -- A whole script.
-use Rattle.std.proofs.Common.{ℕ, ◌-◌, ◌≡◌, ◌++◌, Bool, true, false, List, [], Some, None, refl, sym, ap, ◌∙◌, subst, arith}
+use Rattle.std.proofs.Common.{ℕ, ◌-◌, ◌≡◌, ◌++◌, Bool, true, false, List, [], length, Some, None, refl, sym, ap, ◌∙◌, subst, arith}
 use Rattle.std.specs.Prelude.{Ok, Err, ◌≢◌}
 use Rattle.std.specs.List.{AllByRecursion}
 use Rattle.std.proofs.lemmas.List.{append-nil}
 use Rattle.ssz_arena.specs.Content.{unhashed}
+use Rattle.ssz_outside.proofs.Asking.{asks_append-none}
 use Rattle.ssz_outside.specs.Job.{Ends, IsFinished}
 use Rattle.ssz_outside.specs.Pieces.{Told, told_append}
 use Rattle.ssz_outside.specs.declared.status.Status.{Status}
@@ -18,12 +19,13 @@ use Rattle.ssz_machine.specs.Plays.{Event, all_of, play, state_after}
 use Rattle.ssz_machine.specs.Counts.{AreCounts}
 use Rattle.ssz_machine.specs.Runs.{job_from}
 use Rattle.ssz_machine.proofs.UnderWay.{Follow, under_way_all, under_way_begins, under_way_last}
-use Rattle.ssz_machine.proofs.Endings.{ends_done}
+use Rattle.ssz_machine.proofs.Endings.{begun_finished, ends_done, steps_finished}
 use Rattle.ssz_decisions.specs.Content.{rules_of}
 use Rattle.ssz_decisions.specs.Standing.{StandsFor}
 use Rattle.ssz_engine.specs.Scripts.{EndsRun, EndsScript, Scene}
 use Rattle.ssz_outside.specs.Printed.{finished_status}
 use Rattle.ssz_engine.specs.Points.{RunReaches, Course, AnyRunContinues, IsCutShort, PaysSteps, turns_of}
+use Rattle.ssz_engine.proofs.Asks.{asks_done}
 use Rattle.ssz_engine.proofs.Paying.{pays_counts, pays_total}
 use Rattle.ssz_engine.proofs.Reaching.{same_files}
 
@@ -57,6 +59,7 @@ module _ (pair_of : PairOf) (place : Place) (events : List Event) (before after 
     base = before.engine.base;
     hashed = before.hashed;
     left = unhashed before.engine.arena;
+    asked = before.asked;
     pieces = before.pieces;
     ample = before.ample;
   }
@@ -78,6 +81,7 @@ module _ (pair_of : PairOf) (place : Place) (events : List Event) (before after 
           versions = versions;
           files = files;
           printed = told_append-none before.pieces;
+          asked = sym (asks_append-none before.asked);
           ample = refl;
           answer = refl;
           found = refl;
@@ -127,6 +131,14 @@ module _ (pair_of : PairOf) (place : Place) (events : List Event) (before after 
               c.at.versions;
         };
         stopped = λ broken. absurd (broken (finished_ends refused));
+        asks = asks_done course.rules (turns_of place course numbers) c.done [] _ _ before.asked
+            after.asked (every ∙ sym (append-nil c.done))
+            (steps_finished before.ample refused
+            (job_from course.rules place events first numbers) before.pieces after.pieces after.told
+            _ ∙ ap length every)
+            (begun_finished before.ample refused
+            (job_from course.rules place events first numbers) before.pieces after.pieces after.told
+            _ ∙ ap length every) c.at.asked;
       }
 
   -- or the run ended before
@@ -152,6 +164,7 @@ module _ (pair_of : PairOf) (place : Place) (events : List Event) (before after 
             (same_files course.rules place events first others cut.numbers) all);
         through = λ done. absurd (cut.broken done);
         stopped = λ broken. cut.stopped;
+        asks = cut.asks;
       }
 
 module _ (pair_of : PairOf) (script : List ℕ) (before after : Scene) (refused : Bool) where

@@ -18,6 +18,7 @@ use Rattle.ssz_machine.specs.Runs.{IsUnderWay}
 use Rattle.ssz_machine.proofs.UnderWay.{under_way_adopts}
 use Rattle.ssz_decisions.specs.Content.{EngineContent, SameNodes, rules_of}
 use Rattle.ssz_decisions.specs.Standing.{Match, StandsFor, StandsForVersions}
+use Rattle.ssz_engine.proofs.Asks.{asks_still}
 use Rattle.ssz_engine.proofs.Comings.{no_memory, passes_none}
 use Rattle.ssz_engine.proofs.Leading.{earlier}
 use Rattle.ssz_engine.specs.Points.{RunReaches, Course, IsCutShort, PaysSteps, Runs}
@@ -172,6 +173,7 @@ comes_adopted pair_of course scripts left refused before new few nodes adopts c 
         versions = stands_adopted scripts c.state old new few nodes adopts c.at.versions;
         files = c.at.files ∙ ap Some (sym (after_files 0 scripts c.state));
         printed = c.at.printed;
+        asked = c.at.asked;
         ample = c.at.ample;
         answer = c.at.answer;
         found = c.at.found;
@@ -209,7 +211,7 @@ cut_adopting pair_of course scripts left refused before new few nodes adopts c =
     (comes_adopted pair_of course (take k scripts) (first.left ++ left) refused before new
     (let all = adopts.1 in omega arith) nodes
     (subst (λ n. AdoptsAll n before.engine.entries new.entries) (sym count) adopts.2) begun)
-    refl refl (passes_none after))
+    refl refl (passes_none after) (asks_still course.rules _ before.asked))
 
 adopted-kept : (old new : EngineContent) → SameNodes old new → KeepsNodes old.arena new.arena
 adopted-kept old new nodes =

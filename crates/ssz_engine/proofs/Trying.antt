@@ -1,5 +1,5 @@
 -- Lines that were tried, one behind another.
-use Rattle.std.proofs.Common.{ℕ, ◌≡◌, ◌≢◌, List, [], refl, sym, ap, subst, arith}
+use Rattle.std.proofs.Common.{ℕ, ◌≡◌, ◌≢◌, List, [], refl, sym, ap, ◌∙◌, subst, arith}
 use Rattle.std.specs.Prelude.{Result, Ok, Err, IfErr}
 use Rattle.ssz_arena.proofs.Keeping.{keeps_same, keeps_trans}
 use Rattle.ssz_machine.specs.Machine.{Line}
@@ -63,6 +63,7 @@ module _ {T : Type 0} where
     gets = still-reads result here.get_faults only;
     puts = still-writes result here.put_faults only;
     fails = λ all. still-unread result only;
+    asks = λ none. refl;
   }
 
   -- some were done, and others tried behind them
@@ -77,6 +78,7 @@ module _ {T : Type 0} where
     gets = subst (λ n. CountsReads result n after.get_faults) first.gets more.gets;
     puts = subst (λ n. CountsWrites result n after.put_faults) first.puts more.puts;
     fails = λ all. more.fails tt;
+    asks = λ none. more.asks refl ∙ first.asks refl;
   }
 
   -- they were done, whatever is answered
@@ -90,6 +92,7 @@ module _ {T : Type 0} where
     gets = tries.gets;
     puts = tries.puts;
     fails = λ all same. cc;
+    asks = tries.asks;
   }
 
   -- a fault is passed on
@@ -106,4 +109,5 @@ module _ {T : Type 0} where
         gets = same-reads T U was before.get_faults after.get_faults tries.gets;
         puts = same-writes T U was before.put_faults after.put_faults tries.puts;
         fails = λ all fails. tries.fails all (ap Err (same-fault T was Read fails));
+        asks = tries.asks;
       }))

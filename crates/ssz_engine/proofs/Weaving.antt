@@ -1,7 +1,7 @@
 -- A whole weave.
 use Rattle.std.proofs.Common.{ℕ, ◌≡◌, Bool, false, List, [], length, map, refl, sym, ap, ◌∙◌, subst, arith}
 use Rattle.std.specs.Prelude.{Ok, Err}
-use Rattle.ssz_outside.specs.Job.{Ends}
+use Rattle.ssz_outside.specs.Job.{Ends, steps_begun, steps_done}
 use Rattle.ssz_outside.specs.declared.status.Status.{Status}
 use Rattle.ssz_proof.specs.Calculation.{PairOf}
 use Rattle.ssz_script.specs.Lines.{statements_in}
@@ -11,7 +11,6 @@ use Rattle.ssz_machine.specs.Rules.{Rules}
 use Rattle.ssz_machine.specs.Machine.{Turn}
 use Rattle.ssz_machine.specs.Plays.{Event, charges, play, weaving}
 use Rattle.ssz_machine.specs.Jobs.{job_of, turns_of_weave}
-use Rattle.ssz_machine.specs.Runs.{steps_done}
 use Rattle.ssz_machine.proofs.NoNumbers.{same_weave}
 use Rattle.ssz_machine.proofs.Numbering.{same_run}
 use Rattle.ssz_decisions.specs.Content.{rules_of}
@@ -20,6 +19,7 @@ use Rattle.ssz_engine.specs.Scripts.{EndsRun, Scene}
 use Rattle.ssz_outside.specs.Printed.{finished_status}
 use Rattle.ssz_engine.specs.Points.{AnyRunContinues}
 use Rattle.ssz_engine.specs.Weaves.{EndsWeave, EndsWeaveFrom}
+use Rattle.ssz_engine.proofs.Asks.{asks_as}
 use Rattle.ssz_engine.proofs.Scripts.{course, run_done, run_stopped, start}
 
 module _ (pair_of : PairOf) (base order : List ℕ) (scripts : List (List ℕ)) (before after : Scene)
@@ -27,13 +27,15 @@ module _ (pair_of : PairOf) (base order : List ℕ) (scripts : List (List ℕ)) 
     abbrev events : List Event
     events = weaving (statements_in base) order (map statements_in scripts)
 
-    -- a weave of these steps ended with so many done
-    abbrev EndsWith : Status → Rules → State → ℕ → List Turn → Type 0
-    EndsWith ended rules first steps turns =
+    -- a weave of these steps ended with so many done, and so many begun
+    abbrev EndsWith : Status → Rules → State → (steps begun : ℕ) → List Turn → Type 0
+    EndsWith ended rules first steps begun turns =
         (ends : Ends before.ample ended (job_of rules Weave first.files turns) before.pieces
         after.pieces after.told)
         × (steps_done before.ample ended (job_of rules Weave first.files turns) before.pieces
         after.pieces after.told ends ≡ steps)
+        × (steps_begun before.ample ended (job_of rules Weave first.files turns) before.pieces
+        after.pieces after.told ends ≡ begun)
 
     -- the numbers of a weave tell nothing
     without_numbers : (rules : Rules) (first : State) (ended : Status)
@@ -47,11 +49,17 @@ module _ (pair_of : PairOf) (base order : List ℕ) (scripts : List (List ℕ)) 
         let ends : EndsWith ended rules first
         (steps_done before.ample ended
         (job_of rules Weave first.files (play rules Weave run.numbers first events)) before.pieces
+        after.pieces after.told run.ends)
+        (steps_begun before.ample ended
+        (job_of rules Weave first.files (play rules Weave run.numbers first events)) before.pieces
         after.pieces after.told run.ends) (turns_of_weave rules first base order scripts) =
         subst (λ (turns : List Turn). EndsWith ended rules first
         (steps_done before.ample ended
         (job_of rules Weave first.files (play rules Weave run.numbers first events)) before.pieces
-        after.pieces after.told run.ends) turns) same (run.ends, refl) in
+        after.pieces after.told run.ends)
+        (steps_begun before.ample ended
+        (job_of rules Weave first.files (play rules Weave run.numbers first events)) before.pieces
+        after.pieces after.told run.ends) turns) same (run.ends, refl, refl) in
         record {
           ends = ends.0;
           paid = let charged = ap charges same in omega (arith, run.paid, charged);
@@ -78,6 +86,7 @@ module _ (pair_of : PairOf) (base order : List ℕ) (scripts : List (List ℕ)) 
                     stopped.stands;
                 paid = let charged = ap charges steps in omega (arith, stopped.paid, charged);
               };
+          asks = asks_as rules _ _ _ _ _ _ before.asked after.asked same ends.1 ends.2 run.asks;
         }
 
     -- all lines of a weave were done

@@ -44,7 +44,7 @@ same_step rules number state (Root v) is = refl
 same_step rules number state other is = absurd is
 
 -- they name no file
-names_none : (statement : Statement) → IsOfWork statement → file_read statement ≡ None
+pub names_none : (statement : Statement) → IsOfWork statement → file_read statement ≡ None
 names_none (New v t) is = refl
 names_none (Set v path literal) is = refl
 names_none (Append v path literal) is = refl

@@ -1,6 +1,7 @@
 -- What a line of a script does, as the plain machine does it.
-use Rattle.std.specs.Prelude.{◌≡◌, ◌≢◌, ℕ, ◌-◌, true, false, List, ◌++◌, Option, Some, None, Result, Ok, Err, ◌≤◌}
+use Rattle.std.specs.Prelude.{◌≡◌, ◌≢◌, ℕ, ◌-◌, Bool, true, false, List, [], ◌++◌, Option, Some, None, Result, Ok, Err, ◌≤◌}
 use Rattle.ssz_arena.specs.Content.{unhashed, KeepsNodes}
+use Rattle.ssz_outside.specs.Asked.{AsksOf}
 use Rattle.ssz_outside.specs.declared.status.Status.{Status}
 use Rattle.ssz_outside.specs.declared.status.Status.TheVariants as status
 use Rattle.ssz_proof.specs.Calculation.{PairOf}
@@ -13,7 +14,7 @@ use Rattle.ssz_machine.specs.Machine.{Line, Turn, step, reply_of, state_of, is_r
 use Rattle.ssz_decisions.specs.Content.{rules_of, KeepsEngine}
 use Rattle.ssz_decisions.specs.Standing.{StandsFor}
 use Rattle.ssz_engine.specs.Steps.{SavesPart, is_refusal}
-use Rattle.ssz_engine.specs.Scripts.{AreNamedReadable, Point, file_named}
+use Rattle.ssz_engine.specs.Scripts.{AreNamedReadable, Point, asks_of_turn, file_named, files_named}
 use Rattle.ssz_engine.specs.Points.{PaysStep}
 use Rattle.ssz_decisions.specs.declared.outcome.Outcome.{Outcome}
 use Rattle.ssz_decisions.specs.declared.fault.EngineFault.{EngineFault}
@@ -63,9 +64,19 @@ DoesLine pair_of place writer line result before after text more =
     (step (rules_of pair_of before.engine) place (before.hashed - before.engine.base) state writer
     line) result before after text more
 
+-- Whatever state is stood for, the files were asked for the file that the line reads from it, with
+-- the most bytes of a value, or for nothing where it reads none; where the line was cut short,
+-- perhaps for nothing.
+abbrev pub AsksLine : PairOf → Place → ℕ → Line → (cut : Bool) → Point → Point → Type 0
+AsksLine pair_of place writer line cut before after =
+    (state : State) → StandsFor before.engine state.versions
+    → AsksOf cut (asks_of_turn (rules_of pair_of before.engine)
+    (step (rules_of pair_of before.engine) place (before.hashed - before.engine.base) state writer
+    line)) before.asked after.asked
+
 -- What is so of lines that were tried, whatever they came to: types, limit and base stay, and so do
 -- the nodes, where no line gives them up; what could be read can be read; and a fault is counted. A
--- read fails only of a file that a line names.
+-- read fails only of a file that a line names, and where none does the files are asked for nothing.
 pub record Tries {T : Type 0} (lines : List Line) (result : Result T EngineFault)
     (before after : Point) : Type 0 where
   pub keeps : KeepsEngine before.engine after.engine
@@ -75,6 +86,7 @@ pub record Tries {T : Type 0} (lines : List Line) (result : Result T EngineFault
   pub gets : CountsReads result before.get_faults after.get_faults
   pub puts : CountsWrites result before.put_faults after.put_faults
   pub fails : AreNamedReadable before.readable lines → result ≢ Err Read
+  pub asks : files_named lines ≡ [] → after.asked ≡ before.asked
 
 -- the type of an entry, without its node
 abbrev pub type_held : Option Held → Option ℕ

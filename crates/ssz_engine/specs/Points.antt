@@ -2,7 +2,8 @@
 use Rattle.std.specs.Prelude.{◌≡◌, ◌≢◌, ◌≤◌, ℕ, ◌+◌, ◌-◌, Bool, false, List, [], ◌∷◌, ◌++◌, Some, Result, Ok, Err, IfErr}
 use Rattle.std.specs.List.{AllByRecursion, list_any}
 use Rattle.ssz_arena.specs.Content.{unhashed, KeepsNodes}
-use Rattle.ssz_outside.specs.Job.{CountsRun, CountsNone, Ends, IsFinished}
+use Rattle.ssz_outside.specs.Asked.{Asks, asks_append}
+use Rattle.ssz_outside.specs.Job.{CountsRun, CountsNone, Ends, IsFinished, steps_begun, steps_done}
 use Rattle.ssz_outside.specs.Pieces.{Told, told_append}
 use Rattle.ssz_outside.specs.declared.status.Status.{Status}
 use Rattle.ssz_outside.specs.declared.status.Status.TheVariants as status
@@ -13,10 +14,10 @@ use Rattle.ssz_machine.specs.Rules.{Rules}
 use Rattle.ssz_machine.specs.Machine.{Turn, reply_of, charge_of, is_refused, misses, Line}
 use Rattle.ssz_machine.specs.Plays.{Event, play, shown_all, says, adopts}
 use Rattle.ssz_machine.specs.Counts.{may_hash, number_said}
-use Rattle.ssz_machine.specs.Runs.{IsUnderWay, job_from, steps_done}
+use Rattle.ssz_machine.specs.Runs.{IsUnderWay, job_from}
 use Rattle.ssz_decisions.specs.Content.{rules_of, KeepsEngine}
 use Rattle.ssz_decisions.specs.Standing.{StandsFor}
-use Rattle.ssz_engine.specs.Scripts.{IsStopped, Scene, files_reached, AreNamedReadable}
+use Rattle.ssz_engine.specs.Scripts.{AsksSteps, IsStopped, Scene, asks_of_turns, files_reached, AreNamedReadable}
 use Rattle.ssz_engine.specs.Compacting.{NoneCompacts}
 
 -- A step was paid for. Before it `was` pairs were hashed and `left` were to be hashed, behind it
@@ -35,8 +36,8 @@ PaysSteps base (turn ∷ turns) was left now rest =
     × PaysSteps base turns mid mid_left now rest
 
 -- What a run began with: its rules, its events, the first state, the engine's base, the pairs that
--- were hashed and that were left to be hashed, the pieces of the sink, and whether it always finds
--- memory.
+-- were hashed and that were left to be hashed, what the files were asked for, the pieces of the
+-- sink, and whether it always finds memory.
 pub record Course : Type 0 where
   pub rules : Rules
   pub events : List Event
@@ -44,6 +45,7 @@ pub record Course : Type 0 where
   pub base : ℕ
   pub hashed : ℕ
   pub left : ℕ
+  pub asked : Asks
   pub pieces : Told
   pub ample : Bool
 
@@ -52,7 +54,7 @@ abbrev pub turns_of : Place → Course → List ℕ → List Turn
 turns_of place course numbers = play course.rules place numbers course.first course.events
 
 -- A run has come to a point: these steps were made, printed and paid for, each file that they read
--- was there, and these events are left.
+-- was asked for and was there, and these events are left.
 pub record IsAt (pair_of : PairOf) (place : Place) (course : Course) (done : List Turn)
     (state : State) (events : List Event) (refused : Bool) (scene : Scene) : Type 0 where
   pub front : List Event
@@ -63,6 +65,7 @@ pub record IsAt (pair_of : PairOf) (place : Place) (course : Course) (done : Lis
   pub versions : StandsFor scene.engine state.versions
   pub files : scene.told ≡ Some state.files
   pub printed : scene.pieces ≡ told_append course.pieces (shown_all place done)
+  pub asked : scene.asked ≡ asks_append course.asked (asks_of_turns course.rules done)
   pub ample : scene.ample ≡ course.ample
   pub answer : refused ≡ list_any is_refused done
   pub found : list_any (misses course.rules) done ≡ false
@@ -78,7 +81,8 @@ pub record RunReaches (pair_of : PairOf) (place : Place) (course : Course) (even
 
 -- What is so of a run that a fault or want of memory ended: for some numbers it ended as its job
 -- does; its steps were paid for, as if nothing had been hashed in the last one begun; a read failed
--- only of a file that the steps read; and it left what the steps that were done leave.
+-- only of a file that the steps read; it left what the steps that were done leave; and the files
+-- were asked for those of these steps, and perhaps of the one begun.
 pub record IsCutShort (place : Place) (course : Course) (ended : Status) (before after : Scene)
     : Type 0 where
   pub numbers : List ℕ
@@ -99,6 +103,13 @@ pub record IsCutShort (place : Place) (course : Course) (ended : Status) (before
       (steps_done course.ample ended
       (job_from course.rules place course.events course.first numbers) course.pieces after.pieces
       after.told ends) (course.hashed + course.left) after
+  pub asks : AsksSteps course.rules (turns_of place course numbers)
+      (steps_done course.ample ended
+      (job_from course.rules place course.events course.first numbers) course.pieces after.pieces
+      after.told ends)
+      (steps_begun course.ample ended
+      (job_from course.rules place course.events course.first numbers) course.pieces after.pieces
+      after.told ends) course.asked after.asked
 
 -- the run went on, or it ended
 abbrev pub RunContinues : PairOf → Place → Course → List Event → Result (Unit {0}) Status → Bool

@@ -1,10 +1,11 @@
 -- How the run of a script ends.
-use Rattle.std.specs.Prelude.{◌≡◌, ◌≢◌, ◌≤◌, ℕ, ◌+◌, ◌-◌, if◌then◌else◌, Bool, List, [], ◌∷◌, ◌++◌, length, Option, Some, None}
+use Rattle.std.specs.Prelude.{◌≡◌, ◌≢◌, ◌≤◌, ℕ, ◌+◌, ◌-◌, if◌then◌else◌, Bool, List, [], ◌∷◌, ◌++◌, length, take, Option, Some, None}
 use Rattle.std.specs.List.{AllByRecursion}
 use Rattle.ssz_arena.specs.Content.{unhashed}
 use Rattle.ssz_chunk.specs.declared.PairHash as hash
+use Rattle.ssz_outside.specs.Asked.{Ask, Asks, asks_append}
 use Rattle.ssz_outside.specs.Content.{Content as Files}
-use Rattle.ssz_outside.specs.Job.{Ends, IsFinished}
+use Rattle.ssz_outside.specs.Job.{Ends, IsFinished, steps_begun, steps_done}
 use Rattle.ssz_outside.specs.Pieces.{Told}
 use Rattle.ssz_outside.specs.declared.outside.Files as files
 use Rattle.ssz_outside.specs.declared.outside.Sink as sink
@@ -20,7 +21,6 @@ use Rattle.ssz_machine.specs.Rules.{Rules}
 use Rattle.ssz_machine.specs.Machine.{Line, Turn, reads_file}
 use Rattle.ssz_machine.specs.Plays.{Event, all_of, charges, play, state_after}
 use Rattle.ssz_machine.specs.Jobs.{job_of}
-use Rattle.ssz_machine.specs.Runs.{steps_done}
 use Rattle.ssz_machine.specs.Counts.{AreCounts}
 use Rattle.ssz_decisions.specs.Content.{EngineContent, rules_of}
 use Rattle.ssz_decisions.specs.Standing.{StandsFor}
@@ -55,13 +55,36 @@ files_reached rules [] = []
 files_reached rules (turn ∷ turns) =
     name_before (file_reached rules turn) (files_reached rules turns)
 
+-- what the files are asked for, for a file that is read: the most bytes of a value
+abbrev pub asks_for : Rules → Option Name → List Ask
+asks_for rules None = []
+asks_for rules (Some name) = (name, rules.max_bytes) ∷ []
+
+-- so it is for a step
+abbrev pub asks_of_turn : Rules → Turn → List Ask
+asks_of_turn rules turn = asks_for rules (file_reached rules turn)
+
+-- and for steps, one behind another
+abbrev pub asks_of_turns : Rules → List Turn → List Ask
+asks_of_turns rules [] = []
+asks_of_turns rules (turn ∷ turns) = asks_of_turn rules turn ++ asks_of_turns rules turns
+
+-- The files were asked for those of the first of these steps, each once, in their order and with
+-- the most bytes of a value, and for nothing else: for those of all steps that were done, and
+-- perhaps for that of the one that was begun.
+abbrev pub AsksSteps : Rules → List Turn → (done begun : ℕ) → Asks → Asks → Type 0
+AsksSteps rules turns done begun old new =
+    (n : ℕ) × (done ≤ n) × (n ≤ begun)
+    × (new ≡ asks_append old (asks_of_turns rules (take n turns)))
+
 -- What is there before or after a line: the engine, the hasher's count, what the files tell, which
--- of them can be read, and how many of their reads and writes have failed.
+-- of them can be read, what they were asked for, and how many of their reads and writes failed.
 pub record Point : Type 1 where
   pub engine : EngineContent
   pub hashed : ℕ
   pub told : Option Files
   pub readable : Name → Type 0
+  pub asked : Asks
   pub get_faults : ℕ
   pub put_faults : ℕ
 
@@ -72,6 +95,7 @@ point of_files of_hash engine its_files its_hasher = record {
   hashed = of_hash.pairs its_hasher;
   told = of_files.content its_files;
   readable = of_files.readable its_files;
+  asked = of_files.asked its_files;
   get_faults = of_files.get_faults its_files;
   put_faults = of_files.put_faults its_files;
 }
@@ -83,6 +107,7 @@ pub record Scene : Type 1 where
   pub hashed : ℕ
   pub told : Option Files
   pub readable : Name → Type 0
+  pub asked : Asks
   pub get_faults : ℕ
   pub put_faults : ℕ
   pub pieces : Told
@@ -98,6 +123,7 @@ scene of_files of_sink of_hash engine its_files its_sink its_hasher = record {
   hashed = of_hash.pairs its_hasher;
   told = of_files.content its_files;
   readable = of_files.readable its_files;
+  asked = of_files.asked its_files;
   get_faults = of_files.get_faults its_files;
   put_faults = of_files.put_faults its_files;
   pieces = of_sink.pieces its_sink;
@@ -112,6 +138,7 @@ point_of scene = record {
   hashed = scene.hashed;
   told = scene.told;
   readable = scene.readable;
+  asked = scene.asked;
   get_faults = scene.get_faults;
   put_faults = scene.put_faults;
 }
@@ -174,6 +201,14 @@ pub record EndsRun (rules : Rules) (place : Place) (events : List Event) (first 
       (steps_done before.ample ended
       (job_of rules place first.files (play rules place numbers first events)) before.pieces
       after.pieces after.told ends) (before.hashed + unhashed before.engine.arena) after
+  -- the files were asked for those of the steps that were done, and perhaps of the one begun
+  pub asks : AsksSteps rules (play rules place numbers first events)
+      (steps_done before.ample ended
+      (job_of rules place first.files (play rules place numbers first events)) before.pieces
+      after.pieces after.told ends)
+      (steps_begun before.ample ended
+      (job_of rules place first.files (play rules place numbers first events)) before.pieces
+      after.pieces after.told ends) before.asked after.asked
 
 -- So the run of a script by writer 0 ended, whatever state of the machine was stood for, where the
 -- files tell what they hold.

@@ -1,5 +1,6 @@
 -- What a step of an engine leaves, by a step of the plain machine.
 use Rattle.std.specs.Prelude.{◌≡◌, ◌≤◌, ◌+◌, ◌-◌, ◌*◌, ℕ, IsTrue, Bool, true, false, List, ◌++◌, Option, Some, None}
+use Rattle.ssz_outside.specs.Asked.{Asks}
 use Rattle.ssz_outside.specs.Content.{Content as Files}
 use Rattle.ssz_outside.specs.Job.{Save}
 use Rattle.ssz_outside.specs.Outcome.{WritesPart}
@@ -21,6 +22,7 @@ use Rattle.ssz_engine.specs.Compacting.{is_compact}
 use Rattle.ssz_decisions.specs.Content.{EngineContent, rules_of}
 use Rattle.ssz_decisions.specs.Standing.{StandsFor, StandsForWriter}
 use Rattle.ssz_decisions.specs.Decisions.{AnswersRow, PaysRow}
+use Rattle.ssz_decisions.specs.Loading.{AsksLoad}
 use Rattle.ssz_decisions.specs.Outside.{FilesHold}
 use Rattle.ssz_decisions.specs.declared.decision.Decision.{Decision}
 use Rattle.ssz_decisions.specs.declared.decision.Decision.TheVariants as decision
@@ -157,6 +159,17 @@ StatementFindsFile pair_of engine writer statement told =
     → StandsForWriter engine writer versions
     → reads (rules_of pair_of engine) versions (Some statement) ≡ true
     → names_absent held (Some statement) ≡ false
+
+-- The files are asked for the file of the statement where one is read for it, once and with the
+-- most bytes of a value; else they are asked for nothing. What was cut short may not have come to
+-- it.
+abbrev pub AsksStatement : PairOf → EngineContent → ℕ → Statement → (cut : Bool) → Asks → Asks
+    → Type 0
+AsksStatement pair_of engine writer (Load v t file) cut old new =
+    AsksLoad pair_of engine writer v t file cut old new
+AsksStatement pair_of engine writer (LoadJson v t file) cut old new =
+    AsksLoad pair_of engine writer v t file cut old new
+AsksStatement pair_of engine writer other cut old new = new ≡ old
 
 -- How many nodes a statement adds: where it is accepted and puts a version under a name, at most
 -- two for each pair of its charge, and one; else none.

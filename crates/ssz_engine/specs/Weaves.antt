@@ -2,7 +2,7 @@
 use Rattle.std.specs.Prelude.{◌≡◌, ◌≢◌, ◌≤◌, ◌<◌, ℕ, ◌+◌, List, [], ◌∷◌, length, map, take, Some}
 use Rattle.std.specs.List.{AllByRecursion}
 use Rattle.ssz_arena.specs.Content.{unhashed}
-use Rattle.ssz_outside.specs.Job.{Ends, IsFinished}
+use Rattle.ssz_outside.specs.Job.{Ends, IsFinished, steps_begun, steps_done}
 use Rattle.ssz_outside.specs.Pieces.{Told, told_append}
 use Rattle.ssz_outside.specs.declared.status.Status.{Status}
 use Rattle.ssz_outside.specs.declared.status.Status.TheVariants as status
@@ -13,11 +13,10 @@ use Rattle.ssz_machine.specs.State.{State}
 use Rattle.ssz_machine.specs.Rules.{Rules}
 use Rattle.ssz_machine.specs.Plays.{charges, state_after, weaving}
 use Rattle.ssz_machine.specs.Jobs.{turns_of_weave, weave_job}
-use Rattle.ssz_machine.specs.Runs.{steps_done}
 use Rattle.ssz_machine.specs.Isolation.{lines_alone, marked}
 use Rattle.ssz_decisions.specs.Content.{rules_of}
 use Rattle.ssz_decisions.specs.Standing.{StandsFor}
-use Rattle.ssz_engine.specs.Scripts.{IsStopped, IsThrough, Scene, files_reached}
+use Rattle.ssz_engine.specs.Scripts.{AsksSteps, IsStopped, IsThrough, Scene, files_reached}
 
 -- A weave from a first state ended, as its job does. No line of it prints a number.
 pub record EndsWeaveFrom (rules : Rules) (base order : List ℕ) (scripts : List (List ℕ))
@@ -39,6 +38,12 @@ pub record EndsWeaveFrom (rules : Rules) (base order : List ℕ) (scripts : List
       (weaving (statements_in base) order (map statements_in scripts)) first []
       (steps_done before.ample ended (weave_job rules first base order scripts) before.pieces
       after.pieces after.told ends) (before.hashed + unhashed before.engine.arena) after
+  -- the files were asked for those of the steps that were done, and perhaps of the one begun
+  pub asks : AsksSteps rules (turns_of_weave rules first base order scripts)
+      (steps_done before.ample ended (weave_job rules first base order scripts) before.pieces
+      after.pieces after.told ends)
+      (steps_begun before.ample ended (weave_job rules first base order scripts) before.pieces
+      after.pieces after.told ends) before.asked after.asked
 
 -- So it ended whatever state of the machine was stood for, where the files tell what they hold.
 abbrev pub EndsWeave : PairOf → List ℕ → List ℕ → List (List ℕ) → Status → Scene → Scene → Type 0

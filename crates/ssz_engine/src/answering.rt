@@ -1,5 +1,5 @@
 //! Statements whose reply is answered as a value, with no line made of it.
-ghost use Rattle.std.specs.Prelude.{◌≡◌, ◌≢◌, ◌+◌, ◌-◌, ◌≤◌, ℕ, List, is_some, Some, None, Err, true, false, IfOk, IfErr, OnOk, OnErr};
+ghost use Rattle.std.specs.Prelude.{◌≡◌, ◌≢◌, ◌+◌, ◌-◌, ◌≤◌, ℕ, List, is_err, is_some, Some, None, Err, true, false, IfOk, IfErr, OnOk, OnErr};
 ghost use Rattle.ssz_arena.specs.Content.{KeepsNodes, node_count, unhashed};
 ghost use Rattle.ssz_outside.specs.Content.{CanRead};
 ghost use Rattle.ssz_script.specs.Literals.{HasShortLiteral};
@@ -10,7 +10,7 @@ ghost use Rattle.ssz_engine.specs.Compacting.{is_compact};
 ghost use Rattle.ssz_decisions.specs.Content.{KeepsEngine};
 ghost use Rattle.ssz_decisions.specs.Roots.{HashesDue, HashesSome};
 ghost use Rattle.ssz_decisions.specs.Outside.{CountsReads, CountsWrites};
-ghost use Rattle.ssz_engine.specs.Steps.{StatementFindsFile, Stops, file_read};
+ghost use Rattle.ssz_engine.specs.Steps.{AsksStatement, StatementFindsFile, Stops, file_read};
 
 use super::deciding::decide;
 use super::engine::Engine;
@@ -43,7 +43,8 @@ impl<H: PairHash> Engine<H> {
         files: &mut F,
         hasher: &mut H,
     ) -> Result<Reply, EngineFault>
-        requires { HasShortLiteral statement.now }
+        requires short { HasShortLiteral statement.now }
+        requires usable { F.usable files.old }
         ensures keeps { KeepsEngine self.old self.new }
         // The clauses that `step` has, too, are told of there.
         ensures nodes { is_compact statement.now ≡ false
@@ -79,6 +80,9 @@ impl<H: PairHash> Engine<H> {
             → F.readable files.new other }
         ensures gets { CountsReads result (F.get_faults files.old) (F.get_faults files.new) }
         ensures puts { CountsWrites result (F.put_faults files.old) (F.put_faults files.new) }
+        ensures each_once { AsksStatement H.pair_of self.old writer.0 statement.now (is_err result)
+            (F.asked files.old) (F.asked files.new) }
+        ensures usable { OnOk result (F.usable files.new) }
     {
         if let Statement::Compact = statement {
             let mut out = Vec::new(self.store.alloc);

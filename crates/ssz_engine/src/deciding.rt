@@ -1,4 +1,4 @@
-ghost use Rattle.std.specs.Prelude.{◌≡◌, ◌≢◌, ◌+◌, ◌-◌, ◌≤◌, ℕ, List, Some, None, Err, false, IfOk, OnOk, OnErr};
+ghost use Rattle.std.specs.Prelude.{◌≡◌, ◌≢◌, ◌+◌, ◌-◌, ◌≤◌, ℕ, List, Some, None, Err, false, is_err, IfOk, OnOk, OnErr};
 ghost use Rattle.ssz_arena.specs.Content.{unhashed, node_count};
 ghost use Rattle.ssz_outside.specs.Content.{CanRead};
 ghost use Rattle.ssz_script.specs.Literals.{HasShortLiteral};
@@ -7,7 +7,7 @@ ghost use Rattle.ssz_engine.specs.Compacting.{is_compact};
 ghost use Rattle.ssz_decisions.specs.Content.{Grows};
 ghost use Rattle.ssz_decisions.specs.Outside.{CountsReads};
 ghost use Rattle.ssz_decisions.specs.Roots.{HashesDue, LeavesHashed, HashesSome};
-ghost use Rattle.ssz_engine.specs.Steps.{CanAsk, Decides, DecidesAlone, StatementFindsFile, MakesUpgrade, file_read};
+ghost use Rattle.ssz_engine.specs.Steps.{AsksStatement, CanAsk, Decides, DecidesAlone, StatementFindsFile, MakesUpgrade, file_read};
 ghost use Rattle.ssz_decisions.specs.Decisions.{MakesFork};
 ghost use Rattle.ssz_decisions.specs.Carried.{outcome_of};
 ghost use Rattle.ssz_engine.specs.Tops.{MakesTop};
@@ -38,6 +38,7 @@ pub(crate) fn decide<'a, F: Files, H: PairHash>(
 ) -> Result<Decision<'a>, EngineFault>
     requires short { HasShortLiteral statement.now }
     requires other { is_compact statement.now ≡ false }
+    requires usable { F.usable files.old }
     ensures grows { Grows store.old store.new }
     ensures decides { IfOk result (Decides H.pair_of place statement.now writer.0
         (H.pairs hasher.old - store.old.base) (F.content files.old) store.old store.new
@@ -69,6 +70,9 @@ pub(crate) fn decide<'a, F: Files, H: PairHash>(
     ensures readable { (other : List ℕ) → F.readable files.old other → F.readable files.new other }
     ensures gets { CountsReads result (F.get_faults files.old) (F.get_faults files.new) }
     ensures puts { F.put_faults files.new ≡ F.put_faults files.old }
+    ensures each_once { AsksStatement H.pair_of store.old writer.0 statement.now (is_err result)
+        (F.asked files.old) (F.asked files.new) }
+    ensures usable { OnOk result (F.usable files.new) }
 {
     match statement {
         Statement::Load(v, t, file) => { load(store, writer, v, t, file, Form::Encoding, files) }

@@ -1,4 +1,4 @@
-ghost use Rattle.std.specs.Prelude.{◌≡◌, ◌≢◌, ◌+◌, ◌-◌, ◌≤◌, ℕ, List, [], is_some, Some, None, Err, true, false, IfOk, IfErr, OnOk, OnErr};
+ghost use Rattle.std.specs.Prelude.{◌≡◌, ◌≢◌, ◌+◌, ◌-◌, ◌≤◌, ℕ, List, [], is_err, is_some, Some, None, Err, true, false, IfOk, IfErr, OnOk, OnErr};
 ghost use Rattle.std.specs.FinMap as finite;
 ghost use Rattle.ssz_chunk.specs.declared.TheConstants.{LEVELS};
 ghost use Rattle.ssz_chunk.specs.Chunk.{CountsUp};
@@ -12,7 +12,7 @@ ghost use Rattle.ssz_engine.specs.Compacting.{compacted, is_compact};
 ghost use Rattle.ssz_decisions.specs.Standing.{StandsForSome, StandsFor, HoldsNone};
 ghost use Rattle.ssz_decisions.specs.Outside.{CountsReads, CountsWrites};
 ghost use Rattle.ssz_decisions.specs.Roots.{HashesDue, LeavesHashed, HashesSome};
-ghost use Rattle.ssz_engine.specs.Steps.{DoesStep, StatementFindsFile, StatementForks, StatementUpgrades, Stops, TouchesWhere, WhereAccepted, file_read};
+ghost use Rattle.ssz_engine.specs.Steps.{AsksStatement, DoesStep, StatementFindsFile, StatementForks, StatementUpgrades, Stops, TouchesWhere, WhereAccepted, file_read};
 ghost use Rattle.ssz_decisions.specs.Content.{KeepsEngine};
 ghost use Rattle.ssz_engine.specs.Tops.{Tops};
 
@@ -95,7 +95,8 @@ impl<H: PairHash> Engine<H> {
         hasher: &mut H,
         out: &mut Vec<u8>,
     ) -> Result<Outcome, EngineFault>
-        requires { HasShortLiteral statement.now }
+        requires short { HasShortLiteral statement.now }
+        requires usable { F.usable files.old }
         ensures keeps { KeepsEngine self.old self.new }
         // Each node is there, with the same tree and no more to be hashed; but `compact` gives up
         // what no version reaches.
@@ -156,6 +157,10 @@ impl<H: PairHash> Engine<H> {
             → F.readable files.new other }
         ensures gets { CountsReads result (F.get_faults files.old) (F.get_faults files.new) }
         ensures puts { CountsWrites result (F.put_faults files.old) (F.put_faults files.new) }
+        // The file that it reads is asked for once, with the most bytes of a value, and no other.
+        ensures each_once { AsksStatement H.pair_of self.old writer.0 statement.now (is_err result)
+            (F.asked files.old) (F.asked files.new) }
+        ensures usable { OnOk result (F.usable files.new) }
     {
         if let Statement::Compact = statement {
             compact(&mut self.store, out)?;

@@ -1,5 +1,5 @@
 // Scripts that run alone, line after line.
-ghost use Rattle.std.specs.Prelude.{◌≢◌, ◌≤◌, ℕ, List};
+ghost use Rattle.std.specs.Prelude.{◌≢◌, ◌≤◌, ℕ, List, OnOk};
 ghost use Rattle.std.specs.List.{AllByRecursion};
 ghost use Rattle.ssz_arena.specs.Content.{KeepsNodes};
 ghost use Rattle.ssz_outside.specs.Job.{CountsRun};
@@ -31,11 +31,15 @@ pub(crate) fn run_lines<F: Files, S: Sink, H: PairHash>(
     hasher: &mut H,
     replies: &mut Replies,
 ) -> Result<(), Status>
+    requires files_usable { F.usable files.old }
+    requires sink_usable { S.usable out.old }
     ensures runs { Runs H.pair_of place (all_of writer.0 lines.old) result replies.old.refused
         replies.new.refused
         (scene F.Files S.Sink H.PairHash engine.old files.old out.old hasher.old)
         (scene F.Files S.Sink H.PairHash engine.new files.new out.new hasher.new) }
     ensures others { LeavesOthers writer.0 engine.old.entries engine.new.entries }
+    ensures files_usable { OnOk result (F.usable files.new) }
+    ensures sink_usable { OnOk result (S.usable out.new) }
 {
     loop {
         match lines.next(engine.store.alloc) {
@@ -64,6 +68,8 @@ impl<H: PairHash> Engine<H> {
         out: &mut S,
         hasher: &mut H,
     ) -> Status
+        requires files_usable { F.usable files.old }
+        requires sink_usable { S.usable out.old }
         ensures keeps { KeepsEngine self.old self.new }
         // Each node is there, with the same tree and no more to be hashed, where no line gives up
         // nodes.

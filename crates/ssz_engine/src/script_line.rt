@@ -1,9 +1,9 @@
 // One line of a script.
-ghost use Rattle.std.specs.Prelude.{◌≡◌, ◌≤◌, ◌+◌, ◌∷◌, [], false, Err, IfOk, IfSome, OnOk, OnErr};
+ghost use Rattle.std.specs.Prelude.{◌≡◌, ◌≤◌, ◌+◌, ◌∷◌, [], false, is_err, Err, IfOk, IfSome, OnOk, OnErr};
 ghost use Rattle.ssz_arena.specs.Content.{unhashed};
 ghost use Rattle.ssz_outside.specs.Job.{IsFinished};
 ghost use Rattle.ssz_machine.specs.Plays.{says};
-ghost use Rattle.ssz_engine.specs.Lines.{DoesLine, LeavesOthers, ended_by, Tries};
+ghost use Rattle.ssz_engine.specs.Lines.{AsksLine, DoesLine, LeavesOthers, ended_by, Tries};
 ghost use Rattle.ssz_decisions.specs.Standing.{StaysFor};
 ghost use Rattle.ssz_engine.specs.Steps.{WhereAccepted, is_refusal};
 ghost use Rattle.ssz_decisions.specs.Roots.{LeavesHashed, HashesSome};
@@ -32,6 +32,7 @@ pub(crate) fn reply_to<F: Files, H: PairHash>(
     hasher: &mut H,
     out: &mut Vec<u8>,
 ) -> Result<Outcome, EngineFault>
+    requires usable { F.usable files.old }
     ensures tries { Tries ((line.now.line, line.now.statement) ∷ []) result
         (point F.Files H.PairHash engine.old files.old hasher.old)
         (point F.Files H.PairHash engine.new files.new hasher.new) }
@@ -47,6 +48,10 @@ pub(crate) fn reply_to<F: Files, H: PairHash>(
         WhereAccepted made (Tops statement writer.0 engine.old engine.new))) }
     ensures some { OnOk result (IfSome line.now.statement (λ statement.
         HashesSome statement writer.0 engine.old (H.pairs hasher.old) (H.pairs hasher.new))) }
+    ensures each_once { AsksLine H.pair_of place writer.0 (line.now.line, line.now.statement)
+        (is_err result) (point F.Files H.PairHash engine.old files.old hasher.old)
+        (point F.Files H.PairHash engine.new files.new hasher.new) }
+    ensures usable { OnOk result (F.usable files.new) }
 {
     let Some(statement) = &line.statement else {
         let (line, code, fault) = (line.line, Reply::SYNTAX, None);
@@ -94,11 +99,15 @@ pub(crate) fn run_line<F: Files, S: Sink, H: PairHash>(
     hasher: &mut H,
     replies: &mut Replies,
 ) -> Result<(), Status>
+    requires files_usable { F.usable files.old }
+    requires sink_usable { S.usable out.old }
     ensures runs { Runs H.pair_of place (says writer.0 (line.now.line, line.now.statement) ∷ [])
         result replies.old.refused replies.new.refused
         (scene F.Files S.Sink H.PairHash engine.old files.old out.old hasher.old)
         (scene F.Files S.Sink H.PairHash engine.new files.new out.new hasher.new) }
     ensures others { LeavesOthers writer.0 engine.old.entries engine.new.entries }
+    ensures files_usable { OnOk result (F.usable files.new) }
+    ensures sink_usable { OnOk result (S.usable out.new) }
 {
     replies.begin();
     let text = &mut replies.text;

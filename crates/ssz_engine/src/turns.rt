@@ -25,11 +25,15 @@ fn run_next<F: Files, S: Sink, H: PairHash>(
     hasher: &mut H,
     replies: &mut Replies,
 ) -> Result<(), Status>
+    requires files_usable { F.usable files.old }
+    requires sink_usable { S.usable out.old }
     ensures runs { Runs H.pair_of Weave (next_of writer.0 lines.old) result replies.old.refused
         replies.new.refused
         (scene F.Files S.Sink H.PairHash engine.old files.old out.old hasher.old)
         (scene F.Files S.Sink H.PairHash engine.new files.new out.new hasher.new) }
     ensures left { OnOk result (lines.new ≡ drop 1 lines.old) }
+    ensures files_usable { OnOk result (F.usable files.new) }
+    ensures sink_usable { OnOk result (S.usable out.new) }
 {
     match lines.next(engine.store.alloc) {
         Err(_) => Err(Status::Memory),
@@ -55,12 +59,16 @@ pub(crate) fn run_turns<F: Files, S: Sink, H: PairHash>(
     hasher: &mut H,
     replies: &mut Replies,
 ) -> Result<(), Status>
-    requires { All (λ writer. writer < vec_len scripts.old) order.now }
+    requires known { All (λ writer. writer < vec_len scripts.old) order.now }
+    requires files_usable { F.usable files.old }
+    requires sink_usable { S.usable out.old }
     ensures runs { RunsUpTo H.pair_of Weave (woven order.now scripts.old.items)
         (rest_from 0 scripts.new.items) result replies.old.refused replies.new.refused
         (scene F.Files S.Sink H.PairHash engine.old files.old out.old hasher.old)
         (scene F.Files S.Sink H.PairHash engine.new files.new out.new hasher.new) }
     ensures count { vec_len scripts.new ≡ vec_len scripts.old }
+    ensures files_usable { OnOk result (F.usable files.new) }
+    ensures sink_usable { OnOk result (S.usable out.new) }
 {
     for number in order {
         let writer = Writer(*number);
@@ -79,7 +87,9 @@ pub(crate) fn run_rest<F: Files, S: Sink, H: PairHash>(
     hasher: &mut H,
     replies: &mut Replies,
 ) -> Result<(), Status>
-    requires { vec_len scripts.old ≤ base_writer }
+    requires few { vec_len scripts.old ≤ base_writer }
+    requires files_usable { F.usable files.old }
+    requires sink_usable { S.usable out.old }
     ensures { Runs H.pair_of Weave (rest_from 0 scripts.old.items) result replies.old.refused
         replies.new.refused
         (scene F.Files S.Sink H.PairHash engine.old files.old out.old hasher.old)

@@ -1,5 +1,5 @@
 // Scripts of several writers that take turns.
-ghost use Rattle.std.specs.Prelude.{◌≡◌, ◌≢◌, ◌≤◌, ◌<◌, ◌∷◌, ◌++◌, ℕ, List, All, length, map, IfOk};
+ghost use Rattle.std.specs.Prelude.{◌≡◌, ◌≢◌, ◌≤◌, ◌<◌, ◌∷◌, ◌++◌, ℕ, List, All, length, map, IfOk, OnOk};
 ghost use Rattle.std.specs.List.{AllByRecursion};
 ghost use Rattle.ssz_arena.specs.Content.{KeepsNodes};
 ghost use Rattle.ssz_outside.specs.Job.{CountsRun};
@@ -52,11 +52,15 @@ fn run_base<F: Files, S: Sink, H: PairHash>(
 ) -> Result<(), Status>
     requires few { count ≤ base_writer }
     requires none { (writer : ℕ) → writer < count → HoldsNone engine.old.entries writer }
-    ensures { (scripts : List (List Line)) → length scripts ≡ count
+    requires files_usable { F.usable files.old }
+    requires sink_usable { S.usable out.old }
+    ensures runs { (scripts : List (List Line)) → length scripts ≡ count
         → Runs H.pair_of Weave (all_of base_writer (statements_in base.now) ++ adoptions 0 scripts)
         result replies.old.refused replies.new.refused
         (scene F.Files S.Sink H.PairHash engine.old files.old out.old hasher.old)
         (scene F.Files S.Sink H.PairHash engine.new files.new out.new hasher.new) }
+    ensures files_usable { OnOk result (F.usable files.new) }
+    ensures sink_usable { OnOk result (S.usable out.new) }
 {
     let mut lines = Statements::new(base);
     let weave = Place::Weave;
@@ -84,6 +88,8 @@ fn run_weave<F: Files, S: Sink, H: PairHash>(
     requires known { All (λ writer. writer < length scripts.now) order.now }
     requires none { (writer : ℕ) → writer < length scripts.now
         → HoldsNone engine.old.entries writer }
+    requires files_usable { F.usable files.old }
+    requires sink_usable { S.usable out.old }
     ensures { Runs H.pair_of Weave
         (weaving (statements_in base.now) order.now (map statements_in scripts.now)) result
         replies.old.refused replies.new.refused
@@ -126,6 +132,8 @@ impl<H: PairHash> Engine<H> {
         requires known { All (λ writer. writer < length scripts.now) order.now }
         requires none { (writer : ℕ) → writer < length scripts.now
             → HoldsNone self.old.entries writer }
+        requires files_usable { F.usable files.old }
+        requires sink_usable { S.usable out.old }
         ensures keeps { KeepsEngine self.old self.new }
         // Each node is there, with the same tree and no more to be hashed, where no line gives up
         // nodes.

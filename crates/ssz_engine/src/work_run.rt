@@ -26,6 +26,7 @@ fn work_line(alloc: Global, count: u32, edits: u32) -> Result<String, AllocError
 
 // Prints the two lines.
 fn print_work<S: Sink>(alloc: Global, count: u32, edits: u32, root: &[u8], out: &mut S) -> Status
+    requires usable { S.usable out.old }
     ensures ends { (held : Held) → Ends (S.ample out.old) result (two_lines_job held
         (line (codes "work" ∷ decimal count ∷ decimal edits ∷ [])) root.now)
         (S.pieces out.old) (S.pieces out.new) (Some held) }
@@ -64,6 +65,8 @@ impl<H: PairHash> Engine<H> {
         out: &mut S,
         hasher: &mut H,
     ) -> Status
+        requires files_usable { F.usable files.old }
+        requires sink_usable { S.usable out.old }
         ensures keeps { KeepsEngine self.old self.new }
         // Each node is there, with the same tree and no more to be hashed.
         ensures nodes { KeepsNodes self.old.arena self.new.arena }
@@ -79,6 +82,8 @@ impl<H: PairHash> Engine<H> {
         ensures rises { H.pairs hasher.old ≤ H.pairs hasher.new }
         ensures readable { (other : List ℕ) → F.readable files.old other
             → F.readable files.new other }
+        // The files are asked for nothing.
+        ensures asks { F.asked files.new ≡ F.asked files.old }
         // It answers none of the others.
         ensures status { IsThatOrStopped Status.Accepted result }
     {

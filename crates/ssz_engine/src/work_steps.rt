@@ -34,7 +34,8 @@ fn answer<F: Files, H: PairHash>(
     hasher: &mut H,
     reply: &mut Vec<u8>,
 ) -> Result<Outcome, EngineFault>
-    requires { IsOfWork statement }
+    requires of_work { IsOfWork statement }
+    requires usable { F.usable files.old }
     ensures tries { Tries [] result (point F.Files H.PairHash engine.old files.old hasher.old)
         (point F.Files H.PairHash engine.new files.new hasher.new) }
     ensures works { (state : State) →
@@ -51,6 +52,7 @@ fn answer<F: Files, H: PairHash>(
         (Tops statement 0 engine.old engine.new)) }
     ensures some { OnOk result (HashesSome statement 0 engine.old (H.pairs hasher.old)
         (H.pairs hasher.new)) }
+    ensures usable { OnOk result (F.usable files.new) }
 {
     reply.clear();
     // No script holds it: it is of line 0.
@@ -70,6 +72,7 @@ fn answer_root<F: Files, H: PairHash>(
     hasher: &mut H,
     reply: &mut Vec<u8>,
 ) -> Result<Outcome, EngineFault>
+    requires usable { F.usable files.old }
     ensures tries { Tries [] result (point F.Files H.PairHash engine.old files.old hasher.old)
         (point F.Files H.PairHash engine.new files.new hasher.new) }
     ensures works { (state : State) →
@@ -80,6 +83,7 @@ fn answer_root<F: Files, H: PairHash>(
         (point F.Files H.PairHash engine.new files.new hasher.new) }
     ensures some { OnOk result (HashesSome (Root worked) 0 engine.old (H.pairs hasher.old)
         (H.pairs hasher.new)) }
+    ensures usable { OnOk result (F.usable files.new) }
 {
     let Ok(asked) = root_w(engine.store.alloc) else {
         return Err(EngineFault::Memory);
@@ -112,6 +116,7 @@ fn work_round<F: Files, H: PairHash>(
     hasher: &mut H,
     reply: &mut Vec<u8>,
 ) -> Result<u32, EngineFault>
+    requires usable { F.usable files.old }
     ensures tries { Tries [] result (point F.Files H.PairHash engine.old files.old hasher.old)
         (point F.Files H.PairHash engine.new files.new hasher.new) }
     ensures works { (state : State) →
@@ -126,6 +131,7 @@ fn work_round<F: Files, H: PairHash>(
         OnOk result (RisesBy (tops_of (rules_of H.pair_of engine.old) state way.edit)
         (H.pairs hasher.old) (H.pairs hasher.new)) }
     ensures few { IfOk result (λ edits. edits ≤ 1) }
+    ensures usable { OnOk result (F.usable files.new) }
 {
     match draw_edit(&engine.store, generator) {
         Err(_) => Err(EngineFault::Memory),
@@ -150,6 +156,7 @@ fn work_rounds<F: Files, H: PairHash>(
     hasher: &mut H,
     reply: &mut Vec<u8>,
 ) -> Result<u32, EngineFault>
+    requires usable { F.usable files.old }
     ensures tries { Tries [] result (point F.Files H.PairHash engine.old files.old hasher.old)
         (point F.Files H.PairHash engine.new files.new hasher.new) }
     ensures works { (state : State) →
@@ -161,6 +168,7 @@ fn work_rounds<F: Files, H: PairHash>(
         → IsAtState state (point F.Files H.PairHash engine.old files.old hasher.old)
         → OnOk result (RisesBy (worked_on (rules_of H.pair_of engine.old) count seed state).tops
         (H.pairs hasher.old) (H.pairs hasher.new)) }
+    ensures usable { OnOk result (F.usable files.new) }
 {
     let mut generator = Generator::new(seed);
     let mut edits = 0;
@@ -183,6 +191,7 @@ pub(crate) fn work_through<F: Files, H: PairHash>(
     hasher: &mut H,
     reply: &mut Vec<u8>,
 ) -> Result<u32, EngineFault>
+    requires usable { F.usable files.old }
     ensures tries { Tries [] result (point F.Files H.PairHash engine.old files.old hasher.old)
         (point F.Files H.PairHash engine.new files.new hasher.new) }
     ensures works { (state : State) →
@@ -197,6 +206,7 @@ pub(crate) fn work_through<F: Files, H: PairHash>(
         → IsAtState state (point F.Files H.PairHash engine.old files.old hasher.old)
         → OnOk result (RisesBy (whole_work (rules_of H.pair_of engine.old) state type_name.now seed
         count).tops (H.pairs hasher.old) (H.pairs hasher.new)) }
+    ensures usable { OnOk result (F.usable files.new) }
 {
     let Ok(made) = new_w(engine.store.alloc, type_name) else {
         return Err(EngineFault::Memory);

@@ -7,9 +7,10 @@ use Rattle.std.proofs.lemmas.Bool.{or_right}
 use Rattle.std.proofs.lemmas.List.{append-nil, map-append}
 use Rattle.std.proofs.Math.Seq.{take-append_seam, take-length}
 use Rattle.ssz_outside.specs.Content.{Content}
-use Rattle.ssz_outside.specs.Job.{Job, Moment, Save, Ends, JobStandsAt, Finishes}
+use Rattle.ssz_outside.specs.Job.{Job, Moment, Save, Ends, JobStandsAt, Finishes, steps_begun, steps_done}
 use Rattle.ssz_outside.specs.Outcome.{WritesPart}
 use Rattle.ssz_outside.specs.Pieces.{Told, told_append}
+use Rattle.ssz_outside.specs.Printed.{finished_status}
 use Rattle.ssz_outside.specs.declared.status.Status.{Status}
 use Rattle.ssz_outside.specs.declared.status.Status.TheVariants as status
 use Rattle.ssz_machine.specs.declared.place.Place.{Place}
@@ -18,7 +19,7 @@ use Rattle.ssz_machine.specs.Rules.{Rules}
 use Rattle.ssz_machine.specs.Machine.{Line, Turn, step, state_of, save_of, may_stop, misses, is_refused}
 use Rattle.ssz_machine.specs.Plays.{Event, says, play, shown, shown_all}
 use Rattle.ssz_machine.specs.Jobs.{files_after, is_reading, saved_by, status_after, after_reading}
-use Rattle.ssz_machine.specs.Runs.{IsUnderWay, job_from, steps_done}
+use Rattle.ssz_machine.specs.Runs.{IsUnderWay, job_from}
 use Rattle.ssz_machine.proofs.UnderWay.{under_way_line, under_way_all}
 
 -- the step behind some others
@@ -81,6 +82,13 @@ module _ (rules : Rules) (place : Place) (events : List Event) (first : State)
       (ends_without_memory ample old new held printed are) ≡ length done
   unfolding ends_without_memory
   steps_without_memory ample old new held printed are = refl
+
+  pub begun_without_memory : (ample : Bool) (old new : Told) (held : Option Content)
+      (printed : new ≡ told_append old (shown_all place done)) (are : held ≡ Some state.files)
+      → steps_begun ample status.Memory this_job old new held
+      (ends_without_memory ample old new held printed are) ≡ length done + 1
+  unfolding ends_without_memory
+  begun_without_memory ample old new held printed are = refl
 
 stops_there : (missed may : Bool) → missed ≡ false → may ≡ true → (not missed && may) ≡ true
 stops_there missed may found stops = rw (found, stops) refl
@@ -172,6 +180,14 @@ module _ (rules : Rules) (place : Place) (events : List Event) (first : State)
   unfolding ends_unread
   steps_unread ample old new held found stops printed are = refl
 
+  pub begun_unread : (ample : Bool) (old new : Told) (held : Option Content)
+      (found : list_any (misses rules) done ≡ false) (stops : may_stop rules turn ≡ true)
+      (printed : new ≡ told_append old (shown_all place done)) (are : held ≡ Some state.files)
+      → steps_begun ample status.ReadFault whole old new held
+      (ends_unread ample old new held found stops printed are) ≡ length done + 1
+  unfolding ends_unread
+  begun_unread ample old new held found stops printed are = refl
+
   -- the line's file was not written whole
   pub ends_torn_file : (ample : Bool) (old new : Told) (held : Option Content) (save : Save)
       → save_of turn ≡ Some save → new ≡ told_append old (shown_all place done)
@@ -197,6 +213,15 @@ module _ (rules : Rules) (place : Place) (events : List Event) (first : State)
       (ends_torn_file ample old new held save saves printed tears) ≡ length done
   unfolding ends_torn_file
   steps_torn_file ample old new held save saves printed tears = refl
+
+  pub begun_torn_file : (ample : Bool) (old new : Told) (held : Option Content) (save : Save)
+      (saves : save_of turn ≡ Some save)
+      (printed : new ≡ told_append old (shown_all place done))
+      (tears : WritesPart save.name save.bytes (Some state.files) held)
+      → steps_begun ample status.WriteFault whole old new held
+      (ends_torn_file ample old new held save saves printed tears) ≡ length done + 1
+  unfolding ends_torn_file
+  begun_torn_file ample old new held save saves printed tears = refl
 
   -- the line was done, and its reply was not printed whole
   pub ends_torn_line : (ample : Bool) (old new : Told) (held : Option Content) (count : ℕ)
@@ -225,6 +250,14 @@ module _ (rules : Rules) (place : Place) (events : List Event) (first : State)
   unfolding ends_torn_line
   steps_torn_line ample old new held count printed are = sym one_more
 
+  pub begun_torn_line : (ample : Bool) (old new : Told) (held : Option Content) (count : ℕ)
+      (printed : new ≡ told_append old (shown_all place done ++ take count (shown place turn) ∷ []))
+      (are : held ≡ Some (state_of turn).files)
+      → steps_begun ample status.WriteFault whole old new held
+      (ends_torn_line ample old new held count printed are) ≡ length (done ++ turn ∷ [])
+  unfolding ends_torn_line
+  begun_torn_line ample old new held count printed are = sym one_more
+
   -- the line was done, and there was no memory to print its reply
   pub ends_ahead : (ample : Bool) (old new : Told) (held : Option Content) → ample ≡ false
       → new ≡ told_append old (shown_all place done) → held ≡ Some (state_of turn).files
@@ -249,6 +282,15 @@ module _ (rules : Rules) (place : Place) (events : List Event) (first : State)
       (ends_ahead ample old new held wanting printed are) ≡ length (done ++ turn ∷ [])
   unfolding ends_ahead
   steps_ahead ample old new held wanting printed are = sym one_more
+
+  pub begun_ahead : (ample : Bool) (old new : Told) (held : Option Content)
+      (wanting : ample ≡ false)
+      (printed : new ≡ told_append old (shown_all place done))
+      (are : held ≡ Some (state_of turn).files)
+      → steps_begun ample status.Memory whole old new held
+      (ends_ahead ample old new held wanting printed are) ≡ length (done ++ turn ∷ [])
+  unfolding ends_ahead
+  begun_ahead ample old new held wanting printed are = sym one_more
 
 -- all lines were done
 module _ (rules : Rules) (place : Place) (events : List Event) (first : State)
@@ -291,6 +333,19 @@ module _ (rules : Rules) (place : Place) (events : List Event) (first : State)
           (job_from rules place events first last) old new held
       by true is = is
       by false is = is
+
+-- all steps of what no fault ended were done
+pub steps_finished : (ample refused : Bool) (job : Job) (old new : Told) (held : Option Content)
+    (ends : Ends ample (finished_status refused) job old new held)
+    → steps_done ample (finished_status refused) job old new held ends ≡ job.steps
+steps_finished ample true job old new held ends = refl
+steps_finished ample false job old new held ends = refl
+
+pub begun_finished : (ample refused : Bool) (job : Job) (old new : Told) (held : Option Content)
+    (ends : Ends ample (finished_status refused) job old new held)
+    → steps_begun ample (finished_status refused) job old new held ends ≡ job.steps
+begun_finished ample true job old new held ends = refl
+begun_finished ample false job old new held ends = refl
 
 -- A job before which files are read ends as the job does.
 pub ends_after_reading : (ample first : Bool) (ended : Status) (job : Job) (old new : Told)

@@ -1,12 +1,6 @@
--- Runs that are under way: what the callers that do line after line go by; and what was done of one
--- that ended.
-use Rattle.std.specs.Prelude.{ℕ, ◌≡◌, ◌+◌, ◌++◌, Bool, List, Option}
-use mathlib.Core.Logic.{inl, inr}
-use Rattle.ssz_outside.specs.Content.{Content}
-use Rattle.ssz_outside.specs.Job.{Ends, Job}
-use Rattle.ssz_outside.specs.Pieces.{Told}
-use Rattle.ssz_outside.specs.declared.status.Status.{Status}
-use Rattle.ssz_outside.specs.declared.status.Status.TheVariants as status
+-- Runs that are under way: what the callers that do line after line go by.
+use Rattle.std.specs.Prelude.{ℕ, ◌≡◌, ◌++◌, List}
+use Rattle.ssz_outside.specs.Job.{Job}
 use Rattle.ssz_machine.specs.declared.place.Place.{Place}
 use Rattle.ssz_machine.specs.State.{State}
 use Rattle.ssz_machine.specs.Rules.{Rules}
@@ -32,20 +26,6 @@ pub record IsUnderWay (rules : Rules) (place : Place) (front : List Event) (firs
 abbrev pub job_from : Rules → Place → List Event → State → List ℕ → Job
 job_from rules place events first numbers =
     job_of rules place first.files (play rules place numbers first events)
-
--- How many steps were done of a job that ended so. Where a file was torn, the next one was begun;
--- where its line was torn, or found no memory, it was done, too.
-abbrev pub steps_done : (ample : Bool) (ended : Status) (job : Job) (old new : Told)
-    (left : Option Content) → Ends ample ended job old new left → ℕ
-steps_done ample status.Accepted job old new left ends = job.steps
-steps_done ample status.Refused job old new left ends = job.steps
-steps_done ample status.Usage job old new left ends = job.steps
-steps_done ample status.SchemaFault job old new left ends = job.steps
-steps_done ample status.ReadFault job old new left ends = ends.0
-steps_done ample status.WriteFault job old new left (k, below, inl torn) = k
-steps_done ample status.WriteFault job old new left (k, below, inr torn) = k + 1
-steps_done ample status.Memory job old new left (k, inl stands) = k
-steps_done ample status.Memory job old new left (k, inr ahead) = k + 1
 
 -- Of a whole work some steps were made, and so many rounds are left, from this state of the
 -- generator and of the machine.

@@ -1,6 +1,7 @@
 -- A job as the moments that it goes through, and what is left of it, whatever ended it.
 use Rattle.std.specs.Prelude.{◌≡◌, ◌≤◌, ◌<◌, ◌⊎◌, ⊤, ℕ, zero, suc, ◌+◌}
 use Rattle.std.specs.Prelude.{List, [], ◌∷◌, ◌++◌, take, Bool, false, IsTrue, Some, None}
+use mathlib.Core.Logic.{inl, inr}
 use Rattle.std.specs.declared.option.Option.{Option}
 use Rattle.ssz_outside.specs.Content.{Content}
 use Rattle.ssz_outside.specs.Outcome.{RoseOnce, WritesPart}
@@ -82,6 +83,32 @@ Ends ample status.WriteFault job old new left =
 Ends ample status.Memory job old new left =
     (k : ℕ) × (((k ≤ job.steps) × JobStandsAt (job.at k) old new left)
     ⊎ ((k < job.steps) × RunsAhead ample job k old new left))
+
+-- How many steps were done of a job that ended so. Where a file was torn, the next one was begun;
+-- where its line was torn, or found no memory, it was done, too.
+abbrev pub steps_done : (ample : Bool) (ended : Status) (job : Job) (old new : Told)
+    (left : Option Content) → Ends ample ended job old new left → ℕ
+steps_done ample status.Accepted job old new left ends = job.steps
+steps_done ample status.Refused job old new left ends = job.steps
+steps_done ample status.Usage job old new left ends = job.steps
+steps_done ample status.SchemaFault job old new left ends = job.steps
+steps_done ample status.ReadFault job old new left ends = ends.0
+steps_done ample status.WriteFault job old new left (k, below, inl torn) = k
+steps_done ample status.WriteFault job old new left (k, below, inr torn) = k + 1
+steps_done ample status.Memory job old new left (k, inl stands) = k
+steps_done ample status.Memory job old new left (k, inr ahead) = k + 1
+
+-- How many steps were begun: also the one that was not done, where a read, a save or want of memory
+-- ended it. Behind a step that was done and not printed none is begun.
+abbrev pub steps_begun : (ample : Bool) (ended : Status) (job : Job) (old new : Told)
+    (left : Option Content) → Ends ample ended job old new left → ℕ
+steps_begun ample status.Accepted job old new left ends = job.steps
+steps_begun ample status.Refused job old new left ends = job.steps
+steps_begun ample status.Usage job old new left ends = job.steps
+steps_begun ample status.SchemaFault job old new left ends = job.steps
+steps_begun ample status.ReadFault job old new left ends = ends.0 + 1
+steps_begun ample status.WriteFault job old new left ends = ends.0 + 1
+steps_begun ample status.Memory job old new left ends = ends.0 + 1
 
 -- neither a fault of the outside nor want of memory
 abbrev pub IsFinished : Status → Type 0

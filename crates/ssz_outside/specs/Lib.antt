@@ -1,6 +1,7 @@
 pub mod Content
 pub mod Pieces
 pub mod Outcome
+pub mod Asked
 pub mod Printed
 pub mod Job
 pub mod Memory

@@ -5,6 +5,7 @@ use Rattle.std.specs.declared.result.Result.{Result}
 use Rattle.ssz_outside.specs.declared.outside.PutFault.{PutFault}
 use Rattle.ssz_outside.specs.declared.outside.PutFault.TheVariants.{Failed, Memory}
 use Rattle.ssz_outside.specs.Content.{Content, NamedBytes, absent}
+use Rattle.ssz_outside.specs.Asked.{Ask}
 use Rattle.ssz_outside.specs.Outcome.{next_count}
 use Rattle.std.specs.List.{list_any}
 use Rattle.std.specs.FinMap as map
@@ -19,13 +20,15 @@ abbrev pub first_half : List ℕ → List ℕ
 first_half bytes = take (length bytes / 2) bytes
 
 -- Files in memory: the names with their bytes, the numbers of the calls that are to fail (`get`s
--- and `put`s together, from 1), how many calls there were, and how many of them failed.
+-- and `put`s together, from 1), how many calls there were, how many of them failed, and what was
+-- asked for.
 pub record FilesState : Type 0 where
   pub named : NamedBytes
   pub failing : List ℕ
   pub calls : ℕ
   pub get_faults : ℕ
   pub put_faults : ℕ
+  pub asked : List Ask
 
 -- the next call is one that is to fail
 abbrev pub IsListed : FilesState → Type 0
@@ -83,14 +86,16 @@ named_code = map.code (coded_list coded_ℕ) (coded_list coded_ℕ)
 
 abbrev pub files_code : Coded FilesState
 files_code =
-    code_by (NamedBytes × (List ℕ × (ℕ × (ℕ × ℕ))))
-    (coded× named_code (coded× (coded_list coded_ℕ) (coded× coded_ℕ (coded× coded_ℕ coded_ℕ))))
-    (λ f. (f.named, (f.failing, (f.calls, (f.get_faults, f.put_faults)))))
+    code_by (NamedBytes × (List ℕ × (ℕ × (ℕ × (ℕ × List (List ℕ × ℕ))))))
+    (coded× named_code (coded× (coded_list coded_ℕ) (coded× coded_ℕ (coded× coded_ℕ
+    (coded× coded_ℕ (coded_list (coded× (coded_list coded_ℕ) coded_ℕ)))))))
+    (λ f. (f.named, (f.failing, (f.calls, (f.get_faults, (f.put_faults, f.asked))))))
     (λ p. record {
       named = p.0;
       failing = p.1.0;
       calls = p.1.1.0;
       get_faults = p.1.1.1.0;
-      put_faults = p.1.1.1.1;
+      put_faults = p.1.1.1.1.0;
+      asked = p.1.1.1.1.1;
     })
     (λ _. refl)

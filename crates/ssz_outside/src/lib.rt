@@ -7,6 +7,7 @@
 //! printed by `print_line`.
 #![tactic(auto)]
 
+mod log;
 mod memory;
 mod outside;
 mod quiet;

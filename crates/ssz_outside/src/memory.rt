@@ -1,11 +1,13 @@
 // Files and a sink in memory, which fail at the calls that they are told.
-ghost use Rattle.std.specs.Prelude.{◌≡◌, ◌≢◌, ◌≤◌, ◌⊎◌, List, ℕ, [], vec_len};
+ghost use Rattle.std.specs.Prelude.{◌≡◌, ◌≢◌, ◌≤◌, ◌⊎◌, List, ℕ, [], ◌∷◌, is_err, vec_len};
 ghost use Rattle.std.specs.Prelude.{Some, Err, IfOk, OnOk, OnErr, IsErrOf, IsNone, option_map};
 ghost use Rattle.std.specs.FinMap as map;
+ghost use Rattle.ssz_outside.specs.Asked.{AsksOf};
 ghost use Rattle.ssz_outside.specs.Memory.{is_listed};
 ghost use Rattle.ssz_outside.specs.Outcome.{next_count, Gets, CountsGet, CountsPut};
 ghost use Rattle.ssz_outside.specs.Pieces.{text_of_pieces};
 
+use crate::log::Log;
 use crate::outside::{Files, GetFault, Got, PutFault, Sink};
 use crate::store::Store;
 use crate::tape::Tape;
@@ -21,6 +23,7 @@ pub struct MemFiles {
     calls: u64,
     get_faults: u64,
     put_faults: u64,
+    log: Log,
 }
 
 impl Model for MemFiles {
@@ -36,6 +39,7 @@ impl Model for MemFiles {
       calls = f.calls;
       get_faults = f.get_faults;
       put_faults = f.put_faults;
+      asked = f.log;
     } };
 }
 
@@ -49,6 +53,7 @@ impl MemFiles {
           calls = 0;
           get_faults = 0;
           put_faults = 0;
+          asked = [];
         }) }
     {
         Ok(MemFiles {
@@ -57,6 +62,7 @@ impl MemFiles {
             calls: 0,
             get_faults: 0,
             put_faults: 0,
+            log: Log::new(alloc),
         })
     }
 
@@ -87,7 +93,7 @@ fn next_fails(failing: &[u64], calls: &mut u64) -> bool
 }
 
 impl Files for MemFiles {
-    ghost use Rattle.std.specs.Prelude.{Some};
+    ghost use Rattle.std.specs.Prelude.{Some, ⊤};
     ghost use Rattle.ssz_outside.specs.Content.{CanRead};
     ghost use Rattle.ssz_outside.specs.Memory.{IsListed, IsReadable, PutsHalf, content_of};
 
@@ -98,6 +104,10 @@ impl Files for MemFiles {
     ghost get_faults = { λ f. f.get_faults };
 
     ghost put_faults = { λ f. f.put_faults };
+
+    ghost asked = { λ f. Some f.asked };
+
+    ghost usable = { λ _. ⊤ };
 
     // It fails exactly at a listed call and at an absent name.
     fn get(&mut self, name: &str, into: &mut Vec<u8>, max: u64) -> Result<Got, GetFault>
@@ -115,9 +125,12 @@ impl Files for MemFiles {
         ensures get_faults { CountsGet result self.old.get_faults self.new.get_faults }
         ensures once { IsErrOf result GetFault.Failed
             → self.new.get_faults ≡ next_count self.old.get_faults }
+        ensures asked { AsksOf (is_err result) ((name.now, max) ∷ []) (Some self.old.asked)
+            (Some self.new.asked) }
         ensures rest { self.new ≡ record self.old {
           calls = next_count self.old.calls;
           get_faults = self.new.get_faults;
+          asked = self.new.asked;
         } }
     {
         if next_fails(&self.failing, &mut self.calls) {
@@ -125,7 +138,7 @@ impl Files for MemFiles {
             return Err(GetFault::Failed);
         }
         match self.store.get(name) {
-            Some(bytes) => read_held(bytes, into, max),
+            Some(bytes) => read_logged(&mut self.log, name, bytes, into, max),
             None => {
                 self.get_faults = self.get_faults.saturating_add(1);
                 Err(GetFault::Failed)
@@ -166,6 +179,26 @@ impl Files for MemFiles {
     fn put_faults(&self) -> u64 {
         self.put_faults
     }
+}
+
+// Notes what is asked for, and reads bytes that are in memory.
+fn read_logged(
+    log: &mut Log,
+    name: &str,
+    bytes: &[u8],
+    into: &mut Vec<u8>,
+    max: u64,
+) -> Result<Got, GetFault>
+    requires { into.old.items ≡ [] }
+    ensures read { Gets (Some bytes.now) max result into.new.items }
+    ensures bound { result ≡ Ok Got.Whole → vec_len into.new ≤ max }
+    ensures never { IsErrOf result GetFault.Failed → ⊥ }
+    ensures asked { AsksOf (is_err result) ((name.now, max) ∷ []) (Some log.old) (Some log.new) }
+{
+    if log.append(name, max).is_err() {
+        return Err(GetFault::Memory);
+    }
+    read_held(bytes, into, max)
 }
 
 // Reads bytes that are in memory.
@@ -211,7 +244,12 @@ impl MemSink {
     /// first call has number 1.
     pub fn new(alloc: Global, fails: &[u64]) -> Result<Self, AllocError>
         ensures { IfOk result
-            (λ sink. sink ≡ record { pieces = []; failing = fails.now; calls = 0; faults = 0 }) }
+            (λ sink. sink ≡ record {
+              pieces = [];
+              failing = fails.now;
+              calls = 0;
+              faults = 0;
+            }) }
     {
         Ok(MemSink {
             tape: Tape::new(alloc),
@@ -230,7 +268,7 @@ impl MemSink {
 }
 
 impl Sink for MemSink {
-    ghost use Rattle.std.specs.Prelude.{Some, false};
+    ghost use Rattle.std.specs.Prelude.{Some, false, ⊤};
     ghost use Rattle.ssz_outside.specs.Memory.{IsListedPut, TakesHalf};
 
     ghost pieces = { λ s. Some s.pieces };
@@ -238,6 +276,8 @@ impl Sink for MemSink {
     ghost faults = { λ s. s.faults };
 
     ghost ample = { λ _. false };
+
+    ghost usable = { λ _. ⊤ };
 
     // A listed call takes the first half of the piece, and fails.
     fn put(&mut self, piece: &[u8]) -> Result<(), PutFault>

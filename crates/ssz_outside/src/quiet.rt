@@ -58,7 +58,7 @@ impl QuietFiles {
 }
 
 impl Files for QuietFiles {
-    ghost use Rattle.std.specs.Prelude.{Some, ⊤};
+    ghost use Rattle.std.specs.Prelude.{None, Some, ⊤};
     ghost use Rattle.ssz_outside.specs.Content.{quiet_content};
 
     ghost content = { λ f. Some (quiet_content f) };
@@ -68,6 +68,10 @@ impl Files for QuietFiles {
     ghost get_faults = { λ _. 0 };
 
     ghost put_faults = { λ _. 0 };
+
+    ghost asked = { λ _. None };
+
+    ghost usable = { λ _. ⊤ };
 
     fn get(&mut self, name: &str, into: &mut Vec<u8>, max: u64) -> Result<Got, GetFault>
         requires { into.old.items ≡ [] }
@@ -134,13 +138,15 @@ impl QuietSink {
 }
 
 impl Sink for QuietSink {
-    ghost use Rattle.std.specs.Prelude.{Some, false};
+    ghost use Rattle.std.specs.Prelude.{Some, false, ⊤};
 
     ghost pieces = { λ s. Some s };
 
     ghost faults = { λ _. 0 };
 
     ghost ample = { λ _. false };
+
+    ghost usable = { λ _. ⊤ };
 
     fn put(&mut self, piece: &[u8]) -> Result<(), PutFault>
         ensures never { result ≢ Err PutFault.Failed }

@@ -61,7 +61,7 @@ fn write_path<R: rt::Files>(system: &R, path: &str, bytes: &[u8]) -> Result<(), 
 }
 
 impl<R: rt::Files + Drop> Files for DirFiles<R> {
-    ghost use Rattle.std.specs.Prelude.{None};
+    ghost use Rattle.std.specs.Prelude.{None, ⊤};
 
     ghost content = { λ _. None };
 
@@ -70,6 +70,10 @@ impl<R: rt::Files + Drop> Files for DirFiles<R> {
     ghost get_faults = { λ f. f.get_faults };
 
     ghost put_faults = { λ f. f.put_faults };
+
+    ghost asked = { λ _. None };
+
+    ghost usable = { λ _. ⊤ };
 
     fn get(&mut self, name: &str, into: &mut Vec<u8>, max: u64) -> Result<Got, GetFault>
         requires { into.old.items ≡ [] }
@@ -138,13 +142,15 @@ impl<W: Write + Drop> OutSink<W> {
 }
 
 impl<W: Write + Drop> Sink for OutSink<W> {
-    ghost use Rattle.std.specs.Prelude.{None, true};
+    ghost use Rattle.std.specs.Prelude.{None, true, ⊤};
 
     ghost pieces = { λ _. None };
 
     ghost faults = { λ s. s.faults };
 
     ghost ample = { λ _. true };
+
+    ghost usable = { λ _. ⊤ };
 
     fn put(&mut self, piece: &[u8]) -> Result<(), PutFault>
         ensures writes { WritesPiece result piece.now self.old.written self.new.written }

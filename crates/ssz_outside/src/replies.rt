@@ -1,5 +1,5 @@
 // The replies of a run, and how each is printed.
-ghost use Rattle.std.specs.Prelude.{◌≡◌, [], false, Err, IfErr};
+ghost use Rattle.std.specs.Prelude.{◌≡◌, [], false, Err, IfErr, OnOk};
 ghost use Rattle.ssz_outside.specs.Printed.{CountsPrint, IsStop, PrintsLine, finished_status};
 
 use crate::outside::{PutFault, Sink};
@@ -54,10 +54,12 @@ impl Replies {
 /// Prints a line in one piece: `WriteFault` where the put failed, and `Memory` where the sink found
 /// none, with nothing of it printed.
 pub fn print_line<S: Sink>(line: &[u8], out: &mut S) -> Result<(), Status>
+    requires usable { S.usable out.old }
     ensures pieces { PrintsLine result line.now (S.pieces out.old) (S.pieces out.new) }
     ensures counts { CountsPrint result (S.faults out.old) (S.faults out.new) }
     ensures memory { result ≡ Err Status.Memory → S.ample out.old ≡ false }
     ensures ample { S.ample out.new ≡ S.ample out.old }
+    ensures usable { OnOk result (S.usable out.new) }
     ensures stops { IfErr result IsStop }
 {
     match out.put(line) {

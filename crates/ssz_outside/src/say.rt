@@ -9,7 +9,8 @@ use crate::status::Status;
 /// Prints a line by one put, and answers `ended` if it was printed: `WriteFault` where the put
 /// failed, and `Memory` where the sink found none.
 pub fn say_line<S: Sink>(line: &str, ended: Status, out: &mut S) -> Status
-    requires { IsFinished ended }
+    requires finished { IsFinished ended }
+    requires usable { S.usable out.old }
     // Whatever the files hold and whether they were read before, this is the job of that line: it
     // leaves the files alone.
     ensures ends { (held : Content) (reads : Bool)

@@ -1,12 +1,13 @@
 -- From one line of a script to the next, or to its end.
-use Rattle.std.proofs.Common.{◌+◌, ◌≤◌, ◌≡◌, Bool, true, false, List, [], ◌∷◌, ◌++◌, map, take, Some, None, refl, sym, ap, ◌∙◌, subst, arith, append_assoc}
-use Rattle.std.specs.Prelude.{◌||◌, Ok, Err}
+use Rattle.std.proofs.Common.{◌+◌, ◌≤◌, ◌≡◌, Bool, true, false, List, [], ◌∷◌, ◌++◌, length, map, take, inl, inr, cond, Some, None, refl, sym, ap, ◌∙◌, subst, arith, append_assoc}
+use Rattle.std.specs.Prelude.{◌||◌, ◌⊎◌, Ok, Err}
 use Rattle.std.specs.List.{list_any}
+use Rattle.std.proofs.Math.Seq.{take-append-add, take-length}
 use Rattle.std.proofs.lemmas.List.{map-append, append-nil}
 use Rattle.std.proofs.lemmas.List.Folds.{list_any-append}
 use Rattle.std.proofs.lemmas.List.Sums.{sum_by-append, sum_by-cons, sum_by_push}
 use Rattle.ssz_outside.specs.Content.{Content}
-use Rattle.ssz_outside.specs.Job.{Ends}
+use Rattle.ssz_outside.specs.Job.{Finishes}
 use Rattle.ssz_outside.specs.Pieces.{Told, told_append}
 use Rattle.ssz_outside.proofs.Told.{told_append-twice}
 use Rattle.ssz_outside.specs.declared.status.Status.{Status}
@@ -16,8 +17,8 @@ use Rattle.ssz_proof.specs.Calculation.{PairOf}
 use Rattle.ssz_proof.specs.Multiproof.{Multiproof}
 use Rattle.ssz_partial_script.specs.Plays.{PartialScriptLine, PartialTurn, partial_step, partial_play, partial_shown, known_after, known_last, is_partial_refused, partial_charge_of, partial_charges, partial_job_of}
 use Rattle.ssz_outside.specs.Printed.{finished_status}
-use Rattle.ssz_partial_script.specs.Runs.{PartialScene, MakesPartialTurn, Breaks, DoesPartialTurns, RunsAll, PartialRunReaches}
-use Rattle.ssz_partial_script.proofs.Ending.{ends_done, ends_torn, ends_without_memory}
+use Rattle.ssz_partial_script.specs.Runs.{PartialScene, MakesPartialTurn, Breaks, DoesPartialTurns, EndsPartial, LacksPartialMemory, RunsAll, PartialRunReaches, partial_point}
+use Rattle.ssz_partial_script.proofs.Ending.{ends_ahead, ends_torn, ends_without_memory, finishes, steps_before, steps_with}
 
 swap : (a b c : Bool) → (a || (b || c)) ≡ ((b || (a || false)) || c)
 swap true true c = refl
@@ -35,6 +36,14 @@ last_known : (proof : Multiproof) (done : List PartialTurn) (turn : PartialTurn)
 last_known proof [] turn = refl
 last_known proof (first ∷ done) turn = last_known (known_after first) done turn
 
+-- what some steps may hash, and one more
+charged_more : (done rest : List PartialTurn)
+    → partial_charges done ≤ partial_charges (take (length done + 1) (done ++ rest))
+charged_more done rest =
+    let all = ap partial_charges (take-append-add done rest 1) in
+    let both = sum_by-append partial_charge_of done (take 1 rest) in
+    omega (arith, all, both)
+
 module _ (pair_of : PairOf) (t : SszType) (lines : List PartialScriptLine) where
   -- at first nothing was done
   pub comes_first : (scene : PartialScene) → PartialRunReaches pair_of t lines lines scene scene
@@ -44,6 +53,7 @@ module _ (pair_of : PairOf) (t : SszType) (lines : List PartialScriptLine) where
     known = refl;
     printed = told_append-none scene.pieces;
     answer = refl;
+    ample = refl;
     paid = omega arith;
   }
 
@@ -52,13 +62,15 @@ module _ (pair_of : PairOf) (t : SszType) (lines : List PartialScriptLine) where
     -- there is no memory for the next line
     pub stops_for_memory :
         RunsAll (partial_play pair_of t before.known lines) (Err status.Memory) before now
-    stops_for_memory held ample =
-        subst (λ turns. Ends ample status.Memory
-        (partial_job_of held turns) before.pieces now.pieces
-        (Some held))
-        (sym comes.turns)
-        (ends_without_memory held comes.done (partial_play pair_of t now.known left) ample
-        before.pieces now.pieces comes.printed)
+    stops_for_memory held =
+        let rest = partial_play pair_of t now.known left in
+        subst (λ turns. EndsPartial held turns status.Memory (partial_point before)
+        (partial_point now)) (sym comes.turns) (record {
+          ends = ends_without_memory held comes.done rest before.ample before.pieces now.pieces
+              comes.printed;
+          known = comes.known ∙ ap (known_last before.known) (sym (steps_before comes.done rest));
+          paid = omega (arith, comes.paid, charged_more comes.done rest);
+        })
 
     -- what was hashed is at most what all lines may hash
     pub pays_all : now.hashed
@@ -110,29 +122,71 @@ module _ (pair_of : PairOf) (t : SszType) (lines : List PartialScriptLine) where
             ∙ swap (is_partial_refused turn) (list_any is_partial_refused comes.done) before.refused
             ∙ ap (λ b. b || before.refused)
             (sym (list_any-append is_partial_refused comes.done (turn ∷ [])));
+        ample = makes.ample ∙ comes.ample;
         paid = omega (arith, paid, comes.paid, sum_by_push partial_charge_of comes.done turn);
       }
 
       -- or ends the run
-      pub breaks_off : (ended : Status) → Breaks turn ended now.pieces after.pieces
+      pub breaks_off : (ended : Status) → Breaks turn ended now after
+          → after.hashed ≤ now.hashed + partial_charge_of turn
           → RunsAll (partial_play pair_of t before.known lines) (Err ended) before after
-      breaks_off ended breaks held ample =
-          subst (λ turns. Ends ample ended (partial_job_of held turns) before.pieces after.pieces
-          (Some held))
-          (sym split) (by ended breaks)
+      breaks_off ended breaks paid held =
+          subst (λ turns. EndsPartial held turns ended (partial_point before)
+          (partial_point after)) (sym split) (by ended breaks)
         where
-          by : (ended : Status) → Breaks turn ended now.pieces after.pieces
-              → Ends ample ended (partial_job_of held (comes.done ++ turn ∷ rest)) before.pieces
-              after.pieces (Some held)
-          by status.WriteFault (count, printed) =
-              ends_torn held comes.done turn rest ample before.pieces after.pieces count
-              (printed ∙ ap (λ told. told_append told (take count (partial_shown turn) ∷ []))
-              comes.printed
-              ∙ told_append-twice before.pieces (map partial_shown comes.done)
-              (take count (partial_shown turn) ∷ []))
-          by status.Memory same =
-              ends_without_memory held comes.done (turn ∷ rest) ample before.pieces after.pieces
-              (same ∙ comes.printed)
+          with_turn : known_after turn
+              ≡ known_last before.known (take (length comes.done + 1) (comes.done ++ turn ∷ rest))
+          with_turn = sym (last_known before.known comes.done turn)
+              ∙ ap (known_last before.known) (sym (steps_with comes.done turn rest))
+
+          most : after.hashed ≤ before.hashed
+              + partial_charges (take (length comes.done + 1) (comes.done ++ turn ∷ rest))
+          most =
+              let all = ap partial_charges (steps_with comes.done turn rest) in
+              let both = sum_by_push partial_charge_of comes.done turn in
+              omega (arith, paid, comes.paid, all, both)
+
+          lacks : LacksPartialMemory turn now after
+              → EndsPartial held (comes.done ++ turn ∷ rest) status.Memory (partial_point before)
+              (partial_point after)
+          lacks broken = by_known broken.known
+            where
+              printed : after.pieces ≡ told_append before.pieces (map partial_shown comes.done)
+              printed = broken.printed ∙ comes.printed
+
+              by_known : ((after.known ≡ now.known)
+                  ⊎ ((after.known ≡ known_after turn) × (now.ample ≡ false)))
+                  → EndsPartial held (comes.done ++ turn ∷ rest) status.Memory
+                  (partial_point before) (partial_point after)
+              by_known (inl same) = record {
+                ends = ends_without_memory held comes.done (turn ∷ rest) before.ample before.pieces
+                    after.pieces printed;
+                known = same ∙ comes.known
+                    ∙ ap (known_last before.known) (sym (steps_before comes.done (turn ∷ rest)));
+                paid = most;
+              }
+              by_known (inr (made, wanting)) = record {
+                ends = ends_ahead held comes.done turn rest before.ample before.pieces after.pieces
+                    (sym comes.ample ∙ wanting) printed;
+                known = made ∙ with_turn;
+                paid = most;
+              }
+
+          by : (ended : Status) → Breaks turn ended now after
+              → EndsPartial held (comes.done ++ turn ∷ rest) ended (partial_point before)
+              (partial_point after)
+          by status.WriteFault torn = record {
+            ends = ends_torn held comes.done turn rest before.ample before.pieces after.pieces
+                torn.count
+                (torn.printed
+                ∙ ap (λ told. told_append told (take torn.count (partial_shown turn) ∷ []))
+                comes.printed
+                ∙ told_append-twice before.pieces (map partial_shown comes.done)
+                (take torn.count (partial_shown turn) ∷ []));
+            known = torn.known ∙ with_turn;
+            paid = most;
+          }
+          by status.Memory broken = lacks broken
           by status.Accepted is = absurd is
           by status.Refused is = absurd is
           by status.Usage is = absurd is
@@ -149,17 +203,31 @@ module _ (pair_of : PairOf) (t : SszType) (lines : List PartialScriptLine) where
 
 -- a whole script
 pub runs_to_end : (turns : List PartialTurn) (before after : PartialScene) (held : Content)
-    (ample : Bool)
     → before.refused ≡ false → RunsAll turns (Ok tt) before after
-    → Ends ample (finished_status after.refused)
-    (partial_job_of held turns) before.pieces after.pieces (Some held)
-runs_to_end turns before after held ample none does =
-    subst (λ (r : Bool). Ends ample (finished_status r)
-    (partial_job_of held turns) before.pieces after.pieces
-    (Some held)) (sym (does.answer ∙ ap (λ b. list_any is_partial_refused turns || b) none
+    → after.hashed ≤ before.hashed + partial_charges turns
+    → EndsPartial held turns (finished_status after.refused) (partial_point before)
+    (partial_point after)
+runs_to_end turns before after held none does paid =
+    subst (λ (r : Bool). EndsPartial held turns (finished_status r) (partial_point before)
+    (partial_point after)) (sym (does.answer ∙ ap (λ b. list_any is_partial_refused turns || b) none
     ∙ or_none (list_any is_partial_refused turns)))
-    (ends_done held turns ample before.pieces after.pieces does.printed)
+    (by (list_any is_partial_refused turns) (finishes held turns before.pieces after.pieces
+    does.printed))
   where
     or_none : (b : Bool) → (b || false) ≡ b
     or_none true = refl
     or_none false = refl
+
+    known : after.known ≡ known_last before.known (take (length turns) turns)
+    known = does.known ∙ ap (known_last before.known) (sym (take-length turns))
+
+    most : after.hashed ≤ before.hashed + partial_charges (take (length turns) turns)
+    most = let all = ap partial_charges (take-length turns) in omega (arith, paid, all)
+
+    by : (b : Bool)
+        → Finishes (partial_job_of held turns) (cond b status.Refused status.Accepted)
+        before.pieces after.pieces (Some held)
+        → EndsPartial held turns (cond b status.Refused status.Accepted) (partial_point before)
+        (partial_point after)
+    by true is = record { ends = is; known = known; paid = most }
+    by false is = record { ends = is; known = known; paid = most }

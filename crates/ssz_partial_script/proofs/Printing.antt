@@ -1,6 +1,6 @@
 -- The line of a step, printed.
-use Rattle.std.proofs.Common.{ℕ, ◌≡◌, false, List, take, Option, Some, None, refl, ap, ◌∙◌, subst, inr}
-use Rattle.std.specs.Prelude.{◌||◌, Result, Ok, Err}
+use Rattle.std.proofs.Common.{ℕ, ◌≡◌, false, List, take, Option, Some, None, refl, ap, ◌∙◌, subst, inl, inr}
+use Rattle.std.specs.Prelude.{◌||◌, ◌⊎◌, Result, Ok, Err}
 use Rattle.ssz_outside.specs.Pieces.{Told}
 use Rattle.ssz_outside.specs.declared.status.Status.{Status}
 use Rattle.ssz_outside.specs.declared.status.Status.TheVariants as status
@@ -16,10 +16,10 @@ use Rattle.ssz_partial.specs.declared.piece.Piece.{Piece}
 use Rattle.ssz_script.specs.declared.partial.PartialStatement.{PartialStatement}
 use Rattle.ssz_script.specs.declared.partial.PartialStatement.TheVariants.{Get, Set, Root}
 use Rattle.ssz_script.specs.declared.reply.Reply.{Reply}
-use Rattle.ssz_script.specs.declared.reply.Reply.TheVariants.{Bytes}
+use Rattle.ssz_script.specs.declared.reply.Reply.TheVariants.{Bytes, Done}
 use Rattle.ssz_script.specs.Texts.{reply_line}
 use Rattle.ssz_partial_script.specs.Statements.{coded, blind, bad_bytes, PartialRow, ◌>>=◌, ◌>>◌, covered, partial_faultless, becomes, partial_row_said, partial_says}
-use Rattle.ssz_partial_script.specs.Plays.{PartialScriptLine, PartialTurn, partial_step, partial_reply_in, partial_reply_of, known_after, is_partial_refused, is_partial_refused_row}
+use Rattle.ssz_partial_script.specs.Plays.{PartialScriptLine, PartialTurn, partial_step, partial_reply_in, partial_reply_of, known_after, known_of_row, is_partial_refused, is_partial_refused_row}
 use Rattle.ssz_outside.specs.Printed.{CountsPrint, PrintsLine}
 use Rattle.ssz_partial_script.specs.Runs.{CountsPartialFaults, PartialScene, RunsTurn, is_partial_refusal}
 
@@ -58,6 +58,35 @@ row_refuses line (Err (coded code)) accepts = refl
 row_refuses line (Err (blind index)) accepts = refl
 row_refuses line (Err (bad_bytes fault)) accepts = refl
 
+-- an accepted statement says `ok`, or leaves what is known
+abbrev SaysDone : Multiproof → PartialRow → Type 0
+SaysDone proof (Ok effect) = (effect.known ≡ proof) ⊎ (effect.reply ≡ Done)
+SaysDone proof (Err refusal) = Unit {0}
+
+get_keeps : (proof : Multiproof) (answer : Result Piece PartialFault)
+    → SaysDone proof (covered answer
+    >>= (λ piece. partial_says proof (Bytes (take piece.len piece.bytes.0))))
+get_keeps proof (Ok piece) = inl refl
+get_keeps proof (Err fault) = tt
+
+set_keeps : (proof : Multiproof) (place : Result FoundPart PartialFault) (fault : Option Fault)
+    (made : Result Multiproof PartialFault)
+    → SaysDone proof (covered place >> (partial_faultless fault >> becomes made))
+set_keeps proof (Err refused) fault made = tt
+set_keeps proof (Ok place) (Some fault) made = tt
+set_keeps proof (Ok place) None (Ok new) = inr refl
+set_keeps proof (Ok place) None (Err refused) = tt
+
+said_keeps : (pair_of : PairOf) (t : SszType) (proof : Multiproof)
+    (statement : Option PartialStatement)
+    → SaysDone proof (partial_row_said pair_of t proof statement)
+said_keeps pair_of t proof None = tt
+said_keeps pair_of t proof (Some (Get path)) = get_keeps proof (got (known_of proof) t path)
+said_keeps pair_of t proof (Some (Set path literal)) =
+    set_keeps proof (settable (known_of proof) t path) (first_fault (type_at t path) 0 literal)
+    (set_to proof t path (value_in (type_at t path) literal))
+said_keeps pair_of t proof (Some Root) = inl refl
+
 -- a reply refuses where its step is refused
 turn_refuses : (pair_of : PairOf) (t : SszType) (proof : Multiproof) (line : PartialScriptLine)
     → is_partial_refusal (partial_reply_of (partial_step pair_of t proof line))
@@ -73,32 +102,51 @@ pub printed_turn : (pair_of : PairOf) (t : SszType) (line : PartialScriptLine)
     → reply ≡ partial_reply_of (partial_step pair_of t before.known line)
     → after.known ≡ known_after (partial_step pair_of t before.known line)
     → after.refused ≡ (is_partial_refusal reply || before.refused)
+    → after.ample ≡ before.ample
+    → (result ≡ Err status.Memory → reply ≡ Done → before.ample ≡ false)
     → PrintsLine result (reply_line reply) before.pieces after.pieces
     → RunsTurn (partial_step pair_of t before.known line) result before after
-printed_turn pair_of t line before after reply result said known answer prints =
-    by result
+printed_turn pair_of t line before after reply result said known answer ample memory prints =
+    by result (λ none is. memory none (said ∙ is))
     (subst (λ (r : Reply). PrintsLine result (reply_line r) before.pieces after.pieces) said
     prints)
   where
     turn : PartialTurn
     turn = partial_step pair_of t before.known line
 
+    -- a reply that found no memory was not `ok`, and its step knows no more than before; or it was
+    by_row : (row : PartialRow) → SaysDone before.known row
+        → after.known ≡ known_of_row before.known row
+        → (partial_reply_in line.0 row ≡ Done → before.ample ≡ false)
+        → (after.known ≡ before.known)
+        ⊎ ((after.known ≡ known_of_row before.known row) × (before.ample ≡ false))
+    by_row (Err refusal) keeps is lacks = inl is
+    by_row (Ok effect) (inl same) is lacks = inl (is ∙ same)
+    by_row (Ok effect) (inr done) is lacks = inr (is, lacks done)
+
     by : (result : Result (Unit {0}) Status)
+        → (result ≡ Err status.Memory → partial_reply_of turn ≡ Done → before.ample ≡ false)
         → PrintsLine result (reply_line (partial_reply_of turn)) before.pieces after.pieces
         → RunsTurn turn result before after
-    by (Ok done) printed = record {
+    by (Ok done) lacks printed = record {
       known = known;
       printed = printed;
       answer = answer ∙ ap (λ b. b || before.refused)
           (ap is_partial_refusal said ∙ turn_refuses pair_of t before.known line);
+      ample = ample;
     }
-    by (Err status.WriteFault) printed = printed
-    by (Err status.Memory) printed = printed
-    by (Err status.Accepted) printed = absurd printed
-    by (Err status.Refused) printed = absurd printed
-    by (Err status.Usage) printed = absurd printed
-    by (Err status.SchemaFault) printed = absurd printed
-    by (Err status.ReadFault) printed = absurd printed
+    by (Err status.WriteFault) lacks (count, printed) =
+        record { count = count; printed = printed; known = known }
+    by (Err status.Memory) lacks printed = record {
+      printed = printed;
+      known = by_row (partial_row_said pair_of t before.known line.1)
+          (said_keeps pair_of t before.known line.1) known (lacks refl);
+    }
+    by (Err status.Accepted) lacks printed = absurd printed
+    by (Err status.Refused) lacks printed = absurd printed
+    by (Err status.Usage) lacks printed = absurd printed
+    by (Err status.SchemaFault) lacks printed = absurd printed
+    by (Err status.ReadFault) lacks printed = absurd printed
 
 -- the fault that ended a print was counted, and no other
 pub printed_counts : (result : Result (Unit {0}) Status) (line : List ℕ) (old new : Told)

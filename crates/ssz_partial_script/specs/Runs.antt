@@ -1,8 +1,8 @@
 -- How a script runs, line after line.
-use Rattle.std.specs.Prelude.{ℕ, ◌≡◌, ◌≤◌, ◌+◌, ◌||◌, Bool, true, false, List, [], ◌∷◌, ◌++◌, map, take, Option, Some, None, Result, Ok, Err}
+use Rattle.std.specs.Prelude.{ℕ, ◌≡◌, ◌≤◌, ◌+◌, ◌||◌, ◌⊎◌, Bool, true, false, List, [], ◌∷◌, ◌++◌, map, take, Option, Some, None, Result, Ok, Err}
 use Rattle.std.specs.List.{list_any}
 use Rattle.ssz_outside.specs.Content.{Content}
-use Rattle.ssz_outside.specs.Job.{CountsRun, Ends}
+use Rattle.ssz_outside.specs.Job.{CountsRun, Ends, steps_begun, steps_done}
 use Rattle.ssz_outside.specs.Pieces.{Told, told_append}
 use Rattle.ssz_outside.specs.declared.status.Status.{Status}
 use Rattle.ssz_outside.specs.declared.status.Status.TheVariants as status
@@ -33,30 +33,59 @@ abbrev pub partial_turn_at : PairOf → Types → Knowledge → PartialScriptLin
 partial_turn_at pair_of types known line =
     partial_step pair_of (type_of types known.id) known.proof line
 
--- What is there at a point of a run: what is known, the hasher's count, the pieces that the sink
--- has, and whether a line was refused.
+-- What is there before or after a run: what is known, the hasher's count, the pieces that the sink
+-- has, and whether it always finds memory.
+pub record PartialPoint : Type 0 where
+  pub known : Multiproof
+  pub hashed : ℕ
+  pub pieces : Told
+  pub ample : Bool
+
+-- What is there between two lines of it: that, and whether a line was refused.
 pub record PartialScene : Type 0 where
   pub known : Multiproof
   pub hashed : ℕ
   pub pieces : Told
+  pub ample : Bool
   pub refused : Bool
+
+abbrev pub partial_point : PartialScene → PartialPoint
+partial_point scene = record {
+  known = scene.known;
+  hashed = scene.hashed;
+  pieces = scene.pieces;
+  ample = scene.ample;
+}
 
 -- the step was made and its line printed
 pub record MakesPartialTurn (turn : PartialTurn) (before after : PartialScene) : Type 0 where
   pub known : after.known ≡ known_after turn
   pub printed : after.pieces ≡ told_append before.pieces (partial_shown turn ∷ [])
   pub answer : after.refused ≡ is_partial_refused turn || before.refused
+  pub ample : after.ample ≡ before.ample
 
--- the step was made, or was not, and its line was printed in part, or not at all
-abbrev pub Breaks : PartialTurn → Status → Told → Told → Type 0
-Breaks turn status.WriteFault old new =
-    (count : ℕ) × (new ≡ told_append old (take count (partial_shown turn) ∷ []))
-Breaks turn status.Memory old new = new ≡ old
-Breaks turn other old new = ⊥
+-- the step was made, and its line was printed in part
+pub record TearsPartialLine (turn : PartialTurn) (before after : PartialScene) : Type 0 where
+  pub count : ℕ
+  pub printed : after.pieces ≡ told_append before.pieces (take count (partial_shown turn) ∷ [])
+  pub known : after.known ≡ known_after turn
+
+-- Memory was wanting and nothing was printed: nothing more is known, or the step was made and the
+-- sink found none for its line.
+pub record LacksPartialMemory (turn : PartialTurn) (before after : PartialScene) : Type 0 where
+  pub printed : after.pieces ≡ before.pieces
+  pub known : (after.known ≡ before.known)
+      ⊎ ((after.known ≡ known_after turn) × (before.ample ≡ false))
+
+-- a step ended the run
+abbrev pub Breaks : PartialTurn → Status → PartialScene → PartialScene → Type 0
+Breaks turn status.WriteFault before after = TearsPartialLine turn before after
+Breaks turn status.Memory before after = LacksPartialMemory turn before after
+Breaks turn other before after = ⊥
 
 abbrev pub RunsTurn : PartialTurn → Result (Unit {0}) Status → PartialScene → PartialScene → Type 0
 RunsTurn turn (Ok x) before after = MakesPartialTurn turn before after
-RunsTurn turn (Err ended) before after = Breaks turn ended before.pieces after.pieces
+RunsTurn turn (Err ended) before after = Breaks turn ended before after
 
 -- the sink's count of faults, and no other
 abbrev pub CountsPartialFaults : Result (Unit {0}) Status → ℕ → ℕ → Type 0
@@ -70,14 +99,25 @@ pub record DoesPartialTurns (turns : List PartialTurn) (before after : PartialSc
   pub printed : after.pieces ≡ told_append before.pieces (map partial_shown turns)
   pub answer : after.refused ≡ list_any is_partial_refused turns || before.refused
 
+-- A run of these steps ended, as their job does.
+pub record EndsPartial (held : Content) (turns : List PartialTurn) (ended : Status)
+    (before after : PartialPoint) : Type 0 where
+  pub ends : Ends before.ample ended (partial_job_of held turns) before.pieces after.pieces
+      (Some held)
+  -- what is known is what the steps leave that were done, also where a fault or out of memory
+  -- ended it: no line behind them was done
+  pub known : after.known ≡ known_last before.known (take (steps_done before.ample ended
+      (partial_job_of held turns) before.pieces after.pieces (Some held) ends) turns)
+  -- what was hashed is paid for by the steps that were begun
+  pub paid : after.hashed ≤ before.hashed + partial_charges (take (steps_begun before.ample ended
+      (partial_job_of held turns) before.pieces after.pieces (Some held) ends) turns)
+
 -- All of them were, or their job was broken off.
 abbrev pub RunsAll : List PartialTurn → Result (Unit {0}) Status → PartialScene → PartialScene
     → Type 0
 RunsAll turns (Ok x) before after = DoesPartialTurns turns before after
 RunsAll turns (Err ended) before after =
-    (held : Content) (ample : Bool)
-    → Ends ample ended (partial_job_of held turns) before.pieces after.pieces
-    (Some held)
+    (held : Content) → EndsPartial held turns ended (partial_point before) (partial_point after)
 
 -- Of the lines at first some were done, in these steps, and the others are left.
 pub record PartialRunReaches (pair_of : PairOf) (t : SszType) (lines left : List PartialScriptLine)
@@ -89,4 +129,5 @@ pub record PartialRunReaches (pair_of : PairOf) (t : SszType) (lines left : List
   pub known : after.known ≡ known_last before.known done
   pub printed : after.pieces ≡ told_append before.pieces (map partial_shown done)
   pub answer : after.refused ≡ list_any is_partial_refused done || before.refused
+  pub ample : after.ample ≡ before.ample
   pub paid : after.hashed ≤ before.hashed + partial_charges done

@@ -1,5 +1,5 @@
 // What a statement comes to.
-ghost use Rattle.std.specs.Prelude.{◌≡◌, ◌<◌, ◌≤◌, ◌+◌, ◌^◌, length, Some, None, IfOk, OnOk};
+ghost use Rattle.std.specs.Prelude.{◌≡◌, ◌<◌, ◌≤◌, ◌+◌, ◌^◌, length, Some, None, IfOk, OnOk, OnErr};
 ghost use Rattle.ssz_schema.specs.Unfolding.{type_of};
 ghost use Rattle.ssz_script.specs.declared.reply.TheConstants.Reply.{BAD_LITERAL};
 ghost use Rattle.ssz_value.specs.Standing.{value_of};
@@ -117,6 +117,7 @@ fn set(
           (partial_set (type_of schema.now partial.old.id) partial.old.proof path.now literal.now);
     }) }
     ensures same { partial.new.id ≡ partial.old.id }
+    ensures intact { OnErr result (partial.new ≡ partial.old) }
 {
     let Some(steps) = path.fitting(alloc, schema, partial.id())? else {
         return Ok(refused(line, Reply::BAD_PATH));
@@ -151,6 +152,7 @@ fn reply_to_statement<H: PairHash>(
           (partial_turn_at H.pair_of schema.now partial.old (line, Some statement.now));
     }) }
     ensures same { partial.new.id ≡ partial.old.id }
+    ensures intact { OnErr result (partial.new ≡ partial.old) }
     ensures rises { H.pairs hasher.old ≤ H.pairs hasher.new }
     ensures pairs { H.pairs hasher.new ≤ H.pairs hasher.old + partial_charge_of
         (partial_turn_at H.pair_of schema.now partial.old (line, Some statement.now)) }
@@ -184,6 +186,7 @@ pub fn reply_to<H: PairHash>(
           (partial_turn_at H.pair_of schema.now partial.old (line.now.number, line.now.statement));
     }) }
     ensures same { partial.new.id ≡ partial.old.id }
+    ensures intact { OnErr result (partial.new ≡ partial.old) }
     ensures rises { H.pairs hasher.old ≤ H.pairs hasher.new }
     ensures pairs { H.pairs hasher.new ≤ H.pairs hasher.old + partial_charge_of
         (partial_turn_at H.pair_of schema.now partial.old (line.now.number, line.now.statement)) }

@@ -1,14 +1,14 @@
 // Scripts, line after line.
-ghost use Rattle.std.specs.Prelude.{◌≡◌, ◌≢◌, ◌<◌, ◌≤◌, ◌+◌, ℕ, length, Some, IfErr};
+ghost use Rattle.std.specs.Prelude.{◌≡◌, ◌≢◌, ◌<◌, ◌≤◌, ◌+◌, ◌++◌, ℕ, [], false, length, Err, IfErr, OnOk, OnErr, vec_len, vec_capacity};
 ghost use Rattle.ssz_outside.specs.Content.{Content};
-ghost use Rattle.ssz_outside.specs.Job.{CountsRun, Ends, IsFinished};
+ghost use Rattle.ssz_outside.specs.Job.{CountsRun, IsFinished};
 ghost use Rattle.ssz_outside.specs.Printed.{CountsPrint, IsStop, PrintsLine};
 ghost use Rattle.ssz_schema.specs.Unfolding.{type_of};
 ghost use Rattle.ssz_script.specs.Grammar.{partial_statements};
 ghost use Rattle.ssz_script.specs.Lines.{lines_said};
 ghost use Rattle.ssz_script.specs.Texts.{reply_line};
-ghost use Rattle.ssz_partial_script.specs.Plays.{partial_charge_of, partial_charges, known_last, partial_play, partial_script_job, partial_turns_of_script};
-ghost use Rattle.ssz_partial_script.specs.Runs.{CountsPartialFaults, RunsAll, RunsTurn, is_partial_refusal, partial_turn_at};
+ghost use Rattle.ssz_partial_script.specs.Plays.{partial_charge_of, partial_charges, known_last, partial_play, partial_turns_of_script};
+ghost use Rattle.ssz_partial_script.specs.Runs.{CountsPartialFaults, EndsPartial, RunsAll, RunsTurn, is_partial_refusal, partial_turn_at};
 
 use super::line::{PartialLine, next_line};
 use super::reply::reply_to;
@@ -17,17 +17,48 @@ use ssz_outside::{Replies, Sink, Status, print_line};
 use ssz_partial::Partial;
 use ssz_schema::Schema;
 use ssz_script::{Lines, Reply, reply_text};
-use std::alloc::Global;
+use std::alloc::{AllocError, Global};
+
+// Appends `ok`, for which there is room.
+fn say_done(text: &mut Vec<u8>)
+    requires { vec_len text.old + 3 ≤ vec_capacity text.old }
+    ensures { text.new.items ≡ text.old.items ++ reply_line Reply.Done }
+{
+    match text.extend_from_slice(b"ok\n") {
+        Ok(()) => {}
+        Err(_) => unreachable!(),
+    }
+}
+
+// Makes the line of a reply. There is room for `ok`, so that this cannot fail for what was set.
+fn make_text(reply: &Reply, text: &mut Vec<u8>) -> Result<(), AllocError>
+    requires room { vec_len text.old + 3 ≤ vec_capacity text.old }
+    requires empty { text.old.items ≡ [] }
+    ensures text { OnOk result (text.new.items ≡ reply_line reply.now) }
+    ensures sure { OnErr result (reply.now ≢ Reply.Done) }
+{
+    if let Reply::Done = reply {
+        say_done(text);
+        return Ok(());
+    }
+    reply_text(reply, text)
+}
 
 // Makes the line of a reply and prints it.
 fn print_reply<S: Sink>(reply: &Reply, replies: &mut Replies, out: &mut S) -> Result<(), Status>
+    requires room { vec_len replies.old.text + 3 ≤ vec_capacity replies.old.text }
+    requires empty { replies.old.text.items ≡ [] }
+    requires usable { S.usable out.old }
     ensures prints { PrintsLine result (reply_line reply.now) (S.pieces out.old) (S.pieces out.new) }
     ensures counts { CountsPrint result (S.faults out.old) (S.faults out.new) }
+    ensures memory { result ≡ Err Status.Memory → reply.now ≡ Reply.Done
+        → S.ample out.old ≡ false }
+    ensures ample { S.ample out.new ≡ S.ample out.old }
+    ensures usable { OnOk result (S.usable out.new) }
     ensures stops { IfErr result IsStop }
     ensures refused { replies.new.refused ≡ replies.old.refused }
 {
-    replies.begin();
-    match reply_text(reply, &mut replies.text) {
+    match make_text(reply, &mut replies.text) {
         Ok(()) => print_line(replies.text.as_slice(), out),
         Err(_) => Err(Status::Memory),
     }
@@ -54,7 +85,8 @@ fn run_line<S: Sink, H: PairHash>(
     hasher: &mut H,
     replies: &mut Replies,
 ) -> Result<(), Status>
-    requires { partial.old.id < length schema.now.trees }
+    requires known { partial.old.id < length schema.now.trees }
+    requires usable { S.usable out.old }
     ensures runs { RunsTurn
         (partial_turn_at H.pair_of schema.now partial.old (line.now.number, line.now.statement))
         result
@@ -62,21 +94,29 @@ fn run_line<S: Sink, H: PairHash>(
           known = partial.old.proof;
           hashed = H.pairs hasher.old;
           pieces = S.pieces out.old;
+          ample = S.ample out.old;
           refused = replies.old.refused;
         })
         (record {
           known = partial.new.proof;
           hashed = H.pairs hasher.new;
           pieces = S.pieces out.new;
+          ample = S.ample out.new;
           refused = replies.new.refused;
         }) }
     ensures same { partial.new.id ≡ partial.old.id }
+    ensures usable { OnOk result (S.usable out.new) }
     ensures counts { CountsPartialFaults result (S.faults out.old) (S.faults out.new) }
     ensures stops { IfErr result IsStop }
     ensures rises { H.pairs hasher.old ≤ H.pairs hasher.new }
     ensures pairs { H.pairs hasher.new ≤ H.pairs hasher.old + partial_charge_of
         (partial_turn_at H.pair_of schema.now partial.old (line.now.number, line.now.statement)) }
 {
+    replies.begin();
+    // (room for `ok`, before anything is set)
+    if replies.text.reserve(3).is_err() {
+        return Err(Status::Memory);
+    }
     match reply_to(alloc, schema, partial, line, hasher) {
         Ok(reply) => {
             replies.refused = is_refusal(&reply) | replies.refused;
@@ -97,7 +137,8 @@ fn run_lines<S: Sink, H: PairHash>(
     hasher: &mut H,
     replies: &mut Replies,
 ) -> Result<(), Status>
-    requires { partial.old.id < length schema.now.trees }
+    requires known { partial.old.id < length schema.now.trees }
+    requires usable { S.usable out.old }
     ensures runs { RunsAll
         (partial_play H.pair_of (type_of schema.now partial.old.id) partial.old.proof
         (lines_said partial_statements lines.old)) result
@@ -105,15 +146,18 @@ fn run_lines<S: Sink, H: PairHash>(
           known = partial.old.proof;
           hashed = H.pairs hasher.old;
           pieces = S.pieces out.old;
+          ample = S.ample out.old;
           refused = replies.old.refused;
         })
         (record {
           known = partial.new.proof;
           hashed = H.pairs hasher.new;
           pieces = S.pieces out.new;
+          ample = S.ample out.new;
           refused = replies.new.refused;
         }) }
     ensures same { partial.new.id ≡ partial.old.id }
+    ensures usable { OnOk result (S.usable out.new) }
     ensures counts { CountsPartialFaults result (S.faults out.old) (S.faults out.new) }
     ensures stops { IfErr result IsStop }
     ensures rises { H.pairs hasher.old ≤ H.pairs hasher.new }
@@ -151,12 +195,25 @@ pub fn run_partial<S: Sink, H: PairHash>(
     out: &mut S,
     hasher: &mut H,
 ) -> Status
-    requires { partial.old.id < length schema.now.trees }
-    // Whatever the files hold, which it leaves alone, the run ended as the script's job does.
-    ensures ends { (held : Content) → Ends (S.ample out.old) result
-        (partial_script_job H.pair_of
-        (type_of schema.now partial.old.id) partial.old.proof held script.now)
-        (S.pieces out.old) (S.pieces out.new) (Some held) }
+    requires known { partial.old.id < length schema.now.trees }
+    requires usable { S.usable out.old }
+    // Whatever the files hold, which it leaves alone, the run ended as the script's job does; and
+    // where it was stopped, what is known is what the lines leave that were done.
+    ensures ends { (held : Content) → EndsPartial held
+        (partial_turns_of_script H.pair_of (type_of schema.now partial.old.id) partial.old.proof
+        script.now) result
+        (record {
+          known = partial.old.proof;
+          hashed = H.pairs hasher.old;
+          pieces = S.pieces out.old;
+          ample = S.ample out.old;
+        })
+        (record {
+          known = partial.new.proof;
+          hashed = H.pairs hasher.new;
+          pieces = S.pieces out.new;
+          ample = S.ample out.new;
+        }) }
     // The fault that the status names was counted, and no other: none is passed over.
     ensures counts { (gets puts : ℕ) → CountsRun result gets gets puts puts (S.faults out.old)
         (S.faults out.new) }

@@ -4,6 +4,7 @@ use Rattle.std.proofs.Common.{◌≡◌, ◌≢◌, ℕ, zero, suc, ◌+◌, ◌
 use Rattle.std.specs.Prelude.{IsTrue}
 use Rattle.std.specs.List.{AllByRecursion}
 use Rattle.ssz_chunk.specs.Chunk.{CountsUp}
+use Rattle.ssz_outside.specs.Asked.{Ask, AsksOf, is_cut}
 use Rattle.ssz_outside.specs.Content.{Content}
 use Rattle.ssz_outside.specs.Job.{CountsRun, Job, Ends, Finishes, IsFinished, JobStandsAt}
 use Rattle.ssz_outside.specs.Outcome.{Rose}
@@ -32,10 +33,11 @@ use Rattle.ssz_engine.specs.Scripts.{EndsRun, EndsScript, HasCounts, IsFreshScen
 use Rattle.ssz_engine.proofs.Reaching.{same_charges}
 use Rattle.ssz_engine.proofs.Replies.{said_number}
 use Rattle.ssz_engine.proofs.Scripts.{told_append-none}
-use Rattle.ssz_tool.specs.Runs.{JobDoes, job_of_line, job_of_print, job_of_task, pairs_of_task, reached_of_task, run_rules, turns_of_task}
+use Rattle.ssz_tool.specs.Runs.{JobDoes, asks_of_task, job_of_line, job_of_print, job_of_task, pairs_of_task, reached_of_task, run_rules, turns_of_task}
 use Rattle.ssz_tool.specs.Tasks.{DoesSame}
 use Rattle.ssz_tool.specs.declared.line.Line.{Line}
 use Rattle.ssz_tool.specs.ToDo.{Printed, printed, Task, prints, plays, weaves, works, plays_tree}
+use Rattle.ssz_tool.proofs.Asked.{asks_of_job, same_asks}
 use Rattle.ssz_tool.proofs.Quiet.{no_counts, weave_counts}
 
 -- a count that goes up by the pairs of the zero table
@@ -291,6 +293,16 @@ module _ (pair_of : PairOf) (schema : Types) (most : ℕ) (held : Content) (scri
       (reached_of_task pair_of held (plays (known_in schema) most script))
       → ended ≢ status.ReadFault
   script_reached all = run.reached [] all
+
+  -- and the files were asked for those that they read, in turn
+  pub script_asks : AsksOf (is_cut ended)
+      (asks_of_task pair_of held (plays (known_in schema) most script)) before.asked after.asked
+  script_asks =
+      subst (λ (asks : List Ask). AsksOf (is_cut ended) asks before.asked after.asked)
+      (same_asks rules Run (all_of 0 (statements_in script)) (fresh held) run.numbers [])
+      (asks_of_job rules (turns_of_script rules run.numbers (fresh held) script) before.asked
+      after.asked before.ample ended (script_job rules run.numbers (fresh held) script)
+      before.pieces after.pieces after.told run.ends refl run.asks)
 
 pub all_readable : (P : List ℕ → Type 0) → ((name : List ℕ) → P name) → (names : List (List ℕ))
     → AllByRecursion P names

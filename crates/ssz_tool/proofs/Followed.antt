@@ -12,7 +12,7 @@ use Rattle.ssz_tool.specs.ToDo.{Task as Meant, is_script, prints_line}
 use Rattle.ssz_tool.specs.declared.job.Task.{Task}
 use Rattle.ssz_tool.specs.declared.line.Line.{Line}
 use Rattle.ssz_tool.specs.declared.stop.Stop.TheVariants as stop
-use Rattle.ssz_tool.proofs.Steps.{no_usage}
+use Rattle.ssz_tool.proofs.Comings.{no_usage}
 
 module _ (held : Content) (P : List ℕ → Type 0) where
   -- what was made does what the plan comes to

@@ -1,3 +1,6 @@
+pub mod Comings
+pub mod Asking
+pub mod Asked
 pub mod Steps
 pub mod Reading
 pub mod Followed

@@ -1,7 +1,9 @@
 -- What the readers of files make of a plan's steps.
-use Rattle.std.proofs.Common.{◌≡◌, ◌≤◌, ◌<◌, ℕ, zero, suc, ◌+◌, List, [], ◌∷◌, ◌++◌, length, take, drop, get_or, arith, Vec, Global, true, false, option_map, Option, Some, None, Result, Ok, Err, refl, sym, ap, subst, ◌∙◌}
+use Rattle.std.proofs.Common.{◌≡◌, ◌≤◌, ◌<◌, ℕ, zero, suc, ◌+◌, List, [], ◌∷◌, ◌++◌, length, take, drop, get_or, arith, Vec, Global, true, false, option_map, Option, Some, None, Result, Ok, Err, append_assoc, take-append-drop, refl, sym, ap, subst, ◌∙◌}
 use Rattle.std.specs.Prelude.{IsSome, MatchOption}
 use Rattle.std.proofs.Math.Path.{fun_ext}
+use Rattle.ssz_outside.proofs.Asking.{asks-behind, asks-cut, asks-within}
+use Rattle.ssz_outside.specs.Asked.{Ask, Asks, AsksOf}
 use Rattle.ssz_outside.specs.Content.{Content}
 use Rattle.ssz_outside.specs.declared.outside.Files.{Ghosts}
 use Rattle.ssz_schema.specs.Lookup.{lookup_name}
@@ -9,12 +11,14 @@ use Rattle.ssz_schema.specs.Types.{SszType}
 use Rattle.ssz_schema.specs.Unfolding.{Types, type_number, type_of}
 use Rattle.ssz_schema_json.specs.Schema.{FileFault, HasTypes as HasNames, NamedTypes}
 use Rattle.ssz_tool.specs.Commands.{script_file, script_files, types_read}
-use Rattle.ssz_tool.specs.Follows.{AnswersPlan, ComesOf, CountsStop, Follows}
-use Rattle.ssz_tool.specs.Plans.{Plan, file, gives, need, reads, refuses, ◌>>=◌}
+use Rattle.ssz_tool.specs.Follows.{AnswersPlan, ComesOf, CountsStop, Follows, is_cut_short}
+use Rattle.ssz_tool.specs.Plans.{Plan, asks_in, file, gives, need, reads, refuses, ◌>>=◌}
 use Rattle.ssz_tool.specs.Tasks.{HasItems, NamesHaveTypes}
 use Rattle.ssz_tool.specs.declared.line.Line.{Line}
 use Rattle.ssz_tool.specs.declared.stop.Stop.{Stop}
 use Rattle.ssz_tool.specs.declared.stop.Stop.TheVariants as stop
+use Rattle.ssz_tool.proofs.Asking.{asks-gives, asks-stopped, asks-then}
+use Rattle.ssz_tool.proofs.Comings.{given}
 use Rattle.ssz_tool.proofs.Steps.{comes_stopped, comes_then, follows_here}
 
 -- the schema that was read knows each name for the type that the file defines
@@ -50,24 +54,6 @@ pub there : {A : Type 0} (o : Option A) → IsSome o → (x : A) × (o ≡ Some 
 there None is = let differ : false ≡ true = is in cc
 there (Some x) is = (x, refl)
 
--- an answer of a plan that reads no file
-pub answered : {A T : Type 0} (told : Option Content) (P : List ℕ → Type 0) (S : A → T → Type 0)
-    (plan : Plan A) (result : Result T Stop) → AnswersPlan S plan result
-    → ComesOf told P S plan result
-answered told P S plan (Err stop.Memory) is = tt
-answered told P S (gives x) (Ok made) is = is
-answered told P S (gives x) (Err stop.Usage) is = is
-answered told P S (gives x) (Err (stop.Says said)) is = is
-answered told P S (gives x) (Err stop.Read) is = is
-answered told P S (refuses meant) (Ok made) is = is
-answered told P S (refuses meant) (Err stop.Usage) is = is
-answered told P S (refuses meant) (Err (stop.Says said)) is = is
-answered told P S (refuses meant) (Err stop.Read) is = is
-answered told P S (reads name most long next) (Ok made) is = absurd is
-answered told P S (reads name most long next) (Err stop.Usage) is = is
-answered told P S (reads name most long next) (Err (stop.Says said)) is = absurd is
-answered told P S (reads name most long next) (Err stop.Read) is = absurd is
-
 counted : {A T : Type 0} (S : A → T → Type 0) (plan : Plan A) (result : Result T Stop) (n : ℕ)
     → AnswersPlan S plan result → CountsStop result n n
 counted S plan (Ok made) n is = refl
@@ -82,8 +68,7 @@ pub follows_answered : {Self A T : Type 0} (F : Ghosts Self) (S : A → T → Ty
     (result : Result T Stop) (files : Self) → AnswersPlan S plan result
     → Follows F S plan result files files
 follows_answered F S plan result files is =
-    follows_here F S plan result files (counted S plan result (F.get_faults files) is)
-    (answered (F.content files) (F.readable files) S plan result is)
+    follows_here F S plan result files (counted S plan result (F.get_faults files) is) is
 
 -- what stands for what a plan gives, in another form
 pub comes_as : {A T U : Type 0} (told : Option Content) (P : List ℕ → Type 0)
@@ -103,26 +88,25 @@ unfolding file
 read_within told P name most long read (bytes, few, is, same) =
     subst (λ (b : List ℕ). length b ≤ most) (sym same) few
 
-module _ (told : Option Content) (P : List ℕ → Type 0) where
-  -- what is there, and where nothing is
-  pub need_given : {A T : Type 0} (S : A → T → Type 0) (missing : Line) (o : Option A) (x : A)
-      (made : T) → o ≡ Some x → S x made → ComesOf told P S (need missing o) (Ok made)
-  need_given S missing o x made is stands = rw is stands
+-- what is there, and where nothing is
+pub need_given : {A T : Type 0} (S : A → T → Type 0) (missing : Line) (o : Option A) (x : A)
+    (made : T) → o ≡ Some x → S x made → AnswersPlan S (need missing o) (Ok made)
+need_given S missing o x made is stands = rw is stands
 
-  pub need_refused : {A T : Type 0} (S : A → T → Type 0) (missing : Line) (o : Option A)
-      → o ≡ None → ComesOf {T = T} told P S (need missing o) (Err (stop.Says missing))
-  need_refused S missing o is = rw is refl
+pub need_refused : {A T : Type 0} (S : A → T → Type 0) (missing : Line) (o : Option A)
+    → o ≡ None → AnswersPlan {T = T} S (need missing o) (Err (stop.Says missing))
+need_refused S missing o is = rw is refl
 
-  -- the types of a schema, and where it is refused
-  pub schema_given : (meant : Result NamedTypes FileFault) (schema : Types)
-      → (names : NamedTypes) × (meant ≡ Ok names) × HasNames schema names
-      → ComesOf told P NamesHaveTypes (types_read meant) (Ok schema)
-  schema_given meant schema (names, is, has) = rw is (has_types schema names has)
+-- the types of a schema, and where it is refused
+pub schema_given : (meant : Result NamedTypes FileFault) (schema : Types)
+    → (names : NamedTypes) × (meant ≡ Ok names) × HasNames schema names
+    → AnswersPlan NamesHaveTypes (types_read meant) (Ok schema)
+schema_given meant schema (names, is, has) = rw is (has_types schema names has)
 
-  pub schema_refused : (meant : Result NamedTypes FileFault) (fault : FileFault) (said : Line)
-      → meant ≡ Err fault → types_read (Err fault) ≡ refuses said
-      → ComesOf {T = Types} told P NamesHaveTypes (types_read meant) (Err (stop.Says said))
-  schema_refused meant fault said is refused = rw (is, refused) refl
+pub schema_refused : (meant : Result NamedTypes FileFault) (fault : FileFault) (said : Line)
+    → meant ≡ Err fault → types_read (Err fault) ≡ refuses said
+    → AnswersPlan {T = Types} NamesHaveTypes (types_read meant) (Err (stop.Says said))
+schema_refused meant fault said is refused = rw (is, refused) refl
 
 -- ---- scripts, one behind another
 
@@ -245,3 +229,94 @@ module _ (told : Option Content) (P : List ℕ → Type 0) where
   next_stopped S R names scripts i name why within is so_far stopped =
       subst (λ ns. ComesOf told P R (script_files ns) (Err why)) (parted names i name within is)
       (stopped_at S R (take i names) scripts (drop (i + 1) names) name why so_far stopped)
+
+-- What is asked for scripts, one behind another.
+module _ (held : Content) (P : List ℕ → Type 0) where
+  asks-first : (first script : List ℕ) (names : List (List ℕ))
+      → ComesOf (Some held) P (λ meant made. made ≡ meant) (script_file first) (Ok script)
+      → asks_in held (script_files (first ∷ names))
+      ≡ asks_in held (script_file first) ++ asks_in held (script_files names)
+  unfolding script_files
+  asks-first first script names comes =
+      let same : List ℕ → List ℕ → Type 0 = λ meant made. made ≡ meant in
+      let x = given (Some held) P same (script_file first) script comes in
+      asks-then held P same (script_file first)
+      (λ s. script_files names >>= (λ ss. gives (s ∷ ss))) script comes
+      ∙ ap (λ (l : List Ask). asks_in held (script_file first) ++ l)
+      (asks-gives held (script_files names) (λ ss. x.0 ∷ ss))
+
+  asks-scripts : (names others scripts : List (List ℕ)) → AreRead (Some held) P names scripts
+      → asks_in held (script_files (names ++ others))
+      ≡ asks_in held (script_files names) ++ asks_in held (script_files others)
+  unfolding script_files ◌>>=◌
+  asks-scripts [] others scripts read = refl
+  asks-scripts (first ∷ names) others scripts read =
+      let whole = split (Some held) P (λ meant made. made ≡ meant) (script_file first)
+      (λ s. script_files names >>= (λ ss. gives (s ∷ ss))) scripts read in
+      let rest = split (Some held) P (λ meant made. made ≡ meant) (script_files names)
+      (λ ss. gives (whole.first ∷ ss)) scripts whole.behind in
+      let here = asks_in held (script_file first) in
+      let these = asks_in held (script_files names) in
+      let those = asks_in held (script_files others) in
+      asks-first first whole.first (names ++ others) whole.before
+      ∙ ap (λ (l : List Ask). here ++ l) (asks-scripts names others rest.first rest.before)
+      ∙ sym (append_assoc here these those)
+      ∙ ap (λ (l : List Ask). l ++ those) (sym (asks-first first whole.first names whole.before))
+
+  asks-last : (name : List ℕ)
+      → asks_in held (script_files (name ∷ [])) ≡ asks_in held (script_file name)
+  unfolding script_files ◌>>=◌
+  asks-last name = asks-gives held (script_file name) (λ s. s ∷ [])
+
+  -- one more of those that are left
+  pub asks-next : (names scripts : List (List ℕ)) (i : ℕ) (name : List ℕ) (old mid new : Asks)
+      → i < length names → name ≡ get_or names i name
+      → AreRead (Some held) P (take i names) scripts
+      → AsksOf false (asks_in held (script_files (take i names))) old mid
+      → AsksOf false (asks_in held (script_file name)) mid new
+      → AsksOf false (asks_in held (script_files (take (i + 1) names))) old new
+  asks-next names scripts i name old mid new within is read first second =
+      rw (
+        taken_next names i name within is,
+        asks-scripts (take i names) (name ∷ []) scripts read,
+        asks-last name,
+      )
+      (asks-behind false _ _ old mid new first second)
+
+  asks-from : (T U : Type 0) (S : List ℕ → T → Type 0) (name : List ℕ) (others : List (List ℕ))
+      (why : Stop) (mid new : Asks) → ComesOf (Some held) P S (script_file name) (Err why)
+      → AsksOf (is_cut_short {T = T} (Err why)) (asks_in held (script_file name)) mid new
+      → AsksOf (is_cut_short {T = U} (Err why)) (asks_in held (script_files (name ∷ others))) mid
+      new
+  unfolding script_files
+  asks-from T U S name others why mid new comes asks =
+      asks-stopped held P T U S (script_file name)
+      (λ s. script_files others >>= (λ ss. gives (s ∷ ss))) why mid new comes asks
+
+  -- or the one that stopped it
+  pub asks-ended : (T U : Type 0) (S : List ℕ → T → Type 0) (names scripts : List (List ℕ)) (i : ℕ)
+      (name : List ℕ) (why : Stop) (old mid new : Asks)
+      → i < length names → name ≡ get_or names i name
+      → AreRead (Some held) P (take i names) scripts
+      → ComesOf (Some held) P S (script_file name) (Err why)
+      → AsksOf false (asks_in held (script_files (take i names))) old mid
+      → AsksOf (is_cut_short {T = T} (Err why)) (asks_in held (script_file name)) mid new
+      → AsksOf (is_cut_short {T = U} (Err why)) (asks_in held (script_files names)) old new
+  asks-ended T U S names scripts i name why old mid new within is read comes first second =
+      let cut = is_cut_short {T = U} (Err why) in
+      subst (λ (ns : List (List ℕ)). AsksOf cut (asks_in held (script_files ns)) old new)
+      (parted names i name within is)
+      (rw (asks-scripts (take i names) (name ∷ drop (i + 1) names) scripts read)
+      (asks-behind cut _ _ old mid new first
+      (asks-from T U S name (drop (i + 1) names) why mid new comes second)))
+
+  -- or want of memory, behind some of them
+  pub asks-wanting : (names scripts : List (List ℕ)) (i : ℕ) (old new : Asks)
+      → AreRead (Some held) P (take i names) scripts
+      → AsksOf false (asks_in held (script_files (take i names))) old new
+      → AsksOf true (asks_in held (script_files names)) old new
+  asks-wanting names scripts i old new read asks =
+      subst (λ (ns : List (List ℕ)). AsksOf true (asks_in held (script_files ns)) old new)
+      (take-append-drop i names)
+      (rw (asks-scripts (take i names) (drop i names) scripts read)
+      (asks-within _ _ old new (asks-cut true _ old new asks)))

@@ -1,5 +1,6 @@
 -- Steps of a plan, one behind another.
 use Rattle.std.proofs.Common.{◌≡◌, inl, inr, ℕ, List, Option, Some, None, Result, Ok, Err, refl, sym, ap, subst, ◌∙◌}
+use Rattle.std.specs.Prelude.{OnOk}
 use Rattle.ssz_outside.specs.Content.{Content}
 use Rattle.ssz_outside.specs.declared.outside.Files.{Ghosts}
 use Rattle.ssz_tool.specs.declared.stop.Stop.{Stop}
@@ -8,7 +9,10 @@ use Rattle.ssz_bytes.specs.declared.fault.Fault.{Fault}
 use Rattle.ssz_tool.specs.Plans.{Plan, faultless, gives, need, refuses, reads, ◌>>=◌}
 use Rattle.ssz_tool.specs.declared.line.Line.{Line}
 use Rattle.ssz_tool.specs.declared.line.Line.TheVariants as line
-use Rattle.ssz_tool.specs.Follows.{ComesOf, CountsStop, Follows, LeavesFiles}
+use Rattle.ssz_outside.proofs.Asking.{asks-behind}
+use Rattle.ssz_tool.specs.Follows.{AnswersPlan, ComesOf, CountsStop, Follows, LeavesFiles, is_cut_short}
+use Rattle.ssz_tool.proofs.Comings.{answered, given, no_usage}
+use Rattle.ssz_tool.proofs.Asking.{asks-answered, asks-stopped, asks-then}
 
 -- what can be read before can be read later, so what cannot later could not before
 pub weaker : {A T : Type 0} (told : Option Content) (P Q : List ℕ → Type 0) (S : A → T → Type 0)
@@ -34,21 +38,6 @@ weaker told P Q S more (reads name most long next) (Err (stop.Says said)) (inl m
 weaker told P Q S more (reads name most long next) (Err (stop.Says said))
     (inr (bytes, few, is, then)) =
     inr (bytes, few, is, weaker told P Q S more (next bytes) (Err (stop.Says said)) then)
-
--- what was given stands for what the plan gave
-pub given : {A T : Type 0} (told : Option Content) (P : List ℕ → Type 0) (S : A → T → Type 0)
-    (plan : Plan A) (made : T) → ComesOf told P S plan (Ok made) → (x : A) × S x made
-given told P S (gives x) made comes = (x, comes)
-given told P S (refuses meant) made comes = absurd comes
-given told P S (reads name most long next) made (bytes, few, is, then) =
-    given told P S (next bytes) made then
-
--- no plan says how the program is used
-pub no_usage : {A T : Type 0} (told : Option Content) (P : List ℕ → Type 0) (S : A → T → Type 0)
-    (plan : Plan A) → ComesOf told P S plan (Err stop.Usage) → ⊥
-no_usage told P S (gives x) comes = comes
-no_usage told P S (refuses meant) comes = comes
-no_usage told P S (reads name most long next) comes = comes
 
 -- a second plan behind a first
 pub comes_then : {A B T U : Type 0} (told : Option Content) (P : List ℕ → Type 0)
@@ -112,6 +101,11 @@ stopped T U (stop.Says said) before now counts = counts
 stopped T U stop.Read before now counts = counts
 stopped T U stop.Memory before now counts = counts
 
+-- what is so in any case
+where_ok : {T E P : Type 0} (result : Result T E) → P → OnOk result P
+where_ok (Ok made) is = is
+where_ok (Err why) is = tt
+
 -- So it is of what is followed.
 module _ {Self : Type 0} (F : Ghosts Self) where
   pub follows_then : {A B T U : Type 0} (S : A → T → Type 0) (R : B → U → Type 0) (plan : Plan A)
@@ -128,6 +122,13 @@ module _ {Self : Type 0} (F : Ghosts Self) where
             first.leaves.readable (next x) result
             (subst (λ told. ComesOf told (F.readable mid) R (next x) result) first.leaves.content
             (then x stands).comes));
+        asks = λ held told.
+            let comes = subst (λ t. ComesOf t (F.readable old) S plan (Ok made)) told first.comes in
+            let x = given (Some held) (F.readable old) S plan made comes in
+            rw (asks-then held (F.readable old) S plan next made comes)
+            (asks-behind (is_cut_short result) _ _ (F.asked old) (F.asked mid) (F.asked new)
+            (first.asks held told) ((then x.0 x.1).asks held (first.leaves.content ∙ told)));
+        usable = λ can. (then x.0 x.1).usable (first.usable can);
         leaves = record {
           content = behind.content ∙ first.leaves.content;
           readable = λ name can. behind.readable name (first.leaves.readable name can);
@@ -142,6 +143,11 @@ module _ {Self : Type 0} (F : Ghosts Self) where
       → Follows F S plan (Err why) old new → Follows F R (plan >>= next) (Err why) old new
   follows_stopped {T = T} {U = U} S R plan next why old new first = record {
     comes = comes_stopped (F.content old) (F.readable old) S R plan next why first.comes;
+    asks = λ held told. asks-stopped held (F.readable old) T U S plan next why
+        (F.asked old) (F.asked new)
+        (subst (λ t. ComesOf {T = T} t (F.readable old) S plan (Err why)) told first.comes)
+        (first.asks held told);
+    usable = λ can. tt;
     leaves = record {
       content = first.leaves.content;
       readable = first.leaves.readable;
@@ -153,10 +159,11 @@ module _ {Self : Type 0} (F : Ghosts Self) where
   -- nothing is read for what is there
   pub follows_here : {A T : Type 0} (S : A → T → Type 0) (plan : Plan A) (result : Result T Stop)
       (files : Self) → CountsStop result (F.get_faults files) (F.get_faults files)
-      → ComesOf (F.content files) (F.readable files) S plan result
-      → Follows F S plan result files files
-  follows_here S plan result files counts comes = record {
-    comes = comes;
+      → AnswersPlan S plan result → Follows F S plan result files files
+  follows_here S plan result files counts is = record {
+    comes = answered (F.content files) (F.readable files) S plan result is;
+    asks = λ held told. asks-answered held S plan result (F.asked files) is;
+    usable = λ can. where_ok result can;
     leaves = record {
       content = refl;
       readable = λ name can. can;
@@ -164,6 +171,15 @@ module _ {Self : Type 0} (F : Ghosts Self) where
       put_faults = refl;
     };
   }
+
+  -- memory may be wanting behind what was followed
+  pub follows_wanting : {A B T U : Type 0} (S : A → T → Type 0) (R : B → U → Type 0)
+      (plan : Plan A) (next : A → Plan B) (made : T) (old new : Self)
+      → Follows F S plan (Ok made) old new
+      → Follows {T = U} F R (plan >>= next) (Err stop.Memory) old new
+  follows_wanting {U = U} S R plan next made old new first =
+      follows_then S R plan next made (Err stop.Memory) old new new first
+      (λ x stands. follows_here {T = U} R (next x) (Err stop.Memory) new refl tt)
 
   -- the exit of a `?`
   pub follows_exit : {A T : Type 0} (S : A → T → Type 0) (plan : Plan A) (result : Result T Stop)
@@ -207,18 +223,19 @@ module _ {Self : Type 0} (F : Ghosts Self) where
   -- what was followed behind other reads
   pub follows_behind : {A T : Type 0} (S : A → T → Type 0) (plan : Plan A) (result : Result T Stop)
       (old mid new : Self) → LeavesFiles {T = Unit {0}} F (Ok tt) old mid
-      → Follows F S plan result mid new → Follows F S plan result old new
-  follows_behind S plan result old mid new leaves follows = record {
-    comes = weaker (F.content old) (F.readable old) (F.readable mid) S leaves.readable plan result
-        (subst (λ told. ComesOf told (F.readable mid) S plan result) leaves.content follows.comes);
-    leaves = record {
+      → Follows F S plan result mid new
+      → ComesOf (F.content old) (F.readable old) S plan result × LeavesFiles F result old new
+  follows_behind S plan result old mid new leaves follows = (
+    weaker (F.content old) (F.readable old) (F.readable mid) S leaves.readable plan result
+        (subst (λ told. ComesOf told (F.readable mid) S plan result) leaves.content follows.comes),
+    record {
       content = follows.leaves.content ∙ leaves.content;
       readable = λ name can. follows.leaves.readable name (leaves.readable name can);
       get_faults = subst (λ n. CountsStop result n (F.get_faults new)) leaves.get_faults
           follows.leaves.get_faults;
       put_faults = follows.leaves.put_faults ∙ leaves.put_faults;
-    };
-  }
+    },
+  )
 
   -- what stopped says nothing of what would have been made
   pub leaves_stopped : {T U : Type 0} (why : Stop) (old new : Self)

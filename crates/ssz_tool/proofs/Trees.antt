@@ -28,6 +28,7 @@ tree-given t lists proof script is = record {
   least = λ pair_of held. refl;
   pairs = λ pair_of held. (scripts_alike pair_of t lists proof script is).charged;
   scripts = refl;
+  asks = λ pair_of held. refl;
 }
 
 -- the run of a script over a tree ended as its job does

@@ -16,6 +16,7 @@ DoesSame-equal meant made same = rw same (record {
   reached = λ pair_of held. refl;
   least = λ pair_of held. refl;
   scripts = refl;
+  asks = λ pair_of held. refl;
   pairs = λ pair_of held. refl;
 })
 
@@ -32,6 +33,7 @@ verifies-given root lists proof is = record {
   reached = λ pair_of held. refl;
   least = λ pair_of held. refl;
   scripts = refl;
+  asks = λ pair_of held. refl;
   pairs = λ pair_of held. sym (levels-given lists proof is);
 }
 
@@ -46,6 +48,7 @@ compares-given lists one others other is also = record {
   reached = λ pair_of held. refl;
   least = λ pair_of held. refl;
   scripts = refl;
+  asks = λ pair_of held. refl;
   pairs = λ pair_of held. ap (λ n. 2 * n) (sym (levels-given lists one is));
 }
 

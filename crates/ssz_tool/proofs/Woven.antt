@@ -2,6 +2,7 @@
 use Rattle.std.proofs.Common.{◌≡◌, ◌≢◌, ℕ, ◌+◌, ◌-◌, ◌≤◌, Bool, List, [], ◌∷◌, Some, refl, subst, arith}
 use Rattle.std.specs.List.{AllByRecursion}
 use Rattle.ssz_chunk.specs.Chunk.{CountsUp}
+use Rattle.ssz_outside.specs.Asked.{AsksOf, is_cut}
 use Rattle.ssz_outside.specs.Content.{Content}
 use Rattle.ssz_outside.specs.Job.{Ends}
 use Rattle.ssz_outside.specs.declared.status.Status.{Status}
@@ -11,14 +12,15 @@ use Rattle.ssz_schema.specs.Unfolding.{Types, known_in}
 use Rattle.ssz_machine.specs.State.{Name, fresh}
 use Rattle.ssz_machine.specs.Machine.{Line}
 use Rattle.ssz_machine.specs.Rules.{Rules}
-use Rattle.ssz_machine.specs.Jobs.{weave_job}
+use Rattle.ssz_machine.specs.Jobs.{turns_of_weave, weave_job}
 use Rattle.ssz_machine.proofs.Endings.{ends_after_reading}
 use Rattle.ssz_decisions.specs.Content.{rules_of as engine_rules}
 use Rattle.ssz_decisions.specs.Standing.{StandsFor}
 use Rattle.ssz_engine.specs.Scripts.{AreNamedReadable, IsFreshScene, Scene, files_named}
 use Rattle.ssz_engine.specs.Weaves.{EndsWeave, EndsWeaveFrom}
-use Rattle.ssz_tool.specs.Runs.{JobDoes, job_of_task, pairs_of_task, reached_of_task, run_rules, turns_of_task}
+use Rattle.ssz_tool.specs.Runs.{JobDoes, asks_of_task, job_of_task, pairs_of_task, reached_of_task, run_rules, turns_of_task}
 use Rattle.ssz_tool.specs.ToDo.{weaves}
+use Rattle.ssz_tool.proofs.Asked.{asks_of_job}
 use Rattle.ssz_tool.proofs.Beginnings.{all_readable}
 use Rattle.ssz_tool.proofs.Quiet.{weave_counts}
 
@@ -74,3 +76,12 @@ module _ (pair_of : PairOf) (schema : Types) (most : ℕ) (held : Content) (base
       (reached_of_task pair_of held (weaves (known_in schema) most base order scripts))
       → ended ≢ status.ReadFault
   weave_reached all = run.reached all
+
+  -- and the files were asked for those that they read, in turn
+  pub weave_asks : AsksOf (is_cut ended)
+      (asks_of_task pair_of held (weaves (known_in schema) most base order scripts)) before.asked
+      after.asked
+  weave_asks =
+      asks_of_job rules (turns_of_weave rules (fresh held) base order scripts) before.asked
+      after.asked before.ample ended (weave_job rules (fresh held) base order scripts)
+      before.pieces after.pieces after.told run.ends refl run.asks

@@ -1,10 +1,11 @@
 -- What an answer says of a plan that was followed.
-use Rattle.std.specs.Prelude.{◌≡◌, ◌≤◌, ◌<◌, ◌⊎◌, ⊤, ℕ, List, length, Option, Some, None, Result, Ok, Err}
+use Rattle.std.specs.Prelude.{◌≡◌, ◌≤◌, ◌<◌, ◌⊎◌, ⊤, ℕ, List, [], length, Bool, true, false, Option, Some, None, Result, Ok, Err, OnOk}
 use Rattle.std.specs.Option.{ForSome}
+use Rattle.ssz_outside.specs.Asked.{Ask, AsksOf}
 use Rattle.ssz_outside.specs.Content.{Content, contents}
 use Rattle.ssz_outside.specs.Outcome.{RoseOnce}
 use Rattle.ssz_outside.specs.declared.outside.Files.{Ghosts}
-use Rattle.ssz_tool.specs.Plans.{Plan, gives, refuses, reads}
+use Rattle.ssz_tool.specs.Plans.{Plan, asks_in, gives, refuses, reads}
 use Rattle.ssz_tool.specs.declared.stop.Stop.{Stop}
 use Rattle.ssz_tool.specs.declared.stop.Stop.TheVariants as stop
 
@@ -15,6 +16,14 @@ CountsStop (Err stop.Usage) before now = now ≡ before
 CountsStop (Err (stop.Says said)) before now = now ≡ before
 CountsStop (Err stop.Read) before now = RoseOnce before now
 CountsStop (Err stop.Memory) before now = now ≡ before
+
+-- whether a plan was cut short: a file of it was not read, or memory was wanting
+abbrev pub is_cut_short : {T : Type 0} → Result T Stop → Bool
+is_cut_short (Ok done) = false
+is_cut_short (Err stop.Usage) = false
+is_cut_short (Err (stop.Says said)) = false
+is_cut_short (Err stop.Read) = true
+is_cut_short (Err stop.Memory) = true
 
 -- files stay as they are, and what can be read stays so
 pub record LeavesFiles {Self T : Type 0} (F : Ghosts Self) (result : Result T Stop)
@@ -56,10 +65,16 @@ AnswersPlan Stands (gives x) (Ok made) = Stands x made
 AnswersPlan Stands (refuses meant) (Err (stop.Says said)) = said ≡ meant
 AnswersPlan Stands plan result = ⊥
 
--- the answer came of the plan, and files stay as they are
+-- The answer came of the plan, and files stay as they are. Where they tell what they hold, they
+-- were asked for the files of the plan, each once, in its order and with its limit, and for nothing
+-- else: for all of them, or, where it was cut short, for the first so many. They are usable where
+-- nothing stopped it.
 pub record Follows {Self A T : Type 0} (F : Ghosts Self) (Stands : A → T → Type 0) (plan : Plan A)
     (result : Result T Stop) (old new : Self) : Type 0 where
   pub comes : ComesOf (F.content old) (F.readable old) Stands plan result
+  pub asks : ForSome (F.content old) (λ held.
+      AsksOf (is_cut_short result) (asks_in held plan) (F.asked old) (F.asked new))
+  pub usable : F.usable old → OnOk result (F.usable new)
   pub leaves : LeavesFiles F result old new
 
 -- words that are not taken are said to be so
@@ -70,8 +85,16 @@ ComesOfWords told readable Stands None (Err stop.Usage) = ⊤
 ComesOfWords told readable Stands None (Err stop.Memory) = ⊤
 ComesOfWords told readable Stands None result = ⊥
 
+-- what the files are asked for by a plan, if there is one
+abbrev pub asks_by : {A : Type 0} → Content → Option (Plan A) → List Ask
+asks_by held None = []
+asks_by held (Some plan) = asks_in held plan
+
 -- the plan of words was followed, if they have one
 pub record FollowsWords {Self A T : Type 0} (F : Ghosts Self) (Stands : A → T → Type 0)
     (plan : Option (Plan A)) (result : Result T Stop) (old new : Self) : Type 0 where
   pub comes : ComesOfWords (F.content old) (F.readable old) Stands plan result
+  pub asks : ForSome (F.content old) (λ held.
+      AsksOf (is_cut_short result) (asks_by held plan) (F.asked old) (F.asked new))
+  pub usable : F.usable old → OnOk result (F.usable new)
   pub leaves : LeavesFiles F result old new

@@ -1,5 +1,6 @@
 -- A plan: which file is read next, and what is done with what it holds.
 use Rattle.std.specs.Prelude.{◌≡◌, ⊤, ℕ, nat_lt, List, [], ◌∷◌, length, Bool, true, Option, Some, None, if◌then◌else◌}
+use Rattle.ssz_outside.specs.Asked.{Ask}
 use Rattle.ssz_outside.specs.Content.{Content, contents}
 use Rattle.ssz_bytes.specs.declared.fault.Fault.{Fault}
 use Rattle.ssz_tool.specs.ToDo.{Task, is_script, prints_line}
@@ -62,6 +63,14 @@ files_in held (refuses said) = []
 files_in held (reads name most long next) =
     let bytes = contents held name in
     name ∷ (if nat_lt most (length bytes) then [] else files_in held (next bytes))
+
+-- what the files are asked for, in its order: each file that it reaches, with the most bytes of it
+abbrev pub asks_in : {A : Type 0} → Content → Plan A → List Ask
+asks_in held (gives x) = []
+asks_in held (refuses said) = []
+asks_in held (reads name most long next) =
+    let bytes = contents held name in
+    (name, most) ∷ (if nat_lt most (length bytes) then [] else asks_in held (next bytes))
 
 -- Each file that it may come to is readable, whatever the files hold. Scripts may read any, by the
 -- names in them.

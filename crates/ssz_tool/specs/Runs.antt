@@ -1,6 +1,7 @@
 -- The job of the program's words, and the pairs that it may hash.
 use Rattle.std.specs.Prelude.{ℕ, ◌+◌, ◌-◌, List, [], ◌++◌, Bool, false, is_some, Option, Some, None}
 use Rattle.ssz_chunk.specs.Chunk.{CountsUp}
+use Rattle.ssz_outside.specs.Asked.{Ask}
 use Rattle.ssz_outside.specs.Content.{Content}
 use Rattle.ssz_outside.specs.Job.{Job, line_job}
 use Rattle.ssz_outside.specs.declared.status.Status.{Status}
@@ -12,11 +13,12 @@ use Rattle.ssz_machine.specs.Machine.{Turn}
 use Rattle.ssz_machine.specs.Plays.{charges}
 use Rattle.ssz_machine.specs.Jobs.{after_reading, script_job, turns_of_script, turns_of_weave, weave_job}
 use Rattle.ssz_machine.specs.Work.{work_job}
-use Rattle.ssz_engine.specs.Scripts.{HasCounts, files_reached}
+use Rattle.ssz_engine.specs.Scripts.{HasCounts, files_reached, asks_of_turns}
 use Rattle.ssz_decisions.specs.Roots.{RisesBy}
 use Rattle.ssz_engine.specs.Works.{whole_work}
 use Rattle.ssz_partial_script.specs.Plays.{partial_charges as tree_charges, partial_script_job as tree_job, partial_turns_of_script as tree_turns}
 use Rattle.ssz_tool.specs.Commands.{plan_of}
+use Rattle.ssz_tool.specs.Follows.{asks_by}
 use Rattle.ssz_tool.specs.Plans.{Plan, files_in, task_in}
 use Rattle.ssz_tool.specs.ToDo.{Printed, printed, Task, prints, plays, weaves, works, plays_tree, shows_usage}
 use Rattle.ssz_tool.specs.declared.line.Line.{Line}
@@ -143,6 +145,10 @@ files_by held (Some plan) = files_in held plan
 abbrev pub reached_first : Content → List (List ℕ) → List (List ℕ)
 reached_first held words = files_by held (plan_of words)
 
+-- what they are asked for, for the words
+abbrev pub asked_first : Content → List (List ℕ) → List Ask
+asked_first held words = asks_by held (plan_of words)
+
 -- the files that the statements of scripts read: one is reached where the statement is not refused
 -- before it reads
 abbrev pub reached_of_task : PairOf → Content → Task → List (List ℕ)
@@ -155,6 +161,23 @@ reached_of_task pair_of held (plays type_named most script) =
 reached_of_task pair_of held (weaves type_named most base order scripts) =
     files_reached (run_rules pair_of type_named most)
     (turns_of_task pair_of [] held (weaves type_named most base order scripts))
+
+-- what the files are asked for by these statements: each file with the most bytes of a value
+abbrev pub asks_of_task : PairOf → Content → Task → List Ask
+asks_of_task pair_of held (prints made most) = []
+asks_of_task pair_of held (works type_named type_name seed count) = []
+asks_of_task pair_of held (plays_tree t lists script) = []
+asks_of_task pair_of held (plays type_named most script) =
+    asks_of_turns (run_rules pair_of type_named most)
+    (turns_of_task pair_of [] held (plays type_named most script))
+asks_of_task pair_of held (weaves type_named most base order scripts) =
+    asks_of_turns (run_rules pair_of type_named most)
+    (turns_of_task pair_of [] held (weaves type_named most base order scripts))
+
+-- what they are asked for in all
+abbrev pub asked_by : PairOf → Content → List (List ℕ) → List Ask
+asked_by pair_of held words =
+    asked_first held words ++ asks_of_task pair_of held (task_of held words)
 
 abbrev pub files_reached_by : PairOf → Content → List (List ℕ) → List (List ℕ)
 files_reached_by pair_of held words =

@@ -10,7 +10,7 @@ use Rattle.ssz_bytes.specs.declared.fault.Fault.{Fault}
 use Rattle.ssz_value.specs.Faults.{first_fault}
 use Rattle.ssz_words.specs.Limits.{IsWeaveOf}
 use Rattle.ssz_tool.specs.Lines.{bytes_text}
-use Rattle.ssz_tool.specs.Runs.{job_of_task, least_of_task, pairs_of_task, reached_of_task, turns_of_task}
+use Rattle.ssz_tool.specs.Runs.{asks_of_task, job_of_task, least_of_task, pairs_of_task, reached_of_task, turns_of_task}
 use Rattle.ssz_tool.specs.ToDo as job
 use Rattle.ssz_tool.specs.declared.job.Task.{Task}
 use Rattle.ssz_tool.specs.declared.job.Task.TheVariants as task
@@ -67,6 +67,8 @@ pub record DoesSame (meant made : job.Task) : Type 0 where
   pub least : (pair_of : PairOf) (held : Content)
       → least_of_task pair_of held meant ≡ least_of_task pair_of held made
   pub scripts : job.is_script meant ≡ job.is_script made
+  pub asks : (pair_of : PairOf) (held : Content)
+      → asks_of_task pair_of held meant ≡ asks_of_task pair_of held made
 
 -- the bytes of a value are few enough, of a type of the schema, and have no fault
 pub record IsFaultless (trees : ℕ) (id : ℕ) (fault : Option Fault) (count : ℕ) : Type 0 where

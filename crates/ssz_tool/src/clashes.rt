@@ -13,6 +13,7 @@ use std::alloc::Global;
 
 /// The task of `clash FILE FILE`. The second file is read where the first is a proof.
 pub fn task_of_clash<F: Files>(alloc: Global, files: &mut F, args: &ClashArgs) -> Result<Task, Stop>
+    requires usable { F.usable files.old }
     ensures { Follows F.Files IsTask (clash args.now) result files.old files.new }
 {
     let one = load_proof(alloc, files, args.first.as_str(), &Line::FirstBadProof)?;

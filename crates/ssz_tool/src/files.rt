@@ -26,6 +26,7 @@ pub fn load<F: Files>(
     max: u64,
     long: Line,
 ) -> Result<Vec<u8>, Stop>
+    requires usable { F.usable files.old }
     ensures { Follows F.Files HasItems (file name.now max long) result files.old files.new }
 {
     let mut bytes = Vec::new(alloc);
@@ -48,6 +49,7 @@ pub fn load<F: Files>(
 
 /// The types of a schema file.
 pub fn load_schema<F: Files>(alloc: Global, files: &mut F, name: &str) -> Result<Schema, Stop>
+    requires usable { F.usable files.old }
     ensures { Follows F.Files NamesHaveTypes (schema_file name.now) result files.old files.new }
 {
     let bytes = load(alloc, files, name, MOST_BYTES, Line::SchemaTooLong)?;
@@ -67,6 +69,7 @@ pub fn load_proof<F: Files>(
     name: &str,
     bad: &Line,
 ) -> Result<Proof, Stop>
+    requires usable { F.usable files.old }
     ensures { Follows F.Files IsProofOf (proof_file bad.now name.now) result files.old files.new }
 {
     let text = load(alloc, files, name, MOST_BYTES, *bad)?;
@@ -79,6 +82,7 @@ pub fn load_proof<F: Files>(
 
 /// A script.
 pub fn load_script<F: Files>(alloc: Global, files: &mut F, name: &str) -> Result<Vec<u8>, Stop>
+    requires usable { F.usable files.old }
     ensures { Follows F.Files HasItems (script_file name.now) result files.old files.new }
 {
     load(alloc, files, name, MOST_BYTES, Line::TooLong)
@@ -90,6 +94,7 @@ pub fn load_scripts<F: Files>(
     files: &mut F,
     names: &[FileName],
 ) -> Result<Vec<ByteRun>, Stop>
+    requires usable { F.usable files.old }
     ensures { Follows F.Files AreItems (script_files names.now) result files.old files.new }
 {
     let mut scripts = Vec::new(alloc);

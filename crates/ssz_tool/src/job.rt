@@ -49,6 +49,7 @@ pub enum Task {
 
 /// The task of `root SCHEMA TYPE FILE`.
 pub fn task_of_root<F: Files>(alloc: Global, files: &mut F, args: &RootArgs) -> Result<Task, Stop>
+    requires usable { F.usable files.old }
     ensures { Follows F.Files IsTask (root args.now) result files.old files.new }
 {
     let schema = load_schema(alloc, files, args.schema.as_str())?;
@@ -64,7 +65,8 @@ pub fn task_of_root<F: Files>(alloc: Global, files: &mut F, args: &RootArgs) -> 
 }
 
 fn task_of_command<F: Files>(alloc: Global, files: &mut F, command: Command) -> Result<Task, Stop>
-    requires { CommandIsWithinLimits command }
+    requires within { CommandIsWithinLimits command }
+    requires usable { F.usable files.old }
     ensures { FollowsWords F.Files IsTask (plan_of_command command) result files.old files.new }
 {
     match command {
@@ -85,6 +87,7 @@ fn task_of_command<F: Files>(alloc: Global, files: &mut F, command: Command) -> 
 
 /// The task of these words.
 pub fn task_of<F: Files>(alloc: Global, files: &mut F, words: &[String]) -> Result<Task, Stop>
+    requires usable { F.usable files.old }
     ensures { FollowsWords F.Files IsTask (plan_of (texts words.now)) result files.old files.new }
 {
     match read_words(alloc, words) {

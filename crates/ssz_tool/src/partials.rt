@@ -18,6 +18,7 @@ pub fn task_of_partial<F: Files>(
     files: &mut F,
     args: &PartialArgs,
 ) -> Result<Task, Stop>
+    requires usable { F.usable files.old }
     ensures { Follows F.Files IsTask (partial args.now) result files.old files.new }
 {
     let schema = load_schema(alloc, files, args.schema.as_str())?;

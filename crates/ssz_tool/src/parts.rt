@@ -56,6 +56,7 @@ pub fn task_of_part<F: Files>(
     args: &PartArgs,
     path: &Steps,
 ) -> Result<Task, Stop>
+    requires usable { F.usable files.old }
     ensures { Follows F.Files IsTask (part args.now path.now) result files.old files.new }
 {
     let schema = load_schema(alloc, files, args.schema.as_str())?;

@@ -2,11 +2,12 @@
 ghost use Rattle.std.specs.Prelude.{◌≢◌, ◌≤◌, ◌+◌, ℕ, List, Bool};
 ghost use Rattle.std.specs.List.{AllByRecursion};
 ghost use Rattle.std.specs.Option.{ForSome};
+ghost use Rattle.ssz_outside.specs.Asked.{AsksOf, is_cut};
 ghost use Rattle.ssz_outside.specs.Job.{Ends, CountsRun};
 ghost use Rattle.ssz_schema.specs.Unfolding.{known_in};
 ghost use Rattle.ssz_tool.specs.Commands.{run};
 ghost use Rattle.ssz_tool.specs.Follows.{Follows};
-ghost use Rattle.ssz_tool.specs.Runs.{JobDoes, job_of_task, pairs_of_task, reached_of_task, turns_of_task};
+ghost use Rattle.ssz_tool.specs.Runs.{JobDoes, asks_of_task, job_of_task, pairs_of_task, reached_of_task, turns_of_task};
 ghost use Rattle.ssz_tool.specs.Tasks.{IsTask};
 ghost use Rattle.ssz_tool.specs.ToDo.{plays};
 
@@ -22,6 +23,7 @@ use std::alloc::Global;
 
 /// The task of `run SCHEMA SCRIPT`.
 pub fn task_of_run<F: Files>(alloc: Global, files: &mut F, args: &RunArgs) -> Result<Task, Stop>
+    requires usable { F.usable files.old }
     ensures { Follows F.Files IsTask (run args.now) result files.old files.new }
 {
     let schema = load_schema(alloc, files, args.schema.as_str())?;
@@ -41,6 +43,8 @@ pub fn run_script<F: Files, S: Sink, H: PairHash>(
     out: &mut S,
     hasher: &mut H,
 ) -> Status
+    requires files_usable { F.usable files.old }
+    requires sink_usable { S.usable out.old }
     ensures ends { (reads : Bool) → ForSome (F.content files.old) (λ held.
         JobDoes (λ numbers. job_of_task H.pair_of numbers held reads
         (plays (known_in schema) max script.now))
@@ -55,6 +59,9 @@ pub fn run_script<F: Files, S: Sink, H: PairHash>(
     ensures reached { ForSome (F.content files.old) (λ held. AllByRecursion (F.readable files.old)
         (reached_of_task H.pair_of held (plays (known_in schema) max script.now))
         → result ≢ Status.ReadFault) }
+    ensures asks { ForSome (F.content files.old) (λ held. AsksOf (is_cut result)
+        (asks_of_task H.pair_of held (plays (known_in schema) max script.now)) (F.asked files.old)
+        (F.asked files.new)) }
     ensures pairs { ForSome (F.content files.old) (λ held. H.pairs hasher.new ≤ H.pairs hasher.old
         + pairs_of_task H.pair_of held (plays (known_in schema) max script.now)) }
 {

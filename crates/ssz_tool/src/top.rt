@@ -3,6 +3,7 @@ ghost use Rattle.std.specs.Prelude.{◌≡◌, ◌≢◌, ◌≤◌, ◌+◌, �
 ghost use Rattle.std.specs.List.{AllByRecursion};
 ghost use Rattle.std.specs.Option.{ForSome};
 ghost use Rattle.ssz_chunk.specs.Index.{levels};
+ghost use Rattle.ssz_outside.specs.Asked.{AsksOf, is_cut};
 ghost use Rattle.ssz_outside.specs.Content.{Content};
 ghost use Rattle.ssz_outside.specs.Outcome.{Rose};
 ghost use Rattle.ssz_outside.specs.Job.{Ends, Finishes, CountsRun, IsThatOrStopped, line_job};
@@ -11,7 +12,7 @@ ghost use Rattle.ssz_schema.specs.Unfolding.{type_of};
 ghost use Rattle.ssz_tool.specs.Commands.{plan_of, texts};
 ghost use Rattle.ssz_tool.specs.Lines.{line_status};
 ghost use Rattle.ssz_tool.specs.Plans.{AreReadable};
-ghost use Rattle.ssz_tool.specs.Runs.{JobDoes, RisesWhere, run_job_of, job_of_line, job_of_task, job_once_read, least_asked, least_of_task, pairs_allowed, pairs_of_task, files_reached_by, reached_first, reached_of_task, run_turns, turns_of_task};
+ghost use Rattle.ssz_tool.specs.Runs.{JobDoes, RisesWhere, run_job_of, job_of_line, job_of_task, job_once_read, least_asked, least_of_task, pairs_allowed, pairs_of_task, asked_by, asks_of_task, files_reached_by, reached_first, reached_of_task, run_turns, turns_of_task};
 ghost use Rattle.ssz_tool.specs.Tasks.{IsFaultless, IsTaskReady, task_view};
 ghost use Rattle.ssz_tool.specs.ToDo.{is_script, line_of_proof, line_of_value};
 ghost use Rattle.ssz_value.specs.Faults.{first_fault};
@@ -63,6 +64,7 @@ fn line_of_value<H: PairHash>(schema: &Schema, id: TypeId, bytes: &[u8], hasher:
 }
 
 fn print_line<S: Sink>(alloc: Global, line: &Line, out: &mut S) -> Status
+    requires usable { S.usable out.old }
     ensures ends { (held : Content) (reads : Bool) → Ends (S.ample out.old) result
         (job_of_line held reads line.now) (S.pieces out.old) (S.pieces out.new) (Some held) }
     ensures counts { (gets puts : ℕ) → CountsRun result gets gets puts puts
@@ -87,7 +89,9 @@ fn do_task<F: Files, S: Sink, H: PairHash>(
     out: &mut S,
     hasher: &mut H,
 ) -> Status
-    requires { IsTaskReady task }
+    requires ready { IsTaskReady task }
+    requires files_usable { F.usable files.old }
+    requires sink_usable { S.usable out.old }
     ensures ends { (reads : Bool) → ForSome (F.content files.old) (λ held.
         JobDoes (λ numbers. job_of_task H.pair_of numbers held reads (task_view task))
         (λ numbers. turns_of_task H.pair_of numbers held (task_view task)) result
@@ -99,6 +103,9 @@ fn do_task<F: Files, S: Sink, H: PairHash>(
     ensures usage { result ≢ Status.Usage }
     ensures readable { (is_script (task_view task) ≡ true
         → (name : List ℕ) → F.readable files.old name) → result ≢ Status.ReadFault }
+    ensures asks { ForSome (F.content files.old) (λ held. AsksOf (is_cut result)
+        (asks_of_task H.pair_of held (task_view task)) (F.asked files.old)
+        (F.asked files.new)) }
     ensures reached { ForSome (F.content files.old) (λ held. AllByRecursion (F.readable files.old)
         (reached_of_task H.pair_of held (task_view task)) → result ≢ Status.ReadFault) }
     ensures pairs { ForSome (F.content files.old) (λ held. H.pairs hasher.new
@@ -140,6 +147,10 @@ pub fn run<F: Files, S: Sink, H: PairHash>(
     out: &mut S,
     hasher: &mut H,
 ) -> Status
+    // After a call of the files or of the sink that failed or ran out of memory no other is made:
+    // they are then not known to be usable.
+    requires files_usable { F.usable files.old }
+    requires sink_usable { S.usable out.old }
     // Where the files tell what they hold, no fault is counted and memory is not wanting, the job
     // of the words is done: its text is printed, the files are those after it, its status is
     // answered; the numbers that `hashes` prints are counts of the pairs that were hashed.
@@ -188,6 +199,12 @@ pub fn run<F: Files, S: Sink, H: PairHash>(
         (files_reached_by H.pair_of held (texts words.now)) → result ≢ Status.ReadFault) }
     ensures readable { ForSome (plan_of (texts words.now)) (λ plan.
         AreReadable (F.readable files.old) plan → result ≢ Status.ReadFault) }
+
+    // The files are asked for exactly the files of the words that it reaches, each once, in this
+    // order and with its limit, and then for those that its statements read, as they come, each
+    // with the most bytes of a value; of a run that was cut short, for the first so many.
+    ensures asked { ForSome (F.content files.old) (λ held. AsksOf (is_cut result)
+        (asked_by H.pair_of held (texts words.now)) (F.asked files.old) (F.asked files.new)) }
 
     // The pairs hashed: of a value its own, of scripts and of a work those of the values that they
     // bring in and the levels of the paths that they edit, beyond the zero table; of a proof as

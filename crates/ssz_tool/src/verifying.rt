@@ -18,6 +18,7 @@ pub fn task_of_verify<F: Files>(
     files: &mut F,
     args: &VerifyArgs,
 ) -> Result<Task, Stop>
+    requires usable { F.usable files.old }
     ensures { Follows F.Files IsTask (verify args.now) result files.old files.new }
 {
     let proof = load_proof(alloc, files, args.file.as_str(), &Line::BadProof)?;

@@ -2,11 +2,12 @@
 ghost use Rattle.std.specs.Prelude.{◌≢◌, ◌≤◌, ◌+◌, ℕ, List, Bool};
 ghost use Rattle.std.specs.List.{AllByRecursion};
 ghost use Rattle.std.specs.Option.{ForSome};
+ghost use Rattle.ssz_outside.specs.Asked.{AsksOf, is_cut};
 ghost use Rattle.ssz_outside.specs.Job.{Ends, CountsRun};
 ghost use Rattle.ssz_words.specs.Limits.{IsWeaveOf};
 ghost use Rattle.ssz_tool.specs.Commands.{weave};
 ghost use Rattle.ssz_tool.specs.Follows.{Follows};
-ghost use Rattle.ssz_tool.specs.Runs.{JobDoes, job_of_task, pairs_of_task, reached_of_task, turns_of_task};
+ghost use Rattle.ssz_tool.specs.Runs.{JobDoes, asks_of_task, job_of_task, pairs_of_task, reached_of_task, turns_of_task};
 ghost use Rattle.ssz_tool.specs.Tasks.{IsReadyWeaving, IsTask, weaving_view};
 
 use crate::files::{load_schema, load_script, load_scripts};
@@ -33,7 +34,8 @@ pub struct Weaving {
 
 /// The task of `weave SCHEMA BASE ORDER SCRIPT..`.
 pub fn task_of_weave<F: Files>(alloc: Global, files: &mut F, args: &WeaveArgs) -> Result<Task, Stop>
-    requires { IsWeaveOf args.now.scripts args.now.order }
+    requires weave { IsWeaveOf args.now.scripts args.now.order }
+    requires usable { F.usable files.old }
     ensures { Follows F.Files IsTask (weave args.now) result files.old files.new }
 {
     let schema = load_schema(alloc, files, args.schema.as_str())?;
@@ -57,7 +59,9 @@ pub fn run_weave<F: Files, S: Sink, H: PairHash>(
     out: &mut S,
     hasher: &mut H,
 ) -> Status
-    requires { IsReadyWeaving weaving }
+    requires ready { IsReadyWeaving weaving }
+    requires files_usable { F.usable files.old }
+    requires sink_usable { S.usable out.old }
     ensures ends { (reads : Bool) → ForSome (F.content files.old) (λ held.
         JobDoes (λ numbers. job_of_task H.pair_of numbers held reads (weaving_view weaving))
         (λ numbers. turns_of_task H.pair_of numbers held (weaving_view weaving)) result
@@ -70,6 +74,9 @@ pub fn run_weave<F: Files, S: Sink, H: PairHash>(
     ensures fails { ((name : List ℕ) → F.readable files.old name) → result ≢ Status.ReadFault }
     ensures reached { ForSome (F.content files.old) (λ held. AllByRecursion (F.readable files.old)
         (reached_of_task H.pair_of held (weaving_view weaving)) → result ≢ Status.ReadFault) }
+    ensures asks { ForSome (F.content files.old) (λ held. AsksOf (is_cut result)
+        (asks_of_task H.pair_of held (weaving_view weaving)) (F.asked files.old)
+        (F.asked files.new)) }
     ensures pairs { ForSome (F.content files.old) (λ held. H.pairs hasher.new ≤ H.pairs hasher.old
         + pairs_of_task H.pair_of held (weaving_view weaving)) }
 {

@@ -1,5 +1,5 @@
 // From the words of `work` and the schema to the work.
-ghost use Rattle.std.specs.Prelude.{◌≢◌, ◌≤◌, ◌+◌, Bool};
+ghost use Rattle.std.specs.Prelude.{◌≡◌, ◌≢◌, ◌≤◌, ◌+◌, Bool};
 ghost use Rattle.std.specs.Option.{ForSome};
 ghost use Rattle.ssz_outside.specs.Job.{Ends, CountsRun};
 ghost use Rattle.ssz_tool.specs.Commands.{work};
@@ -31,6 +31,7 @@ pub struct Work {
 
 /// The task of `work SCHEMA TYPE SEED EDITS`. The type of the word has to be a name.
 pub fn task_of_work<F: Files>(alloc: Global, files: &mut F, args: &WorkArgs) -> Result<Task, Stop>
+    requires usable { F.usable files.old }
     ensures { Follows F.Files IsTask (work args.now) result files.old files.new }
 {
     let schema = load_schema(alloc, files, args.schema.as_str())?;
@@ -58,6 +59,8 @@ pub fn run_work<F: Files, S: Sink, H: PairHash>(
     out: &mut S,
     hasher: &mut H,
 ) -> Status
+    requires files_usable { F.usable files.old }
+    requires sink_usable { S.usable out.old }
     ensures ends { (reads : Bool) → ForSome (F.content files.old) (λ held.
         JobDoes (λ numbers. job_of_task H.pair_of numbers held reads (work_view work))
         (λ numbers. turns_of_task H.pair_of numbers held (work_view work)) result
@@ -68,6 +71,7 @@ pub fn run_work<F: Files, S: Sink, H: PairHash>(
         (F.put_faults files.old) (F.put_faults files.new) (S.faults out.old) (S.faults out.new) }
     ensures usage { result ≢ Status.Usage }
     ensures read { result ≢ Status.ReadFault }
+    ensures asks { F.asked files.new ≡ F.asked files.old }
     ensures pairs { ForSome (F.content files.old) (λ held. H.pairs hasher.new ≤ H.pairs hasher.old
         + pairs_of_task H.pair_of held (work_view work)) }
     ensures least { ForSome (F.content files.old) (λ held. result ≢ Status.Memory

@@ -1,5 +1,6 @@
-use Rattle.std.proofs.Common.{◌≡◌, ◌≤◌, ◌<◌, ◌∙◌, List, ℕ, Bool, Some, length, arith, sym, ap, subst}
+use Rattle.std.proofs.Common.{◌≡◌, ◌≤◌, ◌<◌, ◌∙◌, List, ℕ, Bool, true, false, Some, length, arith, sym, ap, subst}
 use Rattle.std.specs.Prelude.{IfSome, IsSomeAnd, nat_lt}
+use Rattle.ssz_outside.proofs.Asking.{asks-cut}
 use Rattle.ssz_outside.specs.Content.{file_bytes}
 use Rattle.ssz_schema.specs.Unfolding.{type_of}
 use Rattle.ssz_script.specs.declared.reply.TheConstants.Reply.{TOO_LONG}
@@ -7,7 +8,7 @@ use Rattle.ssz_machine.specs.Rules.{◌>>◌, refuse}
 use Rattle.ssz_machine.specs.Changes.{puts}
 use Rattle.ssz_decisions.specs.Content.{EngineContent, rules_of}
 use Rattle.ssz_decisions.specs.Loading.{brought_as, load_row}
-use Rattle.ssz_decisions.proofs.Brought.{IsLong, anew-same, free-row, load-is, loads-any, not-below, refused-anew, taken-blocks, taken-row, there-longer, there-whole, too-long, whole}
+use Rattle.ssz_decisions.proofs.Brought.{IsLong, anew-same, asks-nothing, asks-one, free-loads, free-row, load-is, loads-any, not-below, refused-anew, taken-blocks, taken-row, there-longer, there-whole, too-long, whole}
 use Rattle.ssz_decisions.proofs.loading.load.Goals as goal
 
 pub returns-in-Err-clause-answers : goal.returns-in-Err-clause-answers
@@ -111,3 +112,41 @@ pub returns-in-Ok-Whole-clause-found : goal.returns-in-Ok-Whole-clause-found
 returns-in-Ok-Whole-clause-found g c = λ held told versions stand can.
     there-whole (file_bytes held c.args.file.now) _
     (rw (c.in-Ok-Whole.field-0-is, c.as_str.ensures.text, told) at c.in-Ok-Whole.ensures.read)
+
+pub returns-in-Err-clause-asks : goal.returns-in-Err-clause-asks
+returns-in-Err-clause-asks g c = λ versions stand.
+    asks-nothing _ _ _ (taken-blocks g.H.PairHash.pair_of c.args.store.now c.args.writer.0
+    c.args.v.now c.args.t.now versions stand c.in-Err.code c.in-Err.ensures.err)
+
+pub returns-in-Ok-TooLong-clause-asks : goal.returns-in-Ok-TooLong-clause-asks
+returns-in-Ok-TooLong-clause-asks g c = λ versions stand.
+    asks-one false _ c.args.file.now _ c.args.store.now.most _ _ _
+    (free-loads g.H.PairHash.pair_of c.args.store.now c.args.writer.0 c.args.v.now c.args.t.now
+    versions stand c.in-Ok.id c.in-Ok.ensures.ok) c.as_str.ensures.text
+    (c.from.ensures ∙ ap (λ (s : EngineContent). s.most) c.store.view_is)
+    c.in-Ok-TooLong.ensures.asked
+
+pub returns-in-Ok-Whole-clause-asks : goal.returns-in-Ok-Whole-clause-asks
+returns-in-Ok-Whole-clause-asks g c = λ versions stand.
+    asks-one false _ c.args.file.now _ c.args.store.now.most _ _ _
+    (free-loads g.H.PairHash.pair_of c.args.store.now c.args.writer.0 c.args.v.now c.args.t.now
+    versions stand c.in-Ok.id c.in-Ok.ensures.ok) c.as_str.ensures.text
+    (c.from.ensures ∙ ap (λ (s : EngineContent). s.most) c.store.view_is)
+    c.in-Ok-Whole.ensures.asked
+
+pub returns-in-Err-Failed-clause-asks : goal.returns-in-Err-Failed-clause-asks
+returns-in-Err-Failed-clause-asks g c = λ versions stand.
+    asks-one true _ c.args.file.now _ c.args.store.now.most _ _ _
+    (free-loads g.H.PairHash.pair_of c.args.store.now c.args.writer.0 c.args.v.now c.args.t.now
+    versions stand c.in-Ok.id c.in-Ok.ensures.ok) c.as_str.ensures.text
+    (c.from.ensures ∙ ap (λ (s : EngineContent). s.most) c.store.view_is)
+    c.in-Err-Failed.ensures.asked
+
+pub returns-in_err-bring_as-in-Ok-Whole-clause-asks :
+    goal.returns-in_err-bring_as-in-Ok-Whole-clause-asks
+returns-in_err-bring_as-in-Ok-Whole-clause-asks g c = λ versions stand.
+    asks-one _ _ c.args.file.now _ c.args.store.now.most _ _ _
+    (free-loads g.H.PairHash.pair_of c.args.store.now c.args.writer.0 c.args.v.now c.args.t.now
+    versions stand c.in-Ok.id c.in-Ok.ensures.ok) c.as_str.ensures.text
+    (c.from.ensures ∙ ap (λ (s : EngineContent). s.most) c.store.view_is)
+    (asks-cut _ _ _ _ c.in-Ok-Whole.ensures.asked)

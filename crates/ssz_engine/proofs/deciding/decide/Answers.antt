@@ -1,9 +1,10 @@
 use Rattle.std.proofs.Common.{◌-◌, refl, sym, subst}
 use Rattle.ssz_machine.specs.Making.{load, loadjson}
 use Rattle.ssz_machine.specs.Changes.{puts}
-use Rattle.std.specs.Prelude.{OnOk}
+use Rattle.std.specs.Prelude.{OnOk, is_err}
 use Rattle.ssz_script.specs.declared.statement.Statement.{Statement}
-use Rattle.ssz_engine.specs.Steps.{CanAsk, StatementFindsFile}
+use Rattle.ssz_engine.specs.Steps.{AsksStatement, CanAsk, StatementFindsFile}
+use Rattle.ssz_engine.proofs.Asks.{asks_alone}
 use Rattle.ssz_engine.proofs.EngineSteps.{finds_alone}
 use Rattle.ssz_engine.proofs.Found.{decides, loads-ok}
 use Rattle.ssz_engine.proofs.deciding.decide.Goals as goal
@@ -70,3 +71,30 @@ pub returns-in-LoadJson-clause-asked : goal.returns-in-LoadJson-clause-asked
 returns-in-LoadJson-clause-asked g c = λ e.
     subst (λ s. CanAsk g.H.PairHash.pair_of c.args.store.now c.args.writer.0 s)
     (sym c.in-LoadJson.is) (c.load-in-LoadJson.ensures.asked e)
+
+pub returns-in-Load-clause-each_once : goal.returns-in-Load-clause-each_once
+returns-in-Load-clause-each_once g c =
+    subst (λ (s : Statement). AsksStatement g.H.PairHash.pair_of c.args.store.now c.args.writer.0 s
+    (is_err c.load.result) (g.F.Files.asked c.args.files.now) (g.F.Files.asked c.load.new.files))
+    (sym c.in-Load.is) c.load.ensures.asks
+
+pub returns-in-LoadJson-clause-each_once : goal.returns-in-LoadJson-clause-each_once
+returns-in-LoadJson-clause-each_once g c =
+    subst (λ (s : Statement). AsksStatement g.H.PairHash.pair_of c.args.store.now c.args.writer.0 s
+    (is_err c.load-in-LoadJson.result) (g.F.Files.asked c.args.files.now)
+    (g.F.Files.asked c.load-in-LoadJson.new.files)) (sym c.in-LoadJson.is)
+    c.load-in-LoadJson.ensures.asks
+
+pub returns-in_ok-decide_alone-in_default-clause-each_once
+    : goal.returns-in_ok-decide_alone-in_default-clause-each_once
+returns-in_ok-decide_alone-in_default-clause-each_once g c =
+    asks_alone g.H.PairHash.pair_of c.args.store.now c.args.writer.0 c.args.statement.now _ _
+    (λ v t file is. c.in_default.not-Load v t file is)
+    (λ v t file is. c.in_default.not-LoadJson v t file is)
+
+pub returns-in_err-decide_alone-in_default-clause-each_once
+    : goal.returns-in_err-decide_alone-in_default-clause-each_once
+returns-in_err-decide_alone-in_default-clause-each_once g c =
+    asks_alone g.H.PairHash.pair_of c.args.store.now c.args.writer.0 c.args.statement.now _ _
+    (λ v t file is. c.in_default.not-Load v t file is)
+    (λ v t file is. c.in_default.not-LoadJson v t file is)

@@ -8,7 +8,12 @@ use Rattle.ssz_engine.proofs.Going.{runs_exit, runs_memory, some_all, some_left,
 use Rattle.ssz_engine.proofs.run.run_lines.Goals as goal
 
 pub loop-line-init : goal.loop-line-init
-loop-line-init g c = record { runs = some_none; others = λ other name apart. refl }
+loop-line-init g c = record {
+  runs = some_none;
+  others = λ other name apart. refl;
+  files_usable = c.requires.files_usable;
+  sink_usable = c.requires.sink_usable;
+}
 
 pub returns-in-Err-clause-runs : goal.returns-in-Err-clause-runs
 returns-in-Err-clause-runs g c = some_all c.loop-line.invariant.runs runs_memory
@@ -26,6 +31,8 @@ loop-line-preserved g c =
           (some_left (ap (λ (lines : List Line). all_of c.args.writer.0 lines) taken) so_far.runs)
           ran.runs;
       others = λ other name apart. ran.others other name apart ∙ so_far.others other name apart;
+      files_usable = ran.files_usable;
+      sink_usable = ran.sink_usable;
     }
 
 pub returns-in_err-ran-in-Ok-Some-clause-runs : goal.returns-in_err-ran-in-Ok-Some-clause-runs

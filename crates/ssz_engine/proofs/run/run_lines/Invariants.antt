@@ -13,6 +13,8 @@ invariant-loop-line g l = record {
       (scene g.F.Files g.S.Sink g.H.PairHash l.fn.engine l.fn.files l.fn.out l.fn.hasher)
       (scene g.F.Files g.S.Sink g.H.PairHash l.engine l.files l.out l.hasher);
   others : LeavesOthers l.fn.writer.0 l.fn.engine.entries l.engine.entries;
+  files_usable : g.F.Files.usable l.files;
+  sink_usable : g.S.Sink.usable l.out;
 }
 
 abbrev pub decreases-loop-line : goal.decreases-loop-line

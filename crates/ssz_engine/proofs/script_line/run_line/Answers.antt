@@ -43,7 +43,8 @@ returns-in-Ok-clause-runs g c =
     c.print_line.result was b before after) (sym now)
     (print_runs g.H.PairHash.pair_of c.args.place c.args.writer.0 line was before
     after c.push_front.new.out.items c.reply_to.new.out.items c.print_line.result c.in-Ok.made
-    c.in-Ok.ensures.tries c.in-Ok.ensures.does fronted prints c.print_line.ensures.counts
+    c.in-Ok.ensures.tries c.in-Ok.ensures.does c.in-Ok.ensures.each_once
+    fronted prints c.print_line.ensures.counts
     c.print_line.ensures.stops c.print_line.ensures.memory c.print_line.ensures.ample)
 
 pub returns-in-Err-clause-runs : goal.returns-in-Err-clause-runs
@@ -59,4 +60,5 @@ returns-in-Err-clause-runs g c =
     (sym c.status_of.ensures.value)
     (stop_runs g.H.PairHash.pair_of c.args.place c.args.writer.0 line was before
     after c.push_front.new.out.items c.reply_to.new.out.items c.in-Err.fault c.in-Err.ensures.tries
-    c.in-Err.ensures.does refl refl c.reply_to.ensures.hashed c.in-Err.ensures.stays)
+    c.in-Err.ensures.does c.in-Err.ensures.each_once
+    refl refl c.reply_to.ensures.hashed c.in-Err.ensures.stays)

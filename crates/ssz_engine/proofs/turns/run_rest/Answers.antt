@@ -8,7 +8,13 @@ use Rattle.ssz_engine.proofs.LinesDone.{drop_set}
 use Rattle.ssz_engine.proofs.turns.run_rest.Goals as goal
 
 pub loop-writer-init : goal.loop-writer-init
-loop-writer-init g c = record { few = c.requires; within = omega arith; runs = some_none }
+loop-writer-init g c = record {
+  few = c.requires.few;
+  within = omega arith;
+  runs = some_none;
+  files_usable = c.requires.files_usable;
+  sink_usable = c.requires.sink_usable;
+}
 
 pub returns-in_err-run_lines : goal.returns-in_err-run_lines
 returns-in_err-run_lines g c =
@@ -46,4 +52,6 @@ loop-writer-preserved g c =
       within = omega arith;
       runs = some_left left
           (some_then (some_left turn loop.invariant.runs) c.in_ok-run_lines.ensures.runs);
+      files_usable = c.in_ok-run_lines.ensures.files_usable;
+      sink_usable = c.in_ok-run_lines.ensures.sink_usable;
     }

@@ -14,6 +14,8 @@ invariant-loop-writer g l = record {
       (rest_from l.number (drop l.number l.scripts.items)) l.fn.replies.refused l.replies.refused
       (scene g.F.Files g.S.Sink g.H.PairHash l.fn.engine l.fn.files l.fn.out l.fn.hasher)
       (scene g.F.Files g.S.Sink g.H.PairHash l.engine l.files l.out l.hasher);
+  files_usable : g.F.Files.usable l.files;
+  sink_usable : g.S.Sink.usable l.out;
 }
 
 abbrev pub decreases-loop-writer : goal.decreases-loop-writer

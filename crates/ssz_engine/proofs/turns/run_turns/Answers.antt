@@ -6,7 +6,12 @@ use Rattle.ssz_engine.proofs.Going.{runs_of, some_left, some_none, some_stops, s
 use Rattle.ssz_engine.proofs.turns.run_turns.Goals as goal
 
 pub loop-number-init : goal.loop-number-init
-loop-number-init g c = record { runs = some_none; count = refl }
+loop-number-init g c = record {
+  runs = some_none;
+  count = refl;
+  files_usable = c.requires.files_usable;
+  sink_usable = c.requires.sink_usable;
+}
 
 pub returns-in_err-run_next-clause-runs : goal.returns-in_err-run_next-clause-runs
 returns-in_err-run_next-clause-runs g c =
@@ -14,7 +19,7 @@ returns-in_err-run_next-clause-runs g c =
     let w = c.from.result in
     let lines = c.index_mut-lines.result.now in
     let within : loop.number-index < length c.args.order.now = c.loop-number-test.true in
-    let below = c.requires loop.number-index 0 within in
+    let below = c.requires.known loop.number-index 0 within in
     let known : w < length loop.scripts.items =
     omega (arith, below, loop.invariant.count, loop.scripts.ok.0, c.from.ensures) in
     let turn = woven_turn c.args.order.now loop.number-index w loop.scripts.items lines
@@ -31,7 +36,7 @@ loop-number-preserved g c =
     let w = c.from.result in
     let lines = c.index_mut-lines.result.now in
     let within : loop.number-index < length c.args.order.now = c.loop-number-test.true in
-    let below = c.requires loop.number-index 0 within in
+    let below = c.requires.known loop.number-index 0 within in
     let known : w < length loop.scripts.items =
     omega (arith, below, loop.invariant.count, loop.scripts.ok.0, c.from.ensures) in
     let turn = woven_turn c.args.order.now loop.number-index w loop.scripts.items lines
@@ -40,4 +45,6 @@ loop-number-preserved g c =
       runs = some_then (some_left turn loop.invariant.runs)
           (runs_of (ap (λ (n : ℕ). next_of n lines) c.from.ensures) ran.runs);
       count = loop.invariant.count;
+      files_usable = ran.files_usable;
+      sink_usable = ran.sink_usable;
     }

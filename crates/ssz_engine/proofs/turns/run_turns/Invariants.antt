@@ -13,4 +13,6 @@ invariant-loop-number g l = record {
       (scene g.F.Files g.S.Sink g.H.PairHash l.fn.engine l.fn.files l.fn.out l.fn.hasher)
       (scene g.F.Files g.S.Sink g.H.PairHash l.engine l.files l.out l.hasher);
   count : vec_len l.scripts ≡ vec_len l.fn.scripts;
+  files_usable : g.F.Files.usable l.files;
+  sink_usable : g.S.Sink.usable l.out;
 }

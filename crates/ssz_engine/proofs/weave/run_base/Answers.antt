@@ -13,16 +13,16 @@ use Rattle.ssz_engine.proofs.Going.{runs_exit, runs_of, runs_stops, runs_then}
 use Rattle.ssz_engine.proofs.TakenOver.{runs_adopted, runs_unadopted}
 use Rattle.ssz_engine.proofs.weave.run_base.Goals as goal
 
-pub returns-in_err-run_lines : goal.returns-in_err-run_lines
-returns-in_err-run_lines g c = λ scripts count.
+pub returns-in_err-run_lines-clause-runs : goal.returns-in_err-run_lines-clause-runs
+returns-in_err-run_lines-clause-runs g c = λ scripts count.
     let exit = err_from_is_err_and c.from_residual.result c.from_residual.ensures.1 in
     runs_exit exit.1 exit.2
     (runs_stops (adoptions 0 scripts) (runs_of
     (ap (λ (lines : List Line). all_of base_writer lines) (sym c.new-lines.ensures))
     c.in_err-run_lines.ensures.runs))
 
-pub returns : goal.returns
-returns g c = λ scripts count.
+pub returns-clause-runs : goal.returns-clause-runs
+returns-clause-runs g c = λ scripts count.
     let was : EngineContent = c.engine.inside.store in
     let before : Scene = scene g.F.Files g.S.Sink g.H.PairHash c.args.engine.now
     c.args.files.now c.args.out.now c.args.hasher.now in
@@ -42,8 +42,8 @@ returns g c = λ scripts count.
     (subst (λ n. AdoptsAll n was.entries c.adopt_all.new.store.entries) (sym {A = ℕ} count)
     c.in-Ok.ensures.ok))
 
-pub returns-in-Err : goal.returns-in-Err
-returns-in-Err g c = λ scripts count.
+pub returns-in-Err-clause-runs : goal.returns-in-Err-clause-runs
+returns-in-Err-clause-runs g c = λ scripts count.
     let was : EngineContent = c.engine.inside.store in
     let before : Scene = scene g.F.Files g.S.Sink g.H.PairHash c.args.engine.now
     c.args.files.now c.args.out.now c.args.hasher.now in

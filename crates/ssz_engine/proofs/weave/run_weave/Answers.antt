@@ -17,7 +17,7 @@ returns-in_err-run_base g c =
     omega (arith, same, c.len.ensures, c.in-Ok.lines.ok.0)) in
     let exit = err_from_is_err_and c.from_residual.result c.from_residual.ensures.1 in
     runs_exit exit.1 exit.2 (runs_stops (woven c.args.order.now scripts)
-    (c.in_err-run_base.ensures scripts count))
+    (c.in_err-run_base.ensures.runs scripts count))
 
 pub returns-in_err-run_turns : goal.returns-in_err-run_turns
 returns-in_err-run_turns g c =
@@ -28,7 +28,7 @@ returns-in_err-run_turns g c =
     let exit = err_from_is_err_and c.from_residual-in_err-run_turns.result
     c.from_residual-in_err-run_turns.ensures.1 in
     runs_exit exit.1 exit.2
-    (runs_then (c.in_ok-run_base.ensures scripts count)
+    (runs_then (c.in_ok-run_base.ensures.runs scripts count)
     (runs_of (ap (λ (left : List (List Line)). woven c.args.order.now left) (sym c.in-Ok.ensures))
     c.in_err-run_turns.ensures.runs))
 
@@ -38,6 +38,6 @@ returns g c =
     let count : length scripts ≡ c.len.result =
     (let same = ap length c.in-Ok.ensures in
     omega (arith, same, c.len.ensures, c.in-Ok.lines.ok.0)) in
-    runs_then (c.in_ok-run_base.ensures scripts count)
+    runs_then (c.in_ok-run_base.ensures.runs scripts count)
     (runs_of (ap (λ (left : List (List Line)). woven c.args.order.now left) (sym c.in-Ok.ensures))
     (some_all c.in_ok-run_turns.ensures.runs c.run_rest.ensures))

@@ -54,6 +54,7 @@ loop-round-init g c = record {
       (subst (λ x. AreRounds rules c.args.count c.args.seed state c.args.count x 0 here here)
       (sym {A = ℕ} c.new-generator.ensures)
       (rounds_begin rules c.args.count c.args.seed state here at));
+  usable = c.requires.usable;
 }
 
 pub returns-in_err-edits-clause-works : goal.returns-in_err-edits-clause-works
@@ -125,6 +126,7 @@ loop-round-preserved g c =
           (λ r. RisesBy (tops_of r here.state way.edit) (g.H.PairHash.pairs c.loop-round.hasher)
           (g.H.PairHash.pairs c.work_round.new.hasher))
           (made.least here.state rounds.done.at));
+      usable = made.usable;
     }
 
 pub returns-clause-tries : goal.returns-clause-tries

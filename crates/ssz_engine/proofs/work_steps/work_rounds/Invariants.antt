@@ -21,4 +21,5 @@ invariant-loop-round g l = record {
       → AreRounds (rules_of g.H.PairHash.pair_of l.fn.engine) l.count l.seed state
       (l.count - l._round) l.generator l.edits before
       (point g.F.Files g.H.PairHash l.engine l.files l.hasher);
+  usable : g.F.Files.usable l.files;
 }

@@ -1,4 +1,4 @@
-use Rattle.std.proofs.Common.{ap, ◌∙◌}
+use Rattle.std.proofs.Common.{ap, ap₂, ◌∙◌}
 use Rattle.std.specs.Prelude.{◌||◌}
 use Rattle.ssz_schema.specs.Unfolding.{type_of}
 use Rattle.ssz_script.specs.Texts.{reply_line}
@@ -13,12 +13,14 @@ returns-in-Ok-clause-runs g c =
       known = c.args.partial.now.proof;
       hashed = g.H.PairHash.pairs c.args.hasher.now;
       pieces = g.S.Sink.pieces c.args.out.now;
+      ample = g.S.Sink.ample c.args.out.now;
       refused = c.args.replies.now.refused;
     } in
     let after : PartialScene = record {
       known = c.reply_to.new.partial.proof;
       hashed = g.H.PairHash.pairs c.reply_to.new.hasher;
       pieces = g.S.Sink.pieces c.print_reply.new.out;
+      ample = g.S.Sink.ample c.print_reply.new.out;
       refused = c.print_reply.new.replies.refused;
     } in
     printed_turn g.H.PairHash.pair_of (type_of c.args.schema.now c.args.partial.now.id)
@@ -26,7 +28,8 @@ returns-in-Ok-clause-runs g c =
     c.print_reply.result c.in-Ok.ensures.reply
     (ap (λ (k : Knowledge). k.proof) c.in-Ok.ensures.known)
     (c.print_reply.ensures.refused
-    ∙ ap (λ b. b || c.args.replies.now.refused) c.is_refusal.ensures) c.print_reply.ensures.prints
+    ∙ ap₂ (λ a b. a || b) c.is_refusal.ensures c.begin.ensures.refused) c.print_reply.ensures.ample
+    c.print_reply.ensures.memory c.print_reply.ensures.prints
 
 pub returns-in-Ok-clause-counts : goal.returns-in-Ok-clause-counts
 returns-in-Ok-clause-counts g c =

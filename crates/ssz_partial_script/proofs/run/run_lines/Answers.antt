@@ -27,18 +27,21 @@ loop-line-preserved g c =
       known = c.args.partial.now.proof;
       hashed = g.H.PairHash.pairs c.args.hasher.now;
       pieces = g.S.Sink.pieces c.args.out.now;
+      ample = g.S.Sink.ample c.args.out.now;
       refused = c.args.replies.now.refused;
     } in
     let mid : PartialScene = record {
       known = c.loop-line.partial.proof;
       hashed = g.H.PairHash.pairs c.loop-line.hasher;
       pieces = g.S.Sink.pieces c.loop-line.out;
+      ample = g.S.Sink.ample c.loop-line.out;
       refused = c.loop-line.replies.refused;
     } in
     let after : PartialScene = record {
       known = c.run_line-ran.new.partial.proof;
       hashed = g.H.PairHash.pairs c.run_line-ran.new.hasher;
       pieces = g.S.Sink.pieces c.run_line-ran.new.out;
+      ample = g.S.Sink.ample c.run_line-ran.new.out;
       refused = c.run_line-ran.new.replies.refused;
     } in
     let line : PartialScriptLine = (c.in-Ok-Some.line.number, c.in-Ok-Some.line.statement) in
@@ -59,6 +62,7 @@ loop-line-preserved g c =
       same = ran.same ∙ so_far.same;
       rises = omega (arith, so_far.rises, ran.rises);
       sinks = ran.counts ∙ so_far.sinks;
+      usable = ran.usable;
     }
 
 pub returns-in_err-ran-in-Ok-Some-clause-runs : goal.returns-in_err-ran-in-Ok-Some-clause-runs
@@ -70,18 +74,21 @@ returns-in_err-ran-in-Ok-Some-clause-runs g c =
       known = c.args.partial.now.proof;
       hashed = g.H.PairHash.pairs c.args.hasher.now;
       pieces = g.S.Sink.pieces c.args.out.now;
+      ample = g.S.Sink.ample c.args.out.now;
       refused = c.args.replies.now.refused;
     } in
     let mid : PartialScene = record {
       known = c.loop-line.partial.proof;
       hashed = g.H.PairHash.pairs c.loop-line.hasher;
       pieces = g.S.Sink.pieces c.loop-line.out;
+      ample = g.S.Sink.ample c.loop-line.out;
       refused = c.loop-line.replies.refused;
     } in
     let after : PartialScene = record {
       known = c.run_line-ran.new.partial.proof;
       hashed = g.H.PairHash.pairs c.run_line-ran.new.hasher;
       pieces = g.S.Sink.pieces c.run_line-ran.new.out;
+      ample = g.S.Sink.ample c.run_line-ran.new.out;
       refused = c.run_line-ran.new.replies.refused;
     } in
     let line : PartialScriptLine = (c.in-Ok-Some.line.number, c.in-Ok-Some.line.statement) in
@@ -92,9 +99,9 @@ returns-in_err-ran-in-Ok-Some-clause-runs g c =
     let pair_of = g.H.PairHash.pair_of in
     let so_far = c.loop-line.invariant in
     let exit = err_from_is_err_and c.from_residual.result c.from_residual.ensures.1 in
-    let breaks : Breaks (partial_step pair_of t mid.known line) exit.0 mid.pieces after.pieces =
+    let breaks : Breaks (partial_step pair_of t mid.known line) exit.0 mid after =
     subst (λ (ended : Status).
-    Breaks (partial_step pair_of t mid.known line) ended mid.pieces after.pieces)
+    Breaks (partial_step pair_of t mid.known line) ended mid after)
     (sym exit.2)
     (subst (λ id. RunsTurn (partial_step pair_of (type_of c.args.schema.now id) mid.known line)
     (Err c.in_err-ran-in-Ok-Some.field-0.0) mid after) so_far.same
@@ -102,4 +109,5 @@ returns-in_err-ran-in-Ok-Some-clause-runs g c =
     subst (λ (r : Result (Unit {0}) Status).
     RunsAll (partial_play pair_of t before.known lines) r before
     after) (sym exit.1)
-    (breaks_off pair_of t lines left before mid so_far.comes line more taken after exit.0 breaks)
+    (breaks_off pair_of t lines left before mid so_far.comes line more taken after exit.0 breaks
+    c.in_err-ran-in-Ok-Some.ensures.pairs)

@@ -14,17 +14,20 @@ invariant-loop-line g l = record {
         known = l.fn.partial.proof;
         hashed = g.H.PairHash.pairs l.fn.hasher;
         pieces = g.S.Sink.pieces l.fn.out;
+        ample = g.S.Sink.ample l.fn.out;
         refused = l.fn.replies.refused;
       })
       (record {
         known = l.partial.proof;
         hashed = g.H.PairHash.pairs l.hasher;
         pieces = g.S.Sink.pieces l.out;
+        ample = g.S.Sink.ample l.out;
         refused = l.replies.refused;
       });
   same : l.partial.id ≡ l.fn.partial.id;
   rises : g.H.PairHash.pairs l.fn.hasher ≤ g.H.PairHash.pairs l.hasher;
   sinks : g.S.Sink.faults l.out ≡ g.S.Sink.faults l.fn.out;
+  usable : g.S.Sink.usable l.out;
 }
 
 abbrev pub decreases-loop-line : goal.decreases-loop-line

@@ -1,6 +1,7 @@
 use Rattle.std.proofs.Common.{◌<◌, ◌≤◌, inl, ℕ, List, [], length, Option, Some, None, Err, unwrap_or, refl, ap, rules}
 use Rattle.std.specs.Prelude.{IsSomeAnd}
 use Rattle.ssz_tool.specs.Plans.{file}
+use Rattle.ssz_tool.proofs.Asking.{asks-file}
 use Rattle.ssz_tool.proofs.files.load.Goals as goal
 
 pub returns-in-Ok-Whole : goal.returns-in-Ok-Whole
@@ -16,6 +17,9 @@ returns-in-Ok-Whole g c =
             ap (λ (o : Option (List ℕ)). unwrap_or o []) read,
         refl,
       );
+      asks = λ held told. rw (asks-file held c.args.name.now c.args.max c.args.long)
+          c.in-Ok-Whole.ensures.asked;
+      usable = λ can. c.in-Ok-Whole.ensures.usable;
       leaves = record {
         content = c.in-Ok-Whole.ensures.content;
         readable = c.in-Ok-Whole.ensures.readable;
@@ -38,6 +42,9 @@ returns-in-Ok-TooLong g c = record {
         let read = rw (c.in-Ok-TooLong.field-0-is, told) at c.in-Ok-TooLong.ensures.read in
         more_than c.args.max _ read,
   );
+  asks = λ held told. rw (asks-file held c.args.name.now c.args.max c.args.long)
+      c.in-Ok-TooLong.ensures.asked;
+  usable = λ can. tt;
   leaves = record {
     content = c.in-Ok-TooLong.ensures.content;
     readable = c.in-Ok-TooLong.ensures.readable;
@@ -50,6 +57,9 @@ pub returns-in-Err-Failed : goal.returns-in-Err-Failed
 unfolding file
 returns-in-Err-Failed g c = record {
   comes = inl (λ can. c.in-Err-Failed.ensures.fails can (ap Err c.in-Err-Failed.field-0-is));
+  asks = λ held told. rw (asks-file held c.args.name.now c.args.max c.args.long)
+      c.in-Err-Failed.ensures.asked;
+  usable = λ can. tt;
   leaves = record {
     content = c.in-Err-Failed.ensures.content;
     readable = c.in-Err-Failed.ensures.readable;
@@ -62,6 +72,9 @@ pub returns-in-Err-Memory : goal.returns-in-Err-Memory
 unfolding file
 returns-in-Err-Memory g c = record {
   comes = tt;
+  asks = λ held told. rw (asks-file held c.args.name.now c.args.max c.args.long)
+      c.in-Err-Memory.ensures.asked;
+  usable = λ can. tt;
   leaves = record {
     content = c.in-Err-Memory.ensures.content;
     readable = c.in-Err-Memory.ensures.readable;

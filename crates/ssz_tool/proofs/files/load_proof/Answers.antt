@@ -6,7 +6,7 @@ use Rattle.ssz_proof.specs.Multiproof.{IsProofOf}
 use Rattle.ssz_tool.specs.Commands.{proof_file}
 use Rattle.ssz_tool.specs.Tasks.{HasItems}
 use Rattle.ssz_tool.proofs.Reading.{need_given, need_refused}
-use Rattle.ssz_tool.proofs.Steps.{follows_exit, follows_here, follows_stopped, follows_then}
+use Rattle.ssz_tool.proofs.Steps.{follows_exit, follows_here, follows_stopped, follows_then, follows_wanting}
 use Rattle.ssz_tool.proofs.files.load_proof.Goals as goal
 
 pub returns-in_err-text : goal.returns-in_err-text
@@ -24,7 +24,7 @@ returns-in-Ok g c =
     (λ text is.
     let read = rw (c.deref.ensures.value, is) at c.in-Ok.ensures.ok in
     follows_here g.F.Files IsProofOf _ _ _ refl
-    (need_given _ _ IsProofOf c.args.bad.now (multiproof_of text) read.lists c.in-Ok.proof
+    (need_given IsProofOf c.args.bad.now (multiproof_of text) read.lists c.in-Ok.proof
     (multiproof_of-read text c.in-Ok.proof read) read.is))
 
 pub returns-in-Err-BadProof : goal.returns-in-Err-BadProof
@@ -35,5 +35,10 @@ returns-in-Err-BadProof g c =
     let refused = rw (c.deref.ensures.value, is) at
     (c.in-Err-BadProof.ensures.bad (ap Err c.in-Err-BadProof.field-0-is)) in
     follows_here g.F.Files IsProofOf _ _ _ refl
-    (need_refused _ _ IsProofOf c.args.bad.now (multiproof_of text)
+    (need_refused IsProofOf c.args.bad.now (multiproof_of text)
     (multiproof_of-refused text refused)))
+
+pub returns : goal.returns
+unfolding proof_file
+returns g c =
+    follows_wanting g.F.Files HasItems IsProofOf _ _ c.in_ok-text.text _ _ c.in_ok-text.ensures

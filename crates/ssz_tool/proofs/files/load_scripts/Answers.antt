@@ -1,9 +1,14 @@
-use Rattle.std.proofs.Common.{◌≡◌, ◌++◌, ◌∷◌, ◌∙◌, [], ◌+◌, take, List, ℕ, refl, ap, subst, sym}
+use Rattle.std.proofs.Common.{◌≡◌, ◌++◌, ◌∷◌, ◌∙◌, [], ◌+◌, take, Some, Ok, Err, Vec, Global, false, List, ℕ, refl, ap, subst, sym}
 use Rattle.std.proofs.lemmas.List.{take_all}
 use Rattle.std.proofs.lemmas.Result.{err_from_is_err_and}
 use Rattle.ssz_tool.specs.Commands.{script_file, script_files}
 use Rattle.ssz_tool.specs.Tasks.{AreItems, HasItems}
-use Rattle.ssz_tool.proofs.Reading.{AreRead, comes_as, next_read, next_stopped}
+use Rattle.ssz_outside.proofs.Asking.{asks-nothing}
+use Rattle.ssz_outside.specs.Asked.{AsksOf}
+use Rattle.ssz_tool.specs.Follows.{ComesOf}
+use Rattle.ssz_tool.specs.declared.stop.Stop.TheVariants as stop
+use Rattle.ssz_tool.specs.Plans.{asks_in}
+use Rattle.ssz_tool.proofs.Reading.{AreRead, asks-ended, asks-next, asks-wanting, comes_as, next_read, next_stopped}
 use Rattle.ssz_tool.proofs.Steps.{follows_behind, follows_exit, leaves_stopped}
 use Rattle.ssz_tool.proofs.files.load_scripts.Goals as goal
 
@@ -11,12 +16,13 @@ pub loop-name-init : goal.loop-name-init
 unfolding script_files
 loop-name-init g c = record {
   read = c.new-scripts.ensures.items;
+  asks = λ held told. asks-nothing false _;
+  usable = c.requires.usable;
   leaves = record {
     content = refl;
     readable = λ name can. can;
     get_faults = refl;
-    put_faults =
-        refl;
+    put_faults = refl;
   };
 }
 
@@ -32,8 +38,19 @@ returns-in_err-script g c =
     follows_exit g.F.Files AreItems _ _ exit.0 why _ _ exit.1 exit.2 (record {
       comes = next_stopped told can HasItems AreItems c.args.names.now loop.scripts.items
           loop.name-index c.name-item.result why c.loop-name-test.true c.name-item.is
-          loop.invariant.read behind.comes;
-      leaves = leaves_stopped g.F.Files why _ _ behind.leaves;
+          loop.invariant.read behind.0;
+      asks = λ held told. asks-ended held can (Vec ℕ Global) (Vec (List ℕ) Global) HasItems
+          c.args.names.now loop.scripts.items loop.name-index c.name-item.result why _ _ _
+          c.loop-name-test.true c.name-item.is
+          (subst (λ t. AreRead t can (take loop.name-index c.args.names.now) loop.scripts.items)
+          told loop.invariant.read)
+          (subst (λ t. ComesOf t can HasItems (script_file c.name-item.result) (Err why)) told
+          behind.0)
+          (loop.invariant.asks held told)
+          ((rw c.as_str.ensures at c.in_err-script.ensures).asks held
+          (loop.invariant.leaves.content ∙ told));
+      usable = λ can. tt;
+      leaves = leaves_stopped g.F.Files why _ _ behind.1;
     })
 
 pub loop-name-preserved : goal.loop-name-preserved
@@ -53,12 +70,20 @@ loop-name-preserved g c =
           c.name-item.result c.in_ok-script.script.items c.loop-name-test.true c.name-item.is
           loop.invariant.read
           (comes_as told can HasItems (λ meant made. made ≡ meant) (script_file c.name-item.result)
-          c.in_ok-script.script c.in_ok-script.script.items (λ bytes is. is) behind.comes));
+          c.in_ok-script.script c.in_ok-script.script.items (λ bytes is. is) behind.0));
+      asks = λ held told. asks-next held can c.args.names.now loop.scripts.items loop.name-index
+          c.name-item.result _ _ _ c.loop-name-test.true c.name-item.is
+          (subst (λ t. AreRead t can (take loop.name-index c.args.names.now) loop.scripts.items)
+          told loop.invariant.read)
+          (loop.invariant.asks held told)
+          ((rw c.as_str.ensures at c.in_ok-script.ensures).asks held
+          (loop.invariant.leaves.content ∙ told));
+      usable = c.in_ok-script.ensures.usable loop.invariant.usable;
       leaves = record {
-        content = behind.leaves.content;
-        readable = behind.leaves.readable;
-        get_faults = behind.leaves.get_faults;
-        put_faults = behind.leaves.put_faults;
+        content = behind.1.content;
+        readable = behind.1.readable;
+        get_faults = behind.1.get_faults;
+        put_faults = behind.1.put_faults;
       };
     }
 
@@ -72,6 +97,11 @@ returns g c =
           (script_files c.args.names.now) loop.scripts.items loop.scripts (λ scripts is. is)
           (subst (λ names. AreRead told can names loop.scripts.items)
           (take_all loop.name-index c.args.names.now c.loop-name-test.false) loop.invariant.read);
+      asks = λ held now. subst (λ names. AsksOf false (asks_in held (script_files names))
+          (g.F.Files.asked c.args.files.now) (g.F.Files.asked loop.files))
+          (take_all loop.name-index c.args.names.now c.loop-name-test.false)
+          (loop.invariant.asks held now);
+      usable = λ can. loop.invariant.usable;
       leaves = record {
         content = loop.invariant.leaves.content;
         readable = loop.invariant.leaves.readable;
@@ -79,3 +109,41 @@ returns g c =
         put_faults = loop.invariant.leaves.put_faults;
       };
     }
+
+pub returns-in_err-push : goal.returns-in_err-push
+returns-in_err-push g c =
+    let loop = c.loop-name in
+    let told = g.F.Files.content c.args.files.now in
+    let can = g.F.Files.readable c.args.files.now in
+    let behind = follows_behind g.F.Files HasItems _ _ c.args.files.now _ _ loop.invariant.leaves
+    (rw c.as_str.ensures at c.in_ok-script.ensures) in
+    let exit = err_from_is_err_and c.from_residual-in_err-push.result
+    c.from_residual-in_err-push.ensures.1 in
+    follows_exit g.F.Files AreItems _ _ exit.0 stop.Memory _ _ exit.1 exit.2 (record {
+      comes = tt;
+      asks = λ held now.
+          let read = subst (λ t. AreRead t can (take loop.name-index c.args.names.now)
+          loop.scripts.items) now loop.invariant.read in
+          let got = comes_as (Some held) can HasItems (λ meant made. made ≡ meant)
+          (script_file c.name-item.result) c.in_ok-script.script c.in_ok-script.script.items
+          (λ bytes is. is)
+          (subst (λ t. ComesOf t can HasItems (script_file c.name-item.result)
+          (Ok c.in_ok-script.script)) now behind.0) in
+          asks-wanting held can c.args.names.now
+          (loop.scripts.items ++ c.in_ok-script.script.items ∷ []) (loop.name-index + 1) _ _
+          (next_read (Some held) can c.args.names.now loop.scripts.items loop.name-index
+          c.name-item.result c.in_ok-script.script.items c.loop-name-test.true c.name-item.is read
+          got)
+          (asks-next held can c.args.names.now loop.scripts.items loop.name-index
+          c.name-item.result _ _ _ c.loop-name-test.true c.name-item.is read
+          (loop.invariant.asks held now)
+          ((rw c.as_str.ensures at c.in_ok-script.ensures).asks held
+          (loop.invariant.leaves.content ∙ now)));
+      usable = λ can. tt;
+      leaves = record {
+        content = behind.1.content;
+        readable = behind.1.readable;
+        get_faults = behind.1.get_faults;
+        put_faults = behind.1.put_faults;
+      };
+    })

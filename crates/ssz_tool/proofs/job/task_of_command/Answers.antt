@@ -4,6 +4,8 @@ pub returns-in-Root : goal.returns-in-Root
 returns-in-Root g c =
     rw c.in-Root.is (record {
       comes = c.task_of_root.ensures.comes;
+      asks = c.task_of_root.ensures.asks;
+      usable = c.task_of_root.ensures.usable;
       leaves = c.task_of_root.ensures.leaves;
     })
 
@@ -11,6 +13,8 @@ pub returns-in-Verify : goal.returns-in-Verify
 returns-in-Verify g c =
     rw c.in-Verify.is (record {
       comes = c.task_of_verify.ensures.comes;
+      asks = c.task_of_verify.ensures.asks;
+      usable = c.task_of_verify.ensures.usable;
       leaves = c.task_of_verify.ensures.leaves;
     })
 
@@ -18,6 +22,8 @@ pub returns-in-Run : goal.returns-in-Run
 returns-in-Run g c =
     rw c.in-Run.is (record {
       comes = c.task_of_run.ensures.comes;
+      asks = c.task_of_run.ensures.asks;
+      usable = c.task_of_run.ensures.usable;
       leaves = c.task_of_run.ensures.leaves;
     })
 
@@ -25,6 +31,8 @@ pub returns-in-Weave : goal.returns-in-Weave
 returns-in-Weave g c =
     rw c.in-Weave.is (record {
       comes = c.task_of_weave.ensures.comes;
+      asks = c.task_of_weave.ensures.asks;
+      usable = c.task_of_weave.ensures.usable;
       leaves = c.task_of_weave.ensures.leaves;
     })
 
@@ -32,6 +40,8 @@ pub returns-in-Work : goal.returns-in-Work
 returns-in-Work g c =
     rw c.in-Work.is (record {
       comes = c.task_of_work.ensures.comes;
+      asks = c.task_of_work.ensures.asks;
+      usable = c.task_of_work.ensures.usable;
       leaves = c.task_of_work.ensures.leaves;
     })
 
@@ -39,5 +49,7 @@ pub returns-in-Clash : goal.returns-in-Clash
 returns-in-Clash g c =
     rw c.in-Clash.is (record {
       comes = c.task_of_clash.ensures.comes;
+      asks = c.task_of_clash.ensures.asks;
+      usable = c.task_of_clash.ensures.usable;
       leaves = c.task_of_clash.ensures.leaves;
     })

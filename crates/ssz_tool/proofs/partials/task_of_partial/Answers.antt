@@ -2,9 +2,10 @@ use Rattle.std.proofs.Common.{◌<◌, length, refl, sym, subst}
 use Rattle.std.proofs.lemmas.Result.{err_from_is_err_and}
 use Rattle.ssz_proof.specs.Multiproof.{IsProofOf}
 use Rattle.ssz_schema.specs.Unfolding.{type_of}
+use Rattle.ssz_tool.specs.declared.stop.Stop.TheVariants as stop
 use Rattle.ssz_tool.specs.Tasks.{HasItems, NamesHaveTypes, IsTask}
 use Rattle.ssz_tool.proofs.Reading.{named, not_named}
-use Rattle.ssz_tool.proofs.Steps.{follows_exit, follows_here, follows_none, follows_some, follows_stopped, follows_then}
+use Rattle.ssz_tool.proofs.Steps.{follows_exit, follows_here, follows_none, follows_some, follows_stopped, follows_then, follows_wanting}
 use Rattle.ssz_partial.specs.Partial.{Knowledge}
 use Rattle.ssz_tool.specs.Tasks.{DoesSame}
 use Rattle.ssz_tool.specs.ToDo.{plays_tree}
@@ -78,3 +79,19 @@ returns g c =
       ready = subst (λ (k : Knowledge). k.id < length c.in_ok-schema.schema.trees)
           (sym c.in_ok-tree.ensures) (c.in-Some.ensures.known c.in-Some.id refl);
     })))))
+
+pub returns-in_err-tree : goal.returns-in_err-tree
+returns-in_err-tree g c =
+    let exit = err_from_is_err_and c.from_residual-in_err-tree.result
+    c.from_residual-in_err-tree.ensures.1 in
+    follows_exit g.F.Files IsTask _ _ exit.0 stop.Memory _ _ exit.1 exit.2
+    (follows_then g.F.Files NamesHaveTypes IsTask _ _ c.in_ok-schema.schema _ _ _ _
+    (rw c.as_str.ensures at c.in_ok-schema.ensures)
+    (λ types has. follows_some g.F.Files IsTask _ _ (type_of c.in_ok-schema.schema c.in-Some.id) _
+    _ _ _
+    (named types c.in_ok-schema.schema c.args.args.now.type_name c.as_str-2.result.now c.in-Some.id
+    has c.as_str-2.ensures c.in-Some.ensures.exact)
+    (follows_then g.F.Files IsProofOf IsTask _ _ c.in_ok-proof.proof _ _ _ _
+    (rw c.as_str-3.ensures at c.in_ok-proof.ensures)
+    (λ lists is. follows_wanting g.F.Files HasItems IsTask _ _ c.in_ok-script.script _ _
+    (rw c.as_str-4.ensures at c.in_ok-script.ensures)))))

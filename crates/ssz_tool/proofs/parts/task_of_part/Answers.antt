@@ -3,7 +3,8 @@ use Rattle.std.proofs.lemmas.Result.{err_from_is_err_and}
 use Rattle.ssz_schema.specs.Unfolding.{type_of}
 use Rattle.ssz_tool.specs.Tasks.{HasItems, NamesHaveTypes, IsTask}
 use Rattle.ssz_tool.proofs.Reading.{named, not_named, read_within}
-use Rattle.ssz_tool.proofs.Steps.{follows_exit, follows_here, follows_none, follows_some, follows_stopped, follows_then}
+use Rattle.ssz_tool.specs.declared.stop.Stop.TheVariants as stop
+use Rattle.ssz_tool.proofs.Steps.{follows_exit, follows_here, follows_none, follows_some, follows_stopped, follows_then, follows_wanting}
 use Rattle.ssz_tool.proofs.Verdicts.{DoesSame-equal}
 use Rattle.ssz_outside.specs.declared.status.Status.TheVariants.{Accepted}
 use Rattle.ssz_schema.specs.Paths.{Path, path_type}
@@ -124,3 +125,11 @@ returns g c =
           record { text = text; status = Accepted }) 0) (sym says));
       ready = tt;
     }))))))
+
+pub returns-in_err-steps : goal.returns-in_err-steps
+returns-in_err-steps g c =
+    let exit = err_from_is_err_and c.from_residual-in_err-steps.result
+    c.from_residual-in_err-steps.ensures.1 in
+    follows_exit g.F.Files IsTask _ _ exit.0 stop.Memory _ _ exit.1 exit.2
+    (follows_wanting g.F.Files NamesHaveTypes IsTask _ _ c.in_ok-schema.schema _ _
+    (rw c.as_str.ensures at c.in_ok-schema.ensures))

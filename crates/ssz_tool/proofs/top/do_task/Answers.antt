@@ -1,5 +1,6 @@
 use Rattle.std.proofs.Common.{sym, ap, ◌∙◌}
 use Rattle.ssz_clash.specs.Compared.{compared}
+use Rattle.ssz_outside.proofs.Asking.{asks-nothing}
 use Rattle.ssz_outside.specs.declared.status.Status.TheVariants.{Accepted}
 use Rattle.ssz_schema.specs.Unfolding.{type_of}
 use Rattle.ssz_tool.specs.ToDo.{line_of_value, printed}
@@ -64,8 +65,40 @@ returns-in-Partial-clause-ends g c = λ reads held told.
     c.as_slice-in-Partial.result.now held reads c.run_partial.result
     (g.H.PairHash.pairs c.args.hasher.now)
     (g.H.PairHash.pairs c.run_partial.new.hasher) (g.S.Sink.pieces c.args.out.now)
-    (g.S.Sink.pieces c.run_partial.new.out) (c.run_partial.ensures.ends held))
+    (g.S.Sink.pieces c.run_partial.new.out) (c.run_partial.ensures.ends held).ends)
 
 pub returns-in-Work-clause-ends : goal.returns-in-Work-clause-ends
 returns-in-Work-clause-ends g c = λ reads held told.
     rw c.in-Work.is (c.run_work.ensures.ends reads held told)
+
+pub returns-in-Text-clause-asks : goal.returns-in-Text-clause-asks
+returns-in-Text-clause-asks g c =
+    rw c.in-Text.is (λ held told. asks-nothing _ _)
+
+pub returns-in-Root-clause-asks : goal.returns-in-Root-clause-asks
+returns-in-Root-clause-asks g c =
+    rw c.in-Root.is (λ held told. asks-nothing _ _)
+
+pub returns-in-Verify-clause-asks : goal.returns-in-Verify-clause-asks
+returns-in-Verify-clause-asks g c =
+    rw c.in-Verify.is (λ held told. asks-nothing _ _)
+
+pub returns-in-Clash-clause-asks : goal.returns-in-Clash-clause-asks
+returns-in-Clash-clause-asks g c =
+    rw c.in-Clash.is (λ held told. asks-nothing _ _)
+
+pub returns-in-Partial-clause-asks : goal.returns-in-Partial-clause-asks
+returns-in-Partial-clause-asks g c =
+    rw c.in-Partial.is (λ held told. asks-nothing _ _)
+
+pub returns-in-Script-clause-asks : goal.returns-in-Script-clause-asks
+returns-in-Script-clause-asks g c =
+    rw (c.in-Script.is, sym c.as_slice.ensures.value) c.run_script.ensures.asks
+
+pub returns-in-Weave-clause-asks : goal.returns-in-Weave-clause-asks
+returns-in-Weave-clause-asks g c =
+    rw c.in-Weave.is c.run_weave.ensures.asks
+
+pub returns-in-Work-clause-asks : goal.returns-in-Work-clause-asks
+returns-in-Work-clause-asks g c =
+    rw (c.in-Work.is, c.run_work.ensures.asks) (λ held told. asks-nothing _ _)

@@ -1,18 +1,21 @@
 use Rattle.std.proofs.Common.{◌≤◌, ◌+◌, ℕ, false, subst, sym, ap, ◌∙◌}
 use Rattle.std.specs.Prelude.{is_some}
 use Rattle.std.specs.List.{AllByRecursion}
+use Rattle.ssz_outside.proofs.Asking.{asks-behind, asks-within}
+use Rattle.ssz_tool.proofs.Asking.{asks-alone}
+use Rattle.ssz_outside.specs.Asked.{is_cut}
 use Rattle.ssz_outside.specs.declared.status.Status.TheVariants.{Usage}
 use Rattle.ssz_engine.proofs.Reaching.{all_names}
 use Rattle.ssz_tool.specs.Commands.{plan_of, texts}
 use Rattle.ssz_tool.specs.Lines.{usage_text}
-use Rattle.ssz_tool.specs.Runs.{RisesWhere, least_of_task, reached_first, task_by, task_of}
+use Rattle.ssz_tool.specs.Runs.{RisesWhere, asks_of_task, least_of_task, reached_first, task_by, task_of}
 use Rattle.ssz_tool.specs.ToDo.{Task, printed}
 use Rattle.ssz_tool.proofs.Beginnings.{all_back, all_front, does_quietly, does_same, fails_first, said_does, wants_memory_first, zero_table}
 use Rattle.ssz_tool.proofs.Followed.{line_said, not_taken, read_failed, readable_words, taken_failed, task_made, task_ready, unreadable_words}
 use Rattle.ssz_tool.proofs.top.run.Goals as goal
 
-pub do_task-requires : goal.do_task-requires
-do_task-requires g c =
+pub do_task-requires-clause-ready : goal.do_task-requires-clause-ready
+do_task-requires-clause-ready g c =
     task_ready (g.F.Files.content c.args.files.now) (g.F.Files.readable c.args.files.now)
     (plan_of (texts c.args.words.now))
     c.in-Ok.task c.in-Ok.ensures.comes
@@ -203,3 +206,37 @@ returns-in-Err-Memory-clause-in_turn g c = λ held told readable.
     g.H.PairHash.pair_of held false (task_of held (texts c.args.words.now))
     (g.H.PairHash.pairs c.args.hasher.now) _ (g.H.PairHash.pairs c.args.hasher.now)
     (g.S.Sink.pieces c.args.out.now) (zero_table (g.H.PairHash.pairs c.args.hasher.now)))
+
+pub returns-in-Ok-clause-asked : goal.returns-in-Ok-clause-asked
+returns-in-Ok-clause-asked g c = λ held told.
+    let made = task_made held (g.F.Files.readable c.args.files.now)
+    (plan_of (texts c.args.words.now)) c.in-Ok.task (rw told at c.in-Ok.ensures.comes) in
+    asks-behind (is_cut c.do_task.result) _ _ _ _ _ (c.in-Ok.ensures.asks held told)
+    (rw (made.same.asks g.H.PairHash.pair_of held)
+    (c.do_task.ensures.asks held (c.in-Ok.ensures.leaves.content ∙ told)))
+
+pub returns-in-Err-Usage-clause-asked : goal.returns-in-Err-Usage-clause-asked
+returns-in-Err-Usage-clause-asked g c = λ held told.
+    let none = not_taken (g.F.Files.content c.args.files.now) (g.F.Files.readable c.args.files.now)
+    (plan_of (texts c.args.words.now)) (rw c.in-Err-Usage.field-0-is at
+    c.in-Err-Usage.ensures.comes) in
+    asks-alone (is_cut c.say_line.result) _ _ _ _
+    (ap (λ (task : Task). asks_of_task g.H.PairHash.pair_of held task) (ap (task_by held) none))
+    (rw c.in-Err-Usage.field-0-is at (c.in-Err-Usage.ensures.asks held told))
+
+pub returns-in-Err-Says-clause-asked : goal.returns-in-Err-Says-clause-asked
+returns-in-Err-Says-clause-asked g c = λ held told.
+    let is = line_said held (g.F.Files.readable c.args.files.now)
+    (plan_of (texts c.args.words.now)) c.in-Err-Says.line
+    (rw (c.in-Err-Says.field-0-is, told) at c.in-Err-Says.ensures.comes) in
+    asks-alone (is_cut c.print_line.result) _ _ _ _
+    (ap (λ (task : Task). asks_of_task g.H.PairHash.pair_of held task) is)
+    (rw c.in-Err-Says.field-0-is at (c.in-Err-Says.ensures.asks held told))
+
+pub returns-in-Err-Read-clause-asked : goal.returns-in-Err-Read-clause-asked
+returns-in-Err-Read-clause-asked g c = λ held told.
+    asks-within _ _ _ _ (rw c.in-Err-Read.field-0-is at (c.in-Err-Read.ensures.asks held told))
+
+pub returns-in-Err-Memory-clause-asked : goal.returns-in-Err-Memory-clause-asked
+returns-in-Err-Memory-clause-asked g c = λ held told.
+    asks-within _ _ _ _ (rw c.in-Err-Memory.field-0-is at (c.in-Err-Memory.ensures.asks held told))

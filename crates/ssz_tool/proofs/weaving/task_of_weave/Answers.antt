@@ -1,7 +1,8 @@
 use Rattle.std.proofs.Common.{◌≡◌, refl, ◌∙◌}
 use Rattle.std.proofs.lemmas.Result.{err_from_is_err_and}
+use Rattle.ssz_tool.specs.declared.stop.Stop.TheVariants as stop
 use Rattle.ssz_tool.specs.Tasks.{AreItems, HasItems, NamesHaveTypes, IsTask}
-use Rattle.ssz_tool.proofs.Steps.{follows_exit, follows_here, follows_stopped, follows_then}
+use Rattle.ssz_tool.proofs.Steps.{follows_exit, follows_here, follows_stopped, follows_then, follows_wanting}
 use Rattle.ssz_tool.proofs.Verdicts.{DoesSame-equal}
 use Rattle.ssz_tool.specs.Commands.{script_files}
 use Rattle.ssz_tool.proofs.Reading.{comes_as, so_many}
@@ -54,5 +55,17 @@ returns g c =
     (λ scripts are. follows_here g.F.Files IsTask _ _ _ refl (record {
       same = DoesSame-equal _ _ (rw (has, is, are, order) refl);
       ready = rw order (weave_of_many c.args.args.now.scripts c.in_ok-scripts.scripts.items
-          c.args.args.now.order count c.requires);
+          c.args.args.now.order count c.requires.weave);
     }))))
+
+pub returns-in_err-order : goal.returns-in_err-order
+returns-in_err-order g c =
+    let exit = err_from_is_err_and c.from_residual-in_err-order.result
+    c.from_residual-in_err-order.ensures.1 in
+    follows_exit g.F.Files IsTask _ _ exit.0 stop.Memory _ _ exit.1 exit.2
+    (follows_then g.F.Files NamesHaveTypes IsTask _ _ c.in_ok-schema.schema _ _ _ _
+    (rw c.as_str.ensures at c.in_ok-schema.ensures)
+    (λ types has. follows_then g.F.Files HasItems IsTask _ _ c.in_ok-base.base _ _ _ _
+    (rw c.as_str-2.ensures at c.in_ok-base.ensures)
+    (λ base is. follows_wanting g.F.Files AreItems IsTask _ _ c.in_ok-scripts.scripts _ _
+    (rw c.as_slice.ensures at c.in_ok-scripts.ensures))))

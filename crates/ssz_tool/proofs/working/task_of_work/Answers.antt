@@ -3,7 +3,7 @@ use Rattle.std.proofs.lemmas.Result.{err_from_is_err_and}
 use Rattle.ssz_schema.specs.Unfolding.{type_of}
 use Rattle.ssz_tool.specs.Tasks.{NamesHaveTypes, IsTask}
 use Rattle.ssz_tool.proofs.Reading.{named, not_named}
-use Rattle.ssz_tool.proofs.Steps.{follows_exit, follows_here, follows_none, follows_some, follows_stopped, follows_then}
+use Rattle.ssz_tool.proofs.Steps.{follows_exit, follows_here, follows_none, follows_some, follows_stopped, follows_then, follows_wanting}
 use Rattle.ssz_tool.proofs.Verdicts.{DoesSame-equal}
 use Rattle.ssz_line.specs.Single.{name}
 use Rattle.ssz_tool.proofs.Worked.{name_is, type_of_name, type_of_no_name}
@@ -55,3 +55,8 @@ returns-in-None g c =
     ∙ not_named types c.in_ok-schema.schema c.args.args.now.type_name c.as_name.result.now None
     has (c.as_name.ensures.text ∙ is) c.in-None.ensures.exact
     (λ id differ. let no : None ≡ Some id = differ in cc)))
+
+pub returns-in-Err-Memory : goal.returns-in-Err-Memory
+returns-in-Err-Memory g c =
+    follows_wanting g.F.Files NamesHaveTypes IsTask _ _ c.in_ok-schema.schema _ _
+    (rw c.as_str.ensures at c.in_ok-schema.ensures)

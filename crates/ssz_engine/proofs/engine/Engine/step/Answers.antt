@@ -1,9 +1,10 @@
-use Rattle.std.proofs.Common.{◌≡◌, ◌-◌, Option, IfOk, IfErr, refl, sym, subst, ℕ, List}
-use Rattle.std.specs.Prelude.{OnErr}
+use Rattle.std.proofs.Common.{◌≡◌, ◌-◌, Bool, false, Option, IfOk, IfErr, refl, sym, ap, subst, ℕ, List}
+use Rattle.std.specs.Prelude.{OnErr, is_err}
+use Rattle.std.proofs.lemmas.Result.{err_from_is_err_and}
 use Rattle.ssz_arena.specs.Content.{node_count}
 use Rattle.ssz_outside.specs.Content.{Content as Files}
 use Rattle.ssz_script.specs.declared.statement.Statement.{Statement}
-use Rattle.ssz_engine.specs.Steps.{Decides, DoesStep, StatementFindsFile, StatementForks, StatementUpgrades, Stops, WhereAccepted}
+use Rattle.ssz_engine.specs.Steps.{AsksStatement, Decides, DoesStep, StatementFindsFile, StatementForks, StatementUpgrades, Stops, WhereAccepted}
 use Rattle.ssz_decisions.specs.Carried.{Fails, IsCarriedOut}
 use Rattle.ssz_decisions.specs.Content.{EngineContent}
 use Rattle.ssz_decisions.specs.Roots.{HashesSome, LeavesHashed}
@@ -11,6 +12,7 @@ use Rattle.ssz_decisions.specs.Standing.{StandsForSome}
 use Rattle.ssz_engine.specs.Tops.{Tops}
 use Rattle.ssz_decisions.specs.declared.outcome.Outcome.TheVariants.{Accepted}
 use Rattle.ssz_decisions.proofs.Results.{on_ok, err-of, ok-of}
+use Rattle.ssz_engine.proofs.Asks.{asks_carried, asks_not_yet}
 use Rattle.ssz_engine.proofs.Forking.{forks}
 use Rattle.ssz_engine.proofs.Moving.{compact-step}
 use Rattle.ssz_engine.proofs.Rooting.{roots}
@@ -228,3 +230,27 @@ returns-clause-found g c =
     (subst (λ (s : EngineContent). StatementFindsFile g.H.PairHash.pair_of s
     c.args.writer.0 c.args.statement.now (g.F.Files.content c.args.files.now)) c.self.view_is
     c.in_ok-decision.ensures.found)
+
+pub returns-clause-each_once : goal.returns-clause-each_once
+returns-clause-each_once g c =
+    asks_carried g.H.PairHash.pair_of c.args.self.now c.args.writer.0 c.args.statement.now _ _ _ _
+    (subst (λ (s : EngineContent). AsksStatement g.H.PairHash.pair_of s c.args.writer.0
+    c.args.statement.now false (g.F.Files.asked c.args.files.now)
+    (g.F.Files.asked c.decide.new.files)) c.self.view_is c.in_ok-decision.ensures.each_once)
+    c.carry_out.ensures.asks
+
+pub returns-in-Compact-clause-each_once : goal.returns-in-Compact-clause-each_once
+returns-in-Compact-clause-each_once g c =
+    subst (λ (s : Statement). AsksStatement g.H.PairHash.pair_of c.args.self.now c.args.writer.0 s
+    false (g.F.Files.asked c.args.files.now) (g.F.Files.asked c.args.files.now))
+    (sym c.in-Compact.is) refl
+
+pub returns-in_err-reserve-clause-each_once : goal.returns-in_err-reserve-clause-each_once
+returns-in_err-reserve-clause-each_once g c =
+    let exit = err_from_is_err_and c.from_residual-in_err-reserve.result
+    c.from_residual-in_err-reserve.ensures.1 in
+    subst (λ (cut : Bool). AsksStatement g.H.PairHash.pair_of c.args.self.now c.args.writer.0
+    c.args.statement.now cut (g.F.Files.asked c.args.files.now)
+    (g.F.Files.asked c.args.files.now)) (sym (ap is_err exit.1))
+    (asks_not_yet g.H.PairHash.pair_of c.args.self.now c.args.writer.0 c.args.statement.now
+    (g.F.Files.asked c.args.files.now))

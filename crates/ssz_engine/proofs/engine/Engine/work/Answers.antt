@@ -55,3 +55,9 @@ pub returns-clause-status : goal.returns-clause-status
 returns-clause-status g c =
     subst (IsThatOrStopped status.Accepted) (sym c.status_of.ensures.value)
     (ended_stops c.in-Err.fault (λ same. c.in-Err.ensures.tries.fails tt (ap Err same)))
+
+pub returns-in-Ok-clause-asks : goal.returns-in-Ok-clause-asks
+returns-in-Ok-clause-asks g c = c.in-Ok.ensures.tries.asks refl
+
+pub returns-clause-asks : goal.returns-clause-asks
+returns-clause-asks g c = c.in-Err.ensures.tries.asks refl
