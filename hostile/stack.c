@@ -191,7 +191,7 @@ static uint32_t prove(void) {
 }
 static uint32_t proved_root(void) { return ssz_session_root(&s, TEXT("A"), root, &fault); }
 static uint32_t verify_branch(void) {
-    return ssz_verify_branch(root, room, index_of.low, room + 32, (size_t)len - 32);
+    return ssz_verify_branch(root, room, &index_of, room + 32, (size_t)len - 32);
 }
 static uint32_t prove_all(void) {
     return ssz_session_prove_all(&s, TEXT("B"), &index_of, 1, entries, COUNT(entries), &count, &len,

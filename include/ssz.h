@@ -252,10 +252,10 @@ uint32_t ssz_gindex(ssz_schema *schema, uint64_t type, const uint8_t *path, size
 uint32_t ssz_verify(const uint8_t root[32], const uint8_t *proof, size_t len);
 
 /* Whether a branch, chunks of 32 bytes from below, leads from the leaf to the root, as
- * is_valid_merkle_branch does: index is the leaf's place in its level, counted from 0; the lower 64
- * bits of its generalized index will do, since a level more of the branch takes a bit more of it.
- * SSZ_OK or SSZ_UNLIKE; SSZ_BAD_PROOF where len is no multiple of 32. */
-uint32_t ssz_verify_branch(const uint8_t root[32], const uint8_t leaf[32], uint64_t index,
+ * is_valid_merkle_branch does. The index is the leaf's generalized index, as ssz_gindex writes it:
+ * of leaf number i below d levels it is 2^d + i. SSZ_OK or SSZ_UNLIKE; SSZ_BAD_PROOF where len is
+ * not 32 for each level of the index (so d of them), or the index is 0. */
+uint32_t ssz_verify_branch(const uint8_t root[32], const uint8_t leaf[32], const ssz_index *index,
                            const uint8_t *branch, size_t len);
 
 /* Whether the proof of these leaves, in any order, and these nodes, at the leaves' helper indices
@@ -653,8 +653,9 @@ static inline uint32_t ssz_default_given(ssz_schema *schema, uint64_t type, uint
 #define ssz_default ssz_default_given
 
 static inline uint32_t ssz_verify_branch_given(const uint8_t root[32], const uint8_t leaf[32],
-                                               uint64_t index, const uint8_t *branch, size_t len) {
-    if (!root || !leaf || ssz_lacks(branch, len)) return SSZ_NULL;
+                                               const ssz_index *index, const uint8_t *branch,
+                                               size_t len) {
+    if (!root || !leaf || !index || ssz_lacks(branch, len)) return SSZ_NULL;
     return ssz_verify_branch(root, leaf, index, ssz_from(branch), len);
 }
 #define ssz_verify_branch ssz_verify_branch_given

@@ -53,11 +53,12 @@ void empty_list(ssz_schema *schema, std::uint64_t list) {
     const std::string no_text, whole = "/";
     std::uint8_t root[32] = {}, of_one[32] = {};
     const std::uint8_t zero = 0;
+    const ssz_index top = {1, 0};
     SO(ssz_check(schema, list, none.data(), none.size(), nullptr) == SSZ_OK);
     SO(ssz_root(schema, list, none.data(), none.size(), root, nullptr) == SSZ_OK);
     SO(ssz_root(schema, list, &zero, 0, of_one, nullptr) == SSZ_OK);
     SO(Bytes(root, root + 32) == Bytes(of_one, of_one + 32));
-    SO(ssz_verify_branch(root, root, 0, none.data(), none.size()) == SSZ_OK);
+    SO(ssz_verify_branch(root, root, &top, none.data(), none.size()) == SSZ_OK);
     SO(ssz_verify(root, of(no_text), no_text.size()) == SSZ_BAD_PROOF);
     SO(filled([&](std::uint8_t *room, std::size_t most, std::uint64_t *len) {
            return ssz_part(schema, list, none.data(), none.size(), of(whole), 1, room, most, len,

@@ -76,8 +76,8 @@ static void no_bytes_of_proofs(const uint8_t *none, const ssz_entry *no_entry) {
     entry.index.low = 1;
     memcpy(entry.chunk, root, 32);
     ENDS(ssz_verify(root, none, 0), SSZ_BAD_PROOF);
-    ENDS(ssz_verify_branch(root, root, 0, none, 0), SSZ_OK);
-    ENDS(ssz_verify_branch(root, value, 0, none, 0), SSZ_UNLIKE);
+    ENDS(ssz_verify_branch(root, root, &entry.index, none, 0), SSZ_OK);
+    ENDS(ssz_verify_branch(root, value, &entry.index, none, 0), SSZ_UNLIKE);
     ENDS(ssz_verify_all(root, &entry, 1, no_entry, 0), SSZ_OK);
     ENDS(ssz_verify_all(root, no_entry, 0, &entry, 1), SSZ_BAD_PROOF);
     ENDS(ssz_verify_all(root, no_entry, 0, no_entry, 0), SSZ_BAD_PROOF);

@@ -49,7 +49,7 @@ int main(int count, char **words) {
     done("root", ssz_session_root(&s, STATE, root, &fault));
     done("balance proved", ssz_session_prove(&s, STATE, BALANCE, proof, 2048, &len, &fault));
     done("its index", ssz_session_gindex(&s, TEXT("BeaconState"), BALANCE, &index, &fault));
-    done("proof verified", ssz_verify_branch(root, proof, index.low, proof + 32, len - 32));
+    done("proof verified", ssz_verify_branch(root, proof, &index, proof + 32, len - 32));
     done("state out", ssz_session_bytes(&s, STATE, TEXT("/"), state, all, &len, &fault));
     FILE *file = fopen(words[3], "wb");
     if (!file || fwrite(state, 1, len, file) != len || fclose(file)) return 5;

@@ -456,6 +456,11 @@ static void long_text(const uint8_t *text) {
     want("long", ssz_schema_read(&other, text, TOO_MUCH_TEXT, &fault), SSZ_BAD_SCHEMA);
     fault_is("long", SSZ_BAD_SCHEMA, 15, 0);
     ssz_session session = SSZ_SESSION_NONE;
+    want("long", ssz_session_start(&session, TEXT(PAIR), &fault), SSZ_OK);
+    want("long", ssz_session_prove(&session, TEXT("V"), text, TOO_MUCH_TEXT, room, 9, &len, &fault),
+         SSZ_TOO_LONG);
+    want("name first", ssz_session_prove(&session, TEXT("1"), text, TOO_MUCH_TEXT, room, 9, &len, &fault),
+         SSZ_SYNTAX);
     want("long", ssz_session_start(&session, text, TOO_MUCH_TEXT, &fault), SSZ_BAD_SCHEMA);
     fault_is("long", SSZ_BAD_SCHEMA, 15, 0);
 }

@@ -148,6 +148,8 @@ static void edits(void) {
 
 /* Roots, and proofs of one part. */
 static void branches(void) {
+    const ssz_index leaf = {2560, 0}, next = {2561, 0}, above = {1280, 0}, top = {1, 0};
+    const ssz_index no = {0, 0};
     ENDS(ssz_session_root(&s, TEXT("V"), root, &fault), SSZ_OK, 0, 0);
     ENDS(ssz_session_root(&s, TEXT("W"), other, &fault), SSZ_OK, 0, 0);
     SO(memcmp(root, other, 32) != 0);
@@ -157,11 +159,14 @@ static void branches(void) {
     ENDS(ssz_session_prove(&s, TEXT("V"), TEXT("/b/1"), room, sizeof room, &len, &fault), SSZ_OK, 0, 0);
     /* the list is at 5, what it holds at 10, and its leaves 8 levels below: 10 * 256 */
     SO(len == 32 * 12 && room[8] == 2);
-    SO(ssz_verify_branch(root, room, 2560, room + 32, len - 32) == SSZ_OK);
-    SO(ssz_verify_branch(other, room, 2560, room + 32, len - 32) == SSZ_UNLIKE);
-    SO(ssz_verify_branch(root, room, 2561, room + 32, len - 32) == SSZ_UNLIKE);
-    SO(ssz_verify_branch(root, room, 2560, room + 32, len - 33) == SSZ_BAD_PROOF);
-    SO(ssz_verify_branch(root, root, 9, room, 0) == SSZ_OK);
+    SO(ssz_verify_branch(root, room, &leaf, room + 32, len - 32) == SSZ_OK);
+    SO(ssz_verify_branch(other, room, &leaf, room + 32, len - 32) == SSZ_UNLIKE);
+    SO(ssz_verify_branch(root, room, &next, room + 32, len - 32) == SSZ_UNLIKE);
+    SO(ssz_verify_branch(root, room, &leaf, room + 32, len - 33) == SSZ_BAD_PROOF);
+    SO(ssz_verify_branch(root, room, &above, room + 32, len - 32) == SSZ_BAD_PROOF);
+    SO(ssz_verify_branch(root, root, &leaf, room, 0) == SSZ_BAD_PROOF);
+    SO(ssz_verify_branch(root, root, &top, room, 0) == SSZ_OK);
+    SO(ssz_verify_branch(root, root, &no, room, 0) == SSZ_BAD_PROOF);
     ENDS(ssz_session_prove(&s, TEXT("V"), TEXT("/b/1"), room, 383, &len, &fault), SSZ_NO_ROOM, 0, 0);
     ENDS(ssz_session_prove(&s, TEXT("V"), TEXT("2560"), room, 384, &len, &fault), SSZ_OK, 0, 0);
     ENDS(ssz_session_prove(&s, TEXT("V"), TEXT("8"), room, 384, &len, &fault), SSZ_REFUSED, 13, 0);
@@ -339,7 +344,8 @@ static void nulls(void) {
     ENDS(ssz_of_json(&schema, type, NULL, 1, room, 9, &len, &fault), SSZ_NULL, 0, 0);
     ENDS(ssz_place(&schema, type, value, 33, TEXT("/"), NULL, &fault), SSZ_NULL, 0, 0);
     SO(ssz_session_drop(NULL, TEXT("W"), NULL) == SSZ_NULL);
-    SO(ssz_verify_branch(root, NULL, 1, room, 0) == SSZ_NULL);
+    SO(ssz_verify_branch(root, NULL, &entries[0].index, room, 0) == SSZ_NULL);
+    SO(ssz_verify_branch(root, root, NULL, room, 0) == SSZ_NULL);
     SO(ssz_verify_all(root, NULL, 1, entries, 0) == SSZ_NULL);
 }
 

@@ -150,7 +150,8 @@ static void entries(void) {
 
 /* A root, an index, a leaf, and the chunks of a branch. */
 static void branch(void) {
-    answer_status(ssz_verify_branch(words[0].at, words[2].at, index_of(words[1]).low, WORD(3)), NULL);
+    ssz_index index = index_of(words[1]);
+    answer_status(ssz_verify_branch(words[0].at, words[2].at, &index, WORD(3)), NULL);
 }
 
 static void other_schema(void) {

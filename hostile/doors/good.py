@@ -148,7 +148,7 @@ def branch(round: Round) -> Step:
     levels = round.draw.choice([0, 1, 2, 5, 20, 63, 64, 100, 127])
     index = round.draw.getrandbits(levels) | 1 << levels
     leaf, nodes = round.draw.randbytes(32), [round.draw.randbytes(32) for _ in range(levels)]
-    return step_of("branch", branch_root(index, leaf, nodes), index, leaf, b"".join(nodes), wanted="ok" if levels <= 64 else "")
+    return step_of("branch", branch_root(index, leaf, nodes), index, leaf, b"".join(nodes), wanted="ok")
 
 
 # ---- a session's steps

@@ -176,23 +176,24 @@ def wanted_of(door: str, step: Step, reference: str) -> str:
     """What a door is to answer where the reference answers so."""
     if step.op == "prove" and door == "c" and not step.as_line:
         return chunks_of(reference)
-    if step.op == "branch" and door != "c":
-        index, nodes = int(step.words[1]), step.words[3]
-        return branch_of(step, index) if index and 32 * (index.bit_length() - 1) == len(nodes) else "BRANCH"
+    if step.op == "branch" and door != "c" and reference == "BAD_PROOF":
+        return "BRANCH"
     return "NO_FILE" if door == "rust" and reference in ("NO_READ", "NO_WRITE") else reference
 
 
-def branch_of(step: Step, index: int) -> str:
-    """Whether the branch of a step leads to its root, from an index."""
-    root, _, leaf, nodes = step.words
-    chunks = [nodes[at : at + 32] for at in range(0, len(nodes), 32)]
+def branch_of(step: Step) -> str:
+    """Whether the branch of a step is one of its index, and leads to its root."""
+    root, digits, leaf, nodes = step.words
+    index, chunks = int(digits), [nodes[at : at + 32] for at in range(0, len(nodes), 32)]
+    if not index or len(nodes) != 32 * (index.bit_length() - 1):
+        return "BAD_PROOF"
     return "ok" if plain.branch_root(index, leaf, chunks) == root else "UNLIKE"
 
 
 def reference_of(step: Step, answers: dict[str, str | None]) -> str | None:
     """The program's answer, or what the model or the first door says where it has none."""
     if step.op == "branch":
-        return "BAD_PROOF" if len(step.words[3]) % 32 else branch_of(step, int(step.words[1]) & (1 << 64) - 1)
+        return branch_of(step)
     others = (answers[door] for door in ("program", "c", "python", "rust"))
     return next((answer for answer in others if answer not in (None, NONE)), None)
 

@@ -84,7 +84,7 @@ def wrong_branch(round: Round) -> Step:
     root = branch_root(index, leaf, nodes)
     how = draw.choice(["node missing", "node too many", "ragged", "other leaf", "other root", "index 0"])
     if how == "index 0":
-        return step_of("branch", root, 0, leaf, b"".join(nodes), wanted="", misuse="branch: index 0")
+        return step_of("branch", root, 0, leaf, b"".join(nodes), wanted="BAD_PROOF", misuse="branch: index 0")
     if how == "node missing":
         nodes.pop()
     elif how == "node too many":
@@ -94,7 +94,7 @@ def wrong_branch(round: Round) -> Step:
     elif how == "other root":
         root = draw.randbytes(32)
     data = b"".join(nodes)[: -1 if how == "ragged" else None]
-    return step_of("branch", root, index, leaf, data, wanted="UNLIKE" if how.startswith("other") else "", misuse="branch: " + how)
+    return step_of("branch", root, index, leaf, data, wanted="UNLIKE" if how.startswith("other") else "BAD_PROOF", misuse="branch: " + how)
 
 
 

@@ -43,7 +43,7 @@ const CHARS: [char; 19] =
 
 extern "C" {
     fn ssz_verify(root: *const [u8; 32], line: *const u8, len: usize) -> u32;
-    fn ssz_verify_branch(root: *const [u8; 32], leaf: *const [u8; 32], index: u64, branch: *const u8, len: usize) -> u32;
+    fn ssz_verify_branch(root: *const [u8; 32], leaf: *const [u8; 32], index: *const [u64; 2], branch: *const u8, len: usize) -> u32;
 }
 
 /// What the library says of a line: whether it leads to the root, or `None` of no proof.
@@ -252,7 +252,8 @@ fn holds(proof: &Proof, root: &[u8; 32], leads: bool) {
             assert_eq!(proof.leaves(), [(index, leaf)]);
             assert_eq!(nodes.len() as u32, 127 - index.leading_zeros());
             let branch = nodes.concat();
-            let status = unsafe { ssz_verify_branch(root, &leaf, index as u64, branch.as_ptr(), branch.len()) };
+            let halves = [index as u64, (index >> 64) as u64];
+            let status = unsafe { ssz_verify_branch(root, &leaf, &halves, branch.as_ptr(), branch.len()) };
             assert_eq!(status, if leads { 0 } else { 10 });
             assert_eq!(Proof::of_branch(index, leaf, &nodes).as_ref(), Ok(proof));
         }

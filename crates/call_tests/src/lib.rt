@@ -4,6 +4,8 @@
 #![tactic(auto)]
 
 #[cfg(test)]
+mod branches;
+#[cfg(test)]
 mod bytes;
 #[cfg(test)]
 mod editing;
@@ -11,6 +13,8 @@ mod editing;
 mod given;
 #[cfg(test)]
 mod handles;
+#[cfg(test)]
+mod known_branches;
 #[cfg(test)]
 mod sessions;
 #[cfg(test)]

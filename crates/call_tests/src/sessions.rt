@@ -4,7 +4,9 @@ ghost use Rattle.ssz_said.specs.Statements.{HasShortLiteral};
 
 use super::given::{TYPES, ZEROS};
 use ssz_handles::{Ran, Session};
-use ssz_said::{SszFault, encoding_of, judge_branch, proving, root_of, statements, status};
+use ssz_said::{
+    SszFault, SszIndex, encoding_of, judge_branch, proving, root_of, statements, status,
+};
 use ssz_script::Statement;
 use ssz_typed::Library;
 use std::alloc::Global;
@@ -77,9 +79,11 @@ fn is_branch(chunks: &[u8], root: &[u8; 32]) -> bool {
     if chunks.len() != 64 {
         return false;
     }
+    let b = SszIndex { low: 3, high: 0 };
+    let a = SszIndex { low: 2, high: 0 };
     chunks.starts_with(SEVENS.as_slice())
-        && judge_branch(root, &SEVENS, 3, &chunks[32..]).status() == status::OK
-        && judge_branch(root, &SEVENS, 2, &chunks[32..]).status() == status::UNLIKE
+        && judge_branch(root, &SEVENS, b, &chunks[32..]).status() == status::OK
+        && judge_branch(root, &SEVENS, a, &chunks[32..]).status() == status::UNLIKE
 }
 
 // Whether b of V is proved.

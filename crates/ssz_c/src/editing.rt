@@ -1,8 +1,8 @@
 // The calls of a session that make, edit and give up versions.
 ghost use Rattle.std.specs.Prelude.{◌≡◌};
-ghost use Rattle.ssz_said.specs.Outcome.{IsSaid};
+ghost use Rattle.ssz_said.specs.Outcome.{IsSaid, TellsFirst};
 ghost use Rattle.ssz_said.specs.Statements.{append_said, choose_default_said, choose_said, compact_said, drop_said, fork_said, lit_said, new_said, pop_said, set_said, upgrade_said};
-ghost use Rattle.ssz_handles.specs.Answering.{IsCall};
+ghost use Rattle.ssz_handles.specs.Answering.{IsCall, few_in};
 
 use ssz_handles::SszSession;
 use ssz_handles::giving::say;
@@ -40,6 +40,7 @@ pub extern "C" fn ssz_session_load(
 ) -> u32
     ensures done { IsCall (lit_said name.now kind.now bytes.now) handle.old.held.value
         handle.new.held.value (IsSaid fault.new) }
+    ensures first { TellsFirst (few_in bytes.now handle.old.held.value) fault.new }
     ensures status { result ≡ fault.new.status }
 {
     say(
@@ -114,6 +115,7 @@ pub extern "C" fn ssz_session_set(
 ) -> u32
     ensures done { IsCall (set_said name.now path.now bytes.now) handle.old.held.value
         handle.new.held.value (IsSaid fault.new) }
+    ensures first { TellsFirst (few_in bytes.now handle.old.held.value) fault.new }
     ensures status { result ≡ fault.new.status }
 {
     say(
@@ -134,6 +136,7 @@ pub extern "C" fn ssz_session_append(
 ) -> u32
     ensures done { IsCall (append_said name.now path.now bytes.now) handle.old.held.value
         handle.new.held.value (IsSaid fault.new) }
+    ensures first { TellsFirst (few_in bytes.now handle.old.held.value) fault.new }
     ensures status { result ≡ fault.new.status }
 {
     say(
@@ -176,6 +179,7 @@ pub extern "C" fn ssz_session_choose(
 ) -> u32
     ensures done { IsCall (choose_said name.now path.now selector bytes.now) handle.old.held.value
         handle.new.held.value (IsSaid fault.new) }
+    ensures first { TellsFirst (few_in bytes.now handle.old.held.value) fault.new }
     ensures status { result ≡ fault.new.status }
 {
     say(

@@ -1,11 +1,12 @@
 // The calls of a schema.
 ghost use Rattle.std.specs.Prelude.{◌≡◌, None};
-ghost use Rattle.ssz_said.specs.Outcome.{IsCopied, IsCopiedUnlessMemory, IsGivenBack, IsGivenUnlessMemory, IsSaid};
+ghost use Rattle.ssz_said.specs.Outcome.{IsCopied, IsCopiedUnlessMemory, IsGivenBack, IsGivenUnlessMemory, IsSaid, TellsFirst};
 ghost use Rattle.ssz_typed.specs.Calls.{checked_in, root_in, gindex_in, part_in, size_in};
 ghost use Rattle.ssz_typed.specs.Fields.{field_in, fields_of_type};
+ghost use Rattle.ssz_typed.specs.Library.{type_for, type_in};
 ghost use Rattle.ssz_typed.specs.Places.{place_in};
-ghost use Rattle.ssz_typed.specs.Texts.{default_in, text_in};
-ghost use Rattle.ssz_handles.specs.Reading.{IsEncodingMade, IsRead, IsNumbered, IsSharing, freed, held_in};
+ghost use Rattle.ssz_typed.specs.Texts.{default_in, encoding_in, text_in};
+ghost use Rattle.ssz_handles.specs.Reading.{IsRead, IsNumbered, IsSharing, freed, held_in};
 
 use ssz_handles::giving::{copy, fail, give, say};
 use ssz_handles::{SszSchema, reading};
@@ -190,6 +191,8 @@ pub extern "C" fn ssz_default(
     ensures held { handle.new.held.value ≡ handle.old.held.value }
     ensures answer { IsCopiedUnlessMemory room.old room.new len.old len.new fault.new
         (held_in (λ library. default_in library number) handle.old.held.value) }
+    ensures first { TellsFirst (held_in (λ library. type_in library number)
+        handle.old.held.value) fault.new }
     ensures status { result ≡ fault.new.status }
 {
     let Some(library) = handle.take(alloc) else {
@@ -264,6 +267,8 @@ pub extern "C" fn ssz_gindex(
     ensures held { handle.new.held.value ≡ handle.old.held.value }
     ensures answer { IsGivenUnlessMemory index.old index.new fault.new
         (held_in (λ library. gindex_in library number path.now) handle.old.held.value) }
+    ensures first { TellsFirst (held_in (λ library. type_in library number)
+        handle.old.held.value) fault.new }
     ensures status { result ≡ fault.new.status }
 {
     let Some(library) = handle.take(alloc) else {
@@ -291,6 +296,8 @@ pub extern "C" fn ssz_part(
     ensures held { handle.new.held.value ≡ handle.old.held.value }
     ensures answer { IsCopiedUnlessMemory room.old room.new len.old len.new fault.new
         (held_in (λ library. part_in library number bytes.now path.now) handle.old.held.value) }
+    ensures first { TellsFirst (held_in (λ library. type_for library number bytes.now)
+        handle.old.held.value) fault.new }
     ensures status { result ≡ fault.new.status }
 {
     let Some(library) = handle.take(alloc) else {
@@ -323,6 +330,8 @@ pub extern "C" fn ssz_place(
     ensures held { handle.new.held.value ≡ handle.old.held.value }
     ensures answer { IsGivenUnlessMemory place.old place.new fault.new
         (held_in (λ library. place_in library number bytes.now path.now) handle.old.held.value) }
+    ensures first { TellsFirst (held_in (λ library. type_for library number bytes.now)
+        handle.old.held.value) fault.new }
     ensures status { result ≡ fault.new.status }
 {
     let Some(library) = handle.take(alloc) else {
@@ -347,9 +356,10 @@ pub extern "C" fn ssz_of_json(
     fault: &mut SszFault,
 ) -> u32
     ensures held { handle.new.held.value ≡ handle.old.held.value }
-    ensures made { IsEncodingMade handle.old.held.value number text.now room.old room.new len.old
-        len.new
-        fault.new }
+    ensures answer { IsCopiedUnlessMemory room.old room.new len.old len.new fault.new
+        (held_in (λ library. encoding_in library number text.now) handle.old.held.value) }
+    ensures first { TellsFirst (held_in (λ library. type_for library number text.now)
+        handle.old.held.value) fault.new }
     ensures status { result ≡ fault.new.status }
 {
     let Some(library) = handle.take(alloc) else {
@@ -382,6 +392,8 @@ pub extern "C" fn ssz_to_json(
     ensures held { handle.new.held.value ≡ handle.old.held.value }
     ensures answer { IsCopiedUnlessMemory room.old room.new len.old len.new fault.new
         (held_in (λ library. text_in library number bytes.now) handle.old.held.value) }
+    ensures first { TellsFirst (held_in (λ library. type_for library number bytes.now)
+        handle.old.held.value) fault.new }
     ensures status { result ≡ fault.new.status }
 {
     let Some(library) = handle.take(alloc) else {

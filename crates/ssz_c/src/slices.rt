@@ -1,7 +1,8 @@
 // The calls of bytes that are checked once.
 ghost use Rattle.std.specs.Prelude.{◌≡◌, None};
 ghost use Rattle.std.specs.Result.{result_map_both};
-ghost use Rattle.ssz_said.specs.Outcome.{IsCopiedUnlessMemory, IsGivenUnlessMemory};
+ghost use Rattle.ssz_said.specs.declared.status.TheConstants.{NO_HANDLE};
+ghost use Rattle.ssz_said.specs.Outcome.{IsCopiedUnlessMemory, IsGivenUnlessMemory, TellsFirst, need};
 ghost use Rattle.ssz_typed.specs.Slices.{Opens, slice_part, slice_place};
 ghost use Rattle.ssz_handles.specs.Reading.{freed};
 ghost use Rattle.ssz_handles.specs.Slices.{IsOpened, slice_in};
@@ -73,6 +74,7 @@ pub extern "C" fn ssz_slice_part(
     ensures held { handle.new.held.value ≡ handle.old.held.value }
     ensures answer { IsCopiedUnlessMemory room.old room.new len.old len.new fault.new
         (slice_in (λ slice. slice_part slice path.now) handle.old.held.value) }
+    ensures first { TellsFirst (need NO_HANDLE handle.old.held.value) fault.new }
     ensures status { result ≡ fault.new.status }
 {
     let Some(slice) = handle.take(alloc) else {
@@ -101,6 +103,7 @@ pub extern "C" fn ssz_slice_place(
     ensures held { handle.new.held.value ≡ handle.old.held.value }
     ensures answer { IsGivenUnlessMemory place.old place.new fault.new
         (slice_in (λ slice. slice_place slice path.now) handle.old.held.value) }
+    ensures first { TellsFirst (need NO_HANDLE handle.old.held.value) fault.new }
     ensures status { result ≡ fault.new.status }
 {
     let Some(slice) = handle.take(alloc) else {

@@ -1,6 +1,7 @@
 // The calls that tell what the types of a schema are.
 ghost use Rattle.std.specs.Prelude.{◌≡◌};
-ghost use Rattle.ssz_said.specs.Outcome.{IsCopied, IsCopiedUnlessMemory, IsGivenBack};
+ghost use Rattle.ssz_said.specs.declared.status.TheConstants.{NO_HANDLE};
+ghost use Rattle.ssz_said.specs.Outcome.{IsCopied, IsCopiedUnlessMemory, IsGivenBack, TellsFirst, need};
 ghost use Rattle.ssz_typed.specs.Forms.{form_in, limit_in, parts_in};
 ghost use Rattle.ssz_typed.specs.Names.{names_in, type_name_in, types_in};
 ghost use Rattle.ssz_handles.specs.Reading.{IsPartNumbered, held_in};
@@ -132,6 +133,7 @@ pub extern "C" fn ssz_names(
     ensures held { handle.new.held.value ≡ handle.old.held.value }
     ensures answer { IsCopiedUnlessMemory room.old room.new len.old len.new fault.new
         (held_in (λ library. names_in library) handle.old.held.value) }
+    ensures first { TellsFirst (need NO_HANDLE handle.old.held.value) fault.new }
     ensures status { result ≡ fault.new.status }
 {
     let Some(library) = handle.take(alloc) else {

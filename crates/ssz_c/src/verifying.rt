@@ -3,7 +3,7 @@ ghost use Rattle.ssz_said.specs.Branch.{IsBranchVerdict};
 ghost use Rattle.ssz_said.specs.Entries.{IsEntriesVerdict};
 ghost use Rattle.ssz_said.specs.Verdict.{IsVerdict};
 
-use ssz_said::{SszEntry, judge, judge_branch, judge_entries};
+use ssz_said::{SszEntry, SszIndex, judge, judge_branch, judge_entries};
 use std::alloc::Global;
 
 /// Whether the proof that a text says leads to a root.
@@ -14,18 +14,18 @@ pub extern "C" fn ssz_verify(alloc: Global, root: &[u8; 32], proof: &[u8]) -> u3
     judge(alloc, root, proof).status()
 }
 
-/// Whether the branch, chunks of 32 bytes from below, leads from the leaf at a place of its level
-/// to the root.
+/// Whether the branch, chunks of 32 bytes from below and one for each level of the index, leads
+/// from the leaf there to the root.
 #[unsafe(no_mangle)]
 pub extern "C" fn ssz_verify_branch(
     root: &[u8; 32],
     leaf: &[u8; 32],
-    index: u64,
+    index: &SszIndex,
     branch: &[u8],
 ) -> u32
-    ensures { IsBranchVerdict result root.now leaf.now index branch.now }
+    ensures { IsBranchVerdict result root.now leaf.now index.now branch.now }
 {
-    judge_branch(root, leaf, index, branch).status()
+    judge_branch(root, leaf, *index, branch).status()
 }
 
 /// Whether the proof of these leaves and nodes leads to the root.

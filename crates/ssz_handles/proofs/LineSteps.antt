@@ -1,11 +1,10 @@
 -- What the steps of an engine make of the lines of a session.
-use Rattle.std.proofs.Common.{◌≡◌, ℕ, ◌-◌, false, List, [], ◌++◌, Some, None, refl, sym, ap, ◌∙◌, subst, inl, inr}
+use Rattle.std.proofs.Common.{◌≡◌, ℕ, ◌-◌, ◌≤◌, false, List, [], ◌++◌, length, Some, refl, sym, ap, ◌∙◌, subst, inr}
 use Rattle.std.specs.Prelude.{Result, Ok, Err, IfOk, IfErr, OnErr, is_some}
 use Rattle.ssz_chunk.specs.Chunk.{sha_pair}
 use Rattle.ssz_arena.specs.Content.{KeepsNodes}
 use Rattle.ssz_outside.specs.Content.{Content as Files}
 use Rattle.ssz_script.specs.declared.statement.Statement.{Statement}
-use Rattle.ssz_script.specs.Grammar.{statements, line_of}
 use Rattle.ssz_script.specs.Texts.{reply_line}
 use Rattle.ssz_machine.specs.declared.place.Place.TheVariants as place
 use Rattle.ssz_machine.specs.State.{Versions}
@@ -19,9 +18,11 @@ use Rattle.ssz_decisions.specs.declared.outcome.Outcome.TheVariants.{Accepted, R
 use Rattle.ssz_decisions.specs.declared.fault.EngineFault.{EngineFault}
 use Rattle.ssz_decisions.specs.declared.fault.EngineFault.TheVariants.{Read, Write, Memory}
 use Rattle.ssz_decisions.proofs.Standing.{stand-kept}
+use Rattle.ssz_said.specs.declared.status.TheConstants.{MOST_BYTES}
 use Rattle.ssz_handles.specs.declared.ran.Ran.{Ran}
 use Rattle.ssz_handles.specs.declared.ran.Ran.TheVariants as ran
-use Rattle.ssz_handles.specs.Session.{StatementDoes, SessionDoesLine, DoesSaid, Refuses, Rests, LineScene, SessionTakes, no_files, ran_of}
+use Rattle.ssz_handles.specs.Scene.{LineScene, no_files}
+use Rattle.ssz_handles.specs.Session.{StatementDoes, SessionDoesLine, DoesSaid, Rests, SessionTakes, ran_of}
 
 -- an engine with the same types and entries, in which each node is kept, stands for the same
 pub stands-kept : (old new : Engine) → KeepsEngine old new → new.entries ≡ old.entries
@@ -36,10 +37,6 @@ stands-kept old new keeps same nodes versions stands = record {
       (stand-kept old.types old.arena old.entries writer (versions writer) (stands.each writer)
       new.arena nodes));
 }
-
--- nothing came of a line, and nothing changed
-pub rests-same : (scene : LineScene) (reply : List ℕ) → reply ≡ [] → Rests scene scene.engine reply
-rests-same scene reply empty = record { text = empty; stands = λ versions stands. stands }
 
 module _ (scene : LineScene) (statement : Statement) (new : Engine) (after : ℕ)
     (reply more : List ℕ) (empty : reply ≡ []) where
@@ -99,24 +96,12 @@ module _ (scene : LineScene) (statement : Statement) (new : Engine) (after : ℕ
 
 -- what a statement's line came to
 pub said-does : (it : Ran) (text : List ℕ) (scene : LineScene) (new : Engine) (reply : List ℕ)
-    → DoesSaid it text scene new reply → SessionDoesLine it text scene new reply
-said-does ran.Quiet text scene new reply said = absurd said.2
-said-does ran.Done text scene new reply said = said
-said-does ran.Refused text scene new reply said = inr said
-said-does ran.Unread text scene new reply said = said
-said-does ran.Unwritten text scene new reply said = said
-said-does ran.TooLong text scene new reply said = inr said
-said-does ran.Memory text scene new reply said = said.2
-
--- what a line came to that is not of the grammar
-pub refused-does : (it : Ran) (text : List ℕ) (scene : LineScene) (reply : List ℕ)
-    → line_of statements text ≡ None → Refuses it scene.line reply
-    → SessionDoesLine it text scene scene.engine reply
-refused-does ran.Quiet text scene reply none says = absurd says
-refused-does ran.Done text scene reply none says = absurd says
-refused-does ran.Refused text scene reply none says =
-    inl (none, λ versions stands. record { outcome = refl; text = says; stands = stands })
-refused-does ran.Unread text scene reply none says = absurd says
-refused-does ran.Unwritten text scene reply none says = absurd says
-refused-does ran.TooLong text scene reply none says = absurd says
-refused-does ran.Memory text scene reply none says = rests-same scene reply says
+    → length text ≤ MOST_BYTES → DoesSaid it text scene new reply
+    → SessionDoesLine it text scene new reply
+said-does ran.Quiet text scene new reply few said = absurd said.2
+said-does ran.Done text scene new reply few said = said
+said-does ran.Refused text scene new reply few said = inr said
+said-does ran.Unread text scene new reply few said = said
+said-does ran.Unwritten text scene new reply few said = said
+said-does ran.TooLong text scene new reply few said = inr said
+said-does ran.Memory text scene new reply few said = (few, said.2)

@@ -13,7 +13,7 @@ use Rattle.ssz_engine.specs.Steps.{SavesPart, Stops, turn_at}
 use Rattle.ssz_decisions.specs.declared.fault.EngineFault.{EngineFault}
 use Rattle.ssz_decisions.specs.declared.fault.EngineFault.TheVariants.{Read, Write, Memory}
 use Rattle.ssz_engine.proofs.Moving.{kept-whole}
-use Rattle.ssz_handles.specs.Session.{LineScene, no_files}
+use Rattle.ssz_handles.specs.Scene.{LineScene, no_files}
 use Rattle.ssz_handles.specs.Answering.{StatementReaches}
 use Rattle.ssz_handles.proofs.LineSteps.{stands-kept}
 

@@ -1,5 +1,5 @@
 -- The calls of a session that do a statement of their arguments.
-use Rattle.std.specs.Prelude.{◌≡◌, ℕ, Option, Some, None, Result, Ok, Err}
+use Rattle.std.specs.Prelude.{◌≡◌, ℕ, List, Option, Some, None, Result, Ok, Err}
 use Rattle.ssz_chunk.specs.Chunk.{sha_pair}
 use Rattle.ssz_arena.specs.Content.{node_count}
 use Rattle.ssz_script.specs.declared.statement.Statement.{Statement}
@@ -11,11 +11,13 @@ use Rattle.ssz_decisions.specs.Standing.{StandsFor}
 use Rattle.ssz_engine.specs.Steps.{CanAsk}
 use Rattle.ssz_decisions.specs.declared.fault.EngineFault.{EngineFault}
 use Rattle.ssz_decisions.specs.declared.fault.EngineFault.TheVariants as stop
-use Rattle.ssz_said.specs.declared.status.TheConstants.{NO_HANDLE, NO_READ, NO_WRITE, NO_MEMORY}
-use Rattle.ssz_said.specs.Outcome.{CallOutcome, IsUnlessMemory, refused}
+use Rattle.ssz_said.specs.declared.status.TheConstants.{MOST_BYTES, NO_HANDLE, NO_READ, NO_WRITE, NO_MEMORY, TOO_LONG}
+use Rattle.ssz_said.specs.Outcome.{CallOutcome, IsUnlessMemory, at_most, refused}
 use Rattle.ssz_said.specs.Replies.{reply_taken}
 use Rattle.ssz_handles.specs.declared.session.Session.{Session}
-use Rattle.ssz_handles.specs.Session.{Saves, LineScene, no_files, turn_of}
+use Rattle.ssz_handles.specs.Scene.{LineScene, no_files}
+use Rattle.ssz_handles.specs.Leaving.{StatementLeaves}
+use Rattle.ssz_handles.specs.Session.{Saves, turn_of}
 
 -- what the engine answered
 abbrev pub Reached : Type 0
@@ -58,6 +60,7 @@ pub record Turns (reached : Reached) (statement : Statement) (old new : Session)
   pub lines : new.lines ≡ old.lines
   pub text : new.reply ≡ old.reply
   pub does : StatementReaches reached statement (scene_at old) new.engine
+  pub leaves : StatementLeaves reached statement (scene_at old) new.engine new.hasher
 
 -- what comes of arguments: nothing, where they say no statement
 abbrev pub ArgumentsDo : CallOutcome Statement → Session → Session → CallOutcome Reply → Type 0
@@ -84,6 +87,11 @@ abbrev pub IsCall : CallOutcome Statement → Option Session → Option Session
     → (CallOutcome Reply → Type 0) → Type 0
 IsCall meant old new Tells =
     (answer : CallOutcome Reply) × IsDone meant old new answer × Tells answer
+
+-- bytes that are not too many, for what a handle holds
+abbrev pub few_in : List ℕ → Option Session → CallOutcome (List ℕ)
+few_in bytes None = Err (refused NO_HANDLE)
+few_in bytes (Some session) = at_most TOO_LONG MOST_BYTES bytes
 
 -- how many nodes there are
 abbrev pub nodes_in : Option Session → CallOutcome ℕ

@@ -7,8 +7,7 @@ use Rattle.ssz_typed.specs.Forms.{part_type_in}
 use Rattle.ssz_typed.specs.Library.{ReadsLibrary, NumbersName}
 use Rattle.ssz_typed.specs.Parts.{PartIsNumbered}
 use Rattle.ssz_typed.specs.Sharing.{IsShared, schema_in}
-use Rattle.ssz_typed.specs.Texts.{MakesIn}
-use Rattle.ssz_said.specs.Outcome.{CallOutcome, IsCopied, IsGivenBack, done, refused}
+use Rattle.ssz_said.specs.Outcome.{CallOutcome, IsGivenBack, done, refused}
 
 -- of what a handle holds, or the status of one that holds nothing
 abbrev pub held_in : {A : Type 0} → (Library → CallOutcome A) → Option Library → CallOutcome A
@@ -50,15 +49,3 @@ IsPartNumbered number place (Some old) (Some new) before part fault =
     (schema_in new ≡ schema_in old)
     × ((answer : CallOutcome ℕ) × PartIsNumbered (part_type_in old number place) old new answer
     × IsGivenBack before part fault answer)
-
--- the encoding of the value whose JSON text some bytes are, or why there is none
-abbrev pub MakesHeld : Option Library → ℕ → List ℕ → CallOutcome (List ℕ) → Type 0
-MakesHeld None number text answer = answer ≡ Err (refused NO_HANDLE)
-MakesHeld (Some library) number text answer = MakesIn library number text answer
-
--- it was copied to a room
-abbrev pub IsEncodingMade : Option Library → ℕ → List ℕ → List ℕ → List ℕ → ℕ → ℕ → SszFault
-    → Type 0
-IsEncodingMade held number text old new before len fault =
-    (answer : CallOutcome (List ℕ)) × MakesHeld held number text answer
-    × IsCopied old new before len fault answer

@@ -1,8 +1,6 @@
 -- What a session answers to a line: as the plain machine does, which keeps whole values.
-use Rattle.std.specs.Prelude.{◌≡◌, ◌⊎◌, ◌<◌, ◌-◌, ℕ, IsSome, Bool, true, false, List, [], length, Option, Some, None, Result, Ok, Err}
-use Rattle.std.specs.FinMap as map
+use Rattle.std.specs.Prelude.{◌≡◌, ◌⊎◌, ◌<◌, ◌≤◌, ◌-◌, ℕ, IsSome, Bool, true, false, List, [], length, Option, Some, None, Result, Ok, Err}
 use Rattle.ssz_chunk.specs.Chunk.{sha_pair}
-use Rattle.ssz_outside.specs.Content.{Content as Files, absent}
 use Rattle.ssz_outside.specs.Outcome.{next_count}
 use Rattle.ssz_schema.specs.Unfolding.{Types}
 use Rattle.ssz_script.specs.declared.statement.Statement.{Statement}
@@ -26,20 +24,12 @@ use Rattle.ssz_handles.specs.declared.ran.Ran.{Ran}
 use Rattle.ssz_handles.specs.declared.ran.Ran.TheVariants.{Quiet, Done, Refused, Unread, Unwritten, TooLong, Memory}
 use Rattle.ssz_handles.specs.declared.session.Session.{Session}
 use Rattle.ssz_said.specs.declared.status.TheConstants.{NO_HANDLE, REFUSED, NO_READ, NO_WRITE, TOO_LONG, NO_MEMORY, MOST_BYTES, MOST_SHOWN}
+use Rattle.ssz_handles.specs.Scene.{LineScene, no_files}
+use Rattle.ssz_handles.specs.Leaving.{LineLeaves}
 use Rattle.ssz_typed.specs.declared.library.Library.{Library}
 use Rattle.ssz_typed.specs.Library.{ReadsTypes}
 use Rattle.ssz_typed.specs.Sharing.{schema_in}
 use Rattle.ssz_said.specs.Outcome.{CallOutcome, done, refused}
-
--- files of which each name is absent
-abbrev pub no_files : Files
-no_files = record { named = map.empty; missing = absent; steady = false }
-
--- What a line finds: the engine, how many pairs were hashed, and the line's number.
-pub record LineScene : Type 0 where
-  pub engine : Engine
-  pub hashed : ℕ
-  pub line : ℕ
 
 -- what the next line of a session finds
 abbrev pub scene_of : Session → LineScene
@@ -127,14 +117,18 @@ SessionDoesLine Refused text scene engine reply =
 SessionDoesLine TooLong text scene engine reply =
     ((MOST_BYTES < length text) × Rests scene engine reply)
     ⊎ DoesSaid TooLong text scene engine reply
-SessionDoesLine Memory text scene engine reply = Rests scene engine reply
+SessionDoesLine Memory text scene engine reply =
+    (length text ≤ MOST_BYTES) × Rests scene engine reply
 SessionDoesLine ran text scene engine reply = DoesSaid ran text scene engine reply
 
--- A line of a session came to this; it is counted, and the types and the limit stay.
+-- A line of a session came to this; it is counted, and the types and the limit stay. The count of
+-- hashed pairs is the hasher's.
 pub record SessionRuns (ran : Ran) (text : List ℕ) (old new : Session) : Type 0 where
   pub keeps : KeepsEngine old.engine new.engine
   pub lines : new.lines ≡ next_count old.lines
   pub does : SessionDoesLine ran text (scene_of old) new.engine new.reply.items
+  pub leaves : LineLeaves (line_of statements text) ran (scene_of old) new.engine new.hasher
+      new.reply.items
 
 -- a status with the number of a line
 abbrev pub at_line : ℕ → ℕ → SszFault

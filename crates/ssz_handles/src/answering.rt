@@ -3,6 +3,7 @@ ghost use Rattle.std.specs.Prelude.{◌≡◌, IfOk};
 ghost use Rattle.ssz_decisions.specs.Content.{KeepsEngine};
 ghost use Rattle.ssz_said.specs.Statements.{HasShortLiteral};
 ghost use Rattle.ssz_handles.specs.Answering.{ArgumentsDo, StatementReaches, answer_of, scene_at};
+ghost use Rattle.ssz_handles.specs.Leaving.{StatementLeaves};
 
 use super::session::Session;
 use ssz_engine::EngineFault;
@@ -31,6 +32,8 @@ impl Session {
         ensures lines { self.new.lines ≡ self.old.lines }
         ensures text { self.new.reply ≡ self.old.reply }
         ensures does { StatementReaches result statement.now (scene_at self.old) self.new.engine }
+        ensures leaves { StatementLeaves result statement.now (scene_at self.old) self.new.engine
+            self.new.hasher }
     {
         self.engine.answer(
             Writer(0),

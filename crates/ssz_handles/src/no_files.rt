@@ -25,8 +25,8 @@ impl NoFiles {
 }
 
 impl Files for NoFiles {
-    ghost use Rattle.std.specs.Prelude.{Some};
-    ghost use Rattle.ssz_handles.specs.Session.{no_files};
+    ghost use Rattle.std.specs.Prelude.{None, Some, ⊤};
+    ghost use Rattle.ssz_handles.specs.Scene.{no_files};
 
     ghost content = { λ _. Some no_files };
 
@@ -35,6 +35,10 @@ impl Files for NoFiles {
     ghost get_faults = { λ f. f.reads };
 
     ghost put_faults = { λ f. f.writes };
+
+    ghost asked = { λ _. None };
+
+    ghost usable = { λ _. ⊤ };
 
     fn get(&mut self, _: &str, into: &mut Vec<u8>, _: u64) -> Result<Got, GetFault>
         requires { into.old.items ≡ [] }

@@ -4,6 +4,8 @@ ghost use Rattle.std.specs.Result.{result_map_both};
 ghost use Rattle.ssz_decisions.specs.Content.{KeepsEngine};
 ghost use Rattle.ssz_said.specs.declared.status.TheConstants.{NO_MEMORY};
 ghost use Rattle.ssz_said.specs.Outcome.{refused};
+ghost use Rattle.ssz_script.specs.Grammar.{line_of, statements};
+ghost use Rattle.ssz_handles.specs.Leaving.{LineLeaves, SaidLeaves};
 ghost use Rattle.ssz_handles.specs.Session.{Begins, StatementDoes, SessionDoesLine, Refuses, SessionRuns, Starts, StartsOn, ran_of};
 
 use super::no_files::NoFiles;
@@ -46,6 +48,9 @@ fn run_statement(
     ensures does { StatementDoes result statement.now
         (record { engine = engine.old; hashed = hasher.old; line = line })
         engine.new reply.new.items }
+    ensures leaves { SaidLeaves result statement.now
+        (record { engine = engine.old; hashed = hasher.old; line = line })
+        engine.new hasher.new reply.new.items }
 {
     if !statement.has_short_literal() {
         return Ran::TooLong;
@@ -86,6 +91,9 @@ fn run_text(
     ensures does { SessionDoesLine result text.now
         (record { engine = engine.old; hashed = hasher.old; line = line })
         engine.new reply.new.items }
+    ensures leaves { LineLeaves (line_of statements text.now) result
+        (record { engine = engine.old; hashed = hasher.old; line = line })
+        engine.new hasher.new reply.new.items }
 {
     if text.len() > status::MOST_BYTES {
         return Ran::TooLong;

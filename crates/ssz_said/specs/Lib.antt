@@ -3,7 +3,7 @@ pub mod Texts
 pub mod Statements
 pub mod Replies
 pub mod Proving
-pub mod Branch
 pub mod Verdict
 pub mod Entries
+pub mod Branch
 pub mod Json

@@ -1,5 +1,5 @@
 -- What a call answers: what was asked, or why not.
-use Rattle.std.specs.Prelude.{◌≡◌, ◌≢◌, ℕ, ◌<◌, ◌≤◌, nat_lt, if◌then◌else◌, List, ◌++◌, length, drop, Option, Some, None, Result, Ok, Err}
+use Rattle.std.specs.Prelude.{◌≡◌, ◌≢◌, ℕ, ◌<◌, ◌≤◌, nat_lt, if◌then◌else◌, List, ◌++◌, length, drop, Option, Some, None, Result, Ok, Err, IfErr}
 pub use Rattle.ssz_bind.specs.Results.{◌>>=◌}
 use Rattle.ssz_bytes.specs.declared.fault.Fault.{Fault}
 use Rattle.ssz_said.specs.declared.fault.SszFault.{SszFault}
@@ -39,6 +39,14 @@ faultless (Some fault) x = Err (invalid fault)
 abbrev pub IsUnlessMemory : {A : Type 0} → CallOutcome A → CallOutcome A → Type 0
 IsUnlessMemory answer meant = answer ≢ Err (refused NO_MEMORY) → answer ≡ meant
 
+-- what is told first, whether there is memory or not: why it is not there is the answer ..
+abbrev pub AnswersFirst : {A B : Type 0} → CallOutcome A → CallOutcome B → Type 0
+AnswersFirst first answer = IfErr first (λ why. answer ≡ Err why)
+
+-- .. and the fault of the call
+abbrev pub TellsFirst : {A : Type 0} → CallOutcome A → SszFault → Type 0
+TellsFirst first fault = IfErr first (λ why. fault ≡ why)
+
 -- what stands behind a pointer after a call, and the fault: what was asked and none, or what stood
 -- there and why
 abbrev pub IsGivenBack : {A : Type 0} → A → A → SszFault → CallOutcome A → Type 0
@@ -50,7 +58,7 @@ abbrev pub IsSaid : {A : Type 0} → SszFault → CallOutcome A → Type 0
 IsSaid fault (Ok x) = fault ≡ done
 IsSaid fault (Err why) = fault ≡ why
 
--- the same as IsGiven, unless memory runs out, which leaves what stood there
+-- the same, unless memory runs out, which leaves what stood there
 pub record IsGivenUnlessMemory {A : Type 0} (old new : A) (fault : SszFault) (meant : CallOutcome A)
     : Type 0 where
   pub memory : fault ≡ refused NO_MEMORY → new ≡ old

@@ -16,8 +16,8 @@ use Rattle.ssz_said.specs.Texts.{index_in, name_in}
 -- `prove V I`, of one index
 abbrev pub prove_said : List ℕ → List ℕ → CallOutcome Statement
 prove_said v asked = do
-  one ← index_in asked
   version ← name_in v
+  one ← index_in asked
   Ok (says.Prove version (one ∷ []))
 
 -- the chunks of entries

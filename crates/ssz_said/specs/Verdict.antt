@@ -24,7 +24,7 @@ Judges Unlike root text =
     × ((proof : Multiproof) × IsReadAs text proof × (sha_root_of proof ≢ root))
 Judges BadProof root text = (length text ≤ MOST_TEXT) × IsRefused text
 Judges TooLong root text = MOST_TEXT < length text
-Judges Memory root text = Unit {0}
+Judges Memory root text = length text ≤ MOST_TEXT
 
 -- its status
 abbrev pub verdict_status : Verdict → ℕ

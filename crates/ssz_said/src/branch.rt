@@ -1,19 +1,21 @@
 // Whether a branch leads from a leaf to a root.
-ghost use Rattle.std.specs.Prelude.{◌≡◌, ◌/◌, length};
+ghost use Rattle.std.specs.Prelude.{◌≡◌};
 ghost use Rattle.ssz_said.specs.Branch.{JudgesBranch, top_of};
 
+use super::entries::{SszIndex, whole};
 use super::verdict::Verdict;
 use ssz_chunk::{Chunk, PairHash, ShaPair};
+use ssz_gindex::Gindex;
 use ssz_merkle::chunk_at;
 
-// The chunk above all of a branch.
-fn top_of(leaf: &[u8; 32], index: u64, branch: &[u8]) -> Chunk
+// The chunk at the top of a branch.
+fn top_of(leaf: &[u8; 32], index: Gindex, branch: &[u8]) -> Chunk
     ensures { result.0 ≡ top_of leaf.now index branch.now }
 {
     let mut hasher = ShaPair::new();
     let mut value = Chunk(*leaf);
-    let mut place = index;
-    for level in 0..branch.len() / 32 {
+    let mut place = index.get();
+    for level in 0..index.levels() as usize {
         let beside = chunk_at(branch, level);
         value = if place % 2 == 1 {
             hasher.pair(&beside, &value)
@@ -25,11 +27,14 @@ fn top_of(leaf: &[u8; 32], index: u64, branch: &[u8]) -> Chunk
     value
 }
 
-/// Whether the branch leads from the leaf to the root.
-pub fn judge_branch(root: &[u8; 32], leaf: &[u8; 32], index: u64, branch: &[u8]) -> Verdict
+/// Whether the branch, one chunk for each level of the index, leads from the leaf to the root.
+pub fn judge_branch(root: &[u8; 32], leaf: &[u8; 32], index: SszIndex, branch: &[u8]) -> Verdict
     ensures { JudgesBranch result root.now leaf.now index branch.now }
 {
-    if branch.len() % 32 != 0 {
+    let Some(index) = Gindex::new(whole(index)) else {
+        return Verdict::BadProof;
+    };
+    if branch.len() != 32 * index.levels() as usize {
         return Verdict::BadProof;
     }
     if top_of(leaf, index, branch) == Chunk(*root) {

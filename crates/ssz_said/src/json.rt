@@ -2,42 +2,48 @@
 ghost use Rattle.std.specs.Prelude.{◌≡◌, ◌<◌, ◌^◌, length};
 ghost use Rattle.std.specs.Result.{result_map_both};
 ghost use Rattle.ssz_schema.specs.Unfolding.{type_of};
-ghost use Rattle.ssz_said.specs.Json.{MakesEncoding, default_said, json_fault_of, text_said};
-ghost use Rattle.ssz_said.specs.Outcome.{IsUnlessMemory};
+ghost use Rattle.ssz_value.specs.Encoding.{serialize};
+ghost use Rattle.ssz_value.specs.Standing.{IsValue, value_of};
+ghost use Rattle.ssz_said.specs.declared.status.TheConstants.{MOST_SHOWN, TOO_LONG};
+ghost use Rattle.ssz_said.specs.Json.{bad_json, default_said, encoding_said, text_said};
+ghost use Rattle.ssz_said.specs.Outcome.{IsUnlessMemory, at_most};
 
 use super::fault::SszFault;
 use super::status;
 use ssz_codec::{DecodeFault, decode, encode};
 use ssz_schema::{Schema, TypeId};
-use ssz_value::{EncodeFault, default_of};
+use ssz_value::{EncodeFault, Value, default_of};
 use ssz_value_json::{JsonFault, JsonRead, read_json, write_json};
 use std::alloc::Global;
 
-/// Why a text gives no bytes.
-#[derive(Clone, Copy, Debug, PartialEq, Eq)]
-pub enum NoBytes {
-    /// It is the text of no value: its first fault.
-    Bad(JsonFault),
-    /// The encoding has 2^32 bytes or more.
-    TooLong,
-    /// Want of memory.
-    Memory,
+// The first fault of a text, as C reads it.
+fn bad_json(fault: JsonFault) -> SszFault
+    ensures { result ≡ bad_json fault }
+{
+    SszFault {
+        status: status::BAD_JSON,
+        code: u32::from(fault.code),
+        position: fault.number,
+    }
 }
 
-impl NoBytes {
-    /// As C reads it.
-    pub fn fault(self) -> SszFault
-        ensures { result ≡ json_fault_of self }
-    {
-        match self {
-            NoBytes::Bad(fault) => SszFault {
-                status: status::BAD_JSON,
-                code: u32::from(fault.code),
-                position: fault.number,
-            },
-            NoBytes::TooLong => SszFault::of(status::TOO_LONG),
-            NoBytes::Memory => SszFault::of(status::NO_MEMORY),
-        }
+// The encoding of a value.
+fn bytes_of_value(
+    alloc: Global,
+    schema: &Schema,
+    id: TypeId,
+    value: &Value,
+) -> Result<Vec<u8>, SszFault>
+    requires known { id < length schema.now.trees }
+    requires value { IsValue (type_of schema.now id) value.now }
+    ensures { IsUnlessMemory (result_map_both (λ bytes. bytes.items) (λ fault. fault) result)
+        (at_most TOO_LONG MOST_SHOWN (serialize (type_of schema.now id) (value_of value.now))) }
+{
+    let mut bytes = Vec::new(alloc);
+    match encode(schema, id, value, status::MOST_SHOWN, &mut bytes) {
+        Ok(()) => Ok(bytes),
+        Err(EncodeFault::TooLong) => Err(SszFault::of(status::TOO_LONG)),
+        Err(EncodeFault::Memory) => Err(SszFault::of(status::NO_MEMORY)),
     }
 }
 
@@ -47,21 +53,16 @@ pub fn bytes_of_text(
     schema: &Schema,
     id: TypeId,
     text: &[u8],
-) -> Result<Vec<u8>, NoBytes>
+) -> Result<Vec<u8>, SszFault>
     requires { id < length schema.now.trees }
-    ensures { MakesEncoding (type_of schema.now id) text.now
-        (result_map_both (λ bytes. bytes.items) (λ why. why) result) }
+    ensures { IsUnlessMemory (result_map_both (λ bytes. bytes.items) (λ fault. fault) result)
+        (encoding_said (type_of schema.now id) text.now) }
 {
-    let value = match read_json(alloc, schema, id, text) {
-        Ok(value) => value,
-        Err(JsonRead::Bad(fault)) => return Err(NoBytes::Bad(fault)),
-        Err(JsonRead::Memory) => return Err(NoBytes::Memory),
-    };
-    let mut bytes = Vec::new(alloc);
-    match encode(schema, id, &value, status::MOST_SHOWN, &mut bytes) {
-        Ok(()) => Ok(bytes),
-        Err(EncodeFault::TooLong) => Err(NoBytes::TooLong),
-        Err(EncodeFault::Memory) => Err(NoBytes::Memory),
+    let _legal = schema.ty(id);
+    match read_json(alloc, schema, id, text) {
+        Ok(value) => bytes_of_value(alloc, schema, id, &value),
+        Err(JsonRead::Bad(fault)) => Err(bad_json(fault)),
+        Err(JsonRead::Memory) => Err(SszFault::of(status::NO_MEMORY)),
     }
 }
 
@@ -98,10 +99,5 @@ pub fn default_bytes(alloc: Global, schema: &Schema, id: TypeId) -> Result<Vec<u
 {
     let _legal = schema.ty(id);
     let value = default_of(alloc, schema, id)?;
-    let mut bytes = Vec::new(alloc);
-    match encode(schema, id, &value, status::MOST_SHOWN, &mut bytes) {
-        Ok(()) => Ok(bytes),
-        Err(EncodeFault::TooLong) => Err(SszFault::of(status::TOO_LONG)),
-        Err(EncodeFault::Memory) => Err(SszFault::of(status::NO_MEMORY)),
-    }
+    bytes_of_value(alloc, schema, id, &value)
 }

@@ -29,8 +29,8 @@ pub fn prove(alloc: Global, v: &[u8], asked: &[u8]) -> Result<Statement, SszFaul
     ensures said { IsUnlessMemory result (prove_said v.now asked.now) }
     ensures short { IfOk result HasShortLiteral }
 {
-    let index = index_of(alloc, asked)?;
     let v = name_of(alloc, v)?;
+    let index = index_of(alloc, asked)?;
     Ok(Statement::Prove(v, alone(alloc, index)?))
 }
 

@@ -1,7 +1,8 @@
 // The statements that the arguments of a call say.
 ghost use Rattle.std.specs.Prelude.{IfOk};
-ghost use Rattle.ssz_said.specs.Outcome.{IsUnlessMemory};
+ghost use Rattle.ssz_said.specs.Outcome.{AnswersFirst, IsUnlessMemory, at_most};
 ghost use Rattle.ssz_said.specs.Statements.{HasShortLiteral, append_said, bytes_said, choose_default_said, choose_said, compact_said, drop_said, fork_said, gindex_said, json_said, len_said, lit_said, new_said, pop_said, root_said, set_said, upgrade_said};
+ghost use Rattle.ssz_said.specs.declared.status.TheConstants.{MOST_BYTES, TOO_LONG};
 
 use super::fault::SszFault;
 use super::texts::{copy_of, name_of, path_of};
@@ -32,6 +33,7 @@ pub fn upgrade(alloc: Global, v: &[u8], w: &[u8], t: &[u8]) -> Result<Statement,
 /// `lit V T LIT`.
 pub fn lit(alloc: Global, v: &[u8], t: &[u8], bytes: &[u8]) -> Result<Statement, SszFault>
     ensures said { IsUnlessMemory result (lit_said v.now t.now bytes.now) }
+    ensures first { AnswersFirst (at_most TOO_LONG MOST_BYTES bytes.now) result }
     ensures short { IfOk result HasShortLiteral }
 {
     let bytes = copy_of(alloc, bytes)?;
@@ -89,6 +91,7 @@ pub fn bytes(alloc: Global, v: &[u8], path: &[u8]) -> Result<Statement, SszFault
 /// `set V P LIT`.
 pub fn set(alloc: Global, v: &[u8], path: &[u8], bytes: &[u8]) -> Result<Statement, SszFault>
     ensures said { IsUnlessMemory result (set_said v.now path.now bytes.now) }
+    ensures first { AnswersFirst (at_most TOO_LONG MOST_BYTES bytes.now) result }
     ensures short { IfOk result HasShortLiteral }
 {
     let bytes = copy_of(alloc, bytes)?;
@@ -100,6 +103,7 @@ pub fn set(alloc: Global, v: &[u8], path: &[u8], bytes: &[u8]) -> Result<Stateme
 /// `append V P LIT`.
 pub fn append(alloc: Global, v: &[u8], path: &[u8], bytes: &[u8]) -> Result<Statement, SszFault>
     ensures said { IsUnlessMemory result (append_said v.now path.now bytes.now) }
+    ensures first { AnswersFirst (at_most TOO_LONG MOST_BYTES bytes.now) result }
     ensures short { IfOk result HasShortLiteral }
 {
     let bytes = copy_of(alloc, bytes)?;
@@ -127,6 +131,7 @@ pub fn choose(
     bytes: &[u8],
 ) -> Result<Statement, SszFault>
     ensures said { IsUnlessMemory result (choose_said v.now path.now selector bytes.now) }
+    ensures first { AnswersFirst (at_most TOO_LONG MOST_BYTES bytes.now) result }
     ensures short { IfOk result HasShortLiteral }
 {
     let bytes = copy_of(alloc, bytes)?;

@@ -1,6 +1,6 @@
 // What the texts and bytes that a call is given say.
 ghost use Rattle.std.specs.Prelude.{◌<◌, ◌^◌, length, IfOk};
-ghost use Rattle.ssz_said.specs.Outcome.{IsUnlessMemory, at_most};
+ghost use Rattle.ssz_said.specs.Outcome.{AnswersFirst, IsUnlessMemory, at_most};
 ghost use Rattle.ssz_said.specs.Texts.{index_in, name_in, path_in};
 ghost use Rattle.ssz_said.specs.declared.status.TheConstants.{MOST_BYTES, TOO_LONG};
 
@@ -52,6 +52,7 @@ pub fn index_of(alloc: Global, text: &[u8]) -> Result<Index, SszFault>
 /// A copy of bytes that are not too many.
 pub fn copy_of(alloc: Global, bytes: &[u8]) -> Result<ByteRun, SszFault>
     ensures copied { IsUnlessMemory result (at_most TOO_LONG MOST_BYTES bytes.now) }
+    ensures first { AnswersFirst (at_most TOO_LONG MOST_BYTES bytes.now) result }
     ensures few { IfOk result (λ copy. length copy < 2 ^ 32) }
 {
     if bytes.len() > status::MOST_BYTES {

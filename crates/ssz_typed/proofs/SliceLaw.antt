@@ -1,16 +1,15 @@
--- A slice answers what its bytes do: once its type is found, they are few and have no fault.
+-- A slice answers what its bytes do: once their type is found and they are few, they have no fault.
 use Rattle.std.proofs.Common.{◌≡◌, ℕ, List, Option, Some, None, Ok, Err, refl}
 use Rattle.ssz_bytes.specs.declared.fault.Fault.{Fault}
 use Rattle.ssz_schema.specs.Paths.{Path}
 use Rattle.ssz_schema.specs.Unfolding.{Types, type_of}
 use Rattle.ssz_slices.specs.Part.{Part, whole, unless}
 use Rattle.ssz_value.specs.Faults.{first_fault}
-use Rattle.ssz_said.specs.declared.status.TheConstants.{TOO_LONG, MOST_BYTES}
-use Rattle.ssz_said.specs.Outcome.{CallOutcome, ◌>>=◌, at_most, faultless}
+use Rattle.ssz_said.specs.Outcome.{CallOutcome, ◌>>=◌, faultless}
 use Rattle.ssz_typed.specs.declared.checked_bytes.CheckedBytes.{CheckedBytes}
 use Rattle.ssz_typed.specs.declared.library.Library.{Library}
 use Rattle.ssz_typed.specs.Calls.{encoding_at, steps_in, valid}
-use Rattle.ssz_typed.specs.Library.{type_in}
+use Rattle.ssz_typed.specs.Library.{type_for}
 use Rattle.ssz_typed.specs.Places.{stretch_at}
 use Rattle.ssz_typed.specs.Sharing.{schema_in, slice_schema}
 use Rattle.ssz_typed.specs.SliceLaws.{PartsAgree, PlacesAgree}
@@ -41,30 +40,20 @@ module _ {A : Type 0} (asks : Part → Path → CallOutcome A) (library : Librar
   judged id None is = copied id is
   judged id (Some fault) is = absurd (cc)
 
-  -- and are few
-  counted : (id : ℕ) (few : CallOutcome (List ℕ))
+  -- and their type is known, and they are few
+  found : (kind : CallOutcome ℕ)
       → Copies library bytes
-      (few >>= λ _. faultless (first_fault (type_of (schema_in library) id) 0 bytes) id)
+      (kind >>= λ id. faultless (first_fault (type_of (schema_in library) id) 0 bytes) id)
       (Ok slice)
       → of_whole (slice_schema slice) slice.id slice.bytes
-      ≡ (few >>= λ _. of_bytes id (first_fault (type_of (schema_in library) id) 0 bytes))
-  counted id (Ok few) is = judged id (first_fault (type_of (schema_in library) id) 0 bytes) is
-  counted id (Err fault) is = absurd (cc)
-
-  -- and their type is known
-  found : (kind : CallOutcome ℕ)
-      → Copies library bytes (kind >>= λ id. at_most TOO_LONG MOST_BYTES bytes
-      >>= λ _. faultless (first_fault (type_of (schema_in library) id) 0 bytes) id) (Ok slice)
-      → of_whole (slice_schema slice) slice.id slice.bytes
-      ≡ (kind >>= λ id. at_most TOO_LONG MOST_BYTES bytes
-      >>= λ _. of_bytes id (first_fault (type_of (schema_in library) id) 0 bytes))
-  found (Ok id) is = counted id (at_most TOO_LONG MOST_BYTES bytes) is
+      ≡ (kind >>= λ id. of_bytes id (first_fault (type_of (schema_in library) id) 0 bytes))
+  found (Ok id) is = judged id (first_fault (type_of (schema_in library) id) 0 bytes) is
   found (Err fault) is = absurd (cc)
 
 pub parts_agree : PartsAgree
 parts_agree library number bytes slice text =
-    found encoding_at library bytes slice text (type_in library number)
+    found encoding_at library bytes slice text (type_for library number bytes)
 
 pub places_agree : PlacesAgree
 places_agree library number bytes slice text =
-    found stretch_at library bytes slice text (type_in library number)
+    found stretch_at library bytes slice text (type_for library number bytes)

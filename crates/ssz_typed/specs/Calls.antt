@@ -17,17 +17,16 @@ use Rattle.ssz_value.specs.Trees.{hash_tree_root}
 use Rattle.ssz_said.specs.declared.entries.SszIndex.{SszIndex}
 use Rattle.ssz_said.specs.Entries.{index_parts}
 use Rattle.ssz_typed.specs.declared.library.Library.{Library}
-use Rattle.ssz_said.specs.declared.status.TheConstants.{TOO_LONG, BAD_PATH, ABSENT, MOST_BYTES}
-use Rattle.ssz_typed.specs.Library.{type_in}
-use Rattle.ssz_said.specs.Outcome.{CallOutcome, ◌>>=◌, need, at_most, faultless, invalid, refused}
+use Rattle.ssz_said.specs.declared.status.TheConstants.{BAD_PATH, ABSENT}
+use Rattle.ssz_typed.specs.Library.{type_for, type_in}
+use Rattle.ssz_said.specs.Outcome.{CallOutcome, ◌>>=◌, need, faultless, invalid, refused}
 use Rattle.ssz_said.specs.Texts.{path_in}
 use Rattle.ssz_typed.specs.Sharing.{schema_in}
 
 -- the type of the number, where the bytes encode a value of it
 abbrev pub checked_in : Library → ℕ → List ℕ → CallOutcome ℕ
 checked_in library number bytes = do
-  id ← type_in library number
-  few ← at_most TOO_LONG MOST_BYTES bytes
+  id ← type_for library number bytes
   faultless (first_fault (type_of (schema_in library) id) 0 bytes) id
 
 -- the hash_tree_root of the value that the bytes encode
@@ -82,8 +81,7 @@ encoding_at whole path = do
 -- the encoding of the part that a path leads to, in the value that the bytes encode
 abbrev pub part_in : Library → ℕ → List ℕ → List ℕ → CallOutcome (List ℕ)
 part_in library number bytes text = do
-  id ← type_in library number
-  few ← at_most TOO_LONG MOST_BYTES bytes
+  id ← type_for library number bytes
   steps ← steps_in (type_of (schema_in library) id) text
   whole ← valid (opened (type_of (schema_in library) id) bytes)
   encoding_at whole steps

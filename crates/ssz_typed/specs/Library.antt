@@ -8,9 +8,9 @@ use Rattle.ssz_schema_json.specs.declared.fault.SchemaRead.TheVariants.{NotJson,
 use Rattle.ssz_schema_json.specs.Schema.{ReadsSchema, schema_of_bytes}
 use Rattle.ssz_said.specs.declared.fault.SszFault.{SszFault}
 use Rattle.ssz_typed.specs.declared.library.Library.{Library}
-use Rattle.ssz_said.specs.declared.status.TheConstants.{NO_TYPE, BAD_SCHEMA, NO_MEMORY, MOST_TEXT}
+use Rattle.ssz_said.specs.declared.status.TheConstants.{NO_TYPE, BAD_SCHEMA, NO_MEMORY, TOO_LONG, MOST_BYTES, MOST_TEXT}
 use Rattle.ssz_typed.specs.Numbers.{GivesNumber, IsNew}
-use Rattle.ssz_said.specs.Outcome.{CallOutcome, refused}
+use Rattle.ssz_said.specs.Outcome.{CallOutcome, ◌>>=◌, at_most, refused}
 use Rattle.ssz_typed.specs.Sharing.{schema_in}
 
 -- the type of a number that was given out
@@ -19,6 +19,13 @@ type_in library number =
     if nat_lt number (length library.found.items)
     then Ok (slice_index_or library.found.items number 0)
     else Err (refused NO_TYPE)
+
+-- the same, where the bytes are not too many
+abbrev pub type_for : Library → ℕ → List ℕ → CallOutcome ℕ
+type_for library number bytes = do
+  id ← type_in library number
+  few ← at_most TOO_LONG MOST_BYTES bytes
+  Ok id
 
 -- a fault of a schema: S1, S2, or S3 to S14 in a definition
 abbrev pub fault_of_read : SchemaRead → SszFault

@@ -4,12 +4,12 @@ use Rattle.ssz_schema.specs.Paths.{Path}
 use Rattle.ssz_schema.specs.Unfolding.{type_of}
 use Rattle.ssz_slices.specs.Part.{Part, opened, part_reached}
 use Rattle.ssz_value.specs.Encoding.{serialize}
-use Rattle.ssz_said.specs.declared.status.TheConstants.{TOO_LONG, MOST_BYTES, NO_PLACE}
-use Rattle.ssz_said.specs.Outcome.{CallOutcome, ◌>>=◌, need, at_most}
+use Rattle.ssz_said.specs.declared.status.TheConstants.{NO_PLACE}
+use Rattle.ssz_said.specs.Outcome.{CallOutcome, ◌>>=◌, need}
 use Rattle.ssz_typed.specs.declared.calls.SszStretch.{SszStretch}
 use Rattle.ssz_typed.specs.declared.library.Library.{Library}
 use Rattle.ssz_typed.specs.Calls.{part_or, steps_in, valid}
-use Rattle.ssz_typed.specs.Library.{type_in}
+use Rattle.ssz_typed.specs.Library.{type_for}
 use Rattle.ssz_typed.specs.Sharing.{schema_in}
 
 -- where the encoding of a part begins, and its length; a bit and a length stand nowhere
@@ -27,8 +27,7 @@ stretch_at whole path = do
 -- where the part that a path leads to stands, in bytes that encode a value of the type
 abbrev pub place_in : Library → ℕ → List ℕ → List ℕ → CallOutcome SszStretch
 place_in library number bytes text = do
-  id ← type_in library number
-  few ← at_most TOO_LONG MOST_BYTES bytes
+  id ← type_for library number bytes
   steps ← steps_in (type_of (schema_in library) id) text
   whole ← valid (opened (type_of (schema_in library) id) bytes)
   stretch_at whole steps

@@ -5,8 +5,9 @@ ghost use Rattle.ssz_slices.specs.Written.{encoding_written};
 ghost use Rattle.ssz_schema.specs.Unfolding.{type_of};
 ghost use Rattle.ssz_value.specs.Faults.{first_fault};
 ghost use Rattle.ssz_typed.specs.Calls.{checked_in, encoding_at, gindex_in, part_in, root_in, size_in, status_of_path, steps_in};
+ghost use Rattle.ssz_typed.specs.Library.{type_for, type_in};
 ghost use Rattle.ssz_typed.specs.Places.{place_in, stretch_at, stretch_of};
-ghost use Rattle.ssz_said.specs.Outcome.{IsUnlessMemory, refused};
+ghost use Rattle.ssz_said.specs.Outcome.{AnswersFirst, IsUnlessMemory, refused};
 ghost use Rattle.ssz_typed.specs.Sharing.{schema_in};
 
 use super::library::Library;
@@ -27,10 +28,7 @@ pub fn checked(library: &Library, number: u64, bytes: &[u8]) -> Result<TypeId, S
     ensures faultless { IfOk result (λ id.
         first_fault (type_of (schema_in library.now) id) 0 bytes.now ≡ None) }
 {
-    let id = library.type_at(number)?;
-    if bytes.len() > status::MOST_BYTES {
-        return Err(SszFault::of(status::TOO_LONG));
-    }
+    let id = library.type_for(number, bytes)?;
     match check(library.schema(), id, bytes) {
         Some(fault) => Err(SszFault::invalid(fault)),
         None => Ok(id),
@@ -68,7 +66,8 @@ pub fn gindex(
     number: u64,
     text: &[u8],
 ) -> Result<SszIndex, SszFault>
-    ensures { IsUnlessMemory result (gindex_in library.now number text.now) }
+    ensures exact { IsUnlessMemory result (gindex_in library.now number text.now) }
+    ensures first { AnswersFirst (type_in library.now number) result }
 {
     let id = library.type_at(number)?;
     let steps = path_of(alloc, text)?;
@@ -128,13 +127,11 @@ pub fn part<'b>(
     bytes: &'b [u8],
     text: &[u8],
 ) -> Result<Encoding<'b>, SszFault>
-    ensures { IsUnlessMemory (result_map_both encoding_written (λ fault. fault) result)
+    ensures exact { IsUnlessMemory (result_map_both encoding_written (λ fault. fault) result)
         (part_in library.now number bytes.now text.now) }
+    ensures first { AnswersFirst (type_for library.now number bytes.now) result }
 {
-    let id = library.type_at(number)?;
-    if bytes.len() > status::MOST_BYTES {
-        return Err(SszFault::of(status::TOO_LONG));
-    }
+    let id = library.type_for(number, bytes)?;
     let steps = steps_of(alloc, library.schema(), id, text)?;
     match Slice::new(library.schema(), id, bytes) {
         Ok(whole) => part_at(&whole, steps.as_slice()),
@@ -188,12 +185,10 @@ pub fn place(
     bytes: &[u8],
     text: &[u8],
 ) -> Result<SszStretch, SszFault>
-    ensures { IsUnlessMemory result (place_in library.now number bytes.now text.now) }
+    ensures exact { IsUnlessMemory result (place_in library.now number bytes.now text.now) }
+    ensures first { AnswersFirst (type_for library.now number bytes.now) result }
 {
-    let id = library.type_at(number)?;
-    if bytes.len() > status::MOST_BYTES {
-        return Err(SszFault::of(status::TOO_LONG));
-    }
+    let id = library.type_for(number, bytes)?;
     let steps = steps_of(alloc, library.schema(), id, text)?;
     match Slice::new(library.schema(), id, bytes) {
         Ok(whole) => stretch_at(&whole, steps.as_slice()),

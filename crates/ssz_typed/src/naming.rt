@@ -1,7 +1,7 @@
 // A schema of C: read, and its types by name and by number.
-ghost use Rattle.std.specs.Prelude.{◌≡◌, [], ◌∷◌, ◌++◌, ◌<◌, length, IfOk, OnErr};
+ghost use Rattle.std.specs.Prelude.{◌≡◌, [], ◌∷◌, ◌++◌, ◌<◌, ◌^◌, length, IfOk, OnErr};
 ghost use Rattle.ssz_typed.specs.Numbers.{IsNumberFound, IsNew};
-ghost use Rattle.ssz_typed.specs.Library.{NumbersName, Numbers, ReadsLibrary, ReadsTypes, fault_of_read, type_in};
+ghost use Rattle.ssz_typed.specs.Library.{NumbersName, Numbers, ReadsLibrary, ReadsTypes, fault_of_read, type_for, type_in};
 ghost use Rattle.ssz_typed.specs.Sharing.{IsShared, schema_in};
 
 use super::library::{Library, SharedSchema};
@@ -77,6 +77,19 @@ impl Library {
             return Err(SszFault::of(status::NO_TYPE));
         }
         Ok(self.found[number as usize])
+    }
+
+    /// The type of this number, where the bytes are not too many.
+    pub fn type_for(&self, number: u64, bytes: &[u8]) -> Result<TypeId, SszFault>
+        ensures exact { result ≡ type_for self.now number bytes.now }
+        ensures known { IfOk result (λ id. id < length (schema_in self.now).trees) }
+        ensures short { IfOk result (λ id. length bytes.now < 2 ^ 32) }
+    {
+        let id = self.type_at(number)?;
+        if bytes.len() > status::MOST_BYTES {
+            return Err(SszFault::of(status::TOO_LONG));
+        }
+        Ok(id)
     }
 
     /// The number of the type of this name: its own number, if it has one, or the next.
