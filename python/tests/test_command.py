@@ -158,6 +158,20 @@ class Command(unittest.TestCase):
             ran = subprocess.run([PROGRAM, "run", self.write("deneb.json", deneb.text), script], capture_output=True, text=True)
             self.assertEqual(text, ran.stdout)
 
+    def test_a_file_named_as_standard_input(self) -> None:
+        err = io.StringIO()
+        with contextlib.redirect_stderr(err):
+            found = said("run", "deneb", self.write("script", b"load V Checkpoint -\n"), given=bytes(40))
+        self.assertEqual(found, (1, ""))
+        self.assertIn("line 1: ./-: there is no such file", err.getvalue())
+
+    def test_out_of_memory_ends_a_run(self) -> None:
+        lacks = ssz.SszError("memory is used up", status=ssz.Status.NO_MEMORY)
+        err = io.StringIO()
+        with contextlib.redirect_stderr(err), mock.patch.object(ssz.Session, "run", side_effect=lacks):
+            self.assertEqual(said("run", "deneb", self.write("script", b"list\nlist\n")), (1, ""))
+        self.assertIn("line 1: memory is used up", err.getvalue())
+
     def test_run_names_the_line_of_a_file(self) -> None:
         script = self.write("script", f"new V Fork\nload W Fork {self.room}/none.ssz\nroot V\n".encode())
         err = io.StringIO()

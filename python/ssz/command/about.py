@@ -33,6 +33,8 @@ def told() -> str:
     number, place = _library.version(), _library.place()
     lines = [f"ssz {__version__} for Python",
              f"libssz {number >> 16}.{number >> 8 & 255}.{number & 255} for {'x86-64-v3' if _library.V3 in place else 'x86-64-v2'}, {place}"]
+    if not Path(place).is_absolute():
+        return "\n".join(lines)
     folder = Path(place).parents[2 if _library.V3 in place else 0]
     built = next((file for file in (folder / _BUILT, folder.parent / "share" / "ssz" / _BUILT) if file.is_file()), None)
     return "\n".join(lines + (built.read_text().splitlines()[:2] if built else []))

@@ -31,6 +31,8 @@ class Run:
         try:
             reply = self._reply(line)
         except SszError as error:
+            if error.status == Status.NO_MEMORY:
+                raise Cut(str(error)) from None
             self._refuse(number, error)
             return
         if reply:
@@ -64,7 +66,8 @@ class Run:
     @staticmethod
     def _content(file: str) -> bytes:
         try:
-            return content(file)
+            # (a file of a script may be named -, and is then no standard input)
+            return content(f"./{file}" if file == "-" else file)
         except Problem as why:
             raise Cut(str(why)) from None
 
